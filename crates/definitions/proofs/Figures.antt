@@ -1,0 +1,201 @@
+-- The figures of document 01, "Figures to meet", that are marked [P], as one table about the definitions that contracts cite; then
+-- three of its other figures, which hold the definitions to what the marked ones leave open.
+use mathlib.Core.Path.{_≡_, refl}
+use mathlib.Core.Bool.{Bool, true, false, cond, _&&_, _||_, not}
+use mathlib.Core.List.{List, [], _∷_, map}
+use Prim.Native.Nat.{ℕ, zero, suc, _+_, _-_, _*_, _/_, _%_, _^_, min, max}
+use lib.Dec.{leb, ltb, eqb}
+use lib.ListN.{length, replicate, getD}
+use Rattle.types.specs.declared.Settings.{Settings}
+use Rattle.types.specs.declared.Deltas.{Deltas}
+use Rattle.types.specs.declared.Checkpoint.{Checkpoint}
+use Rattle.types.specs.declared.Finality.{Finality}
+use Rattle.definitions.specs.Lists.{filter, sum, range, insert, sorted, maximum}
+use Rattle.definitions.specs.Record.{Validator, «FAR_FUTURE_EPOCH», nobody}
+use Rattle.definitions.specs.Updates.{withBalance}
+use Rattle.definitions.specs.Checked.{Checked, value, refused, Refusal, noRoot, overflow, bind, add64, sub64, mul64, sum64, mapChecked, foldChecked}
+use Rattle.definitions.specs.Mainnet.{mainnet}
+use Rattle.definitions.specs.Document.Phase0.Helpers.{«integer_squareroot», rootWithin}
+use Rattle.definitions.specs.Document.Phase0.Helpers as document
+use Rattle.definitions.specs.Document.Phase0.EpochProcessing.{justifiedBits, finalizedBy, weighed, roundedBalance}
+use Rattle.definitions.specs.Rust.Phase0.Helpers.{«is_active_validator», «compute_epoch_at_slot», «get_current_epoch», «get_previous_epoch», «compute_start_slot_at_epoch», «get_block_root», «get_block_root_at_slot», «get_active_validator_indices», «get_validator_churn_limit», «get_total_balance», «get_total_active_balance», «increase_balance», «decrease_balance»}
+use Rattle.definitions.specs.Rust.Phase0.EpochProcessing.{isJustified, rootWhere, «weigh_justification_and_finalization», «get_finality_delay», «is_in_inactivity_leak», isEligible, updateEffectiveBalance, «process_effective_balance_updates»}
+use Rattle.definitions.specs.Rust.Altair.Helpers.{noDeltas, «has_flag», isUnslashedParticipating, «get_unslashed_participating_indices», «get_base_reward_per_increment», «get_base_reward», flagTotals, hitDeltas, missDeltas, flagIndexDeltas, «get_flag_index_deltas», «get_inactivity_penalty_deltas»}
+use Rattle.definitions.specs.Rust.Altair.EpochProcessing.{movedScore, recoveredScore, updateInactivityScore, «process_inactivity_updates», applyDelta, rewardAndPenalize, «process_rewards_and_penalties», isSlashingDue, slashingPenalty, slash, «process_slashings», «process_justification_and_finalization»}
+
+-- "five validators of 32×10^9, all active": balance, both epochs' flags and score are given
+abbrev validator : ℕ → ℕ → ℕ → ℕ → Validator
+validator effective balance flags score =
+    record {
+      «effective_balance» = effective;
+      slashed = 0;
+      «activation_eligibility_epoch» = 0;
+      «activation_epoch» = 0;
+      «exit_epoch» = «FAR_FUTURE_EPOCH»;
+      «withdrawable_epoch» = «FAR_FUTURE_EPOCH»;
+      balance = balance;
+      «previous_epoch_participation» = flags;
+      «current_epoch_participation» = flags;
+      «inactivity_score» = score;
+    }
+
+-- a full one with these flags; 1 is source, 2 target, 4 head
+abbrev flagged : ℕ → Validator
+flagged flags = validator 32_000_000_000 32_000_000_000 flags 0
+
+abbrev five : ℕ → ℕ → List Validator
+five first others = flagged first ∷ flagged others ∷ flagged others ∷ flagged others ∷ flagged others ∷ []
+
+-- slot 127 is the last of epoch 3, and epoch 2 is finalized: no leak
+abbrev slot : ℕ
+slot = 127
+
+abbrev delta : ℕ → ℕ → Checked Deltas
+delta r p = value (record { reward = r; penalty = p })
+
+-- the first of five, slashed, with its penalty due
+abbrev due : Validator
+due =
+    record {
+      «effective_balance» = 32_000_000_000;
+      slashed = 1;
+      «activation_eligibility_epoch» = 0;
+      «activation_epoch» = 0;
+      «exit_epoch» = 4;
+      «withdrawable_epoch» = 4099;
+      balance = 32_000_000_000;
+      «previous_epoch_participation» = 0;
+      «current_epoch_participation» = 0;
+      «inactivity_score» = 0;
+    }
+
+abbrev balances : Checked (List Validator) → List ℕ
+balances (value vs) = map (λ v. v .balance) vs
+balances (refused r) = []
+
+abbrev effectives : Checked (List Validator) → List ℕ
+effectives (value vs) = map (λ v. v .«effective_balance») vs
+effectives (refused r) = []
+
+abbrev scores : Checked (List Validator) → List ℕ
+scores (value vs) = map (λ v. v .«inactivity_score») vs
+scores (refused r) = []
+
+-- the first of five missed source and target and hit the head, with a balance of 1000000; another missed all
+abbrev poor : List Validator
+poor = validator 32_000_000_000 1_000_000 4 0 ∷ flagged 4 ∷ flagged 4 ∷ flagged 4 ∷ flagged 0 ∷ []
+
+-- The two wrong alternatives that document 01 names
+
+abbrev pub nettedFirst : ℕ → List Deltas → ℕ
+nettedFirst balance ds = balance + sum (map (λ d. d .reward) ds) - sum (map (λ d. d .penalty) ds)
+
+abbrev pub dividedLast : ℕ → ℕ → ℕ → ℕ
+dividedLast effective adjusted total = effective * adjusted / total
+
+-- no bits, checkpoints of these epochs with roots of zeros
+abbrev checkpoint : ℕ → Checkpoint
+checkpoint epoch = record { epoch = epoch; root = replicate 32 0 }
+
+abbrev finality : ℕ → ℕ → ℕ → ℕ → ℕ → Finality
+finality stateSlot bits previous current finalized =
+    record {
+      slot = stateSlot;
+      «justification_bits» = bits;
+      «previous_justified_checkpoint» = checkpoint previous;
+      «current_justified_checkpoint» = checkpoint current;
+      «finalized_checkpoint» = checkpoint finalized;
+    }
+
+-- bits and the epochs of current justified and finalized
+abbrev epochs : Checked Finality → List ℕ
+epochs (value f) =
+    f .«justification_bits» ∷ f .«current_justified_checkpoint» .epoch ∷ f .«finalized_checkpoint» .epoch ∷ []
+epochs (refused r) = []
+
+pub record Figures : Type 0 where
+  -- root total 160×10^9: 400000; base reward per increment 160000, per validator 5120000
+  pub root-of-total : «integer_squareroot» 160_000_000_000 ≡ 400_000
+  pub total : «get_total_active_balance» mainnet slot (five 7 7) ≡ value 160_000_000_000
+  pub per-increment : «get_base_reward_per_increment» mainnet 160_000_000_000 ≡ value 160_000
+  pub per-validator : «get_base_reward» mainnet 160_000_000_000 (flagged 7) ≡ value 5_120_000
+  -- all five hit target, no leak: reward 2080000; four: 1664000; missed target: penalty 2080000; missed head: 0
+  pub five-hit : «get_flag_index_deltas» mainnet slot 2 (five 2 2) 1 (flagged 2) ≡ delta 2_080_000 0
+  pub four-hit : «get_flag_index_deltas» mainnet slot 2 (five 0 2) 1 (flagged 2) ≡ delta 1_664_000 0
+  pub target-missed : «get_flag_index_deltas» mainnet slot 2 (five 0 2) 1 (flagged 0) ≡ delta 0 2_080_000
+  pub head-missed : «get_flag_index_deltas» mainnet slot 2 (five 0 2) 2 (flagged 0) ≡ delta 0 0
+  -- no leak, balance 1000000, source and target missed, head hit by four including this one, score 0: 896000 after the rewards step
+  pub rewards-step : getD (balances («process_rewards_and_penalties» mainnet 50_331_648 slot 2 poor)) 0 0 ≡ 896_000
+  pub not-netted : nettedFirst 1_000_000 (record { reward = 0; penalty = 1_120_000 } ∷ record { reward = 0; penalty = 2_080_000 } ∷ record { reward = 896_000; penalty = 0 } ∷ noDeltas ∷ []) ≡ 0
+  -- score 100, target missed: inactivity penalty 15894
+  pub inactivity-penalty : «get_inactivity_penalty_deltas» mainnet 50_331_648 slot (validator 32_000_000_000 32_000_000_000 0 100) ≡ delta 0 15_894
+  -- score 10, target hit, no leak: 9, then 0
+  pub score-moved : movedScore mainnet true 10 ≡ value 9
+  pub score-recovered : scores («process_inactivity_updates» mainnet slot 2 (validator 32_000_000_000 32_000_000_000 2 10 ∷ [])) ≡ 0 ∷ []
+  -- slashings sum 32×10^9, penalty due: 12×10^9; dividing last gives 12.8×10^9
+  pub slashed : getD (balances («process_slashings» mainnet 2 slot (32_000_000_000 ∷ []) (due ∷ flagged 7 ∷ flagged 7 ∷ flagged 7 ∷ flagged 7 ∷ []))) 0 0 ≡ 20_000_000_000
+  pub slashing-penalty : slashingPenalty mainnet 160_000_000_000 64_000_000_000 due ≡ value 12_000_000_000
+  pub not-divided-last : dividedLast 32_000_000_000 64_000_000_000 160_000_000_000 ≡ 12_800_000_000
+  -- effective 32×10^9, balance 31750000000: unchanged; 31749999999: 31×10^9
+  pub effective-kept : effectives («process_effective_balance_updates» mainnet (validator 32_000_000_000 31_750_000_000 0 0 ∷ [])) ≡ 32_000_000_000 ∷ []
+  pub effective-lowered : effectives («process_effective_balance_updates» mainnet (validator 32_000_000_000 31_749_999_999 0 0 ∷ [])) ≡ 31_000_000_000 ∷ []
+  -- effective 31×10^9, balance 32250000000: unchanged; 32250000001: 32×10^9
+  pub effective-low-kept : effectives («process_effective_balance_updates» mainnet (validator 31_000_000_000 32_250_000_000 0 0 ∷ [])) ≡ 31_000_000_000 ∷ []
+  pub effective-raised : effectives («process_effective_balance_updates» mainnet (validator 31_000_000_000 32_250_000_001 0 0 ∷ [])) ≡ 32_000_000_000 ∷ []
+  -- total 3×10^9: target 2×10^9 justifies, 1999999999 does not
+  pub justifies : isJustified 2_000_000_000 3_000_000_000 ≡ value true
+  pub does-not-justify : isJustified 1_999_999_999 3_000_000_000 ≡ value false
+  -- S 8192, slot 0 at state slot 8192: found; at 8193: 4; slot equal to state slot: 4
+  pub root-found : «get_block_root_at_slot» mainnet (replicate 32 7) 8192 0 ≡ value (replicate 32 7)
+  pub root-too-old : «get_block_root_at_slot» mainnet (replicate 32 7) 8193 0 ≡ refused noRoot
+  pub root-of-now : «get_block_root_at_slot» mainnet (replicate 32 7) 8193 8193 ≡ refused noRoot
+  -- active 262143: churn 4; 327680: 5
+  pub churn-least : (vs : List Validator) → length («get_active_validator_indices» vs («get_current_epoch» mainnet slot)) ≡ 262_143 → «get_validator_churn_limit» mainnet slot vs ≡ 4
+  pub churn-more : (vs : List Validator) → length («get_active_validator_indices» vs («get_current_epoch» mainnet slot)) ≡ 327_680 → «get_validator_churn_limit» mainnet slot vs ≡ 5
+  -- not marked: no validators, roots found: both epochs are justified
+  pub nobody-justifies : epochs («process_justification_and_finalization» mainnet [] (finality slot 0 0 0 0) []) ≡ 3 ∷ 3 ∷ 0 ∷ []
+  -- not marked: closing at the epoch's own first slot with two thirds current: 4
+  pub first-slot : «process_justification_and_finalization» mainnet [] (finality 96 0 0 0 0) (five 7 7) ≡ refused noRoot
+  -- not marked: the worked example's finality (slots_per_epoch 32 for 8): epoch 3, bits 7, justified 3, finalized 2
+  pub example-finality : epochs («process_justification_and_finalization» mainnet [] (finality slot 3 1 2 1) (five 0 7)) ≡ 7 ∷ 3 ∷ 2 ∷ []
+
+-- 262143 / 65536 is 3, below the least of 4; 327680 / 65536 is 5
+churn-of : {limit : ℕ} (vs : List Validator) {n : ℕ} → length («get_active_validator_indices» vs («get_current_epoch» mainnet slot)) ≡ n → max 4 (n / 65_536) ≡ limit → «get_validator_churn_limit» mainnet slot vs ≡ limit
+unfolding «get_validator_churn_limit»
+churn-of vs e f = rw e f
+
+pub figures : Figures
+unfolding «integer_squareroot» rootWithin «get_total_active_balance» «get_total_balance» sum64 sum filter bind add64 sub64 mul64 mapChecked foldChecked «get_active_validator_indices» «is_active_validator» «get_current_epoch» «get_previous_epoch» «compute_epoch_at_slot» «get_base_reward_per_increment» «get_base_reward» «get_flag_index_deltas» flagTotals flagIndexDeltas hitDeltas missDeltas isEligible isUnslashedParticipating «get_unslashed_participating_indices» «has_flag» «is_in_inactivity_leak» «get_finality_delay» «process_rewards_and_penalties» rewardAndPenalize «get_inactivity_penalty_deltas» applyDelta «increase_balance» «decrease_balance» movedScore recoveredScore updateInactivityScore «process_inactivity_updates» «process_slashings» slash isSlashingDue slashingPenalty «process_effective_balance_updates» updateEffectiveBalance roundedBalance isJustified «get_block_root_at_slot» document.«get_block_root_at_slot» «get_block_root» «compute_start_slot_at_epoch» «process_justification_and_finalization» «weigh_justification_and_finalization» rootWhere weighed justifiedBits finalizedBy
+figures =
+    record {
+      root-of-total = refl;
+      total = refl;
+      per-increment = refl;
+      per-validator = refl;
+      five-hit = refl;
+      four-hit = refl;
+      target-missed = refl;
+      head-missed = refl;
+      rewards-step = refl;
+      not-netted = refl;
+      inactivity-penalty = refl;
+      score-moved = refl;
+      score-recovered = refl;
+      slashed = refl;
+      slashing-penalty = refl;
+      not-divided-last = refl;
+      effective-kept = refl;
+      effective-lowered = refl;
+      effective-low-kept = refl;
+      effective-raised = refl;
+      justifies = refl;
+      does-not-justify = refl;
+      root-found = refl;
+      root-too-old = refl;
+      root-of-now = refl;
+      churn-least = λ vs e. churn-of vs e refl;
+      churn-more = λ vs e. churn-of vs e refl;
+      nobody-justifies = refl;
+      first-slot = refl;
+      example-finality = refl;
+    }

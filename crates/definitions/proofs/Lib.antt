@@ -1,0 +1,2 @@
+-- Theorems about the definitions that break where a definition is changed.
+pub mod Figures

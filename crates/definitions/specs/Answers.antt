@@ -1,0 +1,29 @@
+-- The numbers and values of document 01 that each case of an answer stands for.
+use mathlib.Core.Bool.{Bool}
+use Prim.Native.Nat.{ℕ}
+use Rattle.types.specs.declared.Deltas.{Deltas}
+use Rattle.types.specs.declared.Finality.{Finality}
+use Rattle.types.specs.declared.FinalityAnswer.{FinalityAnswer}
+use Rattle.types.specs.declared.Number.{Number}
+use Rattle.types.specs.declared.Number.the-variants.{Value as NumberValue, Refused as NumberRefused}
+use Rattle.types.specs.declared.Truth.{Truth}
+use Rattle.types.specs.declared.Truth.the-variants.{Value as TruthValue, Refused as TruthRefused}
+use Rattle.types.specs.declared.DeltasAnswer.{DeltasAnswer}
+use Rattle.types.specs.declared.DeltasAnswer.the-variants.{Value as DeltasValue, Refused as DeltasRefused}
+use Rattle.definitions.specs.Checked.{Checked, value, refused, numberOf, codeOf, settle}
+
+abbrev pub numberFor : Checked ℕ → Number
+numberFor (value x) = NumberValue x
+numberFor (refused r) = NumberRefused (numberOf r)
+
+abbrev pub truthFor : Checked Bool → Truth
+truthFor (value b) = TruthValue b
+truthFor (refused r) = TruthRefused (numberOf r)
+
+abbrev pub deltasAnswerFor : Checked Deltas → DeltasAnswer
+deltasAnswerFor (value d) = DeltasValue d
+deltasAnswerFor (refused r) = DeltasRefused (numberOf r)
+
+-- `old` is the finality handed in
+abbrev pub finalityAnswerFor : Checked Finality → Finality → FinalityAnswer
+finalityAnswerFor m old = record { refusal = codeOf m; finality = settle m old }

@@ -1,0 +1,94 @@
+-- The whole close: the eight steps in order, what it is handed, what it hands back and what the buffers hold. And `charged`.
+use mathlib.Core.Bool.{_&&_}
+use mathlib.Core.List.{List, [], _∷_}
+use Prim.Native.Nat.{ℕ}
+use lib.ListN.{length, take}
+use Rattle.types.specs.declared.Settings.{Settings}
+use Rattle.types.specs.declared.Finality.{Finality}
+use Rattle.definitions.specs.Lists.{filter}
+use Rattle.definitions.specs.Record.{Validator, BeaconState, encode, decode}
+use Rattle.definitions.specs.Updates.{withValidators, withSlashings, withFinality}
+use Rattle.definitions.specs.Checked.{Checked, value, refused, bind, foldChecked, codeOf, settle}
+use Rattle.definitions.specs.Refusals.{inOrder, settingsShaped, rootsShaped, slashingsShaped, registryShaped, sameLength, goodSettings, goodFinality, goodRegistry, afterTests, closingBuffer}
+use Rattle.definitions.specs.Rust.Phase0.Helpers.{«is_active_validator», «get_previous_epoch»}
+use Rattle.definitions.specs.Rust.Phase0.EpochProcessing.{«process_registry_updates», «process_effective_balance_updates», resetSlashings}
+use Rattle.definitions.specs.Rust.Altair.EpochProcessing.{«process_justification_and_finalization», «process_inactivity_updates», «process_rewards_and_penalties», «process_slashings», «process_participation_flag_updates»}
+
+-- a step that reads or writes the registry, on the state
+abbrev pub onValidators : BeaconState → Checked (List Validator) → Checked BeaconState
+onValidators st closing = bind closing (λ vs. value (withValidators vs st))
+
+-- in the order of Altair beacon-chain.md
+pub data Step : Type 0 where
+  justificationStep inactivityStep rewardsStep registryStep slashingsStep effectiveBalancesStep slashingsResetStep participationFlagsStep : Step
+
+abbrev pub steps : List Step
+steps =
+    justificationStep ∷ inactivityStep ∷ rewardsStep ∷ registryStep ∷ slashingsStep ∷ effectiveBalancesStep ∷ slashingsResetStep ∷ participationFlagsStep ∷ []
+
+unfoldable pub step : Settings → BeaconState → Step → Checked BeaconState
+step s st justificationStep =
+    bind («process_justification_and_finalization» s (st .«block_roots») (st .finality) (st .validators)) (λ f. value (withFinality f st))
+step s st inactivityStep =
+    onValidators st («process_inactivity_updates» s (st .finality .slot) (st .finality .«finalized_checkpoint» .epoch) (st .validators))
+step s st rewardsStep =
+    onValidators st («process_rewards_and_penalties» s (s .«inactivity_penalty_quotient_altair») (st .finality .slot) (st .finality .«finalized_checkpoint» .epoch) (st .validators))
+step s st registryStep =
+    onValidators st («process_registry_updates» s (st .finality .slot) (st .finality .«finalized_checkpoint» .epoch) (st .validators))
+step s st slashingsStep =
+    onValidators st («process_slashings» s (s .«proportional_slashing_multiplier_altair») (st .finality .slot) (st .slashings) (st .validators))
+step s st effectiveBalancesStep = onValidators st («process_effective_balance_updates» s (st .validators))
+step s st slashingsResetStep = value (withSlashings (resetSlashings s (st .finality .slot) (st .slashings)) st)
+step s st participationFlagsStep = value (withValidators («process_participation_flag_updates» (st .validators)) st)
+
+-- the first n steps
+unfoldable pub closeUpTo : ℕ → Settings → BeaconState → Checked BeaconState
+closeUpTo n s st = foldChecked (step s) st (take n steps)
+
+-- altair/epoch_processing.rs 305, the eight steps of it
+unfoldable pub «process_epoch» : Settings → BeaconState → Checked BeaconState
+«process_epoch» s st = closeUpTo 8 s st
+
+-- All that a close is handed: opening, roots, and closing buffers of any contents
+pub record Call : Type 0 where
+  pub settings : Settings
+  pub finality : Finality
+  pub registry : List ℕ
+  pub slashings : List ℕ
+  pub roots : List ℕ
+  pub closingRegistry : List ℕ
+  pub closingSlashings : List ℕ
+
+abbrev pub stateOf : Call → BeaconState
+stateOf c =
+    record { finality = c .finality; validators = decode (c .registry); slashings = c .slashings; «block_roots» = c .roots }
+
+unfoldable pub closeTests : Call → Checked (Unit {0})
+closeTests c =
+    inOrder (settingsShaped (c .settings) && registryShaped (c .registry) && rootsShaped (c .settings) (c .roots) && slashingsShaped (c .settings) (c .slashings) && sameLength (c .registry) (c .closingRegistry) && sameLength (c .slashings) (c .closingSlashings)) (goodSettings (c .settings)) (goodFinality (c .finality) && goodRegistry (c .registry))
+
+-- the closed state, or the refusal
+unfoldable pub closed : Call → Checked BeaconState
+closed c = afterTests (closeTests c) («process_epoch» (c .settings) (stateOf c))
+
+-- What comes back and what the closing buffers hold. The refusal is 0 where the close is accepted.
+pub record Outcome : Type 0 where
+  pub refusal : ℕ
+  pub finality : Finality
+  pub closingRegistry : List ℕ
+  pub closingSlashings : List ℕ
+
+unfoldable pub close : Call → Outcome
+close c =
+    let tests = closeTests c in
+    let work = «process_epoch» (c .settings) (stateOf c) in
+    record {
+      refusal = codeOf (closed c);
+      finality = settle (closed c) (stateOf c) .finality;
+      closingRegistry = closingBuffer (λ st. encode (st .validators)) tests work (c .registry) (c .closingRegistry);
+      closingSlashings = closingBuffer (λ st. st .slashings) tests work (c .slashings) (c .closingSlashings);
+    }
+
+-- "charged, the number of the opening record's validators active in the previous epoch"
+unfoldable pub charged : Settings → ℕ → List Validator → ℕ
+charged s stateSlot vs = length (filter (λ v. «is_active_validator» v («get_previous_epoch» s stateSlot)) vs)

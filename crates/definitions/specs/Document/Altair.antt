@@ -1,0 +1,3 @@
+-- altair/beacon-chain.md
+pub mod Helpers
+pub mod EpochProcessing

@@ -1,0 +1,97 @@
+-- altair/beacon-chain.md, "Epoch processing".
+use mathlib.Core.Bool.{Bool, cond, _&&_}
+use mathlib.Core.List.{List, [], _∷_, map, foldl, zipWith}
+use Prim.Native.Nat.{ℕ, _+_, _-_, _*_, _/_, min}
+use lib.Dec.{leb, eqb}
+use Rattle.types.specs.declared.Settings.{Settings}
+use Rattle.types.specs.declared.Deltas.{Deltas}
+use Rattle.definitions.specs.Lists.{sum}
+use Rattle.definitions.specs.Record.{Validator, BeaconState, «GENESIS_EPOCH», isSlashed}
+use Rattle.definitions.specs.Updates.{withScore, withParticipation, withValidators, withFinality}
+use Rattle.definitions.specs.Document.Phase0.Helpers.{«get_current_epoch», «get_previous_epoch», «get_total_balance», «get_total_active_balance», «increase_balance», «decrease_balance»}
+use Rattle.definitions.specs.Document.Phase0.EpochProcessing.{«weigh_justification_and_finalization», «is_in_inactivity_leak», isEligible, «process_registry_updates», «process_effective_balance_updates», «process_slashings_reset»}
+use Rattle.definitions.specs.Document.Altair.Helpers.{«TIMELY_SOURCE_FLAG_INDEX», «TIMELY_TARGET_FLAG_INDEX», «TIMELY_HEAD_FLAG_INDEX», isUnslashedParticipating, «get_unslashed_participating_indices», «get_flag_index_deltas», «get_inactivity_penalty_deltas»}
+
+-- Justification and finalization
+
+unfoldable pub «process_justification_and_finalization» : Settings → BeaconState → BeaconState
+«process_justification_and_finalization» s st =
+    let stateSlot = st .finality .slot in
+    let currentEpoch = «get_current_epoch» s stateSlot in
+    let target = «get_unslashed_participating_indices» s stateSlot (st .validators) «TIMELY_TARGET_FLAG_INDEX» in
+    let totalActiveBalance = «get_total_active_balance» s stateSlot (st .validators) in
+    let previousTargetBalance = «get_total_balance» s (target («get_previous_epoch» s stateSlot)) in
+    let currentTargetBalance = «get_total_balance» s (target currentEpoch) in
+    cond (leb currentEpoch («GENESIS_EPOCH» + 1)) st
+    (withFinality («weigh_justification_and_finalization» s (st .«block_roots») (st .finality) totalActiveBalance previousTargetBalance currentTargetBalance) st)
+
+-- Inactivity scores
+
+unfoldable pub updateInactivityScore : Settings → ℕ → ℕ → Validator → Validator
+updateInactivityScore s stateSlot finalizedEpoch v =
+    let score = v .«inactivity_score» in
+    let participating = isUnslashedParticipating s stateSlot «TIMELY_TARGET_FLAG_INDEX» («get_previous_epoch» s stateSlot) v in
+    let moved = cond participating (score - min 1 score) (score + s .«inactivity_score_bias») in
+    let recovered = cond («is_in_inactivity_leak» s stateSlot finalizedEpoch) moved (moved - min (s .«inactivity_score_recovery_rate») moved) in
+    cond (isEligible s stateSlot v) (withScore recovered v) v
+
+unfoldable pub «process_inactivity_updates» : Settings → BeaconState → BeaconState
+«process_inactivity_updates» s st =
+    let stateSlot = st .finality .slot in
+    cond (eqb («get_current_epoch» s stateSlot) «GENESIS_EPOCH») st
+    (withValidators (map (updateInactivityScore s stateSlot (st .finality .«finalized_checkpoint» .epoch)) (st .validators)) st)
+
+-- Rewards and penalties
+
+-- a reward, then its penalty
+unfoldable pub applyDelta : Validator → Deltas → Validator
+applyDelta v d = «decrease_balance» («increase_balance» v (d .reward)) (d .penalty)
+
+-- one pair of the list `deltas`, for every validator
+unfoldable pub applyDeltas : List Validator → List Deltas → List Validator
+applyDeltas vs ds = zipWith applyDelta vs ds
+
+unfoldable pub «process_rewards_and_penalties» : Settings → ℕ → BeaconState → BeaconState
+«process_rewards_and_penalties» s quotient st =
+    let stateSlot = st .finality .slot in
+    let flagDeltas = «get_flag_index_deltas» s stateSlot (st .finality .«finalized_checkpoint» .epoch) (st .validators) in
+    let deltas = flagDeltas «TIMELY_SOURCE_FLAG_INDEX» ∷ flagDeltas «TIMELY_TARGET_FLAG_INDEX» ∷ flagDeltas «TIMELY_HEAD_FLAG_INDEX» ∷ «get_inactivity_penalty_deltas» s quotient stateSlot (st .validators) ∷ [] in
+    cond (eqb («get_current_epoch» s stateSlot) «GENESIS_EPOCH») st (withValidators (foldl applyDeltas (st .validators) deltas) st)
+
+-- Slashings
+
+-- `multiplier` is proportional_slashing_multiplier_altair
+unfoldable pub slash : Settings → ℕ → ℕ → ℕ → Validator → Validator
+slash s epoch totalBalance adjustedTotalSlashingBalance v =
+    let increment = s .«effective_balance_increment» in
+    let penaltyNumerator = v .«effective_balance» / increment * adjustedTotalSlashingBalance in
+    let penalty = penaltyNumerator / totalBalance * increment in
+    cond (isSlashed v && eqb (epoch + s .«epochs_per_slashings_vector» / 2) (v .«withdrawable_epoch»)) («decrease_balance» v penalty) v
+
+unfoldable pub «process_slashings» : Settings → ℕ → BeaconState → BeaconState
+«process_slashings» s multiplier st =
+    let stateSlot = st .finality .slot in
+    let totalBalance = «get_total_active_balance» s stateSlot (st .validators) in
+    let adjusted = min (sum (st .slashings) * multiplier) totalBalance in
+    withValidators (map (slash s («get_current_epoch» s stateSlot) totalBalance adjusted) (st .validators)) st
+
+-- Participation flags updates
+
+unfoldable pub rotateParticipation : Validator → Validator
+rotateParticipation v = withParticipation (v .«current_epoch_participation») 0 v
+
+unfoldable pub «process_participation_flag_updates» : BeaconState → BeaconState
+«process_participation_flag_updates» st = withValidators (map rotateParticipation (st .validators)) st
+
+-- Epoch processing: the eight steps in the document's order
+
+unfoldable pub «process_epoch» : Settings → BeaconState → BeaconState
+«process_epoch» s st =
+    let justified = «process_justification_and_finalization» s st in
+    let scored = «process_inactivity_updates» s justified in
+    let rewarded = «process_rewards_and_penalties» s (s .«inactivity_penalty_quotient_altair») scored in
+    let registered = «process_registry_updates» s rewarded in
+    let slashed = «process_slashings» s (s .«proportional_slashing_multiplier_altair») registered in
+    let balanced = «process_effective_balance_updates» s slashed in
+    let reset = «process_slashings_reset» s balanced in
+    «process_participation_flag_updates» reset

@@ -1,0 +1,3 @@
+-- phase0/beacon-chain.md
+pub mod Helpers
+pub mod EpochProcessing

@@ -1,0 +1,144 @@
+-- phase0/beacon-chain.md, "Epoch processing", as far as Altair keeps it.
+use mathlib.Core.Bool.{Bool, cond, _&&_, _||_}
+use mathlib.Core.List.{List, [], _∷_, map, foldl}
+use Prim.Native.Nat.{ℕ, _+_, _-_, _*_, _/_, _%_, _^_, min}
+use lib.Dec.{leb, ltb, eqb}
+use lib.ListN.{length, getD, take, set}
+use Rattle.types.specs.declared.Settings.{Settings}
+use Rattle.types.specs.declared.Checkpoint.{Checkpoint}
+use Rattle.types.specs.declared.Finality.{Finality}
+use Rattle.definitions.specs.Lists.{filter, range, sorted}
+use Rattle.definitions.specs.Record.{Validator, BeaconState, isSlashed, nobody}
+use Rattle.definitions.specs.Updates.{withEffectiveBalance, withEligibility, withActivation, withValidators, withSlashings}
+use Rattle.definitions.specs.Document.Phase0.Helpers.{«is_active_validator», «is_eligible_for_activation_queue», «is_eligible_for_activation», «compute_activation_exit_epoch», «get_current_epoch», «get_previous_epoch», «get_block_root», «get_validator_churn_limit», «initiate_validator_exit»}
+
+-- Justification and finalization
+
+abbrev pub bit : ℕ → ℕ → Bool
+bit i bits = eqb (bits / 2 ^ i % 2) 1
+
+abbrev pub withBit : ℕ → ℕ → ℕ
+withBit i bits = cond (bit i bits) bits (bits + 2 ^ i)
+
+-- the bits move up by one of four, and the two epochs' bits are set where their tests passed
+unfoldable pub justifiedBits : Bool → Bool → ℕ → ℕ
+justifiedBits previous current bits =
+    let moved = 2 * bits % 16 in
+    let after = cond previous (withBit 1 moved) moved in
+    cond current (withBit 0 after) after
+
+-- the four tests: old checkpoints, new bits, and a later test overrides
+unfoldable pub finalizedBy : ℕ → ℕ → Finality → Checkpoint
+finalizedBy epoch bits old =
+    let previous = old .«previous_justified_checkpoint» in
+    let current = old .«current_justified_checkpoint» in
+    let first = cond (bit 1 bits && bit 2 bits && bit 3 bits && eqb (previous .epoch + 3) epoch) previous (old .«finalized_checkpoint») in
+    let second = cond (bit 1 bits && bit 2 bits && eqb (previous .epoch + 2) epoch) previous first in
+    let third = cond (bit 0 bits && bit 1 bits && bit 2 bits && eqb (current .epoch + 2) epoch) current second in
+    cond (bit 0 bits && bit 1 bits && eqb (current .epoch + 1) epoch) current third
+
+-- what comes of the two tests; a root is read only where its test passed
+unfoldable pub weighed : ℕ → ℕ → Bool → Bool → List ℕ → List ℕ → Finality → Finality
+weighed previousEpoch currentEpoch previous current previousRoot currentRoot old =
+    record {
+      slot = old .slot;
+      «justification_bits» = justifiedBits previous current (old .«justification_bits»);
+      «previous_justified_checkpoint» = old .«current_justified_checkpoint»;
+      «current_justified_checkpoint» = cond current (record { epoch = currentEpoch; root = currentRoot }) (cond previous (record { epoch = previousEpoch; root = previousRoot }) (old .«current_justified_checkpoint»));
+      «finalized_checkpoint» = finalizedBy currentEpoch (justifiedBits previous current (old .«justification_bits»)) old;
+    }
+
+unfoldable pub «weigh_justification_and_finalization» : Settings → List ℕ → Finality → ℕ → ℕ → ℕ → Finality
+«weigh_justification_and_finalization» s roots old totalActiveBalance previousEpochTargetBalance currentEpochTargetBalance =
+    let previousEpoch = «get_previous_epoch» s (old .slot) in
+    let currentEpoch = «get_current_epoch» s (old .slot) in
+    weighed
+    previousEpoch
+    currentEpoch
+    (leb (totalActiveBalance * 2) (previousEpochTargetBalance * 3))
+    (leb (totalActiveBalance * 2) (currentEpochTargetBalance * 3))
+    («get_block_root» s roots previousEpoch)
+    («get_block_root» s roots currentEpoch)
+    old
+
+-- Rewards and penalties
+
+unfoldable pub «get_finality_delay» : Settings → ℕ → ℕ → ℕ
+«get_finality_delay» s stateSlot finalizedEpoch = «get_previous_epoch» s stateSlot - finalizedEpoch
+
+unfoldable pub «is_in_inactivity_leak» : Settings → ℕ → ℕ → Bool
+«is_in_inactivity_leak» s stateSlot finalizedEpoch =
+    ltb (s .«min_epochs_to_inactivity_penalty») («get_finality_delay» s stateSlot finalizedEpoch)
+
+-- the test of get_eligible_validator_indices
+unfoldable pub isEligible : Settings → ℕ → Validator → Bool
+isEligible s stateSlot v =
+    let previousEpoch = «get_previous_epoch» s stateSlot in
+    «is_active_validator» v previousEpoch || (isSlashed v && ltb (previousEpoch + 1) (v .«withdrawable_epoch»))
+
+-- Registry updates
+
+-- the first test of the loop writes the eligibility epoch
+unfoldable pub queueEligible : Settings → ℕ → Validator → Validator
+queueEligible s stateSlot v =
+    cond («is_eligible_for_activation_queue» s v) (withEligibility («get_current_epoch» s stateSlot + 1) v) v
+
+-- the second test asks for an ejection
+unfoldable pub isEjected : Settings → ℕ → Validator → Bool
+isEjected s stateSlot v =
+    «is_active_validator» v («get_current_epoch» s stateSlot) && leb (v .«effective_balance») (s .«ejection_balance»)
+
+-- the loop's turn at an index
+unfoldable pub updateRegistryAt : Settings → ℕ → List Validator → ℕ → List Validator
+updateRegistryAt s stateSlot vs index =
+    let queued = set vs index (queueEligible s stateSlot (getD vs index nobody)) in
+    cond (isEjected s stateSlot (getD queued index nobody)) («initiate_validator_exit» s stateSlot queued index) queued
+
+-- (activation_eligibility_epoch, index), in this order
+abbrev pub queuesBefore : List Validator → ℕ → ℕ → Bool
+queuesBefore vs i j =
+    let a = getD vs i nobody .«activation_eligibility_epoch» in
+    let b = getD vs j nobody .«activation_eligibility_epoch» in
+    ltb a b || (eqb a b && ltb i j)
+
+-- the indices of those eligible for activation, sorted by that key
+unfoldable pub activationQueue : ℕ → List Validator → List ℕ
+activationQueue finalizedEpoch vs =
+    sorted (queuesBefore vs) (filter (λ i. «is_eligible_for_activation» finalizedEpoch (getD vs i nobody)) (range 0 (length vs)))
+
+abbrev pub activateAt : ℕ → List Validator → ℕ → List Validator
+activateAt epoch vs index = set vs index (withActivation epoch (getD vs index nobody))
+
+-- the first `limit` of the queue are dequeued for activation
+unfoldable pub dequeued : ℕ → ℕ → ℕ → List Validator → List Validator
+dequeued epoch limit finalizedEpoch vs = foldl (activateAt epoch) vs (take limit (activationQueue finalizedEpoch vs))
+
+unfoldable pub «process_registry_updates» : Settings → BeaconState → BeaconState
+«process_registry_updates» s st =
+    let stateSlot = st .finality .slot in
+    let queued = foldl (updateRegistryAt s stateSlot) (st .validators) (range 0 (length (st .validators))) in
+    withValidators (dequeued («compute_activation_exit_epoch» s («get_current_epoch» s stateSlot)) («get_validator_churn_limit» s stateSlot queued) (st .finality .«finalized_checkpoint» .epoch) queued) st
+
+-- Effective balances updates
+
+-- balance rounded down to an increment, and at most the maximum
+unfoldable pub roundedBalance : Settings → Validator → ℕ
+roundedBalance s v = min (v .balance - v .balance % s .«effective_balance_increment») (s .«max_effective_balance»)
+
+unfoldable pub updateEffectiveBalance : Settings → Validator → Validator
+updateEffectiveBalance s v =
+    let increment = s .«effective_balance_increment» / s .«hysteresis_quotient» in
+    let downward = increment * s .«hysteresis_downward_multiplier» in
+    let upward = increment * s .«hysteresis_upward_multiplier» in
+    cond (ltb (v .balance + downward) (v .«effective_balance») || ltb (v .«effective_balance» + upward) (v .balance)) (withEffectiveBalance (roundedBalance s v) v) v
+
+unfoldable pub «process_effective_balance_updates» : Settings → BeaconState → BeaconState
+«process_effective_balance_updates» s st = withValidators (map (updateEffectiveBalance s) (st .validators)) st
+
+-- Slashings balances updates
+
+unfoldable pub resetSlashings : Settings → ℕ → List ℕ → List ℕ
+resetSlashings s stateSlot slashings = set slashings ((«get_current_epoch» s stateSlot + 1) % s .«epochs_per_slashings_vector») 0
+
+unfoldable pub «process_slashings_reset» : Settings → BeaconState → BeaconState
+«process_slashings_reset» s st = withSlashings (resetSlashings s (st .finality .slot) (st .slashings)) st

@@ -1,0 +1,232 @@
+-- Reading and writing a record file. Document 01, "Record file": bytes as a list of numbers below 256.
+use mathlib.Core.Bool.{Bool, true, false, cond, _&&_, not}
+use mathlib.Core.List.{List, [], _∷_, _++_}
+use Prim.Native.Nat.{ℕ, zero, suc, _+_, _*_, _/_, _%_, _^_}
+use lib.Dec.{leb, ltb, eqb}
+use lib.ListN.{length, getD, take, drop, replicate}
+use Rattle.types.specs.declared.Settings.{Settings}
+use Rattle.types.specs.declared.Checkpoint.{Checkpoint}
+use Rattle.types.specs.declared.Finality.{Finality}
+use Rattle.definitions.specs.Record.{Validator, decode}
+use Rattle.definitions.specs.Checked.{Checked, value, refused, Refusal, badFile, bind, codeOf, settle}
+use Rattle.definitions.specs.Refusals.{inOrder, isVectorLength, settingsShaped, registryShaped, rootsShaped, slashingsShaped, lengthIs, settingsNumbers, goodSettings, goodFinality, goodValidator, goodRegistry}
+
+-- Numbers: 8 bytes, little-endian
+
+unfoldable pub littleEndian : ℕ → ℕ → List ℕ
+littleEndian zero n = []
+littleEndian (suc bytes) n = n % 256 ∷ littleEndian bytes (n / 256)
+
+unfoldable pub fromLittleEndian : List ℕ → ℕ
+fromLittleEndian [] = 0
+fromLittleEndian (b ∷ bytes) = b + 256 * fromLittleEndian bytes
+
+unfoldable pub numbersToBytes : List ℕ → List ℕ
+numbersToBytes [] = []
+numbersToBytes (x ∷ xs) = littleEndian 8 x ++ numbersToBytes xs
+
+-- n numbers from the front
+unfoldable pub numbersFromBytes : ℕ → List ℕ → List ℕ
+numbersFromBytes zero bytes = []
+numbersFromBytes (suc n) bytes = fromLittleEndian (take 8 bytes) ∷ numbersFromBytes n (drop 8 bytes)
+
+-- Layout: a function of N, S and L
+
+abbrev pub settingsAt : ℕ
+settingsAt = 80
+
+abbrev pub finalityAt : ℕ
+finalityAt = 232
+
+abbrev pub validatorsAt : ℕ
+validatorsAt = 368
+
+abbrev pub rootsAt : ℕ → ℕ
+rootsAt n = 368 + 80 * n
+
+abbrev pub slashingsAt : ℕ → ℕ → ℕ
+slashingsAt n S = 368 + 80 * n + 32 * S
+
+abbrev pub fileLength : ℕ → ℕ → ℕ → ℕ
+fileLength n S L = 368 + 80 * n + 32 * S + 8 * L
+
+-- version 1, file length, N, S, L, then the five offsets
+abbrev pub header : ℕ → ℕ → ℕ → List ℕ
+header n S L =
+    1 ∷ fileLength n S L ∷ n ∷ S ∷ L ∷ settingsAt ∷ finalityAt ∷ validatorsAt ∷ rootsAt n ∷ slashingsAt n S ∷ []
+
+-- What a file holds
+pub record Contents : Type 0 where
+  pub settings : Settings
+  pub finality : Finality
+  pub registry : List ℕ
+  pub roots : List ℕ
+  pub slashings : List ℕ
+
+-- Writing
+
+abbrev pub checkpointToBytes : Checkpoint → List ℕ
+checkpointToBytes c = littleEndian 8 (c .epoch) ++ c .root
+
+abbrev pub finalityToBytes : Finality → List ℕ
+finalityToBytes f =
+    littleEndian 8 (f .slot) ++ littleEndian 8 (f .«justification_bits») ++ checkpointToBytes (f .«previous_justified_checkpoint») ++ checkpointToBytes (f .«current_justified_checkpoint») ++ checkpointToBytes (f .«finalized_checkpoint»)
+
+unfoldable pub fileOf : Contents → List ℕ
+fileOf c =
+    numbersToBytes (header (length (c .registry) / 10) (c .settings .«slots_per_historical_root») (c .settings .«epochs_per_slashings_vector»))
+    ++ numbersToBytes (settingsNumbers (c .settings))
+    ++ finalityToBytes (c .finality)
+    ++ numbersToBytes (c .registry)
+    ++ c .roots
+    ++ numbersToBytes (c .slashings)
+
+unfoldable pub writeTests : Contents → List ℕ → Checked (Unit {0})
+writeTests c file =
+    inOrder (settingsShaped (c .settings) && registryShaped (c .registry) && rootsShaped (c .settings) (c .roots) && slashingsShaped (c .settings) (c .slashings) && lengthIs (fileLength (length (c .registry) / 10) (c .settings .«slots_per_historical_root») (c .settings .«epochs_per_slashings_vector»)) file) (goodSettings (c .settings)) (goodFinality (c .finality) && goodRegistry (c .registry))
+
+-- the lent file afterwards: untouched where it is refused
+unfoldable pub written : Contents → List ℕ → List ℕ
+written c file = settle (bind (writeTests c file) (λ _. value (fileOf c))) file
+
+-- Reading
+
+abbrev pub settingsFrom : List ℕ → Settings
+settingsFrom xs =
+    record {
+      «slots_per_epoch» = getD xs 0 0;
+      «slots_per_historical_root» = getD xs 1 0;
+      «epochs_per_slashings_vector» = getD xs 2 0;
+      «effective_balance_increment» = getD xs 3 0;
+      «max_effective_balance» = getD xs 4 0;
+      «hysteresis_quotient» = getD xs 5 0;
+      «hysteresis_downward_multiplier» = getD xs 6 0;
+      «hysteresis_upward_multiplier» = getD xs 7 0;
+      «base_reward_factor» = getD xs 8 0;
+      «min_epochs_to_inactivity_penalty» = getD xs 9 0;
+      «inactivity_score_bias» = getD xs 10 0;
+      «inactivity_score_recovery_rate» = getD xs 11 0;
+      «inactivity_penalty_quotient_altair» = getD xs 12 0;
+      «proportional_slashing_multiplier_altair» = getD xs 13 0;
+      «max_seed_lookahead» = getD xs 14 0;
+      «min_validator_withdrawability_delay» = getD xs 15 0;
+      «ejection_balance» = getD xs 16 0;
+      «min_per_epoch_churn_limit» = getD xs 17 0;
+      «churn_limit_quotient» = getD xs 18 0;
+    }
+
+abbrev pub numberAt : ℕ → List ℕ → ℕ
+numberAt offset bytes = fromLittleEndian (take 8 (drop offset bytes))
+
+-- an epoch, then 32 bytes of root
+abbrev pub checkpointAt : ℕ → List ℕ → Checkpoint
+checkpointAt offset bytes = record { epoch = numberAt offset bytes; root = take 32 (drop (offset + 8) bytes) }
+
+abbrev pub finalityFrom : List ℕ → Finality
+finalityFrom bytes =
+    record {
+      slot = numberAt 232 bytes;
+      «justification_bits» = numberAt 240 bytes;
+      «previous_justified_checkpoint» = checkpointAt 248 bytes;
+      «current_justified_checkpoint» = checkpointAt 288 bytes;
+      «finalized_checkpoint» = checkpointAt 328 bytes;
+    }
+
+-- N, S and L of the header
+abbrev pub countOf : List ℕ → ℕ
+countOf bytes = numberAt 16 bytes
+
+abbrev pub rootCountOf : List ℕ → ℕ
+rootCountOf bytes = numberAt 24 bytes
+
+abbrev pub slashingCountOf : List ℕ → ℕ
+slashingCountOf bytes = numberAt 32 bytes
+
+unfoldable pub contentsOf : List ℕ → Contents
+contentsOf bytes =
+    record {
+      settings = settingsFrom (numbersFromBytes 19 (drop settingsAt bytes));
+      finality = finalityFrom bytes;
+      registry = numbersFromBytes (10 * countOf bytes) (drop validatorsAt bytes);
+      roots = take (32 * rootCountOf bytes) (drop (rootsAt (countOf bytes)) bytes);
+      slashings = numbersFromBytes (slashingCountOf bytes) (drop (slashingsAt (countOf bytes) (rootCountOf bytes)) bytes);
+    }
+
+unfoldable pub sameNumbers : List ℕ → List ℕ → Bool
+sameNumbers [] [] = true
+sameNumbers [] (y ∷ ys) = false
+sameNumbers (x ∷ xs) [] = false
+sameNumbers (x ∷ xs) (y ∷ ys) = eqb x y && sameNumbers xs ys
+
+-- Test 6: under 80 bytes, or the header is not as above, or its length is not that of the bytes lent
+unfoldable pub goodHeader : List ℕ → Bool
+goodHeader bytes =
+    let n = countOf bytes in
+    let S = rootCountOf bytes in
+    let L = slashingCountOf bytes in
+    leb 80 (length bytes) && sameNumbers (numbersFromBytes 10 bytes) (header n S L) && eqb (length bytes) (fileLength n S L)
+
+-- Test 1: N, S and L in range, S and L like their settings, and the two lent buffers as long as called for
+unfoldable pub fileShaped : List ℕ → List ℕ → List ℕ → Bool
+fileShaped bytes registry slashings =
+    let s = contentsOf bytes .settings in
+    leb (countOf bytes) (2 ^ 24) && isVectorLength (rootCountOf bytes) && isVectorLength (slashingCountOf bytes) && eqb (rootCountOf bytes) (s .«slots_per_historical_root») && eqb (slashingCountOf bytes) (s .«epochs_per_slashings_vector») && lengthIs (10 * countOf bytes) registry && lengthIs (slashingCountOf bytes) slashings
+
+-- 6, then 1, 2, 3
+unfoldable pub readTests : List ℕ → List ℕ → List ℕ → Checked (Unit {0})
+readTests bytes registry slashings =
+    let c = contentsOf bytes in
+    cond (goodHeader bytes) (inOrder (fileShaped bytes registry slashings) (goodSettings (c .settings)) (goodFinality (c .finality) && goodRegistry (c .registry))) (refused badFile)
+
+-- what is read, or the refusal; `registry` and `slashings` are the lent buffers
+unfoldable pub readFile : List ℕ → List ℕ → List ℕ → Checked Contents
+readFile bytes registry slashings = bind (readTests bytes registry slashings) (λ _. value (contentsOf bytes))
+
+-- The position at which reading stopped: parts are read whole and then tested, the registry number by number
+
+-- the place in an entry of its first number out of range, counted from 0; 10 where there is none
+unfoldable pub badPlace : Validator → ℕ
+badPlace v =
+    cond (leb (v .slashed) 1) (cond (leb (v .«previous_epoch_participation») 255) (cond (leb (v .«current_epoch_participation») 255) 10 8) 7) 1
+
+-- the offset of the first bad number of the first bad entry, from the entry at `offset` on
+unfoldable pub stoppedAt : ℕ → List Validator → ℕ
+stoppedAt offset [] = offset
+stoppedAt offset (v ∷ vs) = let later = stoppedAt (offset + 80) vs in cond (goodValidator v) later (offset + 8 * badPlace v)
+
+unfoldable pub position : List ℕ → List ℕ → List ℕ → ℕ
+position bytes registry slashings =
+    let c = contentsOf bytes in
+    cond (ltb (length bytes) 80) 0
+    (cond (not (goodHeader bytes)) settingsAt
+    (cond (not (fileShaped bytes registry slashings && goodSettings (c .settings))) finalityAt
+    (cond (not (goodFinality (c .finality))) validatorsAt
+    (cond (not (goodRegistry (c .registry))) (stoppedAt validatorsAt (decode (c .registry))) (length bytes)))))
+
+-- What a read answers and what the lent buffers hold afterwards: zeros, an empty part and untouched buffers where it is refused
+
+abbrev pub noCheckpoint : Checkpoint
+noCheckpoint = record { epoch = 0; root = replicate 32 0 }
+
+abbrev pub nothing : List ℕ → List ℕ → Contents
+nothing registry slashings =
+    record {
+      settings = settingsFrom [];
+      finality = record { slot = 0; «justification_bits» = 0; «previous_justified_checkpoint» = noCheckpoint; «current_justified_checkpoint» = noCheckpoint; «finalized_checkpoint» = noCheckpoint };
+      registry = registry;
+      roots = [];
+      slashings = slashings;
+    }
+
+pub record ReadOutcome : Type 0 where
+  pub refusal : ℕ
+  pub position : ℕ
+  pub contents : Contents
+
+unfoldable pub read : List ℕ → List ℕ → List ℕ → ReadOutcome
+read bytes registry slashings =
+    record {
+      refusal = codeOf (readFile bytes registry slashings);
+      position = position bytes registry slashings;
+      contents = settle (readFile bytes registry slashings) (nothing registry slashings);
+    }

@@ -1,0 +1,1 @@
+// Definitions alone: what the contracts of every crate above mean. See specs/.
