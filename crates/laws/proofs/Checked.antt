@@ -1,0 +1,68 @@
+-- What a value that came out of checked evaluation says of what went into it.
+use mathlib.Core.Path.{_≡_, refl, sym, ap, _∙_}
+use mathlib.Core.Bool.{Bool, true, false, cond}
+use mathlib.Core.List.{List, [], _∷_, map, foldl}
+use Prim.Native.Nat.{ℕ, _+_, _-_, _*_, _^_, _≤_, _<_}
+use native.Mathlib.Omega.{arith}
+use borrow.Author.Tests.{ltb-true, leb-true}
+use lib.Dec.{ltb, leb}
+use Rattle.definitions.specs.Lists.{sum}
+use Rattle.definitions.specs.Checked.{Refusal, overflow, Checked, value, refused, bind, add64, sub64, mul64, sum64, mapChecked, foldChecked}
+
+pub not-value : {A : Type 0} {r : Refusal} {a : A} → refused r ≡ value a → ⊥
+not-value p = let z : _≡_ {A = ℕ} 0 1 = cc in omega arith
+
+pub value-same : {A : Type 0} {a b : A} → value a ≡ value b → a ≡ b
+value-same p = cc
+
+-- both halves of a `bind` gave values
+pub record Bound {A B : Type 0} (m : Checked A) (k : A → Checked B) (b : B) : Type 0 where
+  pub first : A
+  pub gave : m ≡ value first
+  pub then : k first ≡ value b
+
+pub bound : {A B : Type 0} (m : Checked A) (k : A → Checked B) {b : B} → bind m k ≡ value b → Bound m k b
+unfolding bind
+bound (value a) k p = record { first = a; gave = refl; then = p }
+bound (refused r) k p = absurd (not-value p)
+
+-- a checked operation that gave a value gave the plain one
+checked-value : {n x : ℕ} (t : Bool) → cond t (value n) (refused overflow) ≡ value x → (t ≡ true) × (n ≡ x)
+checked-value true p = (refl, value-same p)
+checked-value false p = absurd (not-value p)
+
+pub add64-value : (a b : ℕ) {x : ℕ} → add64 a b ≡ value x → a + b ≡ x
+unfolding add64
+add64-value a b p = checked-value (ltb (a + b) (2 ^ 64)) p .1
+
+pub mul64-value : (a b : ℕ) {x : ℕ} → mul64 a b ≡ value x → a * b ≡ x
+unfolding mul64
+mul64-value a b p = checked-value (ltb (a * b) (2 ^ 64)) p .1
+
+pub sub64-value : (a b : ℕ) {x : ℕ} → sub64 a b ≡ value x → a - b ≡ x
+unfolding sub64
+sub64-value a b p = checked-value (leb b a) p .1
+
+pub sub64-fits : (a b : ℕ) {x : ℕ} → sub64 a b ≡ value x → b ≤ a
+unfolding sub64
+sub64-fits a b p = leb-true b a (checked-value (leb b a) p .0)
+
+pub sum64-value : (xs : List ℕ) {x : ℕ} → sum64 xs ≡ value x → sum xs ≡ x
+unfolding sum64
+sum64-value xs p = checked-value (ltb (sum xs) (2 ^ 64)) p .1
+
+-- loops: where each turn that gives a value gives g's, the loop gives g's
+pub mapChecked-value : {A : Type 0} (f : A → Checked A) (g : A → A) → ((x y : A) → f x ≡ value y → g x ≡ y) → (xs : List A) {ys : List A} → mapChecked f xs ≡ value ys → map g xs ≡ ys
+unfolding mapChecked
+mapChecked-value f g h [] p = value-same p
+mapChecked-value f g h (x ∷ xs) p =
+    let a = bound (f x) (λ y. bind (mapChecked f xs) (λ ys. value (y ∷ ys))) p in
+    let b = bound (mapChecked f xs) (λ ys. value (a .first ∷ ys)) (a .then) in
+    rw (h x (a .first) (a .gave), mapChecked-value f g h xs (b .gave)) (value-same (b .then))
+
+pub foldChecked-value : {A B : Type 0} (f : B → A → Checked B) (g : B → A → B) → ((b : B) (x : A) (c : B) → f b x ≡ value c → g b x ≡ c) → (b : B) (xs : List A) {c : B} → foldChecked f b xs ≡ value c → foldl g b xs ≡ c
+unfolding foldChecked
+foldChecked-value f g h b [] p = value-same p
+foldChecked-value f g h b (x ∷ xs) p =
+    let a = bound (f b x) (λ c. foldChecked f c xs) p in
+    rw (h b x (a .first) (a .gave)) (foldChecked-value f g h (a .first) xs (a .then))

@@ -1,0 +1,3 @@
+-- Laws that the proofs of several crates cite.
+pub mod Encode
+pub mod Checked

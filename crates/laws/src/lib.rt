@@ -1,0 +1,1 @@
+// Laws alone, for the proofs of the crates above. See proofs/.
