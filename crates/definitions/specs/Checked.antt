@@ -46,7 +46,7 @@ sub64 a b = cond (leb b a) (value (a - b)) (refused overflow)
 unfoldable pub mul64 : ℕ → ℕ → Checked ℕ
 mul64 a b = cond (ltb (a * b) (2 ^ 64)) (value (a * b)) (refused overflow)
 
--- A sum of many leaves 64 bits on the way exactly where it does at the end, in whatever order: proofs/Sums.antt.
+-- A sum of many leaves 64 bits on the way exactly where it does at the end, in whatever order: agreement, Sums.antt.
 unfoldable pub sum64 : List ℕ → Checked ℕ
 sum64 xs = cond (ltb (sum xs) (2 ^ 64)) (value (sum xs)) (refused overflow)
 

@@ -30,10 +30,10 @@ unfoldable pub «process_justification_and_finalization» : Settings → BeaconS
 unfoldable pub updateInactivityScore : Settings → ℕ → ℕ → Validator → Validator
 updateInactivityScore s stateSlot finalizedEpoch v =
     let score = v .«inactivity_score» in
-    let participating = isUnslashedParticipating s stateSlot «TIMELY_TARGET_FLAG_INDEX» («get_previous_epoch» s stateSlot) v in
+    let participating = isUnslashedParticipating («get_current_epoch» s stateSlot) «TIMELY_TARGET_FLAG_INDEX» («get_previous_epoch» s stateSlot) v in
     let moved = cond participating (score - min 1 score) (score + s .«inactivity_score_bias») in
     let recovered = cond («is_in_inactivity_leak» s stateSlot finalizedEpoch) moved (moved - min (s .«inactivity_score_recovery_rate») moved) in
-    cond (isEligible s stateSlot v) (withScore recovered v) v
+    cond (isEligible («get_previous_epoch» s stateSlot) v) (withScore recovered v) v
 
 unfoldable pub «process_inactivity_updates» : Settings → BeaconState → BeaconState
 «process_inactivity_updates» s st =

@@ -48,13 +48,13 @@ unfoldable pub «get_base_reward» : Settings → ℕ → Validator → ℕ
     v .«effective_balance» / s .«effective_balance_increment» * «get_base_reward_per_increment» s totalActiveBalance
 
 -- the test of get_unslashed_participating_indices; where the epoch is both previous and current, the current flags count
-unfoldable pub isUnslashedParticipating : Settings → ℕ → ℕ → ℕ → Validator → Bool
-isUnslashedParticipating s stateSlot flagIndex epoch v =
-    let flags = cond (eqb epoch («get_current_epoch» s stateSlot)) (v .«current_epoch_participation») (v .«previous_epoch_participation») in
+unfoldable pub isUnslashedParticipating : ℕ → ℕ → ℕ → Validator → Bool
+isUnslashedParticipating currentEpoch flagIndex epoch v =
+    let flags = cond (eqb epoch currentEpoch) (v .«current_epoch_participation») (v .«previous_epoch_participation») in
     «is_active_validator» v epoch && «has_flag» flags flagIndex && not (isSlashed v)
 
 unfoldable pub «get_unslashed_participating_indices» : Settings → ℕ → List Validator → ℕ → ℕ → List Validator
-«get_unslashed_participating_indices» s stateSlot vs flagIndex epoch = filter (isUnslashedParticipating s stateSlot flagIndex epoch) vs
+«get_unslashed_participating_indices» s stateSlot vs flagIndex epoch = filter (isUnslashedParticipating («get_current_epoch» s stateSlot) flagIndex epoch) vs
 
 abbrev pub noDeltas : Deltas
 noDeltas = record { reward = 0; penalty = 0 }
@@ -69,7 +69,7 @@ flagIndexDeltas s stateSlot finalizedEpoch vs flagIndex v =
     let baseReward = «get_base_reward» s («get_total_active_balance» s stateSlot vs) v in
     let hit = cond («is_in_inactivity_leak» s stateSlot finalizedEpoch) noDeltas (record { reward = baseReward * weight * participating / (active * «WEIGHT_DENOMINATOR»); penalty = 0 }) in
     let missed = cond (eqb flagIndex «TIMELY_HEAD_FLAG_INDEX») noDeltas (record { reward = 0; penalty = baseReward * weight / «WEIGHT_DENOMINATOR» }) in
-    cond (isEligible s stateSlot v) (cond (isUnslashedParticipating s stateSlot flagIndex previousEpoch v) hit missed) noDeltas
+    cond (isEligible («get_previous_epoch» s stateSlot) v) (cond (isUnslashedParticipating («get_current_epoch» s stateSlot) flagIndex previousEpoch v) hit missed) noDeltas
 
 unfoldable pub «get_flag_index_deltas» : Settings → ℕ → ℕ → List Validator → ℕ → List Deltas
 «get_flag_index_deltas» s stateSlot finalizedEpoch vs flagIndex = map (flagIndexDeltas s stateSlot finalizedEpoch vs flagIndex) vs
@@ -78,7 +78,7 @@ unfoldable pub «get_flag_index_deltas» : Settings → ℕ → ℕ → List Val
 unfoldable pub inactivityPenaltyDeltas : Settings → ℕ → ℕ → Validator → Deltas
 inactivityPenaltyDeltas s quotient stateSlot v =
     let penalty = v .«effective_balance» * v .«inactivity_score» / (s .«inactivity_score_bias» * quotient) in
-    cond (isEligible s stateSlot v && not (isUnslashedParticipating s stateSlot «TIMELY_TARGET_FLAG_INDEX» («get_previous_epoch» s stateSlot) v)) (record { reward = 0; penalty = penalty }) noDeltas
+    cond (isEligible («get_previous_epoch» s stateSlot) v && not (isUnslashedParticipating («get_current_epoch» s stateSlot) «TIMELY_TARGET_FLAG_INDEX» («get_previous_epoch» s stateSlot) v)) (record { reward = 0; penalty = penalty }) noDeltas
 
 unfoldable pub «get_inactivity_penalty_deltas» : Settings → ℕ → ℕ → List Validator → List Deltas
 «get_inactivity_penalty_deltas» s quotient stateSlot vs = map (inactivityPenaltyDeltas s quotient stateSlot) vs

@@ -71,28 +71,26 @@ unfoldable pub «is_in_inactivity_leak» : Settings → ℕ → ℕ → Bool
     ltb (s .«min_epochs_to_inactivity_penalty») («get_finality_delay» s stateSlot finalizedEpoch)
 
 -- the test of get_eligible_validator_indices
-unfoldable pub isEligible : Settings → ℕ → Validator → Bool
-isEligible s stateSlot v =
-    let previousEpoch = «get_previous_epoch» s stateSlot in
+unfoldable pub isEligible : ℕ → Validator → Bool
+isEligible previousEpoch v =
     «is_active_validator» v previousEpoch || (isSlashed v && ltb (previousEpoch + 1) (v .«withdrawable_epoch»))
 
 -- Registry updates
 
 -- the first test of the loop writes the eligibility epoch
 unfoldable pub queueEligible : Settings → ℕ → Validator → Validator
-queueEligible s stateSlot v =
-    cond («is_eligible_for_activation_queue» s v) (withEligibility («get_current_epoch» s stateSlot + 1) v) v
+queueEligible s currentEpoch v = cond («is_eligible_for_activation_queue» s v) (withEligibility (currentEpoch + 1) v) v
 
 -- the second test asks for an ejection
 unfoldable pub isEjected : Settings → ℕ → Validator → Bool
-isEjected s stateSlot v =
-    «is_active_validator» v («get_current_epoch» s stateSlot) && leb (v .«effective_balance») (s .«ejection_balance»)
+isEjected s currentEpoch v = «is_active_validator» v currentEpoch && leb (v .«effective_balance») (s .«ejection_balance»)
 
 -- the loop's turn at an index
 unfoldable pub updateRegistryAt : Settings → ℕ → List Validator → ℕ → List Validator
 updateRegistryAt s stateSlot vs index =
-    let queued = set vs index (queueEligible s stateSlot (getD vs index nobody)) in
-    cond (isEjected s stateSlot (getD queued index nobody)) («initiate_validator_exit» s stateSlot queued index) queued
+    let currentEpoch = «get_current_epoch» s stateSlot in
+    let queued = set vs index (queueEligible s currentEpoch (getD vs index nobody)) in
+    cond (isEjected s currentEpoch (getD queued index nobody)) («initiate_validator_exit» s stateSlot queued index) queued
 
 -- (activation_eligibility_epoch, index), in this order
 abbrev pub queuesBefore : List Validator → ℕ → ℕ → Bool

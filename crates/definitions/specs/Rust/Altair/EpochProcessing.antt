@@ -35,8 +35,8 @@ recoveredScore s leaking score = cond leaking score (score - min (s .«inactivit
 
 unfoldable pub updateInactivityScore : Settings → ℕ → Bool → Validator → Checked Validator
 updateInactivityScore s stateSlot leaking v =
-    let participating = isUnslashedParticipating s stateSlot «TIMELY_TARGET_FLAG_INDEX» («get_previous_epoch» s stateSlot) v in
-    cond (isEligible s stateSlot v)
+    let participating = isUnslashedParticipating («get_current_epoch» s stateSlot) «TIMELY_TARGET_FLAG_INDEX» («get_previous_epoch» s stateSlot) v in
+    cond (isEligible («get_previous_epoch» s stateSlot) v)
     (bind (movedScore s participating (v .«inactivity_score»)) (λ score. value (withScore (recoveredScore s leaking score) v)))
     (value v)
 

@@ -9,7 +9,7 @@ use Rattle.types.specs.declared.Deltas.{Deltas}
 use Rattle.definitions.specs.Record.{Validator}
 use Rattle.definitions.specs.Checked.{Checked, value, bind, mul64}
 use Rattle.definitions.specs.Document.Phase0.Helpers.{«integer_squareroot»}
-use Rattle.definitions.specs.Rust.Phase0.Helpers.{«get_previous_epoch», «get_total_balance», «get_total_active_balance»}
+use Rattle.definitions.specs.Rust.Phase0.Helpers.{«get_current_epoch», «get_previous_epoch», «get_total_balance», «get_total_active_balance»}
 use Rattle.definitions.specs.Rust.Phase0.EpochProcessing.{«is_in_inactivity_leak», isEligible}
 -- constants.rs; 27, 33, 153: the document's
 pub use Rattle.definitions.specs.Document.Altair.Helpers.{«TIMELY_SOURCE_FLAG_INDEX», «TIMELY_TARGET_FLAG_INDEX», «TIMELY_HEAD_FLAG_INDEX», «PARTICIPATION_FLAG_WEIGHTS», «WEIGHT_DENOMINATOR», noDeltas}
@@ -57,9 +57,9 @@ missDeltas flagIndex weight baseReward =
 unfoldable pub flagIndexDeltas : Settings → ℕ → ℕ → FlagTotals → Validator → Checked Deltas
 flagIndexDeltas s stateSlot flagIndex t v =
     let weight = getD «PARTICIPATION_FLAG_WEIGHTS» flagIndex 0 in
-    cond (isEligible s stateSlot v)
+    cond (isEligible («get_previous_epoch» s stateSlot) v)
     (bind («get_base_reward» s (t .totalActiveBalance) v) (λ baseReward.
-    cond (isUnslashedParticipating s stateSlot flagIndex («get_previous_epoch» s stateSlot) v) (hitDeltas s weight t baseReward) (missDeltas flagIndex weight baseReward)))
+    cond (isUnslashedParticipating («get_current_epoch» s stateSlot) flagIndex («get_previous_epoch» s stateSlot) v) (hitDeltas s weight t baseReward) (missDeltas flagIndex weight baseReward)))
     (value noDeltas)
 
 -- 265, of one validator
@@ -70,7 +70,7 @@ unfoldable pub «get_flag_index_deltas» : Settings → ℕ → ℕ → List Val
 -- 316, of one validator: both products only where an eligible validator missed the target
 unfoldable pub «get_inactivity_penalty_deltas» : Settings → ℕ → ℕ → Validator → Checked Deltas
 «get_inactivity_penalty_deltas» s quotient stateSlot v =
-    cond (isEligible s stateSlot v && not (isUnslashedParticipating s stateSlot «TIMELY_TARGET_FLAG_INDEX» («get_previous_epoch» s stateSlot) v))
+    cond (isEligible («get_previous_epoch» s stateSlot) v && not (isUnslashedParticipating («get_current_epoch» s stateSlot) «TIMELY_TARGET_FLAG_INDEX» («get_previous_epoch» s stateSlot) v))
     (bind (mul64 (v .«effective_balance») (v .«inactivity_score»)) (λ numerator.
     bind (mul64 (s .«inactivity_score_bias») quotient) (λ denominator.
     value (record { reward = 0; penalty = numerator / denominator }))))

@@ -46,8 +46,9 @@ unfoldable pub «is_in_inactivity_leak» : Settings → ℕ → ℕ → Checked 
 -- 253, the loop's turn at an index
 unfoldable pub updateRegistryAt : Settings → ℕ → List Validator → ℕ → Checked (List Validator)
 updateRegistryAt s stateSlot vs index =
-    let queued = set vs index (queueEligible s stateSlot (getD vs index nobody)) in
-    cond (isEjected s stateSlot (getD queued index nobody)) («initiate_validator_exit» s stateSlot queued index) (value queued)
+    let currentEpoch = «get_current_epoch» s stateSlot in
+    let queued = set vs index (queueEligible s currentEpoch (getD vs index nobody)) in
+    cond (isEjected s currentEpoch (getD queued index nobody)) («initiate_validator_exit» s stateSlot queued index) (value queued)
 
 -- 253: the queue is read with the eligibility epochs just written
 unfoldable pub «process_registry_updates» : Settings → ℕ → ℕ → List Validator → Checked (List Validator)
