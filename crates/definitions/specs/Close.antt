@@ -18,25 +18,39 @@ use Rattle.definitions.specs.Rust.Altair.EpochProcessing.{«process_just
 abbrev pub onValidators : BeaconState → Checked (List Validator) → Checked BeaconState
 onValidators st closing = bind closing (λ vs. value (withValidators vs st))
 
+abbrev pub finalizedEpochOf : BeaconState → ℕ
+finalizedEpochOf st = st .finality .«finalized_checkpoint» .epoch
+
 -- in the order of Altair beacon-chain.md
 pub data Step : Type 0 where
-  justificationStep inactivityStep rewardsStep registryStep slashingsStep effectiveBalancesStep slashingsResetStep participationFlagsStep : Step
+  justificationStep inactivityStep rewardsStep registryStep : Step
+  slashingsStep effectiveBalancesStep slashingsResetStep participationFlagsStep : Step
 
 abbrev pub steps : List Step
 steps =
-    justificationStep ∷ inactivityStep ∷ rewardsStep ∷ registryStep ∷ slashingsStep ∷ effectiveBalancesStep ∷ slashingsResetStep ∷ participationFlagsStep ∷ []
+    justificationStep ∷
+    inactivityStep ∷
+    rewardsStep ∷
+    registryStep ∷
+    slashingsStep ∷
+    effectiveBalancesStep ∷
+    slashingsResetStep ∷
+    participationFlagsStep ∷
+    []
 
 unfoldable pub step : Settings → BeaconState → Step → Checked BeaconState
 step s st justificationStep =
     bind («process_justification_and_finalization» s (st .«block_roots») (st .finality) (st .validators)) (λ f. value (withFinality f st))
 step s st inactivityStep =
-    onValidators st («process_inactivity_updates» s (st .finality .slot) (st .finality .«finalized_checkpoint» .epoch) (st .validators))
+    onValidators st («process_inactivity_updates» s (st .finality .slot) (finalizedEpochOf st) (st .validators))
 step s st rewardsStep =
-    onValidators st («process_rewards_and_penalties» s (s .«inactivity_penalty_quotient_altair») (st .finality .slot) (st .finality .«finalized_checkpoint» .epoch) (st .validators))
+    let quotient = s .«inactivity_penalty_quotient_altair» in
+    onValidators st («process_rewards_and_penalties» s quotient (st .finality .slot) (finalizedEpochOf st) (st .validators))
 step s st registryStep =
-    onValidators st («process_registry_updates» s (st .finality .slot) (st .finality .«finalized_checkpoint» .epoch) (st .validators))
+    onValidators st («process_registry_updates» s (st .finality .slot) (finalizedEpochOf st) (st .validators))
 step s st slashingsStep =
-    onValidators st («process_slashings» s (s .«proportional_slashing_multiplier_altair») (st .finality .slot) (st .slashings) (st .validators))
+    let multiplier = s .«proportional_slashing_multiplier_altair» in
+    onValidators st («process_slashings» s multiplier (st .finality .slot) (st .slashings) (st .validators))
 step s st effectiveBalancesStep = onValidators st («process_effective_balance_updates» s (st .validators))
 step s st slashingsResetStep = value (withSlashings (resetSlashings s (st .finality .slot) (st .slashings)) st)
 step s st participationFlagsStep = value (withValidators («process_participation_flag_updates» (st .validators)) st)
@@ -65,7 +79,10 @@ stateOf c =
 
 unfoldable pub closeTests : Call → Checked (Unit {0})
 closeTests c =
-    inOrder (settingsShaped (c .settings) && registryShaped (c .registry) && rootsShaped (c .settings) (c .roots) && slashingsShaped (c .settings) (c .slashings) && sameLength (c .registry) (c .closingRegistry) && sameLength (c .slashings) (c .closingSlashings)) (goodSettings (c .settings)) (goodFinality (c .finality) && goodRegistry (c .registry))
+    let s = c .settings in
+    let opening = settingsShaped s && registryShaped (c .registry) && rootsShaped s (c .roots) && slashingsShaped s (c .slashings) in
+    let shaped = opening && sameLength (c .registry) (c .closingRegistry) && sameLength (c .slashings) (c .closingSlashings) in
+    inOrder shaped (goodSettings s) (goodFinality (c .finality) && goodRegistry (c .registry))
 
 -- the closed state, or the refusal
 unfoldable pub closed : Call → Checked BeaconState

@@ -70,7 +70,11 @@ checkpointToBytes c = littleEndian 8 (c .epoch) ++ c .root
 
 abbrev pub finalityToBytes : Finality → List ℕ
 finalityToBytes f =
-    littleEndian 8 (f .slot) ++ littleEndian 8 (f .«justification_bits») ++ checkpointToBytes (f .«previous_justified_checkpoint») ++ checkpointToBytes (f .«current_justified_checkpoint») ++ checkpointToBytes (f .«finalized_checkpoint»)
+    littleEndian 8 (f .slot)
+    ++ littleEndian 8 (f .«justification_bits»)
+    ++ checkpointToBytes (f .«previous_justified_checkpoint»)
+    ++ checkpointToBytes (f .«current_justified_checkpoint»)
+    ++ checkpointToBytes (f .«finalized_checkpoint»)
 
 unfoldable pub fileOf : Contents → List ℕ
 fileOf c =
@@ -83,7 +87,10 @@ fileOf c =
 
 unfoldable pub writeTests : Contents → List ℕ → Checked (Unit {0})
 writeTests c file =
-    inOrder (settingsShaped (c .settings) && registryShaped (c .registry) && rootsShaped (c .settings) (c .roots) && slashingsShaped (c .settings) (c .slashings) && lengthIs (fileLength (length (c .registry) / 10) (c .settings .«slots_per_historical_root») (c .settings .«epochs_per_slashings_vector»)) file) (goodSettings (c .settings)) (goodFinality (c .finality) && goodRegistry (c .registry))
+    let s = c .settings in
+    let called = fileLength (length (c .registry) / 10) (s .«slots_per_historical_root») (s .«epochs_per_slashings_vector») in
+    let opening = settingsShaped s && registryShaped (c .registry) && rootsShaped s (c .roots) && slashingsShaped s (c .slashings) in
+    inOrder (opening && lengthIs called file) (goodSettings s) (goodFinality (c .finality) && goodRegistry (c .registry))
 
 -- the lent file afterwards: untouched where it is refused
 unfoldable pub written : Contents → List ℕ → List ℕ
@@ -170,13 +177,20 @@ goodHeader bytes =
 unfoldable pub fileShaped : List ℕ → List ℕ → List ℕ → Bool
 fileShaped bytes registry slashings =
     let s = contentsOf bytes .settings in
-    leb (countOf bytes) (2 ^ 24) && isVectorLength (rootCountOf bytes) && isVectorLength (slashingCountOf bytes) && eqb (rootCountOf bytes) (s .«slots_per_historical_root») && eqb (slashingCountOf bytes) (s .«epochs_per_slashings_vector») && lengthIs (10 * countOf bytes) registry && lengthIs (slashingCountOf bytes) slashings
+    leb (countOf bytes) (2 ^ 24)
+    && isVectorLength (rootCountOf bytes)
+    && isVectorLength (slashingCountOf bytes)
+    && eqb (rootCountOf bytes) (s .«slots_per_historical_root»)
+    && eqb (slashingCountOf bytes) (s .«epochs_per_slashings_vector»)
+    && lengthIs (10 * countOf bytes) registry
+    && lengthIs (slashingCountOf bytes) slashings
 
 -- 6, then 1, 2, 3
 unfoldable pub readTests : List ℕ → List ℕ → List ℕ → Checked (Unit {0})
 readTests bytes registry slashings =
     let c = contentsOf bytes in
-    cond (goodHeader bytes) (inOrder (fileShaped bytes registry slashings) (goodSettings (c .settings)) (goodFinality (c .finality) && goodRegistry (c .registry))) (refused badFile)
+    let recorded = goodFinality (c .finality) && goodRegistry (c .registry) in
+    cond (goodHeader bytes) (inOrder (fileShaped bytes registry slashings) (goodSettings (c .settings)) recorded) (refused badFile)
 
 -- what is read, or the refusal; `registry` and `slashings` are the lent buffers
 unfoldable pub readFile : List ℕ → List ℕ → List ℕ → Checked Contents
@@ -208,11 +222,21 @@ position bytes registry slashings =
 abbrev pub noCheckpoint : Checkpoint
 noCheckpoint = record { epoch = 0; root = replicate 32 0 }
 
+abbrev pub noFinality : Finality
+noFinality =
+    record {
+      slot = 0;
+      «justification_bits» = 0;
+      «previous_justified_checkpoint» = noCheckpoint;
+      «current_justified_checkpoint» = noCheckpoint;
+      «finalized_checkpoint» = noCheckpoint;
+    }
+
 abbrev pub nothing : List ℕ → List ℕ → Contents
 nothing registry slashings =
     record {
       settings = settingsFrom [];
-      finality = record { slot = 0; «justification_bits» = 0; «previous_justified_checkpoint» = noCheckpoint; «current_justified_checkpoint» = noCheckpoint; «finalized_checkpoint» = noCheckpoint };
+      finality = noFinality;
       registry = registry;
       roots = [];
       slashings = slashings;

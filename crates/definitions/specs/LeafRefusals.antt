@@ -52,7 +52,8 @@ slotEntryTests s stateSlot entry = inOrder (settingsShaped s && entryShaped entr
 -- unslashed participation
 unfoldable pub participationEntryTests : Settings → ℕ → ℕ → ℕ → List ℕ → Checked (Unit {0})
 participationEntryTests s stateSlot flagIndex epoch entry =
-    inOrder (settingsShaped s && entryShaped entry && isFlagIndex flagIndex && isParticipationEpoch s stateSlot epoch) (goodSettings s) (isSmall stateSlot && goodEntry entry)
+    let shaped = settingsShaped s && entryShaped entry && isFlagIndex flagIndex && isParticipationEpoch s stateSlot epoch in
+    inOrder shaped (goodSettings s) (isSmall stateSlot && goodEntry entry)
 
 -- compute_epoch_at_slot, compute_start_slot_at_epoch, compute_activation_exit_epoch: their slot or epoch is any number
 unfoldable pub settingsTests : Settings → Checked (Unit {0})
@@ -76,12 +77,14 @@ weighTests s roots f = inOrder (settingsShaped s && rootsShaped s roots) (goodSe
 
 -- get_total_active_balance, get_validator_churn_limit, charged
 unfoldable pub slotRegistryTests : Settings → ℕ → List ℕ → Checked (Unit {0})
-slotRegistryTests s stateSlot registry = inOrder (settingsShaped s && registryShaped registry) (goodSettings s) (isSmall stateSlot && goodRegistry registry)
+slotRegistryTests s stateSlot registry =
+    inOrder (settingsShaped s && registryShaped registry) (goodSettings s) (isSmall stateSlot && goodRegistry registry)
 
 -- the participating balance of a flag
 unfoldable pub participationTests : Settings → ℕ → ℕ → ℕ → List ℕ → Checked (Unit {0})
 participationTests s stateSlot flagIndex epoch registry =
-    inOrder (settingsShaped s && registryShaped registry && isFlagIndex flagIndex && isParticipationEpoch s stateSlot epoch) (goodSettings s) (isSmall stateSlot && goodRegistry registry)
+    let shaped = settingsShaped s && registryShaped registry && isFlagIndex flagIndex && isParticipationEpoch s stateSlot epoch in
+    inOrder shaped (goodSettings s) (isSmall stateSlot && goodRegistry registry)
 
 -- initiate_validator_exit
 unfoldable pub exitTests : Settings → ℕ → ℕ → List ℕ → Checked (Unit {0})
@@ -91,7 +94,8 @@ exitTests s stateSlot index registry =
 -- get_flag_index_deltas
 unfoldable pub flagDeltasTests : Settings → ℕ → ℕ → ℕ → ℕ → List ℕ → Checked (Unit {0})
 flagDeltasTests s stateSlot finalizedEpoch flagIndex index registry =
-    inOrder (settingsShaped s && registryShaped registry && isFlagIndex flagIndex && isIndex index registry) (goodSettings s) (isSmall stateSlot && isSmall finalizedEpoch && goodRegistry registry)
+    let shaped = settingsShaped s && registryShaped registry && isFlagIndex flagIndex && isIndex index registry in
+    inOrder shaped (goodSettings s) (isSmall stateSlot && isSmall finalizedEpoch && goodRegistry registry)
 
 -- get_base_reward_per_increment: "a total of 0 to divide by answers 1"
 unfoldable pub totalTests : Settings → ℕ → Checked (Unit {0})

@@ -86,7 +86,11 @@ goodSettings s = all (λ n. not (eqb n 0)) (divisors s) && all isSmall (settings
 
 unfoldable pub goodFinality : Finality → Bool
 goodFinality f =
-    isSmall (f .slot) && leb (f .«justification_bits») 15 && isSmall (f .«previous_justified_checkpoint» .epoch) && isSmall (f .«current_justified_checkpoint» .epoch) && isSmall (f .«finalized_checkpoint» .epoch)
+    isSmall (f .slot)
+    && leb (f .«justification_bits») 15
+    && isSmall (f .«previous_justified_checkpoint» .epoch)
+    && isSmall (f .«current_justified_checkpoint» .epoch)
+    && isSmall (f .«finalized_checkpoint» .epoch)
 
 unfoldable pub goodValidator : Validator → Bool
 goodValidator v = leb (v .slashed) 1 && leb (v .«previous_epoch_participation») 255 && leb (v .«current_epoch_participation») 255
@@ -115,11 +119,13 @@ justificationTests s roots f registry =
 -- inactivity, rewards and registry
 unfoldable pub registryTests : Settings → ℕ → ℕ → List ℕ → List ℕ → Checked (Unit {0})
 registryTests s stateSlot finalizedEpoch opening closing =
-    inOrder (settingsShaped s && registryShaped opening && sameLength opening closing) (goodSettings s) (isSmall stateSlot && isSmall finalizedEpoch && goodRegistry opening)
+    let shaped = settingsShaped s && registryShaped opening && sameLength opening closing in
+    inOrder shaped (goodSettings s) (isSmall stateSlot && isSmall finalizedEpoch && goodRegistry opening)
 
 unfoldable pub slashingsTests : Settings → ℕ → List ℕ → List ℕ → List ℕ → Checked (Unit {0})
 slashingsTests s stateSlot slashings opening closing =
-    inOrder (settingsShaped s && slashingsShaped s slashings && registryShaped opening && sameLength opening closing) (goodSettings s) (isSmall stateSlot && goodRegistry opening)
+    let shaped = settingsShaped s && slashingsShaped s slashings && registryShaped opening && sameLength opening closing in
+    inOrder shaped (goodSettings s) (isSmall stateSlot && goodRegistry opening)
 
 unfoldable pub effectiveBalanceTests : Settings → List ℕ → List ℕ → Checked (Unit {0})
 effectiveBalanceTests s opening closing =

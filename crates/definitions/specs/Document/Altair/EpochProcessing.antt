@@ -22,18 +22,20 @@ unfoldable pub «process_justification_and_finalization» : Settings → BeaconS
     let totalActiveBalance = «get_total_active_balance» s stateSlot (st .validators) in
     let previousTargetBalance = «get_total_balance» s (target («get_previous_epoch» s stateSlot)) in
     let currentTargetBalance = «get_total_balance» s (target currentEpoch) in
+    let weigh = «weigh_justification_and_finalization» s (st .«block_roots») (st .finality) in
     cond (leb currentEpoch («GENESIS_EPOCH» + 1)) st
-    (withFinality («weigh_justification_and_finalization» s (st .«block_roots») (st .finality) totalActiveBalance previousTargetBalance currentTargetBalance) st)
+    (withFinality (weigh totalActiveBalance previousTargetBalance currentTargetBalance) st)
 
 -- Inactivity scores
 
 unfoldable pub updateInactivityScore : Settings → ℕ → ℕ → Validator → Validator
 updateInactivityScore s stateSlot finalizedEpoch v =
     let score = v .«inactivity_score» in
-    let participating = isUnslashedParticipating («get_current_epoch» s stateSlot) «TIMELY_TARGET_FLAG_INDEX» («get_previous_epoch» s stateSlot) v in
+    let previousEpoch = «get_previous_epoch» s stateSlot in
+    let participating = isUnslashedParticipating («get_current_epoch» s stateSlot) «TIMELY_TARGET_FLAG_INDEX» previousEpoch v in
     let moved = cond participating (score - min 1 score) (score + s .«inactivity_score_bias») in
     let recovered = cond («is_in_inactivity_leak» s stateSlot finalizedEpoch) moved (moved - min (s .«inactivity_score_recovery_rate») moved) in
-    cond (isEligible («get_previous_epoch» s stateSlot) v) (withScore recovered v) v
+    cond (isEligible previousEpoch v) (withScore recovered v) v
 
 unfoldable pub «process_inactivity_updates» : Settings → BeaconState → BeaconState
 «process_inactivity_updates» s st =
@@ -55,7 +57,8 @@ unfoldable pub «process_rewards_and_penalties» : Settings → ℕ → BeaconSt
 «process_rewards_and_penalties» s quotient st =
     let stateSlot = st .finality .slot in
     let flagDeltas = «get_flag_index_deltas» s stateSlot (st .finality .«finalized_checkpoint» .epoch) (st .validators) in
-    let deltas = flagDeltas «TIMELY_SOURCE_FLAG_INDEX» ∷ flagDeltas «TIMELY_TARGET_FLAG_INDEX» ∷ flagDeltas «TIMELY_HEAD_FLAG_INDEX» ∷ «get_inactivity_penalty_deltas» s quotient stateSlot (st .validators) ∷ [] in
+    let inactivity = «get_inactivity_penalty_deltas» s quotient stateSlot (st .validators) in
+    let deltas = flagDeltas «TIMELY_SOURCE_FLAG_INDEX» ∷ flagDeltas «TIMELY_TARGET_FLAG_INDEX» ∷ flagDeltas «TIMELY_HEAD_FLAG_INDEX» ∷ inactivity ∷ [] in
     cond (eqb («get_current_epoch» s stateSlot) «GENESIS_EPOCH») st (withValidators (foldl applyDeltas (st .validators) deltas) st)
 
 -- Slashings

@@ -54,7 +54,8 @@ isUnslashedParticipating currentEpoch flagIndex epoch v =
     «is_active_validator» v epoch && «has_flag» flags flagIndex && not (isSlashed v)
 
 unfoldable pub «get_unslashed_participating_indices» : Settings → ℕ → List Validator → ℕ → ℕ → List Validator
-«get_unslashed_participating_indices» s stateSlot vs flagIndex epoch = filter (isUnslashedParticipating («get_current_epoch» s stateSlot) flagIndex epoch) vs
+«get_unslashed_participating_indices» s stateSlot vs flagIndex epoch =
+    filter (isUnslashedParticipating («get_current_epoch» s stateSlot) flagIndex epoch) vs
 
 abbrev pub noDeltas : Deltas
 noDeltas = record { reward = 0; penalty = 0 }
@@ -64,12 +65,16 @@ unfoldable pub flagIndexDeltas : Settings → ℕ → ℕ → List Validator →
 flagIndexDeltas s stateSlot finalizedEpoch vs flagIndex v =
     let weight = getD «PARTICIPATION_FLAG_WEIGHTS» flagIndex 0 in
     let previousEpoch = «get_previous_epoch» s stateSlot in
-    let participating = «get_total_balance» s («get_unslashed_participating_indices» s stateSlot vs flagIndex previousEpoch) / s .«effective_balance_increment» in
+    let indices = «get_unslashed_participating_indices» s stateSlot vs flagIndex previousEpoch in
+    let participating = «get_total_balance» s indices / s .«effective_balance_increment» in
     let active = «get_total_active_balance» s stateSlot vs / s .«effective_balance_increment» in
     let baseReward = «get_base_reward» s («get_total_active_balance» s stateSlot vs) v in
-    let hit = cond («is_in_inactivity_leak» s stateSlot finalizedEpoch) noDeltas (record { reward = baseReward * weight * participating / (active * «WEIGHT_DENOMINATOR»); penalty = 0 }) in
-    let missed = cond (eqb flagIndex «TIMELY_HEAD_FLAG_INDEX») noDeltas (record { reward = 0; penalty = baseReward * weight / «WEIGHT_DENOMINATOR» }) in
-    cond (isEligible («get_previous_epoch» s stateSlot) v) (cond (isUnslashedParticipating («get_current_epoch» s stateSlot) flagIndex previousEpoch v) hit missed) noDeltas
+    let reward = baseReward * weight * participating / (active * «WEIGHT_DENOMINATOR») in
+    let hit = cond («is_in_inactivity_leak» s stateSlot finalizedEpoch) noDeltas (record { reward = reward; penalty = 0 }) in
+    let penalty = baseReward * weight / «WEIGHT_DENOMINATOR» in
+    let missed = cond (eqb flagIndex «TIMELY_HEAD_FLAG_INDEX») noDeltas (record { reward = 0; penalty = penalty }) in
+    let participates = isUnslashedParticipating («get_current_epoch» s stateSlot) flagIndex previousEpoch v in
+    cond (isEligible previousEpoch v) (cond participates hit missed) noDeltas
 
 unfoldable pub «get_flag_index_deltas» : Settings → ℕ → ℕ → List Validator → ℕ → List Deltas
 «get_flag_index_deltas» s stateSlot finalizedEpoch vs flagIndex = map (flagIndexDeltas s stateSlot finalizedEpoch vs flagIndex) vs
@@ -78,7 +83,9 @@ unfoldable pub «get_flag_index_deltas» : Settings → ℕ → ℕ → List Val
 unfoldable pub inactivityPenaltyDeltas : Settings → ℕ → ℕ → Validator → Deltas
 inactivityPenaltyDeltas s quotient stateSlot v =
     let penalty = v .«effective_balance» * v .«inactivity_score» / (s .«inactivity_score_bias» * quotient) in
-    cond (isEligible («get_previous_epoch» s stateSlot) v && not (isUnslashedParticipating («get_current_epoch» s stateSlot) «TIMELY_TARGET_FLAG_INDEX» («get_previous_epoch» s stateSlot) v)) (record { reward = 0; penalty = penalty }) noDeltas
+    let previousEpoch = «get_previous_epoch» s stateSlot in
+    let matching = isUnslashedParticipating («get_current_epoch» s stateSlot) «TIMELY_TARGET_FLAG_INDEX» previousEpoch v in
+    cond (isEligible previousEpoch v && not matching) (record { reward = 0; penalty = penalty }) noDeltas
 
 unfoldable pub «get_inactivity_penalty_deltas» : Settings → ℕ → ℕ → List Validator → List Deltas
 «get_inactivity_penalty_deltas» s quotient stateSlot vs = map (inactivityPenaltyDeltas s quotient stateSlot) vs

@@ -44,7 +44,9 @@ weighed previousEpoch currentEpoch previous current previousRoot currentRoot old
       slot = old .slot;
       «justification_bits» = justifiedBits previous current (old .«justification_bits»);
       «previous_justified_checkpoint» = old .«current_justified_checkpoint»;
-      «current_justified_checkpoint» = cond current (record { epoch = currentEpoch; root = currentRoot }) (cond previous (record { epoch = previousEpoch; root = previousRoot }) (old .«current_justified_checkpoint»));
+      «current_justified_checkpoint» =
+          cond current (record { epoch = currentEpoch; root = currentRoot })
+          (cond previous (record { epoch = previousEpoch; root = previousRoot }) (old .«current_justified_checkpoint»));
       «finalized_checkpoint» = finalizedBy currentEpoch (justifiedBits previous current (old .«justification_bits»)) old;
     }
 
@@ -115,7 +117,9 @@ unfoldable pub «process_registry_updates» : Settings → BeaconState → Beaco
 «process_registry_updates» s st =
     let stateSlot = st .finality .slot in
     let queued = foldl (updateRegistryAt s stateSlot) (st .validators) (range 0 (length (st .validators))) in
-    withValidators (dequeued («compute_activation_exit_epoch» s («get_current_epoch» s stateSlot)) («get_validator_churn_limit» s stateSlot queued) (st .finality .«finalized_checkpoint» .epoch) queued) st
+    let epoch = «compute_activation_exit_epoch» s («get_current_epoch» s stateSlot) in
+    let limit = «get_validator_churn_limit» s stateSlot queued in
+    withValidators (dequeued epoch limit (st .finality .«finalized_checkpoint» .epoch) queued) st
 
 -- Effective balances updates
 
@@ -128,7 +132,8 @@ updateEffectiveBalance s v =
     let increment = s .«effective_balance_increment» / s .«hysteresis_quotient» in
     let downward = increment * s .«hysteresis_downward_multiplier» in
     let upward = increment * s .«hysteresis_upward_multiplier» in
-    cond (ltb (v .balance + downward) (v .«effective_balance») || ltb (v .«effective_balance» + upward) (v .balance)) (withEffectiveBalance (roundedBalance s v) v) v
+    let moved = ltb (v .balance + downward) (v .«effective_balance») || ltb (v .«effective_balance» + upward) (v .balance) in
+    cond moved (withEffectiveBalance (roundedBalance s v) v) v
 
 unfoldable pub «process_effective_balance_updates» : Settings → BeaconState → BeaconState
 «process_effective_balance_updates» s st = withValidators (map (updateEffectiveBalance s) (st .validators)) st

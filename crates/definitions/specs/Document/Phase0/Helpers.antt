@@ -70,7 +70,8 @@ unfoldable pub «get_active_validator_indices» : List Validator → ℕ → Lis
 
 unfoldable pub «get_validator_churn_limit» : Settings → ℕ → List Validator → ℕ
 «get_validator_churn_limit» s stateSlot vs =
-    max (s .«min_per_epoch_churn_limit») (length («get_active_validator_indices» vs («get_current_epoch» s stateSlot)) / s .«churn_limit_quotient»)
+    let active = length («get_active_validator_indices» vs («get_current_epoch» s stateSlot)) in
+    max (s .«min_per_epoch_churn_limit») (active / s .«churn_limit_quotient»)
 
 -- at least one increment, to avoid divisions by zero
 unfoldable pub «get_total_balance» : Settings → List Validator → ℕ

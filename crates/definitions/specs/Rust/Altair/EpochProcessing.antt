@@ -35,8 +35,9 @@ recoveredScore s leaking score = cond leaking score (score - min (s .«inactivit
 
 unfoldable pub updateInactivityScore : Settings → ℕ → Bool → Validator → Checked Validator
 updateInactivityScore s stateSlot leaking v =
-    let participating = isUnslashedParticipating («get_current_epoch» s stateSlot) «TIMELY_TARGET_FLAG_INDEX» («get_previous_epoch» s stateSlot) v in
-    cond (isEligible («get_previous_epoch» s stateSlot) v)
+    let previousEpoch = «get_previous_epoch» s stateSlot in
+    let participating = isUnslashedParticipating («get_current_epoch» s stateSlot) «TIMELY_TARGET_FLAG_INDEX» previousEpoch v in
+    cond (isEligible previousEpoch v)
     (bind (movedScore s participating (v .«inactivity_score»)) (λ score. value (withScore (recoveredScore s leaking score) v)))
     (value v)
 
@@ -72,12 +73,15 @@ unfoldable pub «process_rewards_and_penalties» : Settings → ℕ → ℕ → 
 -- 230, a validator: the epoch is compared only where it is slashed
 unfoldable pub isSlashingDue : Settings → ℕ → Validator → Checked Bool
 isSlashingDue s epoch v =
-    cond (isSlashed v) (bind (add64 epoch (s .«epochs_per_slashings_vector» / 2)) (λ due. value (eqb due (v .«withdrawable_epoch»)))) (value false)
+    cond (isSlashed v)
+    (bind (add64 epoch (s .«epochs_per_slashings_vector» / 2)) (λ due. value (eqb due (v .«withdrawable_epoch»))))
+    (value false)
 
 unfoldable pub slashingPenalty : Settings → ℕ → ℕ → Validator → Checked ℕ
 slashingPenalty s totalBalance adjustedTotalSlashingBalance v =
     let increment = s .«effective_balance_increment» in
-    bind (mul64 (v .«effective_balance» / increment) adjustedTotalSlashingBalance) (λ penaltyNumerator. mul64 (penaltyNumerator / totalBalance) increment)
+    bind (mul64 (v .«effective_balance» / increment) adjustedTotalSlashingBalance) (λ penaltyNumerator.
+    mul64 (penaltyNumerator / totalBalance) increment)
 
 unfoldable pub slash : Settings → ℕ → ℕ → ℕ → Validator → Checked Validator
 slash s epoch totalBalance adjustedTotalSlashingBalance v =

@@ -18,7 +18,8 @@ unfoldable pub use Rattle.definitions.specs.Document.Altair.Helpers.{«a
 -- 125: the product, then the square root of the total
 unfoldable pub «get_base_reward_per_increment» : Settings → ℕ → Checked ℕ
 «get_base_reward_per_increment» s totalActiveBalance =
-    bind (mul64 (s .«effective_balance_increment») (s .«base_reward_factor»)) (λ product. value (product / «integer_squareroot» totalActiveBalance))
+    bind (mul64 (s .«effective_balance_increment») (s .«base_reward_factor»)) (λ product.
+    value (product / «integer_squareroot» totalActiveBalance))
 
 -- epoch_processing.rs 22
 unfoldable pub «get_base_reward» : Settings → ℕ → Validator → Checked ℕ
@@ -33,7 +34,8 @@ pub record FlagTotals : Type 0 where
 
 unfoldable pub flagTotals : Settings → ℕ → ℕ → List Validator → ℕ → Checked FlagTotals
 flagTotals s stateSlot finalizedEpoch vs flagIndex =
-    bind («get_total_balance» s («get_unslashed_participating_indices» s stateSlot vs flagIndex («get_previous_epoch» s stateSlot))) (λ participating.
+    let indices = «get_unslashed_participating_indices» s stateSlot vs flagIndex («get_previous_epoch» s stateSlot) in
+    bind («get_total_balance» s indices) (λ participating.
     bind («get_total_active_balance» s stateSlot vs) (λ active.
     bind («is_in_inactivity_leak» s stateSlot finalizedEpoch) (λ leaking.
     value (record { participatingIncrements = participating / s .«effective_balance_increment»; totalActiveBalance = active; leaking = leaking }))))
@@ -57,9 +59,11 @@ missDeltas flagIndex weight baseReward =
 unfoldable pub flagIndexDeltas : Settings → ℕ → ℕ → FlagTotals → Validator → Checked Deltas
 flagIndexDeltas s stateSlot flagIndex t v =
     let weight = getD «PARTICIPATION_FLAG_WEIGHTS» flagIndex 0 in
-    cond (isEligible («get_previous_epoch» s stateSlot) v)
+    let previousEpoch = «get_previous_epoch» s stateSlot in
+    let participates = isUnslashedParticipating («get_current_epoch» s stateSlot) flagIndex previousEpoch v in
+    cond (isEligible previousEpoch v)
     (bind («get_base_reward» s (t .totalActiveBalance) v) (λ baseReward.
-    cond (isUnslashedParticipating («get_current_epoch» s stateSlot) flagIndex («get_previous_epoch» s stateSlot) v) (hitDeltas s weight t baseReward) (missDeltas flagIndex weight baseReward)))
+    cond participates (hitDeltas s weight t baseReward) (missDeltas flagIndex weight baseReward)))
     (value noDeltas)
 
 -- 265, of one validator
@@ -70,7 +74,9 @@ unfoldable pub «get_flag_index_deltas» : Settings → ℕ → ℕ → List Val
 -- 316, of one validator: both products only where an eligible validator missed the target
 unfoldable pub «get_inactivity_penalty_deltas» : Settings → ℕ → ℕ → Validator → Checked Deltas
 «get_inactivity_penalty_deltas» s quotient stateSlot v =
-    cond (isEligible («get_previous_epoch» s stateSlot) v && not (isUnslashedParticipating («get_current_epoch» s stateSlot) «TIMELY_TARGET_FLAG_INDEX» («get_previous_epoch» s stateSlot) v))
+    let previousEpoch = «get_previous_epoch» s stateSlot in
+    let matching = isUnslashedParticipating («get_current_epoch» s stateSlot) «TIMELY_TARGET_FLAG_INDEX» previousEpoch v in
+    cond (isEligible previousEpoch v && not matching)
     (bind (mul64 (v .«effective_balance») (v .«inactivity_score»)) (λ numerator.
     bind (mul64 (s .«inactivity_score_bias») quotient) (λ denominator.
     value (record { reward = 0; penalty = numerator / denominator }))))
