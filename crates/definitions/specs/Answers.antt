@@ -1,4 +1,5 @@
 -- The numbers and values of document 01 that each case of an answer stands for.
+use mathlib.Core.Path.{_≡_}
 use mathlib.Core.Bool.{Bool}
 use Prim.Native.Nat.{ℕ}
 use Rattle.types.specs.declared.Deltas.{Deltas}
@@ -27,3 +28,16 @@ deltasAnswerFor (refused r) = DeltasRefused (numberOf r)
 -- `old` is the finality handed in
 abbrev pub finalityAnswerFor : Checked Finality → Finality → FinalityAnswer
 finalityAnswerFor m old = record { refusal = codeOf m; finality = settle m old }
+
+-- A contract: the answer r is what f makes of the definition m. A record, so that callers' proofs find f and m by themselves.
+pub record Answers {A R : Type 0} (f : Checked A → R) (m : Checked A) (r : R) : Type 0 where
+  pub is : r ≡ f m
+
+abbrev pub Says : Checked ℕ → Number → Type 0
+Says m r = Answers numberFor m r
+
+abbrev pub Tells : Checked Bool → Truth → Type 0
+Tells m r = Answers truthFor m r
+
+abbrev pub Changes : Checked Deltas → DeltasAnswer → Type 0
+Changes m r = Answers deltasAnswerFor m r

@@ -11,7 +11,7 @@ use Rattle.definitions.specs.Updates.{withScore}
 use Rattle.definitions.specs.Checked.{Checked, value, bind, add64, mul64, sum64, mapChecked, foldChecked}
 use Rattle.definitions.specs.Rust.Phase0.Helpers.{«get_current_epoch», «get_previous_epoch», «get_total_balance», «get_total_active_balance», «increase_balance», «decrease_balance»}
 use Rattle.definitions.specs.Rust.Phase0.EpochProcessing.{«weigh_justification_and_finalization», «is_in_inactivity_leak», isEligible}
-use Rattle.definitions.specs.Rust.Altair.Helpers.{«TIMELY_SOURCE_FLAG_INDEX», «TIMELY_TARGET_FLAG_INDEX», «TIMELY_HEAD_FLAG_INDEX», isUnslashedParticipating, «get_unslashed_participating_indices», FlagTotals, flagTotals, flagIndexDeltas, «get_inactivity_penalty_deltas»}
+use Rattle.definitions.specs.Rust.Altair.Helpers.{«TIMELY_SOURCE_FLAG_INDEX», «TIMELY_TARGET_FLAG_INDEX», «TIMELY_HEAD_FLAG_INDEX», isUnslashedParticipating, «get_unslashed_participating_indices», FlagTotals, flagTotals, flagIndexDeltas, inactivityPenaltyDeltas}
 use Rattle.definitions.specs.Document.Altair.EpochProcessing.{rotateParticipation}
 
 -- 50: total, previous target, current target, then the weighing
@@ -33,10 +33,9 @@ movedScore s participating score = cond participating (value (score - min 1 scor
 unfoldable pub recoveredScore : Settings → Bool → ℕ → ℕ
 recoveredScore s leaking score = cond leaking score (score - min (s .«inactivity_score_recovery_rate») score)
 
-unfoldable pub updateInactivityScore : Settings → ℕ → Bool → Validator → Checked Validator
-updateInactivityScore s stateSlot leaking v =
-    let previousEpoch = «get_previous_epoch» s stateSlot in
-    let participating = isUnslashedParticipating («get_current_epoch» s stateSlot) «TIMELY_TARGET_FLAG_INDEX» previousEpoch v in
+unfoldable pub updateInactivityScore : Settings → ℕ → ℕ → Bool → Validator → Checked Validator
+updateInactivityScore s currentEpoch previousEpoch leaking v =
+    let participating = isUnslashedParticipating currentEpoch «TIMELY_TARGET_FLAG_INDEX» previousEpoch v in
     cond (isEligible previousEpoch v)
     (bind (movedScore s participating (v .«inactivity_score»)) (λ score. value (withScore (recoveredScore s leaking score) v)))
     (value v)
@@ -44,31 +43,35 @@ updateInactivityScore s stateSlot leaking v =
 -- 104: the finality delay is evaluated before the loop
 unfoldable pub «process_inactivity_updates» : Settings → ℕ → ℕ → List Validator → Checked (List Validator)
 «process_inactivity_updates» s stateSlot finalizedEpoch vs =
-    cond (eqb («get_current_epoch» s stateSlot) «GENESIS_EPOCH») (value vs)
-    (bind («is_in_inactivity_leak» s stateSlot finalizedEpoch) (λ leaking. mapChecked (updateInactivityScore s stateSlot leaking) vs))
+    let currentEpoch = «get_current_epoch» s stateSlot in
+    cond (eqb currentEpoch «GENESIS_EPOCH») (value vs)
+    (bind («is_in_inactivity_leak» s stateSlot finalizedEpoch) (λ leaking.
+    mapChecked (updateInactivityScore s currentEpoch («get_previous_epoch» s stateSlot) leaking) vs))
 
 -- 157, a validator: a reward, then its penalty
 unfoldable pub applyDelta : Validator → Deltas → Checked Validator
 applyDelta v d = bind («increase_balance» v (d .reward)) (λ w. value («decrease_balance» w (d .penalty)))
 
 -- 157, a validator: all deltas are worked out before the first is applied
-unfoldable pub rewardAndPenalize : Settings → ℕ → ℕ → FlagTotals → FlagTotals → FlagTotals → Validator → Checked Validator
-rewardAndPenalize s quotient stateSlot source target head v =
-    bind (flagIndexDeltas s stateSlot «TIMELY_SOURCE_FLAG_INDEX» source v) (λ a.
-    bind (flagIndexDeltas s stateSlot «TIMELY_TARGET_FLAG_INDEX» target v) (λ b.
-    bind (flagIndexDeltas s stateSlot «TIMELY_HEAD_FLAG_INDEX» head v) (λ c.
-    bind («get_inactivity_penalty_deltas» s quotient stateSlot v) (λ d.
+unfoldable pub rewardAndPenalize : Settings → ℕ → ℕ → ℕ → FlagTotals → FlagTotals → FlagTotals → Validator → Checked Validator
+rewardAndPenalize s quotient currentEpoch previousEpoch source target head v =
+    let deltas = flagIndexDeltas s currentEpoch previousEpoch in
+    bind (deltas «TIMELY_SOURCE_FLAG_INDEX» source v) (λ a.
+    bind (deltas «TIMELY_TARGET_FLAG_INDEX» target v) (λ b.
+    bind (deltas «TIMELY_HEAD_FLAG_INDEX» head v) (λ c.
+    bind (inactivityPenaltyDeltas s quotient currentEpoch previousEpoch v) (λ d.
     foldChecked applyDelta v (a ∷ b ∷ c ∷ d ∷ [])))))
 
 -- 157: only 5 can arise, so that the order of the validators' deltas does not show
 unfoldable pub «process_rewards_and_penalties» : Settings → ℕ → ℕ → ℕ → List Validator → Checked (List Validator)
 «process_rewards_and_penalties» s quotient stateSlot finalizedEpoch vs =
     let totals = flagTotals s stateSlot finalizedEpoch vs in
-    cond (eqb («get_current_epoch» s stateSlot) «GENESIS_EPOCH») (value vs)
+    let currentEpoch = «get_current_epoch» s stateSlot in
+    cond (eqb currentEpoch «GENESIS_EPOCH») (value vs)
     (bind (totals «TIMELY_SOURCE_FLAG_INDEX») (λ source.
     bind (totals «TIMELY_TARGET_FLAG_INDEX») (λ target.
     bind (totals «TIMELY_HEAD_FLAG_INDEX») (λ head.
-    mapChecked (rewardAndPenalize s quotient stateSlot source target head) vs))))
+    mapChecked (rewardAndPenalize s quotient currentEpoch («get_previous_epoch» s stateSlot) source target head) vs))))
 
 -- 230, a validator: the epoch is compared only where it is slashed
 unfoldable pub isSlashingDue : Settings → ℕ → Validator → Checked Bool

@@ -56,11 +56,10 @@ missDeltas flagIndex weight baseReward =
     (bind (mul64 baseReward weight) (λ weighted. value (record { reward = 0; penalty = weighted / «WEIGHT_DENOMINATOR» })))
 
 -- 265, the loop's turn: only eligible validators have a base reward
-unfoldable pub flagIndexDeltas : Settings → ℕ → ℕ → FlagTotals → Validator → Checked Deltas
-flagIndexDeltas s stateSlot flagIndex t v =
+unfoldable pub flagIndexDeltas : Settings → ℕ → ℕ → ℕ → FlagTotals → Validator → Checked Deltas
+flagIndexDeltas s currentEpoch previousEpoch flagIndex t v =
     let weight = getD «PARTICIPATION_FLAG_WEIGHTS» flagIndex 0 in
-    let previousEpoch = «get_previous_epoch» s stateSlot in
-    let participates = isUnslashedParticipating («get_current_epoch» s stateSlot) flagIndex previousEpoch v in
+    let participates = isUnslashedParticipating currentEpoch flagIndex previousEpoch v in
     cond (isEligible previousEpoch v)
     (bind («get_base_reward» s (t .totalActiveBalance) v) (λ baseReward.
     cond participates (hitDeltas s weight t baseReward) (missDeltas flagIndex weight baseReward)))
@@ -69,15 +68,20 @@ flagIndexDeltas s stateSlot flagIndex t v =
 -- 265, of one validator
 unfoldable pub «get_flag_index_deltas» : Settings → ℕ → ℕ → List Validator → ℕ → Validator → Checked Deltas
 «get_flag_index_deltas» s stateSlot finalizedEpoch vs flagIndex v =
-    bind (flagTotals s stateSlot finalizedEpoch vs flagIndex) (λ t. flagIndexDeltas s stateSlot flagIndex t v)
+    bind (flagTotals s stateSlot finalizedEpoch vs flagIndex) (λ t.
+    flagIndexDeltas s («get_current_epoch» s stateSlot) («get_previous_epoch» s stateSlot) flagIndex t v)
 
--- 316, of one validator: both products only where an eligible validator missed the target
-unfoldable pub «get_inactivity_penalty_deltas» : Settings → ℕ → ℕ → Validator → Checked Deltas
-«get_inactivity_penalty_deltas» s quotient stateSlot v =
-    let previousEpoch = «get_previous_epoch» s stateSlot in
-    let matching = isUnslashedParticipating («get_current_epoch» s stateSlot) «TIMELY_TARGET_FLAG_INDEX» previousEpoch v in
+-- 316, the loop's turn: both products only where an eligible validator missed the target
+unfoldable pub inactivityPenaltyDeltas : Settings → ℕ → ℕ → ℕ → Validator → Checked Deltas
+inactivityPenaltyDeltas s quotient currentEpoch previousEpoch v =
+    let matching = isUnslashedParticipating currentEpoch «TIMELY_TARGET_FLAG_INDEX» previousEpoch v in
     cond (isEligible previousEpoch v && not matching)
     (bind (mul64 (v .«effective_balance») (v .«inactivity_score»)) (λ numerator.
     bind (mul64 (s .«inactivity_score_bias») quotient) (λ denominator.
     value (record { reward = 0; penalty = numerator / denominator }))))
     (value noDeltas)
+
+-- 316, of one validator
+unfoldable pub «get_inactivity_penalty_deltas» : Settings → ℕ → ℕ → Validator → Checked Deltas
+«get_inactivity_penalty_deltas» s quotient stateSlot v =
+    inactivityPenaltyDeltas s quotient («get_current_epoch» s stateSlot) («get_previous_epoch» s stateSlot) v
