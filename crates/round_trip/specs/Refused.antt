@@ -1,0 +1,71 @@
+-- What a refused call leaves, and where reading stops. Document 01, "What is returned" and "Record file".
+use mathlib.Core.Path.{_≡_}
+use mathlib.Core.Bool.{true, false}
+use mathlib.Core.List.{List, []}
+use Prim.Native.Nat.{ℕ, _+_, _*_, _≤_, _<_}
+use lib.ListN.{length, getD, replicate}
+use Rattle.definitions.specs.Lists.{all}
+use Rattle.definitions.specs.Record.{Validator, encodeOne, decode, nobody}
+use Rattle.definitions.specs.Checked.{value, refused, Refusal, badRecord, numberOf}
+use Rattle.definitions.specs.Refusals.{settingsNumbers, goodSettings, goodFinality, goodValidator, goodRegistry}
+use Rattle.definitions.specs.File.{Contents, finalityToBytes, writeTests, written, contentsOf, numberAt, goodHeader, fileShaped, readTests, readFile, stoppedAt, position, ReadOutcome, read}
+
+-- Refused calls
+
+-- a refused read answers its number, zeros and no roots, and leaves the two lent buffers
+pub record NothingRead (r : Refusal) (lentRegistry lentSlashings : List ℕ) (o : ReadOutcome) : Type 0 where
+  pub number : o .refusal ≡ numberOf r
+  pub settings : settingsNumbers (o .contents .settings) ≡ replicate 19 0
+  pub finality : finalityToBytes (o .contents .finality) ≡ replicate 136 0
+  pub roots : o .contents .roots ≡ []
+  pub registry : o .contents .registry ≡ lentRegistry
+  pub slashings : o .contents .slashings ≡ lentSlashings
+
+abbrev pub ReadRefused : Type 0
+ReadRefused =
+    (bytes registry slashings : List ℕ) (r : Refusal) → readTests bytes registry slashings ≡ refused r → NothingRead r registry slashings (read bytes registry slashings)
+
+abbrev pub WriteRefused : Type 0
+WriteRefused = (c : Contents) (file : List ℕ) (r : Refusal) → writeTests c file ≡ refused r → written c file ≡ file
+
+-- An accepted read goes to the end
+
+abbrev pub ReadToEnd : Type 0
+ReadToEnd =
+    (bytes registry slashings : List ℕ) (c : Contents) → readFile bytes registry slashings ≡ value c → position bytes registry slashings ≡ length bytes
+
+-- "Reading stops at the first bad number of the first bad entry"
+
+-- the place of an entry's first bad number: slashed over 1, or flags over 255
+pub data FirstBad (v : Validator) : ℕ → Type 0 where
+  bad-slashed : 1 < v .slashed → FirstBad v 1
+  bad-previous : v .slashed ≤ 1 → 255 < v .«previous_epoch_participation» → FirstBad v 7
+  bad-current : v .slashed ≤ 1 → v .«previous_epoch_participation» ≤ 255 → 255 < v .«current_epoch_participation» → FirstBad v 8
+
+-- 80 bytes an entry, 8 a number
+pub record Stopped (offset : ℕ) (vs : List Validator) (at : ℕ) : Type 0 where
+  pub entry : ℕ
+  pub place : ℕ
+  pub inside : entry < length vs
+  pub before : (j : ℕ) → j < entry → goodValidator (getD vs j nobody) ≡ true
+  pub first : FirstBad (getD vs entry nobody) place
+  pub there : at ≡ offset + 80 * entry + 8 * place
+
+abbrev pub StoppedAt : Type 0
+StoppedAt = (offset : ℕ) (vs : List Validator) → all goodValidator vs ≡ false → Stopped offset vs (stoppedAt offset vs)
+
+-- every other test passes: the answer is 3, and the file has the bad number at the position
+pub record StoppedInRegistry (bytes registry slashings : List ℕ) : Type 0 where
+  pub answer : readFile bytes registry slashings ≡ refused badRecord
+  pub stopped : Stopped 368 (decode (contentsOf bytes .registry)) (position bytes registry slashings)
+  pub number : numberAt (position bytes registry slashings) bytes ≡ getD (encodeOne (getD (decode (contentsOf bytes .registry)) (stopped .entry) nobody)) (stopped .place) 0
+
+abbrev pub RegistryRefused : Type 0
+RegistryRefused =
+    (bytes registry slashings : List ℕ) →
+    goodHeader bytes ≡ true →
+    fileShaped bytes registry slashings ≡ true →
+    goodSettings (contentsOf bytes .settings) ≡ true →
+    goodFinality (contentsOf bytes .finality) ≡ true →
+    goodRegistry (contentsOf bytes .registry) ≡ false →
+    StoppedInRegistry bytes registry slashings
