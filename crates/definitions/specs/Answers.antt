@@ -36,8 +36,8 @@ pub record Answers {A R : Type 0} (f : Checked A → R) (m : Checked A) (r : R) 
 abbrev pub Says : Checked ℕ → Number → Type 0
 Says m r = Answers numberFor m r
 
-abbrev pub Tells : Checked Bool → Truth → Type 0
-Tells m r = Answers truthFor m r
+abbrev pub SaysTruth : Checked Bool → Truth → Type 0
+SaysTruth m r = Answers truthFor m r
 
-abbrev pub Changes : Checked Deltas → DeltasAnswer → Type 0
-Changes m r = Answers deltasAnswerFor m r
+abbrev pub SaysDeltas : Checked Deltas → DeltasAnswer → Type 0
+SaysDeltas m r = Answers deltasAnswerFor m r

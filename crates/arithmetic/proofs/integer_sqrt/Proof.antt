@@ -1,0 +1,68 @@
+-- The loop keeps r at or above the root; r falls, and stops at the root.
+use mathlib.Core.Path.{sym}
+use native.Mathlib.Omega.{arith}
+use Prim.Native.Nat.{_^_}
+use lib.Count.{leading-le}
+use Rattle.definitions.specs.Document.Phase0.Helpers.{rootWithin, «integer_squareroot»}
+use Rattle.arithmetic.proofs.Newton.{Near, first, exponent, turn, falls, root}
+use Rattle.arithmetic.proofs.SquareRoot.{root-only}
+use Rattle.arithmetic.proofs.integer_sqrt.Statement.{statement}
+use Rattle.arithmetic.proofs.integer_sqrt.Tie as tie
+
+abbrev Inv-loop : tie.InvT-loop
+Inv-loop n r₀ r = Near n r
+
+abbrev μ-loop : tie.MeasureT-loop
+μ-loop n r₀ r = r
+
+returns : tie.Need-returns Inv-loop μ-loop
+unfolding «integer_squareroot» rootWithin
+returns c = rw (c .if1 .taken)
+
+sub-r : tie.Need-sub-r Inv-loop μ-loop
+sub-r c = omega (arith, leading-le 64 (c .before .args .n))
+
+cast-r : tie.Need-cast-r Inv-loop μ-loop
+cast-r c = omega arith
+
+shl-r : tie.Need-shl-r Inv-loop μ-loop
+shl-r c = omega (arith, exponent (c .before .args .n) (c .before .fits .n .fits))
+
+loop-holds : tie.Need-loop-holds Inv-loop μ-loop
+loop-holds c = first (c .before .args .n) (omega arith) (c .before .fits .n .fits)
+
+div-loop : tie.Need-div-loop Inv-loop μ-loop
+div-loop c = omega arith
+
+div-r : tie.Need-div-r Inv-loop μ-loop
+div-r c = omega arith
+
+add-r : tie.Need-add-r Inv-loop μ-loop
+add-r c = omega arith
+
+loop-less : tie.Need-loop-less Inv-loop μ-loop
+loop-less c = falls _ _ (c .loop-test .taken)
+
+loop-again : tie.Need-loop-again Inv-loop μ-loop
+loop-again c = turn _ _ (c .before .loop .inv) (c .loop-test .taken)
+
+returns-2 : tie.Need-returns-2 Inv-loop μ-loop
+returns-2 c = root-only _ _ (root _ _ (c .before .loop .inv) (c .loop-test .left))
+
+pub integer-sqrt-spec : {M : Type 1} → statement M
+integer-sqrt-spec =
+    tie.close
+    (tie.spec
+    Inv-loop
+    μ-loop
+    returns
+    sub-r
+    cast-r
+    shl-r
+    loop-holds
+    div-loop
+    div-r
+    add-r
+    loop-less
+    loop-again
+    returns-2)

@@ -1,0 +1,173 @@
+// Tests 1, 2 and 3 of document 01, "What is returned".
+ghost use mathlib.Core.Path.{_≡_};
+ghost use mathlib.Core.Bool.{not};
+ghost use Prim.Native.Nat.{_*_};
+ghost use lib.Dec.{eqb};
+ghost use lib.ListN.{length};
+ghost use Rattle.definitions.specs.Lists.{all};
+ghost use Rattle.definitions.specs.Record.{decodeOne};
+ghost use Rattle.definitions.specs.Checked.{codeOf};
+ghost use Rattle.definitions.specs.Refusals.{inOrder, isSmall, isVectorLength, settingsShaped, goodSettings, goodFinality, registryShaped, goodValidator, goodRegistry};
+use types::Finality;
+use types::Settings;
+
+// 0, or the number of the first test that failed.
+pub fn in_order(shaped: bool, settings: bool, recorded: bool) -> u64
+    ensures { λ r. ⌜ r ≡ codeOf (inOrder shaped settings recorded) ⌝ }
+{
+    if !shaped {
+        return 1;
+    }
+    if !settings {
+        return 2;
+    }
+    if !recorded {
+        return 3;
+    }
+    0
+}
+
+// Slots, epochs and settings stay below 2^48.
+pub fn is_small(n: u64) -> bool
+    ensures { λ r. ⌜ r ≡ isSmall n ⌝ }
+{
+    n < 281474976710656
+}
+
+fn is_vector_length(n: u64) -> bool
+    ensures { λ r. ⌜ r ≡ isVectorLength n ⌝ }
+{
+    if n < 1 {
+        return false;
+    }
+    n <= 65536
+}
+
+pub fn settings_shaped(s: Settings) -> bool
+    ensures { λ r. ⌜ r ≡ settingsShaped s ⌝ }
+{
+    if !is_vector_length(s.slots_per_historical_root) {
+        return false;
+    }
+    is_vector_length(s.epochs_per_slashings_vector)
+}
+
+// Ten numbers a validator, and at most 2^24 validators.
+pub fn registry_shaped(registry: &[u64]) -> bool
+    ensures { λ r. ⌜ r ≡ registryShaped (now (registry .entry)) ⌝ }
+{
+    let n = registry.len();
+    if n % 10 != 0 {
+        return false;
+    }
+    n / 10 <= 16777216
+}
+
+fn none_zero(numbers: &[u64]) -> bool
+    ensures { λ r. ⌜ r ≡ all (λ n. not (eqb n 0)) (now (numbers .entry)) ⌝ }
+{
+    for i in 0..numbers.len() {
+        if numbers[i] == 0 {
+            return false;
+        }
+    }
+    true
+}
+
+fn all_small(numbers: &[u64]) -> bool
+    ensures { λ r. ⌜ r ≡ all isSmall (now (numbers .entry)) ⌝ }
+{
+    for i in 0..numbers.len() {
+        if 281474976710656 <= numbers[i] {
+            return false;
+        }
+    }
+    true
+}
+
+pub fn good_settings(s: Settings) -> bool
+    ensures { λ r. ⌜ r ≡ goodSettings s ⌝ }
+{
+    let divisors = [
+        s.slots_per_epoch,
+        s.effective_balance_increment,
+        s.hysteresis_quotient,
+        s.inactivity_score_bias,
+        s.inactivity_penalty_quotient_altair,
+        s.churn_limit_quotient,
+    ];
+    let numbers = [
+        s.slots_per_epoch,
+        s.slots_per_historical_root,
+        s.epochs_per_slashings_vector,
+        s.effective_balance_increment,
+        s.max_effective_balance,
+        s.hysteresis_quotient,
+        s.hysteresis_downward_multiplier,
+        s.hysteresis_upward_multiplier,
+        s.base_reward_factor,
+        s.min_epochs_to_inactivity_penalty,
+        s.inactivity_score_bias,
+        s.inactivity_score_recovery_rate,
+        s.inactivity_penalty_quotient_altair,
+        s.proportional_slashing_multiplier_altair,
+        s.max_seed_lookahead,
+        s.min_validator_withdrawability_delay,
+        s.ejection_balance,
+        s.min_per_epoch_churn_limit,
+        s.churn_limit_quotient,
+    ];
+    if !none_zero(&divisors) {
+        return false;
+    }
+    all_small(&numbers)
+}
+
+pub fn good_finality(f: Finality) -> bool
+    ensures { λ r. ⌜ r ≡ goodFinality f ⌝ }
+{
+    let previous = f.previous_justified_checkpoint;
+    let current = f.current_justified_checkpoint;
+    let finalized = f.finalized_checkpoint;
+    if !is_small(f.slot) {
+        return false;
+    }
+    if 15 < f.justification_bits {
+        return false;
+    }
+    if !is_small(previous.epoch) {
+        return false;
+    }
+    if !is_small(current.epoch) {
+        return false;
+    }
+    is_small(finalized.epoch)
+}
+
+// One validator's ten numbers.
+pub fn good_entry(entry: &[u64]) -> bool
+    requires { ⌜ length (now entry) ≡ 10 ⌝ }
+    ensures { λ r. ⌜ r ≡ goodValidator (decodeOne (now (entry .entry))) ⌝ }
+{
+    if 1 < entry[1] {
+        return false;
+    }
+    if 255 < entry[7] {
+        return false;
+    }
+    entry[8] <= 255
+}
+
+pub fn good_registry(registry: &[u64]) -> bool
+    ensures { λ r. ⌜ r ≡ goodRegistry (now (registry .entry)) ⌝ }
+{
+    let n = registry.len() / 10;
+    for i in 0..n {
+        let a = 10 * i;
+        let b = a + 10;
+        if !good_entry(&registry[a..b]) {
+            return false;
+        }
+    }
+    true
+}
