@@ -1,6 +1,5 @@
--- Laws on the checked operations, on answers that say them, and on the square root.
+-- Laws on the checked operations, and on answers that say them.
 pub mod Operations
 pub mod Answers
 pub mod Laws
-pub mod SquareRoot
 mod Newton

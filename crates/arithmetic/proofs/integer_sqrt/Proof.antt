@@ -5,7 +5,7 @@ use Prim.Native.Nat.{_^_}
 use lib.Count.{leading-le}
 use Rattle.definitions.specs.Document.Phase0.Helpers.{rootWithin, «integer_squareroot»}
 use Rattle.arithmetic.proofs.Newton.{Near, first, exponent, turn, falls, root}
-use Rattle.arithmetic.proofs.SquareRoot.{root-only}
+use Rattle.agreement.proofs.SquareRoot.{root-only}
 use Rattle.arithmetic.proofs.integer_sqrt.Statement.{statement}
 use Rattle.arithmetic.proofs.integer_sqrt.Tie as tie
 

@@ -8,10 +8,7 @@ use native.Mathlib.Decide.{decLe}
 use borrow.Author.Tests.{leb-true, leb-false}
 use lib.Dec.{leb}
 use Rattle.definitions.specs.Document.Phase0.Helpers.{rootWithin, «integer_squareroot»}
-
-pub record Root (n r : ℕ) : Type 0 where
-  pub below : r * r ≤ n
-  pub above : n < (r + 1) * (r + 1)
+use Rattle.agreement.specs.SquareRoot.{Root}
 
 double : (r : ℕ) → (2 * r) * (2 * r) ≡ 4 * (r * r)
 double r = rw (mul-assoc 2 r (2 * r), mul-left-comm r 2 r) (omega arith)

@@ -1,0 +1,145 @@
+-- What the tests keep inside 64 bits.
+use mathlib.Core.Path.{_≡_, refl}
+use mathlib.Core.Bool.{Bool, true, false, cond, _&&_, not, false≢true}
+use mathlib.Core.List.{List, [], _∷_}
+use Prim.Native.Nat.{ℕ, zero, suc, _-_, _*_, _^_, _≤_, _<_}
+use native.Mathlib.Omega.{arith}
+use native.Mathlib.Nat.{div-le-self, div-mul-le-self, mul-le-mul-right, le-trans}
+use borrow.Author.Tests.{ltb-true, leb-true, eqb-false, not-true}
+use lib.Dec.{leb, eqb}
+use lib.ListN.{length, getD}
+use Rattle.types.specs.declared.Settings.{Settings}
+use Rattle.types.specs.declared.Finality.{Finality}
+use Rattle.definitions.specs.Lists.{all}
+use Rattle.definitions.specs.Checked.{value, bind}
+use Rattle.definitions.specs.Refusals.{inOrder, isVectorLength, settingsShaped, goodFinality, goodRegistry, goodSettings, isSmall, settingsNumbers, divisors}
+use Rattle.definitions.specs.Document.Phase0.Helpers as document
+use Rattle.definitions.specs.Document.Phase0.Helpers.{«compute_epoch_at_slot», «get_current_epoch», «get_previous_epoch»}
+use Rattle.definitions.specs.Rust.Phase0.Helpers as rust
+use Rattle.definitions.specs.Close.{Call, closeTests}
+use Rattle.laws.proofs.Checked.{not-value}
+use Rattle.agreement.specs.Bounds.{Passed, ClosePassed, Bounds, Given}
+use Rattle.agreement.proofs.Fits.{add64-fits, mul64-fits}
+
+-- Tests
+
+both : (a b : Bool) → (a && b) ≡ true → (a ≡ true) × (b ≡ true)
+both true b p = (refl, p)
+both false b p = absurd (false≢true p)
+
+-- every setting is below 2^48, and no divisor is 0
+
+all-at : (p : ℕ → Bool) (xs : List ℕ) → all p xs ≡ true → (i : ℕ) → i < length xs → p (getD xs i 0) ≡ true
+unfolding all
+all-at p [] h i l = absurd (omega arith)
+all-at p (x ∷ xs) h zero l = both (p x) (all p xs) h .0
+all-at p (x ∷ xs) h (suc i) l = all-at p xs (both (p x) (all p xs) h .1) i (omega arith)
+
+good-parts : (s : Settings) → goodSettings s ≡ true → (all (λ n. not (eqb n 0)) (divisors s) ≡ true) × (all isSmall (settingsNumbers s) ≡ true)
+unfolding goodSettings
+good-parts s h = both (all (λ n. not (eqb n 0)) (divisors s)) (all isSmall (settingsNumbers s)) h
+
+pub setting-small : (s : Settings) → goodSettings s ≡ true → (i : ℕ) → i < 19 → getD (settingsNumbers s) i 0 < 2 ^ 48
+setting-small s h i l = ltb-true _ _ (all-at isSmall (settingsNumbers s) (good-parts s h .1) i l)
+
+pub divisor-positive : (s : Settings) → goodSettings s ≡ true → (i : ℕ) → i < 6 → 0 < getD (divisors s) i 0
+divisor-positive s h i l =
+    let n = getD (divisors s) i 0 in
+    let t : n ≡ 0 → ⊥ = eqb-false n 0 (not-true (eqb n 0) (all-at (λ n. not (eqb n 0)) (divisors s) (good-parts s h .0) i l)) in
+    omega arith
+
+-- Epochs
+
+current-epoch : (s : Settings) (stateSlot : ℕ) → «get_current_epoch» s stateSlot ≤ stateSlot
+unfolding «get_current_epoch» «compute_epoch_at_slot»
+current-epoch s stateSlot = div-le-self _ _
+
+previous-epoch : (s : Settings) (stateSlot : ℕ) → «get_previous_epoch» s stateSlot ≤ «get_current_epoch» s stateSlot
+unfolding «get_previous_epoch»
+previous-epoch s stateSlot = go (eqb («get_current_epoch» s stateSlot) 0)
+  where
+    go : (t : Bool) → cond t 0 («get_current_epoch» s stateSlot - 1) ≤ «get_current_epoch» s stateSlot
+    go true = omega arith
+    go false = omega arith
+
+current-start : (s : Settings) (stateSlot : ℕ) → «get_current_epoch» s stateSlot * s .«slots_per_epoch» ≤ stateSlot
+unfolding «get_current_epoch» «compute_epoch_at_slot»
+current-start s stateSlot = div-mul-le-self _ _
+
+-- S and L
+vector-lengths : (s : Settings) → settingsShaped s ≡ true → (s .«slots_per_historical_root» ≤ 65536) × (s .«epochs_per_slashings_vector» ≤ 65536)
+unfolding settingsShaped
+vector-lengths s h =
+    let parts = both (isVectorLength (s .«slots_per_historical_root»)) (isVectorLength (s .«epochs_per_slashings_vector»)) h in
+    (leb-true _ _ (both (leb 1 (s .«slots_per_historical_root»)) _ (parts .0) .1), leb-true _ _ (both (leb 1 (s .«epochs_per_slashings_vector»)) _ (parts .1) .1))
+
+pub bounds : (s : Settings) (stateSlot : ℕ) → Passed s stateSlot → Bounds s stateSlot
+bounds s stateSlot h =
+    let lengths = vector-lengths s (h .shaped) in
+    let lookahead : s .«max_seed_lookahead» < 2 ^ 48 = setting-small s (h .good) 14 (omega arith) in
+    let small = ltb-true stateSlot (2 ^ 48) (h .small) in
+    let current = current-epoch s stateSlot in
+    let previous = previous-epoch s stateSlot in
+    let currentStart = current-start s stateSlot in
+    let previousStart = le-trans (mul-le-mul-right (s .«slots_per_epoch») previous) currentStart in
+    record {
+      nextEpoch = omega arith;
+      activationExit = omega arith;
+      afterPrevious = omega arith;
+      slashingDue = omega arith;
+      finalityTest = λ epoch e. omega (arith, ltb-true epoch (2 ^ 48) e);
+      previousStart = (previousStart, omega arith);
+      currentStart = (currentStart, omega arith);
+      rootsEnd = λ slot l. omega arith;
+    }
+
+pub given : (s : Settings) (stateSlot : ℕ) → Passed s stateSlot → Given s stateSlot
+unfolding rust.«compute_activation_exit_epoch» document.«compute_activation_exit_epoch» rust.«compute_start_slot_at_epoch» document.«compute_start_slot_at_epoch» bind
+given s stateSlot h =
+    let b = bounds s stateSlot h in
+    record {
+      activationExit = rw (add64-fits («get_current_epoch» s stateSlot) 1 (b .nextEpoch)) (add64-fits _ _ (b .activationExit));
+      previousStart = mul64-fits _ _ (b .previousStart .1);
+      currentStart = mul64-fits _ _ (b .currentStart .1);
+      slashingDue = add64-fits _ _ (b .slashingDue);
+      rootsEnd = λ slot l. add64-fits _ _ (b .rootsEnd slot l);
+    }
+
+-- From the tests of a close
+
+must : (t : Bool) → (t ≡ false → ⊥) → t ≡ true
+must true f = refl
+must false f = absurd (f refl)
+
+pub in-order : (a b d : Bool) → inOrder a b d ≡ value tt → (a ≡ true) × (b ≡ true) × (d ≡ true)
+unfolding inOrder
+in-order true true true p = (refl, refl, refl)
+in-order true true false p = absurd (not-value p)
+in-order true false d p = absurd (not-value p)
+in-order false b d p = absurd (not-value p)
+
+-- slot and checkpoint epochs
+small-epochs : (f : Finality) → goodFinality f ≡ true → (isSmall (f .slot) ≡ true) × (isSmall (f .«previous_justified_checkpoint» .epoch) ≡ true) × (isSmall (f .«current_justified_checkpoint» .epoch) ≡ true) × (isSmall (f .«finalized_checkpoint» .epoch) ≡ true)
+unfolding goodFinality
+small-epochs f h =
+    let slot = isSmall (f .slot) in
+    let bits = leb (f .«justification_bits») 15 in
+    let previous = isSmall (f .«previous_justified_checkpoint» .epoch) in
+    let current = isSmall (f .«current_justified_checkpoint» .epoch) in
+    let finalized = isSmall (f .«finalized_checkpoint» .epoch) in
+    let a = both (slot && bits && previous && current) finalized h in
+    let b = both (slot && bits && previous) current (a .0) in
+    let d = both (slot && bits) previous (b .0) in
+    (both slot bits (d .0) .0, d .1, b .1, a .1)
+
+pub close-passed : (c : Call) → closeTests c ≡ value tt → ClosePassed c
+unfolding closeTests
+close-passed c h =
+    let tests = in-order _ _ _ h in
+    let small = small-epochs (c .finality) (both (goodFinality (c .finality)) (goodRegistry (c .registry)) (tests .2) .0) in
+    record {
+      passed = record { shaped = must (settingsShaped (c .settings)) (λ e. false≢true (rw e at (tests .0))); good = tests .1; small = small .0 };
+      previousJustified = small .1;
+      currentJustified = small .2;
+      finalized = small .3;
+    }

@@ -1,0 +1,31 @@
+-- Which refusals the steps and the close can answer.
+use mathlib.Core.Path.{_≡_, refl}
+use mathlib.Core.Logic.{_⊎_, inl, inr, ⊎-elim}
+use Rattle.types.specs.declared.Settings.{Settings}
+use Rattle.definitions.specs.Record.{BeaconState}
+use Rattle.definitions.specs.Checked.{Refusal, noRoot, overflow, refused, bind}
+use Rattle.definitions.specs.Document.Phase0.EpochProcessing.{«process_slashings_reset»}
+use Rattle.definitions.specs.Document.Altair.EpochProcessing as document
+use Rattle.definitions.specs.Rust.Altair.EpochProcessing as rust
+use Rattle.definitions.specs.Refusals.{afterTests}
+use Rattle.definitions.specs.Close.{step, justificationStep, Call, stateOf, closed, «process_epoch»}
+use Rattle.agreement.specs.Refused.{Refused, AfterTests}
+use Rattle.agreement.proofs.Close.{each-step, close}
+
+pub refused-by : (s : Settings) (st : BeaconState) → Refused s st
+unfolding step «process_slashings_reset» document.«process_participation_flag_updates» rust.«process_participation_flag_updates»
+refused-by s st =
+    record {
+      slashingsReset = refl;
+      participationFlags = refl;
+      justification = λ r p. ⊎-elim (λ e. inl e) (λ e. inr (e .0)) (each-step s st justificationStep .only r p);
+      later = λ k n r p. ⊎-elim (λ e. e) (λ e. absurd (n (e .1))) (each-step s st k .only r p);
+      close = close s st .only;
+    }
+
+pub work-refused : (c : Call) (r : Refusal) → «process_epoch» (c .settings) (stateOf c) ≡ refused r → (r ≡ overflow) ⊎ (r ≡ noRoot)
+work-refused c r p = ⊎-elim (λ e. inl e) (λ e. inr (e .0)) (close (c .settings) (stateOf c) .only r p)
+
+pub after-tests : (c : Call) → AfterTests c
+unfolding closed afterTests bind
+after-tests c r t p = work-refused c r (rw t at p)

@@ -1,0 +1,43 @@
+-- What the tests keep inside 64 bits: sums and products of slot, epochs and settings that the Rust evaluates, and that cannot refuse
+-- once tests 1, 2 and 3 have passed.
+use mathlib.Core.Path.{_≡_}
+use mathlib.Core.Bool.{true}
+use Prim.Native.Nat.{ℕ, _+_, _*_, _/_, _^_, _≤_, _<_}
+use Rattle.types.specs.declared.Settings.{Settings}
+use Rattle.definitions.specs.Checked.{value, add64}
+use Rattle.definitions.specs.Refusals.{settingsShaped, goodSettings, isSmall}
+use Rattle.definitions.specs.Document.Phase0.Helpers as document
+use Rattle.definitions.specs.Document.Phase0.Helpers.{«get_current_epoch», «get_previous_epoch»}
+use Rattle.definitions.specs.Rust.Phase0.Helpers as rust
+use Rattle.definitions.specs.Close.{Call}
+
+-- the tests of settings and slot
+pub record Passed (s : Settings) (stateSlot : ℕ) : Type 0 where
+  pub shaped : settingsShaped s ≡ true
+  pub good : goodSettings s ≡ true
+  pub small : isSmall stateSlot ≡ true
+
+-- what the tests of a close say besides
+pub record ClosePassed (c : Call) : Type 0 where
+  pub passed : Passed (c .settings) (c .finality .slot)
+  pub previousJustified : isSmall (c .finality .«previous_justified_checkpoint» .epoch) ≡ true
+  pub currentJustified : isSmall (c .finality .«current_justified_checkpoint» .epoch) ≡ true
+  pub finalized : isSmall (c .finality .«finalized_checkpoint» .epoch) ≡ true
+
+pub record Bounds (s : Settings) (stateSlot : ℕ) : Type 0 where
+  pub nextEpoch : «get_current_epoch» s stateSlot + 1 < 2 ^ 64
+  pub activationExit : «get_current_epoch» s stateSlot + 1 + s .«max_seed_lookahead» < 2 ^ 64
+  pub afterPrevious : «get_previous_epoch» s stateSlot + 1 < 2 ^ 64
+  pub slashingDue : «get_current_epoch» s stateSlot + s .«epochs_per_slashings_vector» / 2 < 2 ^ 64
+  pub finalityTest : (epoch : ℕ) → isSmall epoch ≡ true → epoch + 3 < 2 ^ 64
+  pub previousStart : («get_previous_epoch» s stateSlot * s .«slots_per_epoch» ≤ stateSlot) × («get_previous_epoch» s stateSlot * s .«slots_per_epoch» < 2 ^ 64)
+  pub currentStart : («get_current_epoch» s stateSlot * s .«slots_per_epoch» ≤ stateSlot) × («get_current_epoch» s stateSlot * s .«slots_per_epoch» < 2 ^ 64)
+  pub rootsEnd : (slot : ℕ) → slot ≤ stateSlot → slot + s .«slots_per_historical_root» < 2 ^ 64
+
+-- and so these give values
+pub record Given (s : Settings) (stateSlot : ℕ) : Type 0 where
+  pub activationExit : rust.«compute_activation_exit_epoch» s («get_current_epoch» s stateSlot) ≡ value (document.«compute_activation_exit_epoch» s («get_current_epoch» s stateSlot))
+  pub previousStart : rust.«compute_start_slot_at_epoch» s («get_previous_epoch» s stateSlot) ≡ value (document.«compute_start_slot_at_epoch» s («get_previous_epoch» s stateSlot))
+  pub currentStart : rust.«compute_start_slot_at_epoch» s («get_current_epoch» s stateSlot) ≡ value (document.«compute_start_slot_at_epoch» s («get_current_epoch» s stateSlot))
+  pub slashingDue : add64 («get_current_epoch» s stateSlot) (s .«epochs_per_slashings_vector» / 2) ≡ value («get_current_epoch» s stateSlot + s .«epochs_per_slashings_vector» / 2)
+  pub rootsEnd : (slot : ℕ) → slot ≤ stateSlot → add64 slot (s .«slots_per_historical_root») ≡ value (slot + s .«slots_per_historical_root»)

@@ -1,0 +1,1 @@
+// Theorems alone: what holds of the definitions. See specs/ for the statements.
