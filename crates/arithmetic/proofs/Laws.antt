@@ -3,12 +3,20 @@ use mathlib.Core.Path.{_≡_, sym, ap, _∙_}
 use Prim.Native.Nat.{ℕ}
 use Rattle.types.specs.declared.Number.{Number}
 use Rattle.types.specs.declared.Number.the-variants.{Value, Refused}
+use Rattle.definitions.specs.Answers.{numberFor}
 use Rattle.definitions.specs.Checked.{Refusal, overflow, Checked, value, refused, bind}
 use Rattle.definitions.specs.Answers.{Answers, Says}
 use Rattle.arithmetic.proofs.Operations.{OnlyOverflow, only}
 use Rattle.arithmetic.proofs.Answers.{Tells, tells-number, tells-truth, tells-deltas, answers-value, answers-overflow}
 
--- The answer of a Number
+-- A function shows what its own answer says
+pub said-value : {m : Checked ℕ} {x : ℕ} → m ≡ value x → Says m (Value x)
+said-value h = record { is = ap numberFor (sym h) }
+
+pub said-overflow : {m : Checked ℕ} → m ≡ refused overflow → Says m (Refused 5)
+said-overflow h = record { is = ap numberFor (sym h) }
+
+-- A caller has it back
 pub says-value : {m : Checked ℕ} {r : Number} {x : ℕ} → Says m r → r ≡ Value x → m ≡ value x
 says-value h e = answers-value tells-number h e
 

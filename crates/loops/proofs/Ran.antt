@@ -1,0 +1,65 @@
+-- Steps one after the other, and what a caller's closing buffer holds at the end.
+use mathlib.Core.Path.{_≡_, refl, sym, ap, _∙_}
+use mathlib.Core.List.{List}
+use Prim.Native.Nat.{ℕ}
+use native.Mathlib.Omega.{arith}
+use Rattle.definitions.specs.Checked.{Refusal, badShape, badSettings, badRecord, noRoot, overflow, badFile, numberOf, Checked, value, refused, bind, codeOf, settle}
+use Rattle.definitions.specs.Record.{Validator, encode, decode}
+use Rattle.definitions.specs.Refusals.{closingBuffer}
+use Rattle.laws.proofs.Encode.{decode-encode}
+use Rattle.loops.specs.Ran.{Ran}
+
+pub number-not-zero : (p : Refusal) → numberOf p ≡ 0 → ⊥
+number-not-zero badShape e = omega arith
+number-not-zero badSettings e = omega arith
+number-not-zero badRecord e = omega arith
+number-not-zero noRoot e = omega arith
+number-not-zero overflow e = omega arith
+number-not-zero badFile e = omega arith
+
+pub code-value : {A : Type 0} (m : Checked A) (a : A) → codeOf m ≡ 0 → m ≡ value (settle m a)
+code-value (value b) a e = refl
+code-value (refused p) a e = absurd (number-not-zero p e)
+
+-- a step that cannot be refused
+pub ran-value : {vs : List Validator} {xs : List ℕ} → xs ≡ encode vs → Ran (value vs) xs 0
+ran-value h = record { code = refl; held = λ vs e. h ∙ ap encode (cc) }
+
+module _ {m : Checked (List Validator)} {xs : List ℕ} {r : ℕ} (h : Ran m xs r) where
+  pub ran-gave : r ≡ 0 → m ≡ value (decode xs)
+  ran-gave z = go m h
+    where
+      go : (m : Checked (List Validator)) → Ran m xs r → m ≡ value (decode xs)
+      go (value vs) h = ap value (sym (ap decode (h .held vs refl) ∙ decode-encode vs))
+      go (refused p) h = absurd (number-not-zero p (sym (h .code) ∙ z))
+
+  -- the next step, on the registry that this one left
+  pub ran-next : (k : List Validator → Checked (List Validator)) {ys : List ℕ} {s : ℕ} → r ≡ 0 → Ran (k (decode xs)) ys s → Ran (bind m k) ys s
+  unfolding bind
+  ran-next k z t = rw (ran-gave z) t
+
+  -- refused: no next step
+  pub ran-stop : (k : List Validator → Checked (List Validator)) {ys : List ℕ} → (r ≡ 0 → ⊥) → Ran (bind m k) ys r
+  unfolding bind
+  ran-stop k {ys} z = go m h
+    where
+      go : (m : Checked (List Validator)) → Ran m xs r → Ran (bind m k) ys r
+      go (value vs) h = absurd (z (h .code))
+      go (refused p) h = record { code = h .code; held = λ vs v. absurd (z (h .code ∙ ap codeOf v)) }
+
+  -- the closing registry: what the steps left, or the opening put back
+  pub ran-kept : (opening closing : List ℕ) → r ≡ 0 → xs ≡ closingBuffer encode (value tt) m opening closing
+  unfolding closingBuffer
+  ran-kept opening closing z = go m h
+    where
+      go : (m : Checked (List Validator)) → Ran m xs r → xs ≡ closingBuffer encode (value tt) m opening closing
+      go (value vs) h = h .held vs refl
+      go (refused p) h = absurd (number-not-zero p (sym (h .code) ∙ z))
+
+  pub ran-restored : (opening closing : List ℕ) → (r ≡ 0 → ⊥) → opening ≡ closingBuffer encode (value tt) m opening closing
+  unfolding closingBuffer
+  ran-restored opening closing z = go m h
+    where
+      go : (m : Checked (List Validator)) → Ran m xs r → opening ≡ closingBuffer encode (value tt) m opening closing
+      go (value vs) h = absurd (z (h .code))
+      go (refused p) h = refl

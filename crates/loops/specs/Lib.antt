@@ -1,0 +1,2 @@
+-- What contracts of loops over the registry cite.
+pub mod Ran
