@@ -100,8 +100,37 @@ pub good-settings : (s : Settings) → goodSettings s ≡ true → GoodSettings 
 unfolding goodSettings
 good-settings s e =
     record {
-      positive = record { «slots_per_epoch» = divisor 0 (omega arith); «effective_balance_increment» = divisor 1 (omega arith); «hysteresis_quotient» = divisor 2 (omega arith); «inactivity_score_bias» = divisor 3 (omega arith); «inactivity_penalty_quotient_altair» = divisor 4 (omega arith); «churn_limit_quotient» = divisor 5 (omega arith) };
-      small = record { «slots_per_epoch» = number 0 (omega arith); «slots_per_historical_root» = number 1 (omega arith); «epochs_per_slashings_vector» = number 2 (omega arith); «effective_balance_increment» = number 3 (omega arith); «max_effective_balance» = number 4 (omega arith); «hysteresis_quotient» = number 5 (omega arith); «hysteresis_downward_multiplier» = number 6 (omega arith); «hysteresis_upward_multiplier» = number 7 (omega arith); «base_reward_factor» = number 8 (omega arith); «min_epochs_to_inactivity_penalty» = number 9 (omega arith); «inactivity_score_bias» = number 10 (omega arith); «inactivity_score_recovery_rate» = number 11 (omega arith); «inactivity_penalty_quotient_altair» = number 12 (omega arith); «proportional_slashing_multiplier_altair» = number 13 (omega arith); «max_seed_lookahead» = number 14 (omega arith); «min_validator_withdrawability_delay» = number 15 (omega arith); «ejection_balance» = number 16 (omega arith); «min_per_epoch_churn_limit» = number 17 (omega arith); «churn_limit_quotient» = number 18 (omega arith) };
+      positive =
+          record {
+            «slots_per_epoch» = divisor 0 (omega arith);
+            «effective_balance_increment» = divisor 1 (omega arith);
+            «hysteresis_quotient» = divisor 2 (omega arith);
+            «inactivity_score_bias» = divisor 3 (omega arith);
+            «inactivity_penalty_quotient_altair» = divisor 4 (omega arith);
+            «churn_limit_quotient» = divisor 5 (omega arith);
+          };
+      small =
+          record {
+            «slots_per_epoch» = number 0 (omega arith);
+            «slots_per_historical_root» = number 1 (omega arith);
+            «epochs_per_slashings_vector» = number 2 (omega arith);
+            «effective_balance_increment» = number 3 (omega arith);
+            «max_effective_balance» = number 4 (omega arith);
+            «hysteresis_quotient» = number 5 (omega arith);
+            «hysteresis_downward_multiplier» = number 6 (omega arith);
+            «hysteresis_upward_multiplier» = number 7 (omega arith);
+            «base_reward_factor» = number 8 (omega arith);
+            «min_epochs_to_inactivity_penalty» = number 9 (omega arith);
+            «inactivity_score_bias» = number 10 (omega arith);
+            «inactivity_score_recovery_rate» = number 11 (omega arith);
+            «inactivity_penalty_quotient_altair» = number 12 (omega arith);
+            «proportional_slashing_multiplier_altair» = number 13 (omega arith);
+            «max_seed_lookahead» = number 14 (omega arith);
+            «min_validator_withdrawability_delay» = number 15 (omega arith);
+            «ejection_balance» = number 16 (omega arith);
+            «min_per_epoch_churn_limit» = number 17 (omega arith);
+            «churn_limit_quotient» = number 18 (omega arith);
+          };
     }
   where
     divisor : (i : ℕ) → i < 6 → 0 < getD (divisors s) i 0

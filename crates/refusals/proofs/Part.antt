@@ -31,7 +31,19 @@ first-at (suc n) xs (suc i) d l =
 
 -- only ten numbers are read
 decode-ten : (xs : List ℕ) → decodeOne (take 10 xs) ≡ decodeOne xs
-decode-ten xs = rw (at 0 (omega arith), at 1 (omega arith), at 2 (omega arith), at 3 (omega arith), at 4 (omega arith), at 5 (omega arith), at 6 (omega arith), at 7 (omega arith), at 8 (omega arith), at 9 (omega arith))
+decode-ten xs =
+    rw (
+      at 0 (omega arith),
+      at 1 (omega arith),
+      at 2 (omega arith),
+      at 3 (omega arith),
+      at 4 (omega arith),
+      at 5 (omega arith),
+      at 6 (omega arith),
+      at 7 (omega arith),
+      at 8 (omega arith),
+      at 9 (omega arith),
+    )
   where
     at : (k : ℕ) → k < 10 → getD (take 10 xs) k 0 ≡ getD xs k 0
     at k l = getD-take 10 xs k 0 l

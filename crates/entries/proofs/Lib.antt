@@ -1,0 +1,2 @@
+-- Laws of numbers that the tests on an entry need.
+pub mod Numbers

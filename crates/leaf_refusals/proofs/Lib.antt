@@ -1,0 +1,3 @@
+-- Laws of the leaves' tests.
+pub mod Order
+pub mod Passed

@@ -1,0 +1,29 @@
+use borrow.Author.Needs.{needs}
+use Rattle.definitions.specs.LeafRefusals.{entryTests, finalizedEntryTests}
+use Rattle.definitions.specs.Refusals.{isSmall}
+use Rattle.refusals.proofs.All.{fails, passes}
+use Rattle.leaf_refusals.proofs.Order.{refused-before, last-failed, last-passed}
+use Rattle.leaf_refusals.proofs.finalized_entry_tests.Statement.{statement}
+use Rattle.leaf_refusals.proofs.finalized_entry_tests.Tie as tie
+
+entry-tests-requires : tie.Need-entry-tests-requires
+entry-tests-requires c κs = search needs
+
+returns : tie.Need-returns
+unfolding entryTests finalizedEntryTests
+returns c = refused-before _ _ (isSmall (c .before .before .before .args .finalized-epoch)) _ (c .before .entry-tests .ensures) (c .if1 .taken)
+
+is-small-requires : tie.Need-is-small-requires
+is-small-requires c κs = search needs
+
+returns-2 : tie.Need-returns-2
+unfolding entryTests finalizedEntryTests
+returns-2 c = last-failed _ _ _ _ (c .before .before .before .entry-tests .ensures) (c .before .before .if1 .left) (fails (c .before .is-small .ensures) (c .if2 .taken))
+
+returns-3 : tie.Need-returns-3
+unfolding entryTests finalizedEntryTests
+returns-3 c = last-passed _ _ _ _ (c .before .before .before .entry-tests .ensures) (c .before .before .if1 .left) (passes (c .before .is-small .ensures) (c .if2 .left))
+
+pub finalized-entry-tests-spec : {M : Type 1} → statement M
+finalized-entry-tests-spec =
+    tie.close (tie.spec entry-tests-requires returns is-small-requires returns-2 returns-3)

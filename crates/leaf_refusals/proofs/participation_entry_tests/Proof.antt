@@ -1,0 +1,36 @@
+use borrow.Author.Needs.{needs}
+use borrow.Author.Tests.{le-leb, lt-leb}
+use Rattle.definitions.specs.LeafRefusals.{slotEntryTests, participationEntryTests}
+use Rattle.definitions.specs.Refusals.{inOrder}
+use Rattle.refusals.proofs.All.{fails, passes}
+use Rattle.leaf_refusals.proofs.Order.{and-true, and-false}
+use Rattle.leaf_refusals.proofs.participation_entry_tests.Statement.{statement}
+use Rattle.leaf_refusals.proofs.participation_entry_tests.Tie as tie
+
+returns : tie.Need-returns
+unfolding participationEntryTests inOrder
+returns c = rw (lt-leb _ _ (c .if1 .taken)) (simp and-false)
+
+is-participation-epoch-requires : tie.Need-is-participation-epoch-requires
+is-participation-epoch-requires c κs = search needs
+
+returns-2 : tie.Need-returns-2
+unfolding participationEntryTests inOrder
+returns-2 c = rw (fails (c .before .is-participation-epoch .ensures) (c .if2 .taken)) (simp and-false)
+
+slot-entry-tests-requires : tie.Need-slot-entry-tests-requires
+slot-entry-tests-requires c κs = search needs
+
+returns-3 : tie.Need-returns-3
+unfolding participationEntryTests slotEntryTests
+returns-3 c = rw (le-leb _ _ (c .before .before .before .if1 .left), passes (c .before .before .is-participation-epoch .ensures) (c .before .if2 .left)) (simp and-true (c .slot-entry-tests .ensures))
+
+pub participation-entry-tests-spec : {M : Type 1} → statement M
+participation-entry-tests-spec =
+    tie.close
+    (tie.spec
+    returns
+    is-participation-epoch-requires
+    returns-2
+    slot-entry-tests-requires
+    returns-3)

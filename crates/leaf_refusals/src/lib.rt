@@ -1,0 +1,116 @@
+// Tests 1, 2 and 3 of the leaves that are lent one validator's ten numbers: 0, or the number of the first test that failed.
+ghost use mathlib.Core.Path.{_≡_};
+ghost use Prim.Native.Nat.{_<_};
+ghost use Rattle.definitions.specs.Checked.{codeOf};
+ghost use Rattle.definitions.specs.Document.Phase0.Helpers.{«get_current_epoch», «get_previous_epoch»};
+ghost use Rattle.definitions.specs.LeafRefusals.{entryTests, finalizedEntryTests, settingsEntryTests, slotEntryTests, isParticipationEpoch, participationEntryTests};
+use refusals::good_entry;
+use refusals::good_settings;
+use refusals::is_small;
+use refusals::settings_shaped;
+use types::Settings;
+
+pub fn entry_tests(entry: &[u64]) -> u64
+    ensures { λ r. ⌜ r ≡ codeOf (entryTests (now (entry .entry))) ⌝ }
+{
+    if entry.len() != 10 {
+        return 1;
+    }
+    if !good_entry(entry) {
+        return 3;
+    }
+    0
+}
+
+pub fn finalized_entry_tests(finalized_epoch: u64, entry: &[u64]) -> u64
+    ensures { λ r. ⌜ r ≡ codeOf (finalizedEntryTests «finalized_epoch» (now (entry .entry))) ⌝ }
+{
+    let refusal = entry_tests(entry);
+    if refusal != 0 {
+        return refusal;
+    }
+    if !is_small(finalized_epoch) {
+        return 3;
+    }
+    0
+}
+
+pub fn settings_entry_tests(s: Settings, entry: &[u64]) -> u64
+    ensures { λ r. ⌜ r ≡ codeOf (settingsEntryTests s (now (entry .entry))) ⌝ }
+{
+    if !settings_shaped(s) {
+        return 1;
+    }
+    if entry.len() != 10 {
+        return 1;
+    }
+    if !good_settings(s) {
+        return 2;
+    }
+    if !good_entry(entry) {
+        return 3;
+    }
+    0
+}
+
+pub fn slot_entry_tests(s: Settings, state_slot: u64, entry: &[u64]) -> u64
+    ensures { λ r. ⌜ r ≡ codeOf (slotEntryTests s «state_slot» (now (entry .entry))) ⌝ }
+{
+    let refusal = settings_entry_tests(s, entry);
+    if refusal != 0 {
+        return refusal;
+    }
+    if !is_small(state_slot) {
+        return 3;
+    }
+    0
+}
+
+pub fn current_epoch(s: Settings, state_slot: u64) -> u64
+    requires { ⌜ 0 < s .«slots_per_epoch» ⌝ }
+    ensures { λ r. ⌜ r ≡ «get_current_epoch» s «state_slot» ⌝ }
+{
+    state_slot / s.slots_per_epoch
+}
+
+// One less, and at the genesis epoch the genesis epoch.
+pub fn previous_epoch(s: Settings, state_slot: u64) -> u64
+    requires { ⌜ 0 < s .«slots_per_epoch» ⌝ }
+    ensures { λ r. ⌜ r ≡ «get_previous_epoch» s «state_slot» ⌝ }
+{
+    let current = current_epoch(s, state_slot);
+    if current == 0 {
+        return 0;
+    }
+    current - 1
+}
+
+pub fn is_participation_epoch(s: Settings, state_slot: u64, epoch: u64) -> bool
+    ensures { λ r. ⌜ r ≡ isParticipationEpoch s «state_slot» epoch ⌝ }
+{
+    if s.slots_per_epoch == 0 {
+        return true;
+    }
+    if epoch == previous_epoch(s, state_slot) {
+        return true;
+    }
+    epoch == current_epoch(s, state_slot)
+}
+
+pub fn participation_entry_tests(
+    s: Settings,
+    state_slot: u64,
+    flag_index: u64,
+    epoch: u64,
+    entry: &[u64],
+) -> u64
+    ensures { λ r. ⌜ r ≡ codeOf (participationEntryTests s «state_slot» «flag_index» epoch (now (entry .entry))) ⌝ }
+{
+    if 2 < flag_index {
+        return 1;
+    }
+    if !is_participation_epoch(s, state_slot, epoch) {
+        return 1;
+    }
+    slot_entry_tests(s, state_slot, entry)
+}
