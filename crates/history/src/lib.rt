@@ -1,0 +1,1 @@
+// Laws alone: demand 3, one theorem over every list of closes. See specs/History.antt.
