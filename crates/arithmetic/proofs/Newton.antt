@@ -3,7 +3,7 @@ use mathlib.Core.Path.{_≡_, sym, subst, _∙_}
 use Prim.Native.Nat.{ℕ, zero, suc, _+_, _-_, _*_, _/_, _%_, _^_, _≤_, _<_}
 use native.Mathlib.Omega.{arith}
 use native.Mathlib.Decide.{decLe}
-use native.Mathlib.Nat.{zero-lt-suc, one-mul, mul-comm, mul-left-comm, mul-add, add-mul, mul-le-mul-left, lt-mul-div-succ, div-lt-iff-lt-mul, le-div-iff-mul-le}
+use native.Mathlib.Nat.{zero-lt-suc, one-mul, mul-comm, mul-left-comm, mul-add, add-mul, mul-le-mul-left, lt-mul-div-succ, le-div-iff-mul-le}
 use native.Mathlib.Numerals.{one-add}
 use lib.Dec.{lit<}
 use lib.Pow.{pow-mono, pow-pos, pow-add, shl-exact}

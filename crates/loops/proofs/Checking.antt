@@ -79,3 +79,6 @@ module _ {f : Validator → Checked Validator} {n : ℕ} {xs₀ : List ℕ} {i :
         let b : i < length (decode xs₀) = omega (arith, length-decode n xs₀ (g .mapped .begun)) in
         let t = at-entry ∙ sym (checked-stop f (decode xs₀) i b (g .passed) (λ k. z (at-entry ∙ k))) in
         record { code = t; held = λ vs v. absurd (z (t ∙ ap codeOf v)) }
+
+-- `search (needs, checking)` answers each need of such a loop that is not plain arithmetic, but for `loop-again`, which is `checking-more`
+pub ruleset checking = (checking-none, checking-ten, checking-stop, checking-all)

@@ -27,3 +27,6 @@ module _ {src : List ℕ} {i : ℕ} {dst : List ℕ} (g : Copied src i dst) wher
 
   pub copied-all : length src ≤ i → dst ≡ src
   copied-all l = ext-getD 0 dst src (g .long) (λ j h. g .held j (omega arith))
+
+-- `search (needs, copying)` answers each need of such a loop that is not plain arithmetic
+pub ruleset copying = (copied-none, copied-more, copied-all)

@@ -1,13 +1,13 @@
 -- Totals and counts of those that pass a test, as sums over all.
-use mathlib.Core.Path.{_≡_, refl, ap, _∙_}
+use mathlib.Core.Path.{_≡_, refl, ap}
 use mathlib.Core.Bool.{Bool, true, false, cond}
 use mathlib.Core.List.{List, [], _∷_, _++_, map}
-use Prim.Native.Nat.{ℕ, suc, _+_, _≤_, _<_, _^_}
+use Prim.Native.Nat.{ℕ, suc, _+_, _≤_, _^_}
 use native.Mathlib.Omega.{arith}
 use lib.ListN.{length}
 use lib.Dec.{ltb}
 use Rattle.definitions.specs.Lists.{filter, sum}
-use Rattle.definitions.specs.Checked.{Checked, value, refused, overflow, sum64}
+use Rattle.definitions.specs.Checked.{value, refused, overflow, sum64}
 
 pub sum64-same : (xs ys : List ℕ) → sum xs ≡ sum ys → sum64 xs ≡ sum64 ys
 unfolding sum64

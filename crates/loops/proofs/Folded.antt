@@ -1,11 +1,11 @@
 -- A loop that carries a number or any other value through the registry: a left fold.
-use mathlib.Core.Path.{_≡_, refl, sym, ap, _∙_}
+use mathlib.Core.Path.{_≡_, refl, ap, _∙_}
 use mathlib.Core.List.{List, [], _∷_, foldl, foldl-append}
 use Prim.Native.Nat.{ℕ, _+_, _*_, _≤_, _<_}
 use lib.ListN.{length, take}
 use Rattle.definitions.specs.Record.{Validator, decodeOne, decode}
 use Rattle.loops.proofs.Entry.{entryAt}
-use Rattle.loops.proofs.Reading.{Reading, reading-none, reading-more, prefix-all, prefix-more}
+use Rattle.loops.proofs.Reading.{Reading, reading-none, reading-ten, reading-more, prefix-all, prefix-more}
 
 pub record Folded {S : Type 0} (f : S → Validator → S) (z : S) (n : ℕ) (xs : List ℕ) (i : ℕ) (s : S) : Type 0 where
   pub at : Reading n xs i
@@ -22,3 +22,6 @@ module _ {S : Type 0} {f : S → Validator → S} {z : S} {n : ℕ} {xs : List �
 
   pub folded-all : n ≤ i → s ≡ foldl f z (decode xs)
   folded-all l = g .held ∙ ap (foldl f z) (prefix-all (g .at) l)
+
+-- `search (needs, folding)` answers each need of such a loop that is not plain arithmetic
+pub ruleset folding = (folded-none, reading-ten, folded-more, folded-all)

@@ -1,14 +1,13 @@
 -- A loop whose turn at i changes the registry as a whole, and may be refused.
-use mathlib.Core.Path.{_≡_, refl, sym, ap, _∙_}
+use mathlib.Core.Path.{_≡_, refl, sym, ap}
 use mathlib.Core.List.{List, [], _∷_, _++_}
 use Prim.Native.Nat.{ℕ, zero, suc, _+_, _-_, _*_, _≤_, _<_}
 use native.Mathlib.Omega.{arith}
-use native.Mathlib.Numerals.{add-one}
-use native.Mathlib.Nat.{add-zero, zero-add, add-suc}
+use native.Mathlib.Nat.{add-zero, zero-add}
 use lib.ListN.{length}
-use Rattle.definitions.specs.Checked.{Checked, value, refused, bind, codeOf, foldChecked}
+use Rattle.definitions.specs.Checked.{Checked, value, refused, bind, foldChecked}
 use Rattle.definitions.specs.Lists.{range}
-use Rattle.definitions.specs.Record.{Validator, encode, decode}
+use Rattle.definitions.specs.Record.{Validator, decode}
 use Rattle.laws.proofs.Encode.{length-decode, encode-decode}
 use Rattle.loops.specs.Ran.{Ran}
 use Rattle.loops.proofs.Ran.{ran-gave, ran-stop, ran-value}
@@ -65,3 +64,6 @@ module _ {f : List Validator → ℕ → Checked (List Validator)} {n : ℕ} {xs
     iterated-stop z =
         let e : length (decode xs₀) ≡ i + suc (n - suc i) = omega (arith, count) in
         rw (e, turn f (decode xs₀) (decode xs) i (n - suc i) (g .held)) (ran-stop h _ z)
+
+-- `search (needs, iterating)` answers each need of such a loop that is not plain arithmetic, but for `loop-again`, which is `iterated-more`
+pub ruleset iterating = (iterated-none, iterated-stop, iterated-all)

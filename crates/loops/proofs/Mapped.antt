@@ -76,3 +76,6 @@ module _ {f : Validator → Validator} {n : ℕ} {xs₀ : List ℕ} {i : ℕ} {x
         let k : putAt xs i e ≡ encode (mapFirst f (i + 1) vs) = rw (t, now-decoded, mapFirst-more f i vs nobody, add-one i) in
         let len = length-encode (mapFirst f (i + 1) vs) in
         record { begun = m .begun; below = omega arith; long = rw k (omega (arith, len, length-mapFirst f (i + 1) vs, length-decode n xs₀ (m .begun))); held = k }
+
+-- `search (needs, mapping)` answers each need of such a loop that is not plain arithmetic
+pub ruleset mapping = (mapped-none, mapped-ten, mapped-more, mapped-all)

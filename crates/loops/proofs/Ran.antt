@@ -1,13 +1,16 @@
 -- Steps one after the other, and what a caller's closing buffer holds at the end.
 use mathlib.Core.Path.{_≡_, refl, sym, ap, _∙_}
 use mathlib.Core.List.{List}
-use Prim.Native.Nat.{ℕ}
+use Prim.Native.Nat.{ℕ, _*_, _<_}
 use native.Mathlib.Omega.{arith}
+use lib.ListN.{length, getD, set}
 use Rattle.definitions.specs.Checked.{Refusal, badShape, badSettings, badRecord, noRoot, overflow, badFile, numberOf, Checked, value, refused, bind, codeOf, settle}
-use Rattle.definitions.specs.Record.{Validator, encode, decode}
+use Rattle.definitions.specs.Record.{Validator, decodeOne, encodeOne, encode, decode, nobody}
 use Rattle.definitions.specs.Refusals.{closingBuffer}
+use Rattle.laws.proofs.Checked.{not-value}
 use Rattle.laws.proofs.Encode.{decode-encode}
-use Rattle.loops.specs.Ran.{Ran}
+use Rattle.loops.specs.Ran.{Settles, Ran}
+use Rattle.loops.proofs.Entry.{entryAt, putAt, entry-is, entry-back}
 
 pub number-not-zero : (p : Refusal) → numberOf p ≡ 0 → ⊥
 number-not-zero badShape e = omega arith
@@ -63,3 +66,12 @@ module _ {m : Checked (List Validator)} {xs : List ℕ} {r : ℕ} (h : Ran m xs 
       go : (m : Checked (List Validator)) → Ran m xs r → opening ≡ closingBuffer encode (value tt) m opening closing
       go (value vs) h = absurd (z (h .code))
       go (refused p) h = refl
+
+-- one entry alone
+pub ran-entry : (f : Validator → Checked Validator) (n : ℕ) (xs : List ℕ) (i : ℕ) {e : List ℕ} {r : ℕ} → length xs ≡ 10 * n → i < n → Settles f (entryAt xs i) e r → Ran (bind (f (getD (decode xs) i nobody)) (λ v. value (set (decode xs) i v))) (putAt xs i e) r
+unfolding bind
+ran-entry f n xs i {e} {r} long l h = go (f (getD (decode xs) i nobody)) (ap f (entry-is n xs i long l))
+  where
+    go : (m : Checked Validator) → f (decodeOne (entryAt xs i)) ≡ m → Ran (bind m (λ v. value (set (decode xs) i v))) (putAt xs i e) r
+    go (value v) q = rw (h .code ∙ ap codeOf q) (ran-value (entry-back n xs i long l v (h .held ∙ ap (λ (m : Checked Validator). encodeOne (settle m (decodeOne (entryAt xs i)))) q)))
+    go (refused p) q = record { code = h .code ∙ ap codeOf q; held = λ vs v. absurd (not-value v) }

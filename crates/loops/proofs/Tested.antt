@@ -2,9 +2,9 @@
 use mathlib.Core.Path.{_≡_, refl, sym, ap, _∙_}
 use mathlib.Core.Bool.{Bool, true, false, _&&_}
 use mathlib.Core.List.{List, [], _∷_, _++_}
-use Prim.Native.Nat.{ℕ, suc, _+_, _*_, _≤_, _<_}
+use Prim.Native.Nat.{ℕ, _+_, _*_, _≤_, _<_}
 use native.Mathlib.Omega.{arith}
-use lib.ListN.{length, take, drop}
+use lib.ListN.{length, take}
 use Rattle.definitions.specs.Lists.{all}
 use Rattle.definitions.specs.Record.{Validator, decodeOne, decode}
 use Rattle.loops.proofs.Entry.{entryAt}
@@ -43,8 +43,8 @@ module _ {p : Validator → Bool} {n : ℕ} {xs : List ℕ} {i : ℕ} (g : Teste
     tested-more t =
         record { at = reading-more (g .at) l; held = rw (prefix-more (g .at) l) (all-append p (take i (decode xs)) _ (g .held) ∙ all-one p _ (sym e ∙ t)) }
 
-    pub tested-stop : b ≡ false → all p (decode xs) ≡ false
-    tested-stop t = ap (all p) (prefix-rest (g .at) l) ∙ all-append p (take i (decode xs)) _ (g .held) ∙ all-first p _ _ (sym e ∙ t)
+    pub tested-stop : b ≡ false → false ≡ all p (decode xs)
+    tested-stop t = sym (ap (all p) (prefix-rest (g .at) l) ∙ all-append p (take i (decode xs)) _ (g .held) ∙ all-first p _ _ (sym e ∙ t))
 
-  pub tested-all : n ≤ i → all p (decode xs) ≡ true
-  tested-all l = sym (ap (all p) (prefix-all (g .at) l)) ∙ g .held
+  pub tested-all : n ≤ i → true ≡ all p (decode xs)
+  tested-all l = sym (g .held) ∙ ap (all p) (prefix-all (g .at) l)

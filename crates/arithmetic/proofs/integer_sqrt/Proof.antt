@@ -1,7 +1,5 @@
 -- The loop keeps r at or above the root; r falls, and stops at the root.
-use mathlib.Core.Path.{sym}
 use native.Mathlib.Omega.{arith}
-use Prim.Native.Nat.{_^_}
 use lib.Count.{leading-le}
 use Rattle.definitions.specs.Document.Phase0.Helpers.{rootWithin, «integer_squareroot»}
 use Rattle.arithmetic.proofs.Newton.{Near, first, exponent, turn, falls, root}
