@@ -1,0 +1,2 @@
+-- What the tests give once passed.
+pub mod Passed

@@ -1,0 +1,3 @@
+-- Laws of totals.
+pub mod Sums
+pub mod Tested

@@ -1,0 +1,24 @@
+use borrow.Author.Needs.{needs}
+use Rattle.definitions.specs.Document.Phase0.Helpers.{«get_validator_churn_limit»}
+use Rattle.totals.proofs.churn_limit.Statement.{statement}
+use Rattle.totals.proofs.churn_limit.Tie as tie
+
+current-epoch-requires : tie.Need-current-epoch-requires
+current-epoch-requires c κs = search needs
+
+active-count-requires : tie.Need-active-count-requires
+active-count-requires c κs = search needs
+
+div-max : tie.Need-div-max
+div-max c = search needs
+
+max-requires : tie.Need-max-requires
+max-requires c κs = search needs
+
+returns : tie.Need-returns
+unfolding «get_validator_churn_limit»
+returns c = rw (← c .before .before .before .current-epoch .ensures, ← c .before .before .active-count .ensures) (c .max .ensures)
+
+pub churn-limit-spec : {M : Type 1} → statement M
+churn-limit-spec =
+    tie.close (tie.spec current-epoch-requires active-count-requires div-max max-requires returns)

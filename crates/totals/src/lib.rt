@@ -1,0 +1,208 @@
+// Totals and counts over the registry, each in one pass. get_total_balance over a membership test has two instances here: those active at an
+// epoch, and those that participate by a flag. A function without the Rust's name is for steps, which have tested the record already.
+ghost use mathlib.Core.Path.{_≡_};
+ghost use mathlib.Core.Bool.{cond};
+ghost use mathlib.Core.List.{map};
+ghost use Prim.Native.Nat.{_*_, _/_, _≤_, _<_, max};
+ghost use lib.ListN.{length};
+ghost use Rattle.definitions.specs.Lists.{filter};
+ghost use Rattle.definitions.specs.Record.{decodeOne, decode};
+ghost use Rattle.definitions.specs.Checked.{value, sum64};
+ghost use Rattle.definitions.specs.Answers.{Says};
+ghost use Rattle.definitions.specs.Refusals.{afterTests};
+ghost use Rattle.definitions.specs.LeafRefusals.{slotRegistryTests, participationTests};
+ghost use Rattle.definitions.specs.Rust.Phase0.Helpers.{«is_active_validator», «get_active_validator_indices», «get_total_balance», «get_total_active_balance», «get_validator_churn_limit»};
+ghost use Rattle.definitions.specs.Rust.Altair.Helpers.{isUnslashedParticipating, «get_unslashed_participating_indices»};
+ghost use Rattle.definitions.specs.Close.{charged};
+use arithmetic::max;
+use entries::entry_is_active;
+use entries::entry_is_participating;
+use leaf_refusals::current_epoch;
+use leaf_refusals::previous_epoch;
+use registry_refusals::participation_tests;
+use registry_refusals::slot_registry_tests;
+use types::Number;
+use types::Settings;
+
+fn active_weight(epoch: u64, entry: &[u64]) -> u64
+    requires { ⌜ length (now entry) ≡ 10 ⌝ }
+    ensures { λ r. ⌜ r ≡ cond («is_active_validator» (decodeOne (now (entry .entry))) epoch) (decodeOne (now (entry .entry)) .«effective_balance») 0 ⌝ }
+{
+    if entry_is_active(entry, epoch) {
+        return entry[0];
+    }
+    0
+}
+
+fn participating_weight(current_epoch: u64, flag_index: u64, epoch: u64, entry: &[u64]) -> u64
+    requires { ⌜ length (now entry) ≡ 10 ⌝ }
+    requires { ⌜ «flag_index» ≤ 7 ⌝ }
+    ensures { λ r. ⌜ r ≡ cond (isUnslashedParticipating «current_epoch» «flag_index» epoch (decodeOne (now (entry .entry)))) (decodeOne (now (entry .entry)) .«effective_balance») 0 ⌝ }
+{
+    if entry_is_participating(current_epoch, flag_index, epoch, entry) {
+        return entry[0];
+    }
+    0
+}
+
+// The plain sum of the effective balances of those active at an epoch.
+pub fn active_balance(epoch: u64, registry: &[u64]) -> Number
+    requires { ⌜ length (now registry) ≡ 10 * (length (now registry) / 10) ⌝ }
+    ensures { λ r. ⌜ Says (sum64 (map (λ v. v .«effective_balance») («get_active_validator_indices» (decode (now (registry .entry))) epoch))) r ⌝ }
+{
+    let n = registry.len() / 10;
+    let mut sum: u64 = 0;
+    for i in 0..n {
+        let a = 10 * i;
+        let b = a + 10;
+        let weight = active_weight(epoch, &registry[a..b]);
+        if 18446744073709551615 - sum < weight {
+            return Number::Refused(5);
+        }
+        sum += weight;
+    }
+    Number::Value(sum)
+}
+
+// The same of the unslashed whose flag is set, at the present or the previous epoch.
+pub fn participating_balance(
+    current_epoch: u64,
+    flag_index: u64,
+    epoch: u64,
+    registry: &[u64],
+) -> Number
+    requires { ⌜ length (now registry) ≡ 10 * (length (now registry) / 10) ⌝ }
+    requires { ⌜ «flag_index» ≤ 7 ⌝ }
+    ensures { λ r. ⌜ Says (sum64 (map (λ v. v .«effective_balance») (filter (isUnslashedParticipating «current_epoch» «flag_index» epoch) (decode (now (registry .entry)))))) r ⌝ }
+{
+    let n = registry.len() / 10;
+    let mut sum: u64 = 0;
+    for i in 0..n {
+        let a = 10 * i;
+        let b = a + 10;
+        let weight = participating_weight(current_epoch, flag_index, epoch, &registry[a..b]);
+        if 18446744073709551615 - sum < weight {
+            return Number::Refused(5);
+        }
+        sum += weight;
+    }
+    Number::Value(sum)
+}
+
+// A total is its plain sum, and at least one increment, also over nobody.
+pub fn raised(sum: u64, increment: u64) -> u64
+    ensures { λ r. ⌜ r ≡ max increment sum ⌝ }
+{
+    max(increment, sum)
+}
+
+pub fn total_active(s: Settings, epoch: u64, registry: &[u64]) -> Number
+    requires { ⌜ length (now registry) ≡ 10 * (length (now registry) / 10) ⌝ }
+    ensures { λ r. ⌜ Says («get_total_balance» s («get_active_validator_indices» (decode (now (registry .entry))) epoch)) r ⌝ }
+{
+    let Number::Value(sum) = active_balance(epoch, registry) else {
+        return Number::Refused(5);
+    };
+    let total = raised(sum, s.effective_balance_increment);
+    Number::Value(total)
+}
+
+pub fn total_participating(
+    s: Settings,
+    current_epoch: u64,
+    flag_index: u64,
+    epoch: u64,
+    registry: &[u64],
+) -> Number
+    requires { ⌜ length (now registry) ≡ 10 * (length (now registry) / 10) ⌝ }
+    requires { ⌜ «flag_index» ≤ 7 ⌝ }
+    ensures { λ r. ⌜ Says («get_total_balance» s (filter (isUnslashedParticipating «current_epoch» «flag_index» epoch) (decode (now (registry .entry))))) r ⌝ }
+{
+    let Number::Value(sum) = participating_balance(current_epoch, flag_index, epoch, registry)
+    else {
+        return Number::Refused(5);
+    };
+    let total = raised(sum, s.effective_balance_increment);
+    Number::Value(total)
+}
+
+pub fn get_total_active_balance(s: Settings, state_slot: u64, registry: &[u64]) -> Number
+    ensures { λ r. ⌜ Says (afterTests (slotRegistryTests s «state_slot» (now (registry .entry))) («get_total_active_balance» s «state_slot» (decode (now (registry .entry))))) r ⌝ }
+{
+    let refusal = slot_registry_tests(s, state_slot, registry);
+    if refusal != 0 {
+        return Number::Refused(refusal);
+    }
+    let epoch = current_epoch(s, state_slot);
+    total_active(s, epoch, registry)
+}
+
+// The balance that participates by a flag.
+pub fn get_participating_balance(
+    s: Settings,
+    state_slot: u64,
+    flag_index: u64,
+    epoch: u64,
+    registry: &[u64],
+) -> Number
+    ensures { λ r. ⌜ Says (afterTests (participationTests s «state_slot» «flag_index» epoch (now (registry .entry))) («get_total_balance» s («get_unslashed_participating_indices» s «state_slot» (decode (now (registry .entry))) «flag_index» epoch))) r ⌝ }
+{
+    let refusal = participation_tests(s, state_slot, flag_index, epoch, registry);
+    if refusal != 0 {
+        return Number::Refused(refusal);
+    }
+    let current = current_epoch(s, state_slot);
+    total_participating(s, current, flag_index, epoch, registry)
+}
+
+// How many are active at an epoch.
+pub fn active_count(epoch: u64, registry: &[u64]) -> u64
+    requires { ⌜ length (now registry) ≡ 10 * (length (now registry) / 10) ⌝ }
+    ensures { λ r. ⌜ r ≡ length («get_active_validator_indices» (decode (now (registry .entry))) epoch) ⌝ }
+{
+    let n = registry.len() / 10;
+    let mut count: u64 = 0;
+    for i in 0..n {
+        let a = 10 * i;
+        let b = a + 10;
+        if !entry_is_active(&registry[a..b], epoch) {
+            continue;
+        }
+        count += 1;
+    }
+    count
+}
+
+pub fn churn_limit(s: Settings, state_slot: u64, registry: &[u64]) -> u64
+    requires { ⌜ length (now registry) ≡ 10 * (length (now registry) / 10) ⌝ }
+    requires { ⌜ (0 < s .«slots_per_epoch») × (0 < s .«churn_limit_quotient») ⌝ }
+    ensures { λ r. ⌜ r ≡ «get_validator_churn_limit» s «state_slot» (decode (now (registry .entry))) ⌝ }
+{
+    let epoch = current_epoch(s, state_slot);
+    let active = active_count(epoch, registry);
+    max(s.min_per_epoch_churn_limit, active / s.churn_limit_quotient)
+}
+
+pub fn get_validator_churn_limit(s: Settings, state_slot: u64, registry: &[u64]) -> Number
+    ensures { λ r. ⌜ Says (afterTests (slotRegistryTests s «state_slot» (now (registry .entry))) (value («get_validator_churn_limit» s «state_slot» (decode (now (registry .entry)))))) r ⌝ }
+{
+    let refusal = slot_registry_tests(s, state_slot, registry);
+    if refusal != 0 {
+        return Number::Refused(refusal);
+    }
+    let limit = churn_limit(s, state_slot, registry);
+    Number::Value(limit)
+}
+
+// How many were active in the previous epoch.
+pub fn charged(s: Settings, state_slot: u64, registry: &[u64]) -> Number
+    ensures { λ r. ⌜ Says (afterTests (slotRegistryTests s «state_slot» (now (registry .entry))) (value (charged s «state_slot» (decode (now (registry .entry)))))) r ⌝ }
+{
+    let refusal = slot_registry_tests(s, state_slot, registry);
+    if refusal != 0 {
+        return Number::Refused(refusal);
+    }
+    let epoch = previous_epoch(s, state_slot);
+    let count = active_count(epoch, registry);
+    Number::Value(count)
+}
