@@ -1,0 +1,21 @@
+use Rattle.epochs.proofs.Answers.{then-says, refused-says}
+use Rattle.epochs.proofs.Passed.{slot-passed}
+use borrow.Author.Needs.{needs}
+use Rattle.epochs.proofs.get_previous_epoch.Statement.{statement}
+use Rattle.epochs.proofs.get_previous_epoch.Tie as tie
+
+slot-refusal-requires : tie.Need-slot-refusal-requires
+slot-refusal-requires c κs = search needs
+
+returns : tie.Need-returns
+returns c = refused-says _ (c .before .slot-refusal .ensures) _ (c .if1 .taken)
+
+previous-epoch-at-requires : tie.Need-previous-epoch-at-requires
+previous-epoch-at-requires c κs = slot-passed _ _ (c .before .slot-refusal .ensures) (c .if1 .left) .settings .good .positive .«slots_per_epoch»
+
+returns-2 : tie.Need-returns-2
+returns-2 c = then-says _ (c .before .before .slot-refusal .ensures) (c .before .if1 .left) (c .previous-epoch-at .ensures)
+
+pub get-previous-epoch-spec : {M : Type 1} → statement M
+get-previous-epoch-spec =
+    tie.close (tie.spec slot-refusal-requires returns previous-epoch-at-requires returns-2)

@@ -1,0 +1,44 @@
+use mathlib.Core.Path.{sym, ap, _∙_}
+use Rattle.roots.specs.Bytes.{bytesOf}
+use Rattle.roots.proofs.Codes.{no-bytes}
+use Rattle.roots.proofs.Lookups.{found-after, epoch-value}
+use borrow.Author.Needs.{needs}
+use Rattle.roots.proofs.get_block_root.Statement.{statement}
+use Rattle.roots.proofs.get_block_root.Tie as tie
+
+get-block-root-refusal-requires : tie.Need-get-block-root-refusal-requires
+get-block-root-refusal-requires c κs = search needs
+
+sub-result : tie.Need-sub-result
+sub-result c = search needs
+
+part-result-start : tie.Need-part-result-start
+part-result-start c = search needs
+
+part-result-end : tie.Need-part-result-end
+part-result-end c = search needs
+
+returns : tie.Need-returns
+returns c = no-bytes _ _ (c .before .before .get-block-root-refusal .ensures) (c .before .if1 .taken)
+
+epoch-root-requires : tie.Need-epoch-root-requires
+epoch-root-requires c κs =
+    let f = found-after _ _ _ _ (c .before .get-block-root-refusal .ensures) (c .if1 .left) in
+    (f .tests .long, (f .tests .slot .settings .shape .roots .least, epoch-value _ _ _ _ (f .is) .fits))
+
+returns-2 : tie.Need-returns-2
+returns-2 c =
+    let f = found-after _ _ _ _ (c .before .before .get-block-root-refusal .ensures) (c .before .if1 .left) in
+    c .epoch-root .ensures ∙ epoch-value _ _ _ _ (f .is) .is ∙ sym (ap bytesOf (f .after))
+
+pub get-block-root-spec : {M : Type 1} → statement M
+get-block-root-spec =
+    tie.close
+    (tie.spec
+    get-block-root-refusal-requires
+    sub-result
+    part-result-start
+    part-result-end
+    returns
+    epoch-root-requires
+    returns-2)

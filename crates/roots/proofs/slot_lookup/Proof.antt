@@ -1,0 +1,34 @@
+use mathlib.Core.Path.{sym, ap}
+use Rattle.definitions.specs.Checked.{codeOf}
+use Rattle.arithmetic.proofs.Laws.{says-value, says-overflow}
+use Rattle.arithmetic.proofs.Operations.{only-add64}
+use Rattle.roots.proofs.Lookups.{late, over, old, found}
+use borrow.Author.Needs.{needs}
+use Rattle.roots.proofs.slot_lookup.Statement.{statement}
+use Rattle.roots.proofs.slot_lookup.Tie as tie
+
+returns : tie.Need-returns
+returns c = ap codeOf (sym (late _ _ _ _ (c .if1 .taken)))
+
+add64-requires : tie.Need-add64-requires
+add64-requires c κs = search needs
+
+enum-known-last : tie.Need-enum-known-last
+enum-known-last c = search needs
+
+enum-told : tie.Need-enum-told
+enum-told c = search needs
+
+returns-2 : tie.Need-returns-2
+returns-2 c = ap codeOf (sym (over _ _ _ _ (c .before .before .before .if1 .left) (says-overflow (c .before .before .add64 .ensures) (only-add64 _ _) (c .enum-told .given .1) .0)))
+
+returns-3 : tie.Need-returns-3
+returns-3 c = ap codeOf (sym (old _ _ _ _ (c .before .before .before .before .before .if1 .left) (says-value (c .before .before .before .before .add64 .ensures) (c .before .before .last .given .1)) (c .if2 .taken)))
+
+returns-4 : tie.Need-returns-4
+returns-4 c = ap codeOf (sym (found _ _ _ _ (c .before .before .before .before .before .if1 .left) (says-value (c .before .before .before .before .add64 .ensures) (c .before .before .last .given .1)) (c .if2 .left)))
+
+pub slot-lookup-spec : {M : Type 1} → statement M
+slot-lookup-spec =
+    tie.close
+    (tie.spec returns add64-requires enum-known-last enum-told returns-2 returns-3 returns-4)

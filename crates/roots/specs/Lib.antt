@@ -1,0 +1,2 @@
+-- What a lookup hands back.
+pub mod Bytes
