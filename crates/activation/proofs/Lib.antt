@@ -1,0 +1,3 @@
+-- The laws of the pass that activates.
+pub mod Places
+pub mod Admitting

@@ -1,0 +1,3 @@
+-- The activation queue without a sorted list.
+pub mod Queue
+pub mod Cut

@@ -1,0 +1,3 @@
+-- The laws of the loops.
+pub mod Kept
+pub mod Keeping
