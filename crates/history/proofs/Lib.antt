@@ -1,7 +1,6 @@
 -- Demand 3 and what it rests on.
 pub mod Counting
 pub mod Order
-pub mod Rank
 pub mod Shape
 pub mod OneClose
 pub mod EveryList

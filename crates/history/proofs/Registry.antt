@@ -23,7 +23,8 @@ use Rattle.history.specs.Waiting.{eligibilityAt, activationAt}
 use Rattle.history.proofs.Shape.{Marked, Registered}
 use Rattle.history.proofs.Counting.{T-left}
 use Rattle.history.proofs.Steps.{epochs, Spared, spared-given, spared-number, spared-eligibility, spared-activation, either}
-use Rattle.history.proofs.Queue.{length-dequeued, dequeued-eligibility, dequeued-activation}
+use Rattle.queue.proofs.Dequeued.{length-dequeued}
+use Rattle.history.proofs.Queue.{dequeued-eligibility, dequeued-activation}
 
 -- the loop's turn at i: that entry's eligibility epoch is kept or written
 record Turned (e i : ℕ) (vs ws : List Validator) : Type 0 where
