@@ -1,0 +1,2 @@
+-- What the contracts of calls with a closing buffer cite.
+pub mod Closes

@@ -1,0 +1,3 @@
+-- One validator's score, and the tests of a step over the registry.
+pub mod Scores
+pub mod Tests
