@@ -1,3 +1,2 @@
--- One validator's score, and the tests of a step over the registry.
+-- One validator's score.
 pub mod Scores
-pub mod Tests

@@ -10,15 +10,10 @@ use Rattle.definitions.specs.Record.{Validator, decodeOne, encodeOne}
 use Rattle.definitions.specs.Updates.{withScore}
 use Rattle.definitions.specs.Document.Phase0.EpochProcessing.{isEligible}
 use Rattle.definitions.specs.Document.Altair.Helpers.{isUnslashedParticipating}
-use Rattle.definitions.specs.Rust.Phase0.EpochProcessing.{«get_finality_delay», «is_in_inactivity_leak»}
 use Rattle.definitions.specs.Rust.Altair.EpochProcessing.{movedScore, recoveredScore, updateInactivityScore}
 use Rattle.laws.proofs.Encode.{ten}
 use Rattle.laws.proofs.Checked.{not-value, value-same}
-use Rattle.arithmetic.proofs.Operations.{OnlyOverflow, only-value, only-add64, only-sub64, only-bind}
-
-pub only-leaking : (s : Settings) (stateSlot finalizedEpoch : ℕ) → OnlyOverflow («is_in_inactivity_leak» s stateSlot finalizedEpoch)
-unfolding «is_in_inactivity_leak» «get_finality_delay»
-only-leaking s stateSlot finalizedEpoch = only-bind (only-sub64 _ finalizedEpoch) (λ delay. only-value _)
+use Rattle.arithmetic.proofs.Operations.{OnlyOverflow, only-value, only-add64, only-bind}
 
 pub only-moved : (s : Settings) (participating : Bool) (score : ℕ) → OnlyOverflow (movedScore s participating score)
 unfolding movedScore

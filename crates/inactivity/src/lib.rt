@@ -1,42 +1,27 @@
 // Inactivity scores: a validator's ten numbers, the registry in place, and process_inactivity_updates.
 ghost use mathlib.Core.Path.{_≡_};
 ghost use mathlib.Core.Bool.{true};
-ghost use Prim.Native.Nat.{_*_, _/_, _<_};
+ghost use Prim.Native.Nat.{_*_, _/_};
 ghost use lib.ListN.{length};
 ghost use Rattle.definitions.specs.Record.{decode, encode};
-ghost use Rattle.definitions.specs.Checked.{value, bind, codeOf, mapChecked};
+ghost use Rattle.definitions.specs.Checked.{value, bind, mapChecked};
 ghost use Rattle.definitions.specs.Refusals.{goodSettings, registryTests};
-ghost use Rattle.definitions.specs.Answers.{Says, SaysTruth};
-ghost use Rattle.definitions.specs.Rust.Phase0.EpochProcessing.{«is_in_inactivity_leak»};
+ghost use Rattle.definitions.specs.Answers.{Says};
 ghost use Rattle.definitions.specs.Rust.Altair.EpochProcessing.{movedScore, recoveredScore, updateInactivityScore, «process_inactivity_updates»};
 ghost use Rattle.loops.specs.Ran.{Settles, Ran};
 ghost use Rattle.buffers.specs.Closes.{Closes};
 use arithmetic::add64;
 use arithmetic::min;
-use arithmetic::sub64;
 use buffers::copy;
 use entries::entry_is_eligible;
 use entries::entry_is_participating;
+use finalized::is_leaking;
+use finalized::registry_tests;
 use leaf_refusals::current_epoch;
 use leaf_refusals::previous_epoch;
-use refusals::is_small;
-use registry_refusals::settings_registry_tests;
 use types::Number;
 use types::Settings;
 use types::Truth;
-
-// Whether the previous epoch is too far past the finalized one: refused where it lies before it.
-pub fn is_leaking(s: Settings, state_slot: u64, finalized_epoch: u64) -> Truth
-    requires { ⌜ 0 < s .«slots_per_epoch» ⌝ }
-    ensures { λ r. ⌜ SaysTruth («is_in_inactivity_leak» s «state_slot» «finalized_epoch») r ⌝ }
-{
-    let previous = previous_epoch(s, state_slot);
-    let Number::Value(delay) = sub64(previous, finalized_epoch) else {
-        return Truth::Refused(5);
-    };
-    let leaking = s.min_epochs_to_inactivity_penalty < delay;
-    Truth::Value(leaking)
-}
 
 // One less for a hit, the bias more for a miss.
 fn moved_score(s: Settings, participating: bool, score: u64) -> Number
@@ -139,32 +124,6 @@ pub fn inactivity_core(
     };
     let previous = previous_epoch(s, state_slot);
     update_scores(s, current, previous, leaking, registry)
-}
-
-// Tests 1, 2 and 3 of a step that is lent slot, finalized epoch, opening and closing registry.
-pub fn registry_tests(
-    s: Settings,
-    state_slot: u64,
-    finalized_epoch: u64,
-    opening: &[u64],
-    closing: &[u64],
-) -> u64
-    ensures { λ r. ⌜ r ≡ codeOf (registryTests s «state_slot» «finalized_epoch» (now (opening .entry)) (now (closing .entry))) ⌝ }
-{
-    if closing.len() != opening.len() {
-        return 1;
-    }
-    let refusal = settings_registry_tests(s, opening);
-    if refusal != 0 {
-        return refusal;
-    }
-    if !is_small(state_slot) {
-        return 3;
-    }
-    if !is_small(finalized_epoch) {
-        return 3;
-    }
-    0
 }
 
 pub fn process_inactivity_updates(

@@ -8,7 +8,7 @@ use Rattle.refusals.proofs.Laws.{good-settings}
 use Rattle.arithmetic.proofs.Answers.{tells-truth, answers-value, answers-overflow}
 use Rattle.loops.proofs.Ran.{ran-value}
 use Rattle.buffers.proofs.Chained.{ran-overflow}
-use Rattle.inactivity.proofs.Scores.{only-leaking}
+use Rattle.finalized.proofs.Leak.{only-leaking}
 use Rattle.inactivity.proofs.inactivity_core.Statement.{statement}
 use Rattle.inactivity.proofs.inactivity_core.Tie as tie
 

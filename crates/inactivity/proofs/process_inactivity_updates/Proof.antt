@@ -4,7 +4,7 @@ use lib.ListN.{length}
 use Rattle.definitions.specs.Record.{encode}
 use Rattle.definitions.specs.Rust.Altair.EpochProcessing.{«process_inactivity_updates»}
 use Rattle.buffers.proofs.Closes.{closes-refused, step-done, step-restored}
-use Rattle.inactivity.proofs.Tests.{registry-passed}
+use Rattle.finalized.proofs.Tests.{registry-passed}
 use borrow.Author.Needs.{needs}
 use Rattle.inactivity.proofs.process_inactivity_updates.Statement.{statement}
 use Rattle.inactivity.proofs.process_inactivity_updates.Tie as tie
@@ -24,7 +24,7 @@ copy-requires c κs = let p = registry-passed _ _ _ _ _ (c .before .before .regi
 inactivity-core-requires : tie.Need-inactivity-core-requires
 inactivity-core-requires c κs =
     let p = registry-passed _ _ _ _ _ (c .before .before .before .before .before .before .registry-tests .ensures) (c .before .before .before .before .before .if1 .left) in
-    (p .settings .good, omega (arith, p .shape .long, ap length (c .before .before .before .copy .ensures)))
+    (p .opened .settings .good, omega (arith, p .opened .shape .long, ap length (c .before .before .before .copy .ensures)))
 
 copy-requires-2 : tie.Need-copy-requires-2
 copy-requires-2 c κs = let p = registry-passed _ _ _ _ _ (c .before .before .before .before .before .before .before .before .before .before .before .registry-tests .ensures) (c .before .before .before .before .before .before .before .before .before .before .if1 .left) in omega (arith, p .same)

@@ -1,8 +1,8 @@
 use Rattle.definitions.specs.Rust.Phase0.EpochProcessing.{«is_in_inactivity_leak», «get_finality_delay»}
 use Rattle.arithmetic.proofs.Laws.{chain}
 use borrow.Author.Needs.{needs}
-use Rattle.inactivity.proofs.is_leaking.Statement.{statement}
-use Rattle.inactivity.proofs.is_leaking.Tie as tie
+use Rattle.finalized.proofs.is_leaking.Statement.{statement}
+use Rattle.finalized.proofs.is_leaking.Tie as tie
 
 previous-epoch-requires : tie.Need-previous-epoch-requires
 previous-epoch-requires c κs = search needs

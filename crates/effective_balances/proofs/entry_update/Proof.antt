@@ -1,0 +1,92 @@
+use borrow.Author.Needs.{needs}
+use Rattle.definitions.specs.Document.Phase0.EpochProcessing.{roundedBalance}
+use Rattle.laws.proofs.Encode.{ten}
+use Rattle.arithmetic.proofs.Operations.{only-add64}
+use Rattle.arithmetic.proofs.Laws.{says-value, says-overflow}
+use Rattle.loops.proofs.Checking.{settles-value, settles-refused}
+use Rattle.effective_balances.proofs.Update.{low-refused, low-moved, high-refused, high-moved, kept}
+use Rattle.effective_balances.proofs.entry_update.Statement.{statement}
+use Rattle.effective_balances.proofs.entry_update.Tie as tie
+
+slice-read-effective : tie.Need-slice-read-effective
+slice-read-effective c = search needs
+
+slice-read-balance : tie.Need-slice-read-balance
+slice-read-balance c = search needs
+
+add64-requires : tie.Need-add64-requires
+add64-requires c κs = search needs
+
+enum-known-low : tie.Need-enum-known-low
+enum-known-low c = search needs
+
+enum-told : tie.Need-enum-told
+enum-told c = search needs
+
+returns : tie.Need-returns
+returns c = settles-refused _ (c .before .before .before .before .before .before .pre .0) (low-refused _ _ _ _ (says-overflow (c .before .before .add64 .ensures) (only-add64 _ _) (c .enum-told .given .1) .0))
+
+rounded-requires : tie.Need-rounded-requires
+rounded-requires c κs = search needs
+
+slice-write-entry : tie.Need-slice-write-entry
+slice-write-entry c = search needs
+
+same-length : tie.Need-same-length
+same-length c = search needs
+
+returns-2 : tie.Need-returns-2
+unfolding roundedBalance
+returns-2 c = settles-value _ (low-moved _ _ _ _ (says-value (c .before .before .before .before .before .add64 .ensures) (c .before .before .before .low .given .1)) (c .before .if1 .taken)) (rw (c .rounded .ensures, ten (c .before .before .before .before .before .before .before .before .before .args .entry .now) (c .before .before .before .before .before .before .before .before .before .pre .0)))
+
+add64-requires-2 : tie.Need-add64-requires-2
+add64-requires-2 c κs = search needs
+
+enum-known-high : tie.Need-enum-known-high
+enum-known-high c = search needs
+
+enum-told-2 : tie.Need-enum-told-2
+enum-told-2 c = search needs
+
+returns-3 : tie.Need-returns-3
+returns-3 c = settles-refused _ (c .before .before .before .before .before .before .before .before .before .before .before .pre .0) (high-refused _ _ _ _ (says-value (c .before .before .before .before .before .before .before .add64 .ensures) (c .before .before .before .before .before .low .given .1)) (c .before .before .before .if1 .left) (says-overflow (c .before .before .add642 .ensures) (only-add64 _ _) (c .enum-told2 .given .1) .0))
+
+rounded-requires-2 : tie.Need-rounded-requires-2
+rounded-requires-2 c κs = search needs
+
+slice-write-entry-2 : tie.Need-slice-write-entry-2
+slice-write-entry-2 c = search needs
+
+same-length-2 : tie.Need-same-length-2
+same-length-2 c = search needs
+
+returns-4 : tie.Need-returns-4
+unfolding roundedBalance
+returns-4 c = settles-value _ (high-moved _ _ _ _ (says-value (c .before .before .before .before .before .before .before .before .before .before .add64 .ensures) (c .before .before .before .before .before .before .before .before .low .given .1)) (c .before .before .before .before .before .before .if1 .left) (says-value (c .before .before .before .before .before .add642 .ensures) (c .before .before .before .high .given .1)) (c .before .if2 .taken)) (rw (c .rounded2 .ensures, ten (c .before .before .before .before .before .before .before .before .before .before .before .before .before .before .args .entry .now) (c .before .before .before .before .before .before .before .before .before .before .before .before .before .before .pre .0)))
+
+returns-5 : tie.Need-returns-5
+returns-5 c = settles-value _ (kept _ _ _ _ (says-value (c .before .before .before .before .before .before .before .before .before .add64 .ensures) (c .before .before .before .before .before .before .before .low .given .1)) (c .before .before .before .before .before .if1 .left) (says-value (c .before .before .before .before .add642 .ensures) (c .before .before .high .given .1)) (c .if2 .left)) (ten _ (c .before .before .before .before .before .before .before .before .before .before .before .before .before .pre .0))
+
+pub entry-update-spec : {M : Type 1} → statement M
+entry-update-spec =
+    tie.close
+    (tie.spec
+    slice-read-effective
+    slice-read-balance
+    add64-requires
+    enum-known-low
+    enum-told
+    returns
+    rounded-requires
+    slice-write-entry
+    same-length
+    returns-2
+    add64-requires-2
+    enum-known-high
+    enum-told-2
+    returns-3
+    rounded-requires-2
+    slice-write-entry-2
+    same-length-2
+    returns-4
+    returns-5)

@@ -1,0 +1,3 @@
+-- Laws of the finality leaves and tests.
+pub mod Passed
+pub mod Runs

@@ -1,0 +1,32 @@
+-- What the tests of the finality leaves give once passed. `x` is the number that their code gave.
+use mathlib.Core.Path.{_≡_, sym, _∙_}
+use mathlib.Core.Bool.{_&&_}
+use Prim.Native.Nat.{ℕ, _^_, _<_}
+use Rattle.types.specs.declared.Settings.{Settings}
+use Rattle.definitions.specs.Checked.{codeOf}
+use Rattle.definitions.specs.Refusals.{settingsShaped, isSmall, goodSettings}
+use Rattle.definitions.specs.LeafRefusals.{finalizedTests}
+use Rattle.refusals.proofs.All.{both}
+use Rattle.refusals.proofs.Laws.{in-order, settings-shaped, good-settings, small}
+use Rattle.epochs.proofs.Passed.{SlotPassed}
+use Rattle.definitions.specs.Rust.Phase0.EpochProcessing.{«get_finality_delay»}
+use Rattle.arithmetic.proofs.Operations.{OnlyOverflow, only-sub64}
+
+pub record FinalizedPassed (s : Settings) (stateSlot finalizedEpoch : ℕ) : Type 0 where
+  pub slot : SlotPassed s stateSlot
+  pub finalized : finalizedEpoch < 2 ^ 48
+
+pub finalized-passed : (s : Settings) (stateSlot finalizedEpoch : ℕ) {x : ℕ} → x ≡ codeOf (finalizedTests s stateSlot finalizedEpoch) → x ≡ 0 → FinalizedPassed s stateSlot finalizedEpoch
+unfolding finalizedTests
+finalized-passed s stateSlot finalizedEpoch e z =
+    let p = in-order (settingsShaped s) (goodSettings s) (isSmall stateSlot && isSmall finalizedEpoch) (sym e ∙ z) in
+    let q = both (isSmall stateSlot) (isSmall finalizedEpoch) (p .third) in
+    record {
+      slot = record { settings = record { shape = settings-shaped s (p .first); good = good-settings s (p .second) }; slot = small stateSlot (q .first) };
+      finalized = small finalizedEpoch (q .second);
+    }
+
+-- the delay is refused only by overflow
+pub only-delay : (s : Settings) (stateSlot finalizedEpoch : ℕ) → OnlyOverflow («get_finality_delay» s stateSlot finalizedEpoch)
+unfolding «get_finality_delay»
+only-delay s stateSlot finalizedEpoch = only-sub64 _ _

@@ -1,0 +1,28 @@
+use mathlib.Core.Path.{refl}
+use Rattle.arithmetic.proofs.Laws.{next, stop}
+use Rattle.definitions.specs.Rust.Phase0.EpochProcessing.{«is_in_inactivity_leak»}
+use Rattle.finality.proofs.Passed.{only-delay}
+use borrow.Author.Needs.{needs}
+use Rattle.finality.proofs.inactivity_leak.Statement.{statement}
+use Rattle.finality.proofs.inactivity_leak.Tie as tie
+
+finality-delay-requires : tie.Need-finality-delay-requires
+finality-delay-requires c κs = search needs
+
+enum-known-delay : tie.Need-enum-known-delay
+enum-known-delay c = search needs
+
+enum-told : tie.Need-enum-told
+enum-told c = search needs
+
+returns : tie.Need-returns
+unfolding «is_in_inactivity_leak»
+returns c = stop _ (only-delay _ _ _) (c .before .before .finality-delay .ensures) (c .enum-told .given .1) refl
+
+returns-2 : tie.Need-returns-2
+unfolding «is_in_inactivity_leak»
+returns-2 c = next _ (c .before .before .before .before .finality-delay .ensures) (c .before .before .delay .given .1) (record { is = refl })
+
+pub inactivity-leak-spec : {M : Type 1} → statement M
+inactivity-leak-spec =
+    tie.close (tie.spec finality-delay-requires enum-known-delay enum-told returns returns-2)

@@ -1,0 +1,3 @@
+-- The tests' refusals and what they give once passed; the leak's one refusal.
+pub mod Leak
+pub mod Tests

@@ -1,0 +1,2 @@
+-- What the step's tests give once passed.
+mod Passed
