@@ -1,0 +1,2 @@
+-- What contracts of exits cite.
+pub mod Exits

@@ -1,0 +1,43 @@
+use mathlib.Core.Path.{_≡_, refl}
+use native.Mathlib.Omega.{arith}
+use borrow.Author.Needs.{needs}
+use lib.ListN.{length}
+use Rattle.definitions.specs.File.{littleEndian}
+use Rattle.round_trip.proofs.Numbers.{length-little}
+use Rattle.fields.proofs.Stores.{stored-first, stored-more}
+use Rattle.fields.proofs.put_checkpoint.Statement.{statement}
+use Rattle.fields.proofs.put_checkpoint.Tie as tie
+
+put-number-requires : tie.Need-put-number-requires
+put-number-requires c κs = search needs
+
+add-to : tie.Need-add-to
+add-to c = search needs
+
+slice-aggregate-put-bytes : tie.Need-slice-aggregate-put-bytes
+slice-aggregate-put-bytes c = search needs
+
+put-bytes-requires : tie.Need-put-bytes-requires
+put-bytes-requires c κs =
+    let e : length (c .before .before .before .before .before .before .before .before .args .c .root) ≡ 32 = search needs in
+    omega arith
+
+same-length : tie.Need-same-length
+same-length c = search needs
+
+returns : tie.Need-returns
+returns c =
+    let a = c .before .before .before .before .before .before .before .before .before .before .before .args in
+    let epoch = stored-first (a .file .now) (a .at) (littleEndian 8 (a .c .epoch)) (length-little 8 (a .c .epoch)) (c .before .before .before .before .before .before .before .put-number .ensures) in
+    stored-more epoch (a .c .root) refl refl refl (c .before .before .put-bytes .ensures) .is
+
+pub put-checkpoint-spec : {M : Type 1} → statement M
+put-checkpoint-spec =
+    tie.close
+    (tie.spec
+    put-number-requires
+    add-to
+    slice-aggregate-put-bytes
+    put-bytes-requires
+    same-length
+    returns)

@@ -1,0 +1,75 @@
+use mathlib.Core.Path.{_≡_, refl}
+use borrow.Author.Needs.{needs}
+use lib.ListN.{length}
+use Rattle.definitions.specs.File.{littleEndian, checkpointToBytes}
+use Rattle.round_trip.proofs.Numbers.{length-little}
+use Rattle.fields.proofs.Bytes.{length-checkpoint}
+use Rattle.fields.proofs.Stores.{stored-first, stored-more}
+use Rattle.fields.proofs.put_finality.Statement.{statement}
+use Rattle.fields.proofs.put_finality.Tie as tie
+
+previous-root : (c : tie.Start) → length (c .args .f .«previous_justified_checkpoint» .root) ≡ 32
+previous-root c = search needs
+
+current-root : (c : tie.Start) → length (c .args .f .«current_justified_checkpoint» .root) ≡ 32
+current-root c = search needs
+
+finalized-root : (c : tie.Start) → length (c .args .f .«finalized_checkpoint» .root) ≡ 32
+finalized-root c = search needs
+
+put-number-requires : tie.Need-put-number-requires
+put-number-requires c κs = search needs
+
+add-put-number : tie.Need-add-put-number
+add-put-number c = search needs
+
+put-number-requires-2 : tie.Need-put-number-requires-2
+put-number-requires-2 c κs = search needs
+
+add-put-checkpoint : tie.Need-add-put-checkpoint
+add-put-checkpoint c = search needs
+
+put-checkpoint-requires : tie.Need-put-checkpoint-requires
+put-checkpoint-requires c κs = search needs
+
+add-put-checkpoint-2 : tie.Need-add-put-checkpoint-2
+add-put-checkpoint-2 c = search needs
+
+put-checkpoint-requires-2 : tie.Need-put-checkpoint-requires-2
+put-checkpoint-requires-2 c κs = search needs
+
+add-put-checkpoint-3 : tie.Need-add-put-checkpoint-3
+add-put-checkpoint-3 c = search needs
+
+put-checkpoint-requires-3 : tie.Need-put-checkpoint-requires-3
+put-checkpoint-requires-3 c κs = search needs
+
+same-length : tie.Need-same-length
+same-length c = search needs
+
+returns : tie.Need-returns
+returns c =
+    let start = c .before .before .before .before .before .before .before .before .before .before .before .before .before .before .before .before .before .before .before .before .before .before .before .before in
+    let a = start .args in
+    let f = a .f in
+    let slot = stored-first (a .file .now) (a .at) (littleEndian 8 (f .slot)) (length-little 8 (f .slot)) (c .before .before .before .before .before .before .before .before .before .before .before .before .before .before .before .before .before .before .put-number .ensures) in
+    let bits = stored-more slot (littleEndian 8 (f .«justification_bits»)) (length-little 8 (f .«justification_bits»)) refl refl (c .before .before .before .before .before .before .before .before .before .before .before .before .before .before .put-number2 .ensures) in
+    let previous = stored-more bits (checkpointToBytes (f .«previous_justified_checkpoint»)) (length-checkpoint (f .«previous_justified_checkpoint») (previous-root start)) refl refl (c .before .before .before .before .before .before .before .before .before .before .put-checkpoint .ensures) in
+    let current = stored-more previous (checkpointToBytes (f .«current_justified_checkpoint»)) (length-checkpoint (f .«current_justified_checkpoint») (current-root start)) refl refl (c .before .before .before .before .before .before .put-checkpoint2 .ensures) in
+    stored-more current (checkpointToBytes (f .«finalized_checkpoint»)) (length-checkpoint (f .«finalized_checkpoint») (finalized-root start)) refl refl (c .before .before .put-checkpoint3 .ensures) .is
+
+pub put-finality-spec : {M : Type 1} → statement M
+put-finality-spec =
+    tie.close
+    (tie.spec
+    put-number-requires
+    add-put-number
+    put-number-requires-2
+    add-put-checkpoint
+    put-checkpoint-requires
+    add-put-checkpoint-2
+    put-checkpoint-requires-2
+    add-put-checkpoint-3
+    put-checkpoint-requires-3
+    same-length
+    returns)

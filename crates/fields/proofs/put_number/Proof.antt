@@ -1,0 +1,58 @@
+use Prim.Native.Nat.{_≤_, _+_, _-_, _%_}
+use native.Mathlib.Omega.{arith}
+use Rattle.definitions.specs.File.{littleEndian}
+use Rattle.fields.proofs.Bytes.{little-none, little-more}
+use Rattle.fields.proofs.Stores.{Storing, storing-none, storing-one, storing-all}
+use Rattle.fields.proofs.put_number.Statement.{statement}
+use Rattle.fields.proofs.put_number.Tie as tie
+
+abbrev Inv-loop : tie.InvT-loop
+Inv-loop file₀ at n left₀ k₀ file left k = (k ≤ 8) × Storing file₀ at (littleEndian 8 n) file (at + k) (littleEndian (8 - k) left)
+
+abbrev μ-loop : tie.MeasureT-loop
+μ-loop file₀ at n left₀ k₀ file left k = 8 - k
+
+loop-holds : tie.Need-loop-holds Inv-loop μ-loop
+loop-holds c = (omega arith, storing-none _ _ _ _ (omega arith))
+
+add-i : tie.Need-add-i Inv-loop μ-loop
+add-i c = omega arith
+
+cast-file : tie.Need-cast-file Inv-loop μ-loop
+cast-file c = omega arith
+
+slice-write-file : tie.Need-slice-write-file Inv-loop μ-loop
+slice-write-file c = omega arith
+
+add-k : tie.Need-add-k Inv-loop μ-loop
+add-k c = omega arith
+
+loop-less : tie.Need-loop-less Inv-loop μ-loop
+loop-less c = omega arith
+
+loop-again : tie.Need-loop-again Inv-loop μ-loop
+loop-again c =
+    let l = c .before .loop in
+    (omega arith, storing-one (l .inv .1) (l .left % 256) _ _ (little-more (8 - l .k) _ (l .left) (omega arith)) (omega arith))
+
+same-length : tie.Need-same-length Inv-loop μ-loop
+same-length c = omega arith
+
+returns : tie.Need-returns Inv-loop μ-loop
+returns c = storing-all (c .before .loop .inv .1) (little-none _ _ (omega arith))
+
+pub put-number-spec : {M : Type 1} → statement M
+put-number-spec =
+    tie.close
+    (tie.spec
+    Inv-loop
+    μ-loop
+    loop-holds
+    add-i
+    cast-file
+    slice-write-file
+    add-k
+    loop-less
+    loop-again
+    same-length
+    returns)

@@ -1,0 +1,73 @@
+use Prim.Native.Nat.{_≤_, _+_, _*_, _-_}
+use native.Mathlib.Omega.{arith}
+use lib.ListN.{length, getD, drop}
+use Rattle.definitions.specs.File.{littleEndian, numbersToBytes}
+use Rattle.round_trip.proofs.Numbers.{length-little}
+use Rattle.fields.proofs.Bytes.{to-bytes-more, to-bytes-none}
+use Rattle.fields.proofs.Stores.{Storing, storing-none, storing-part, storing-all}
+use Rattle.fields.proofs.put_numbers.Statement.{statement}
+use Rattle.fields.proofs.put_numbers.Tie as tie
+
+abbrev Inv-loop : tie.InvT-loop
+Inv-loop file₀ at numbers i₀ i-end file i = (i ≤ length numbers) × Storing file₀ at (numbersToBytes numbers) file (at + 8 * i) (numbersToBytes (drop i numbers))
+
+abbrev μ-loop : tie.MeasureT-loop
+μ-loop file₀ at numbers i₀ i-end file i = length numbers - i
+
+loop-holds : tie.Need-loop-holds Inv-loop μ-loop
+loop-holds c = (omega arith, storing-none _ _ _ _ (omega arith))
+
+mul-to : tie.Need-mul-to Inv-loop μ-loop
+mul-to c = omega arith
+
+add-to : tie.Need-add-to Inv-loop μ-loop
+add-to c = omega arith
+
+mul-put-number : tie.Need-mul-put-number Inv-loop μ-loop
+mul-put-number c = omega arith
+
+shared-slice-read-put-number : tie.Need-shared-slice-read-put-number Inv-loop μ-loop
+shared-slice-read-put-number c = omega arith
+
+put-number-requires : tie.Need-put-number-requires Inv-loop μ-loop
+put-number-requires c κs = omega arith
+
+add-i : tie.Need-add-i Inv-loop μ-loop
+add-i c = omega arith
+
+loop-less : tie.Need-loop-less Inv-loop μ-loop
+loop-less c = omega arith
+
+loop-again : tie.Need-loop-again Inv-loop μ-loop
+loop-again c =
+    let a = c .before .before .before .before .before .before .before .before .before .args in
+    let l = c .before .before .before .before .before .before .loop in
+    let xs = a .numbers .now in (
+      omega arith,
+      rw (c .before .before .put-number .ensures)
+          (storing-part (l .inv .1) (littleEndian 8 (getD xs (l .i) 0)) (numbersToBytes (drop (l .i + 1) xs)) _ (to-bytes-more xs (l .i) (c .before .before .before .before .before .loop-test .taken)) (omega (arith, length-little 8 (getD xs (l .i) 0)))),
+    )
+
+same-length : tie.Need-same-length Inv-loop μ-loop
+same-length c = omega arith
+
+returns : tie.Need-returns Inv-loop μ-loop
+returns c = storing-all (c .before .loop .inv .1) (to-bytes-none _ _ (c .loop-test .left))
+
+pub put-numbers-spec : {M : Type 1} → statement M
+put-numbers-spec =
+    tie.close
+    (tie.spec
+    Inv-loop
+    μ-loop
+    loop-holds
+    mul-to
+    add-to
+    mul-put-number
+    shared-slice-read-put-number
+    put-number-requires
+    add-i
+    loop-less
+    loop-again
+    same-length
+    returns)

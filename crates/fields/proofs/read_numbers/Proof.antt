@@ -1,0 +1,82 @@
+use mathlib.Core.Path.{_≡_, refl, _∙_}
+use Prim.Native.Nat.{_≤_, _+_, _*_, _-_}
+use native.Mathlib.Omega.{arith}
+use lib.ListN.{length, drop}
+use Rattle.definitions.specs.File.{numbersFromBytes}
+use Rattle.round_trip.proofs.Numbers.{length-from-bytes}
+use Rattle.fields.proofs.Bytes.{from-bytes-more, from-bytes-none}
+use Rattle.fields.proofs.Stores.{Storing, storing-none, storing-one, storing-all, sets-whole}
+use Rattle.fields.proofs.read_numbers.Statement.{statement}
+use Rattle.fields.proofs.read_numbers.Tie as tie
+
+abbrev Inv-loop : tie.InvT-loop
+Inv-loop bytes at numbers₀ i₀ i-end numbers i =
+    (i ≤ length numbers₀) × Storing numbers₀ 0 (numbersFromBytes (length numbers₀) (drop at bytes)) numbers i (numbersFromBytes (length numbers₀ - i) (drop (at + 8 * i) bytes))
+
+abbrev μ-loop : tie.MeasureT-loop
+μ-loop bytes at numbers₀ i₀ i-end numbers i = length numbers₀ - i
+
+loop-holds : tie.Need-loop-holds Inv-loop μ-loop
+loop-holds c =
+    let a = c .before .before .args in
+    let m : length (a .numbers .now) - 0 ≡ length (a .numbers .now) = omega arith in
+    let k : a .at + 0 ≡ a .at = omega arith in
+    (omega arith, rw (m, k) (storing-none _ _ _ _ refl))
+
+mul-from : tie.Need-mul-from Inv-loop μ-loop
+mul-from c = omega arith
+
+add-from : tie.Need-add-from Inv-loop μ-loop
+add-from c = omega arith
+
+number-at-requires : tie.Need-number-at-requires Inv-loop μ-loop
+number-at-requires c κs = omega arith
+
+mul-numbers : tie.Need-mul-numbers Inv-loop μ-loop
+mul-numbers c = omega arith
+
+slice-write-numbers : tie.Need-slice-write-numbers Inv-loop μ-loop
+slice-write-numbers c = omega arith
+
+add-i : tie.Need-add-i Inv-loop μ-loop
+add-i c = omega arith
+
+loop-less : tie.Need-loop-less Inv-loop μ-loop
+loop-less c = omega arith
+
+loop-again : tie.Need-loop-again Inv-loop μ-loop
+loop-again c =
+    let a = c .before .before .before .before .before .args in
+    let l = c .before .before .loop in (
+      omega arith,
+      rw (c .number-at .ensures)
+          (storing-one (l .inv .1) _ _ _ (from-bytes-more (length (a .numbers .now)) (a .bytes .now) (a .at) (l .i) (omega arith)) (omega arith)),
+    )
+
+same-length : tie.Need-same-length Inv-loop μ-loop
+same-length c = omega arith
+
+returns : tie.Need-returns Inv-loop μ-loop
+returns c =
+    let a = c .before .before .before .before .args in
+    let n = length (a .numbers .now) in
+    storing-all (c .before .loop .inv .1) (from-bytes-none n _ (c .before .loop .i) (c .loop-test .left))
+    ∙ sets-whole (a .numbers .now) _ (length-from-bytes n (drop (a .at) (a .bytes .now)))
+
+pub read-numbers-spec : {M : Type 1} → statement M
+read-numbers-spec =
+    tie.close
+    (tie.spec
+    Inv-loop
+    μ-loop
+    loop-holds
+    mul-from
+    add-from
+    number-at-requires
+    mul-numbers
+    slice-write-numbers
+    add-i
+    loop-less
+    loop-again
+    same-length
+    returns)

@@ -1,0 +1,1 @@
+-- What a field holds is said by definitions, File.antt.

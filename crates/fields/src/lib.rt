@@ -1,0 +1,187 @@
+// The fields of a record file in the bytes lent: numbers of 8 bytes, little-endian, plain bytes, checkpoints, settings and
+// finality.
+ghost use mathlib.Core.Path.{_≡_};
+ghost use Prim.Native.Nat.{_+_, _*_, _≤_, _<_};
+ghost use lib.ListN.{length, drop};
+ghost use lib.Seq.{sets};
+ghost use Rattle.definitions.specs.Refusals.{settingsNumbers};
+ghost use Rattle.definitions.specs.File.{littleEndian, numbersToBytes, numbersFromBytes, numberAt, settingsAt, settingsFrom, checkpointAt, finalityFrom, checkpointToBytes, finalityToBytes};
+use types::Checkpoint;
+use types::Finality;
+use types::Settings;
+
+fn wide(b: u8) -> u64
+    ensures { λ r. ⌜ (r ≡ b) × (r < 256) ⌝ }
+{
+    b as u64
+}
+
+// From the last byte to the first: no number on the way is above the one read.
+pub fn number_at(bytes: &[u8], at: usize) -> u64
+    requires { ⌜ at + 8 ≤ length (now bytes) ⌝ }
+    ensures { λ r. ⌜ r ≡ numberAt at (now (bytes .entry)) ⌝ }
+{
+    let mut n: u64 = 0;
+    let mut k: usize = 8;
+    while 0 < k {
+        k -= 1;
+        let i = at + k;
+        n = wide(bytes[i]) + 256 * n;
+    }
+    n
+}
+
+// As many numbers as the buffer holds.
+pub fn read_numbers(bytes: &[u8], at: usize, numbers: &mut [u64])
+    requires { ⌜ at + 8 * length (now numbers) ≤ length (now bytes) ⌝ }
+    ensures { λ _. ⌜ now (numbers .exit) ≡ numbersFromBytes (length (now (numbers .entry))) (drop at (now (bytes .entry))) ⌝ }
+{
+    for i in 0..numbers.len() {
+        let from = at + 8 * i;
+        numbers[i] = number_at(bytes, from);
+    }
+}
+
+pub fn put_number(file: &mut [u8], at: usize, n: u64)
+    requires { ⌜ at + 8 ≤ length (now file) ⌝ }
+    ensures { λ _. ⌜ now (file .exit) ≡ sets (now (file .entry)) at (littleEndian 8 n) ⌝ }
+{
+    let mut left = n;
+    for k in 0..8 {
+        let i = at + k;
+        file[i] = (left % 256) as u8;
+        left = left / 256;
+    }
+}
+
+pub fn put_numbers(file: &mut [u8], at: usize, numbers: &[u64])
+    requires { ⌜ at + 8 * length (now numbers) ≤ length (now file) ⌝ }
+    ensures { λ _. ⌜ now (file .exit) ≡ sets (now (file .entry)) at (numbersToBytes (now (numbers .entry))) ⌝ }
+{
+    for i in 0..numbers.len() {
+        let to = at + 8 * i;
+        put_number(file, to, numbers[i]);
+    }
+}
+
+pub fn put_bytes(file: &mut [u8], at: usize, bytes: &[u8])
+    requires { ⌜ at + length (now bytes) ≤ length (now file) ⌝ }
+    ensures { λ _. ⌜ now (file .exit) ≡ sets (now (file .entry)) at (now (bytes .entry)) ⌝ }
+{
+    for i in 0..bytes.len() {
+        let to = at + i;
+        file[to] = bytes[i];
+    }
+}
+
+pub fn read_settings(bytes: &[u8]) -> Settings
+    requires { ⌜ 232 ≤ length (now bytes) ⌝ }
+    ensures { λ r. ⌜ r ≡ settingsFrom (numbersFromBytes 19 (drop settingsAt (now (bytes .entry)))) ⌝ }
+{
+    let mut n = [0u64; 19];
+    read_numbers(bytes, 80, &mut n);
+    Settings {
+        slots_per_epoch: n[0],
+        slots_per_historical_root: n[1],
+        epochs_per_slashings_vector: n[2],
+        effective_balance_increment: n[3],
+        max_effective_balance: n[4],
+        hysteresis_quotient: n[5],
+        hysteresis_downward_multiplier: n[6],
+        hysteresis_upward_multiplier: n[7],
+        base_reward_factor: n[8],
+        min_epochs_to_inactivity_penalty: n[9],
+        inactivity_score_bias: n[10],
+        inactivity_score_recovery_rate: n[11],
+        inactivity_penalty_quotient_altair: n[12],
+        proportional_slashing_multiplier_altair: n[13],
+        max_seed_lookahead: n[14],
+        min_validator_withdrawability_delay: n[15],
+        ejection_balance: n[16],
+        min_per_epoch_churn_limit: n[17],
+        churn_limit_quotient: n[18],
+    }
+}
+
+// An epoch, then 32 bytes of root.
+fn checkpoint_at(bytes: &[u8], at: usize) -> Checkpoint
+    requires { ⌜ at + 40 ≤ length (now bytes) ⌝ }
+    ensures { λ r. ⌜ r ≡ checkpointAt at (now (bytes .entry)) ⌝ }
+{
+    let epoch = number_at(bytes, at);
+    let from = at + 8;
+    let to = from + 32;
+    let mut root = [0u8; 32];
+    put_bytes(&mut root, 0, &bytes[from..to]);
+    Checkpoint { epoch, root }
+}
+
+pub fn read_finality(bytes: &[u8]) -> Finality
+    requires { ⌜ 368 ≤ length (now bytes) ⌝ }
+    ensures { λ r. ⌜ r ≡ finalityFrom (now (bytes .entry)) ⌝ }
+{
+    let slot = number_at(bytes, 232);
+    let bits = number_at(bytes, 240);
+    let previous = checkpoint_at(bytes, 248);
+    let current = checkpoint_at(bytes, 288);
+    let finalized = checkpoint_at(bytes, 328);
+    Finality {
+        slot,
+        justification_bits: bits,
+        previous_justified_checkpoint: previous,
+        current_justified_checkpoint: current,
+        finalized_checkpoint: finalized,
+    }
+}
+
+pub fn put_settings(file: &mut [u8], at: usize, s: Settings)
+    requires { ⌜ at + 152 ≤ length (now file) ⌝ }
+    ensures { λ _. ⌜ now (file .exit) ≡ sets (now (file .entry)) at (numbersToBytes (settingsNumbers s)) ⌝ }
+{
+    let numbers = [
+        s.slots_per_epoch,
+        s.slots_per_historical_root,
+        s.epochs_per_slashings_vector,
+        s.effective_balance_increment,
+        s.max_effective_balance,
+        s.hysteresis_quotient,
+        s.hysteresis_downward_multiplier,
+        s.hysteresis_upward_multiplier,
+        s.base_reward_factor,
+        s.min_epochs_to_inactivity_penalty,
+        s.inactivity_score_bias,
+        s.inactivity_score_recovery_rate,
+        s.inactivity_penalty_quotient_altair,
+        s.proportional_slashing_multiplier_altair,
+        s.max_seed_lookahead,
+        s.min_validator_withdrawability_delay,
+        s.ejection_balance,
+        s.min_per_epoch_churn_limit,
+        s.churn_limit_quotient,
+    ];
+    put_numbers(file, at, &numbers);
+}
+
+fn put_checkpoint(file: &mut [u8], at: usize, c: Checkpoint)
+    requires { ⌜ at + 40 ≤ length (now file) ⌝ }
+    ensures { λ _. ⌜ now (file .exit) ≡ sets (now (file .entry)) at (checkpointToBytes c) ⌝ }
+{
+    let root = c.root;
+    put_number(file, at, c.epoch);
+    let to = at + 8;
+    put_bytes(file, to, &root);
+}
+
+pub fn put_finality(file: &mut [u8], at: usize, f: Finality)
+    requires { ⌜ at + 136 ≤ length (now file) ⌝ }
+    ensures { λ _. ⌜ now (file .exit) ≡ sets (now (file .entry)) at (finalityToBytes f) ⌝ }
+{
+    let previous = f.previous_justified_checkpoint;
+    let current = f.current_justified_checkpoint;
+    let finalized = f.finalized_checkpoint;
+    put_number(file, at, f.slot);
+    put_number(file, at + 8, f.justification_bits);
+    put_checkpoint(file, at + 16, previous);
+    put_checkpoint(file, at + 56, current);
+    put_checkpoint(file, at + 96, finalized);
+}

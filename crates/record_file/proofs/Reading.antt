@@ -1,0 +1,86 @@
+-- What a read answers and leaves, by the number that the tests gave.
+use mathlib.Core.Path.{_≡_, refl, sym, _∙_}
+use mathlib.Core.List.{List, [], _∷_}
+use Prim.Native.Nat.{ℕ, _+_, _-_, _*_, _^_}
+use native.Mathlib.Omega.{arith}
+use borrow.Author.Tests.{eqb-true}
+use lib.Dec.{leb, eqb}
+use lib.ListN.{length, take, drop}
+use Rattle.definitions.specs.Checked.{Checked, value, refused, bind, codeOf, settle}
+use Rattle.definitions.specs.Refusals.{isVectorLength, lengthIs}
+use Rattle.definitions.specs.File.{Contents, numbersFromBytes, slashingsAt, countOf, rootCountOf, slashingCountOf, rootsAt, fileLength, contentsOf, fileShaped, readTests, readFile, nothing, read}
+use Rattle.refusals.proofs.Answers.{passed}
+use Rattle.round_trip.proofs.Tests.{tests}
+use Rattle.round_trip.proofs.Passed.{Passed, read-passed, good-header}
+
+code-bind : {A : Type 0} (m : Checked (Unit {0})) (a : A) → codeOf (bind m (λ _. value a)) ≡ codeOf m
+unfolding bind
+code-bind (value u) a = refl
+code-bind (refused r) a = refl
+
+settle-refused : {A : Type 0} (m : Checked (Unit {0})) (a b : A) → (codeOf m ≡ 0 → ⊥) → settle (bind m (λ _. value a)) b ≡ b
+unfolding bind
+settle-refused (value u) a b z = absurd (z refl)
+settle-refused (refused r) a b z = refl
+
+-- the outcome of a read
+pub record Gives (bytes registry slashings : List ℕ) (refusal : ℕ) (c : Contents) : Type 0 where
+  pub number : refusal ≡ read bytes registry slashings .refusal
+  pub contents : read bytes registry slashings .contents ≡ c
+
+-- the file and the two lent buffers are as long as the header calls for
+pub record Lengths (bytes registry slashings : List ℕ) : Type 0 where
+  pub file : length bytes ≡ fileLength (countOf bytes) (rootCountOf bytes) (slashingCountOf bytes)
+  pub entries : length registry ≡ 10 * countOf bytes
+  pub sums : length slashings ≡ slashingCountOf bytes
+
+lengths : {bytes registry slashings : List ℕ} → Passed bytes registry slashings → Lengths bytes registry slashings
+unfolding fileShaped
+lengths {bytes} {registry} {slashings} p =
+    let c = contentsOf bytes in
+    let n = countOf bytes in
+    let S = rootCountOf bytes in
+    let L = slashingCountOf bytes in
+    let test = tests (leb n (2 ^ 24)) (isVectorLength S ∷ isVectorLength L ∷ eqb S (c .settings .«slots_per_historical_root») ∷ eqb L (c .settings .«epochs_per_slashings_vector») ∷ lengthIs (10 * n) registry ∷ lengthIs L slashings ∷ []) (p .shaped) in
+    record { file = good-header bytes (p .header) .long; entries = eqb-true _ _ (test 5); sums = eqb-true _ _ (test 6) }
+
+module _ (bytes registry slashings : List ℕ) {x : ℕ} (e : x ≡ codeOf (readTests bytes registry slashings)) where
+  pub read-refused : (x ≡ 0 → ⊥) → Gives bytes registry slashings x (nothing registry slashings)
+  unfolding read readFile
+  read-refused z =
+      record {
+        number = e ∙ sym (code-bind (readTests bytes registry slashings) (contentsOf bytes));
+        contents = settle-refused (readTests bytes registry slashings) (contentsOf bytes) (nothing registry slashings) (λ c. z (e ∙ c));
+      }
+
+  module _ (z : x ≡ 0) where
+    found : readFile bytes registry slashings ≡ value (contentsOf bytes)
+    unfolding readFile bind
+    found = rw (passed (readTests bytes registry slashings) e z)
+
+    pub read-accepted : Gives bytes registry slashings 0 (contentsOf bytes)
+    unfolding read
+    read-accepted = record { number = rw found; contents = rw found }
+
+    pub read-lengths : Lengths bytes registry slashings
+    read-lengths = lengths (read-passed bytes registry slashings found)
+
+-- The file's parts by the buffers' lengths
+
+module _ {bytes registry slashings : List ℕ} (l : Lengths bytes registry slashings) where
+  pub registry-part : numbersFromBytes (length registry) (drop 368 bytes) ≡ contentsOf bytes .registry
+  unfolding contentsOf
+  registry-part = rw (l .entries)
+
+  pub roots-part : take (length bytes - 8 * length slashings - (368 + 8 * length registry)) (drop (368 + 8 * length registry) bytes) ≡ contentsOf bytes .roots
+  unfolding contentsOf
+  roots-part =
+      let from : 368 + 8 * length registry ≡ rootsAt (countOf bytes) = omega arith in
+      let size : length bytes - 8 * length slashings - rootsAt (countOf bytes) ≡ 32 * rootCountOf bytes = omega arith in
+      rw (from, size)
+
+  pub slashings-part : numbersFromBytes (length slashings) (drop (length bytes - 8 * length slashings) bytes) ≡ contentsOf bytes .slashings
+  unfolding contentsOf
+  slashings-part =
+      let from : length bytes - 8 * length slashings ≡ slashingsAt (countOf bytes) (rootCountOf bytes) = omega arith in
+      rw (from, l .sums)

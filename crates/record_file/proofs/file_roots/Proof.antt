@@ -1,0 +1,71 @@
+use mathlib.Core.Path.{sym, ap, _∙_}
+use native.Mathlib.Omega.{arith}
+use borrow.Author.Needs.{needs}
+use Rattle.definitions.specs.File.{Contents}
+use Rattle.record_file.proofs.Reading.{Lengths, read-refused, read-accepted, read-lengths, roots-part}
+use Rattle.record_file.proofs.file_roots.Statement.{statement}
+use Rattle.record_file.proofs.file_roots.Tie as tie
+
+lengths : (c : tie.Else1) → Lengths (c .before .before .before .before .before .before .args .bytes .now) (c .before .before .before .before .before .before .args .registry .now) (c .before .before .before .before .before .before .args .slashings .now)
+lengths c = read-lengths (c .before .before .before .before .before .before .args .bytes .now) (c .before .before .before .before .before .before .args .registry .now) (c .before .before .before .before .before .before .args .slashings .now) (c .before .before .read-tests .ensures .0) (c .if1 .left)
+
+read-tests-requires : tie.Need-read-tests-requires
+read-tests-requires c κs = search needs
+
+sub-result : tie.Need-sub-result
+sub-result c = search needs
+
+part-result-start : tie.Need-part-result-start
+part-result-start c = search needs
+
+part-result-end : tie.Need-part-result-end
+part-result-end c = search needs
+
+returns : tie.Need-returns
+returns c =
+    let g = read-refused (c .before .before .before .before .before .before .before .args .bytes .now) (c .before .before .before .before .before .before .before .args .registry .now) (c .before .before .before .before .before .before .before .args .slashings .now) (c .before .before .before .read-tests .ensures .0) (c .before .if1 .taken) in
+    sym (ap (λ (k : Contents). k .roots) (g .contents))
+
+mul-from : tie.Need-mul-from
+mul-from c = search needs
+
+add-from : tie.Need-add-from
+add-from c = search needs
+
+mul-to : tie.Need-mul-to
+mul-to c = search needs
+
+sub-to : tie.Need-sub-to
+sub-to c = omega (arith, lengths c)
+
+sub-result-2 : tie.Need-sub-result-2
+sub-result-2 c = omega (arith, lengths c)
+
+part-result-start-2 : tie.Need-part-result-start-2
+part-result-start-2 c = omega (arith, lengths c)
+
+part-result-end-2 : tie.Need-part-result-end-2
+part-result-end-2 c = search needs
+
+returns-2 : tie.Need-returns-2
+returns-2 c =
+    let g = read-accepted (c .before .before .before .before .before .before .before .args .bytes .now) (c .before .before .before .before .before .before .before .args .registry .now) (c .before .before .before .before .before .before .before .args .slashings .now) (c .before .before .before .read-tests .ensures .0) (c .before .if1 .left) in
+    roots-part (lengths (c .before)) ∙ sym (ap (λ (k : Contents). k .roots) (g .contents))
+
+pub file-roots-spec : {M : Type 1} → statement M
+file-roots-spec =
+    tie.close
+    (tie.spec
+    read-tests-requires
+    sub-result
+    part-result-start
+    part-result-end
+    returns
+    mul-from
+    add-from
+    mul-to
+    sub-to
+    sub-result-2
+    part-result-start-2
+    part-result-end-2
+    returns-2)

@@ -1,0 +1,92 @@
+use mathlib.Core.Path.{sym, ap, _∙_}
+use native.Mathlib.Omega.{arith}
+use borrow.Author.Needs.{needs}
+use Rattle.definitions.specs.File.{Contents, contentsOf, read}
+use Rattle.record_file.proofs.Reading.{Lengths, read-refused, read-accepted, read-lengths, registry-part, slashings-part}
+use Rattle.record_file.proofs.read_file.Statement.{statement}
+use Rattle.record_file.proofs.read_file.Tie as tie
+
+lengths : (c : tie.Else1) → Lengths (c .before .before .before .before .before .before .before .before .args .bytes .now) (c .before .before .before .before .before .before .before .before .args .registry .now) (c .before .before .before .before .before .before .before .before .args .slashings .now)
+lengths c = read-lengths (c .before .before .before .before .before .before .before .before .args .bytes .now) (c .before .before .before .before .before .before .before .before .args .registry .now) (c .before .before .before .before .before .before .before .before .args .slashings .now) (c .before .before .read-tests .ensures .0) (c .if1 .left)
+
+read-tests-requires : tie.Need-read-tests-requires
+read-tests-requires c κs = search needs
+
+no-settings-requires : tie.Need-no-settings-requires
+no-settings-requires c κs = search needs
+
+no-finality-requires : tie.Need-no-finality-requires
+no-finality-requires c κs = search needs
+
+same-length : tie.Need-same-length
+same-length c = search needs
+
+same-length-2 : tie.Need-same-length-2
+same-length-2 c = search needs
+
+returns : tie.Need-returns
+unfolding read
+returns c =
+    let t = c .before .before .before .before .read-tests .ensures in
+    let g = read-refused (c .before .before .before .before .before .before .before .before .before .before .args .bytes .now) (c .before .before .before .before .before .before .before .before .before .before .args .registry .now) (c .before .before .before .before .before .before .before .before .before .before .args .slashings .now) (t .0) (c .before .before .if1 .taken) in
+    let settings = c .before .no-settings .ensures ∙ sym (ap (λ (k : Contents). k .settings) (g .contents)) in
+    let finality = c .no-finality .ensures ∙ sym (ap (λ (k : Contents). k .finality) (g .contents)) in
+    let registry = sym (ap (λ (k : Contents). k .registry) (g .contents)) in
+    let slashings = sym (ap (λ (k : Contents). k .slashings) (g .contents)) in
+    (g .number, (t .1, (settings, (finality, (registry, slashings)))))
+
+read-settings-requires : tie.Need-read-settings-requires
+read-settings-requires c κs = omega (arith, lengths c)
+
+read-finality-requires : tie.Need-read-finality-requires
+read-finality-requires c κs = omega (arith, lengths (c .before))
+
+mul-slashings-at : tie.Need-mul-slashings-at
+mul-slashings-at c = omega (arith, lengths (c .before .before))
+
+sub-slashings-at : tie.Need-sub-slashings-at
+sub-slashings-at c = omega (arith, lengths (c .before .before))
+
+read-numbers-requires : tie.Need-read-numbers-requires
+read-numbers-requires c κs = omega (arith, lengths (c .before .before .before))
+
+read-numbers-requires-2 : tie.Need-read-numbers-requires-2
+read-numbers-requires-2 c κs = omega (arith, lengths (c .before .before .before .before .before .before .before))
+
+same-length-3 : tie.Need-same-length-3
+same-length-3 c = search needs
+
+same-length-4 : tie.Need-same-length-4
+same-length-4 c = search needs
+
+returns-2 : tie.Need-returns-2
+unfolding read contentsOf
+returns-2 c =
+    let t = c .before .before .before .before .before .before .before .before .before .before .before .before .read-tests .ensures in
+    let l = lengths (c .before .before .before .before .before .before .before .before .before .before) in
+    let g = read-accepted (c .before .before .before .before .before .before .before .before .before .before .before .before .before .before .before .before .before .before .args .bytes .now) (c .before .before .before .before .before .before .before .before .before .before .before .before .before .before .before .before .before .before .args .registry .now) (c .before .before .before .before .before .before .before .before .before .before .before .before .before .before .before .before .before .before .args .slashings .now) (t .0) (c .before .before .before .before .before .before .before .before .before .before .if1 .left) in
+    let settings = c .before .before .before .before .before .before .before .before .before .read-settings .ensures ∙ sym (ap (λ (k : Contents). k .settings) (g .contents)) in
+    let finality = c .before .before .before .before .before .before .before .before .read-finality .ensures ∙ sym (ap (λ (k : Contents). k .finality) (g .contents)) in
+    let registry = c .before .before .before .before .before .before .read-numbers .ensures ∙ registry-part l ∙ sym (ap (λ (k : Contents). k .registry) (g .contents)) in
+    let slashings = c .before .before .read-numbers2 .ensures ∙ slashings-part l ∙ sym (ap (λ (k : Contents). k .slashings) (g .contents)) in
+    (g .number, (t .1, (settings, (finality, (registry, slashings)))))
+
+pub read-file-spec : {M : Type 1} → statement M
+read-file-spec =
+    tie.close
+    (tie.spec
+    read-tests-requires
+    no-settings-requires
+    no-finality-requires
+    same-length
+    same-length-2
+    returns
+    read-settings-requires
+    read-finality-requires
+    mul-slashings-at
+    sub-slashings-at
+    read-numbers-requires
+    read-numbers-requires-2
+    same-length-3
+    same-length-4
+    returns-2)

@@ -1,0 +1,2 @@
+-- What the functions answer by value, in the words of definitions, File.antt.
+pub mod Answers

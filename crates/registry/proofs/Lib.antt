@@ -1,0 +1,4 @@
+-- Laws of the registry step.
+pub mod Epochs
+pub mod Churn
+pub mod Turns

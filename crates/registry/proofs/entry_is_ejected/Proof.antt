@@ -1,0 +1,23 @@
+use borrow.Author.Needs.{needs}
+use Rattle.definitions.specs.Document.Phase0.EpochProcessing.{isEjected}
+use Rattle.refusals.proofs.All.{fails, passes}
+use Rattle.registry.proofs.entry_is_ejected.Statement.{statement}
+use Rattle.registry.proofs.entry_is_ejected.Tie as tie
+
+entry-is-active-requires : tie.Need-entry-is-active-requires
+entry-is-active-requires c κs = search needs
+
+returns : tie.Need-returns
+unfolding isEjected
+returns c = rw (fails (c .before .entry-is-active .ensures) (c .if1 .taken))
+
+shared-slice-read-result : tie.Need-shared-slice-read-result
+shared-slice-read-result c = search needs
+
+returns-2 : tie.Need-returns-2
+unfolding isEjected
+returns-2 c = rw (passes (c .before .before .before .entry-is-active .ensures) (c .before .before .if1 .left))
+
+pub entry-is-ejected-spec : {M : Type 1} → statement M
+entry-is-ejected-spec =
+    tie.close (tie.spec entry-is-active-requires returns shared-slice-read-result returns-2)

@@ -1,0 +1,2 @@
+-- What contracts of the registry step cite.
+pub mod Updates

@@ -1,0 +1,131 @@
+// process_registry_updates: eligibility and ejection in register order, then activation.
+ghost use mathlib.Core.Path.{_≡_};
+ghost use mathlib.Core.Bool.{true};
+ghost use Prim.Native.Nat.{_*_, _/_, _^_, _<_};
+ghost use lib.ListN.{length};
+ghost use Rattle.definitions.specs.Lists.{range};
+ghost use Rattle.definitions.specs.Record.{decodeOne, encodeOne, decode, encode};
+ghost use Rattle.definitions.specs.Checked.{foldChecked};
+ghost use Rattle.definitions.specs.Refusals.{goodSettings, registryTests};
+ghost use Rattle.definitions.specs.Document.Phase0.EpochProcessing.{queueEligible, isEjected};
+ghost use Rattle.definitions.specs.Rust.Phase0.EpochProcessing.{«process_registry_updates»};
+ghost use Rattle.loops.specs.Ran.{Ran};
+ghost use Rattle.buffers.specs.Closes.{Closes};
+ghost use Rattle.registry.specs.Updates.{updateAt};
+use activation::activate;
+use buffers::copy;
+use entries::entry_is_active;
+use entries::entry_is_eligible_for_activation_queue;
+use exits::exit_at;
+use finalized::registry_tests;
+use leaf_refusals::current_epoch;
+use totals::churn_limit;
+use types::Settings;
+
+fn entry_queue_eligible(s: Settings, epoch: u64, entry: &mut [u64])
+    requires { ⌜ (length (now entry) ≡ 10) × (epoch < 2 ^ 48) ⌝ }
+    ensures { λ _. ⌜ now (entry .exit) ≡ encodeOne (queueEligible s epoch (decodeOne (now (entry .entry)))) ⌝ }
+{
+    if !entry_is_eligible_for_activation_queue(s, &entry[..]) {
+        return;
+    }
+    entry[2] = epoch + 1;
+}
+
+fn entry_is_ejected(s: Settings, epoch: u64, entry: &[u64]) -> bool
+    requires { ⌜ length (now entry) ≡ 10 ⌝ }
+    ensures { λ r. ⌜ r ≡ isEjected s epoch (decodeOne (now (entry .entry))) ⌝ }
+{
+    if !entry_is_active(entry, epoch) {
+        return false;
+    }
+    entry[0] <= s.ejection_balance
+}
+
+// One validator's turn. An ejection rescans the exit epochs as they stand now.
+fn update_at(
+    s: Settings,
+    epoch: u64,
+    least: u64,
+    limit: u64,
+    registry: &mut [u64],
+    n: usize,
+    index: usize,
+) -> u64
+    requires { ⌜ (length (now registry) ≡ 10 * n) × (index < n) × (epoch < 2 ^ 48) ⌝ }
+    ensures { λ r. ⌜ Ran (updateAt s epoch least limit (decode (now (registry .entry))) index) (now (registry .exit)) r ⌝ }
+{
+    let a = 10 * index;
+    let b = a + 10;
+    entry_queue_eligible(s, epoch, &mut registry[a..b]);
+    if !entry_is_ejected(s, epoch, &registry[a..b]) {
+        return 0;
+    }
+    let delay = s.min_validator_withdrawability_delay;
+    exit_at(registry, n, index, least, limit, delay)
+}
+
+fn update_all(
+    s: Settings,
+    epoch: u64,
+    least: u64,
+    limit: u64,
+    registry: &mut [u64],
+    n: usize,
+) -> u64
+    requires { ⌜ (length (now registry) ≡ 10 * n) × (epoch < 2 ^ 48) ⌝ }
+    ensures { λ r. ⌜ Ran (foldChecked (updateAt s epoch least limit) (decode (now (registry .entry))) (range 0 (length (decode (now (registry .entry)))))) (now (registry .exit)) r ⌝ }
+{
+    for i in 0..n {
+        let refusal = update_at(s, epoch, least, limit, registry, n, i);
+        if refusal != 0 {
+            return refusal;
+        }
+    }
+    0
+}
+
+// In place, for callers that have tested the record and put the opening back on refusal.
+pub fn registry_core(
+    s: Settings,
+    state_slot: u64,
+    finalized_epoch: u64,
+    registry: &mut [u64],
+) -> u64
+    requires { ⌜ goodSettings s ≡ true ⌝ }
+    requires { ⌜ «state_slot» < 2 ^ 48 ⌝ }
+    requires { ⌜ length (now registry) ≡ 10 * (length (now registry) / 10) ⌝ }
+    ensures { λ r. ⌜ Ran («process_registry_updates» s «state_slot» «finalized_epoch» (decode (now (registry .entry)))) (now (registry .exit)) r ⌝ }
+{
+    let n = registry.len() / 10;
+    let epoch = current_epoch(s, state_slot);
+    let limit = churn_limit(s, state_slot, &registry[..]);
+    let least = epoch + 1 + s.max_seed_lookahead;
+    let refusal = update_all(s, epoch, least, limit, registry, n);
+    if refusal != 0 {
+        return refusal;
+    }
+    activate(registry, n, finalized_epoch, limit, least);
+    0
+}
+
+pub fn process_registry_updates(
+    s: Settings,
+    state_slot: u64,
+    finalized_epoch: u64,
+    opening: &[u64],
+    closing: &mut [u64],
+) -> u64
+    ensures { λ r. ⌜ Closes encode (registryTests s «state_slot» «finalized_epoch» (now (opening .entry)) (now (closing .entry))) («process_registry_updates» s «state_slot» «finalized_epoch» (decode (now (opening .entry)))) (now (opening .entry)) (now (closing .entry)) (now (closing .exit)) r ⌝ }
+{
+    let refusal = registry_tests(s, state_slot, finalized_epoch, opening, closing);
+    if refusal != 0 {
+        return refusal;
+    }
+    copy(opening, closing);
+    let done = registry_core(s, state_slot, finalized_epoch, closing);
+    if done != 0 {
+        copy(opening, closing);
+    }
+    done
+}
