@@ -8,10 +8,10 @@ use lib.Dec.{leb}
 use lib.ListN.{length, drop}
 use Rattle.types.specs.declared.Settings.{Settings}
 use Rattle.definitions.specs.Record.{decode}
-use Rattle.definitions.specs.Checked.{codeOf}
 use Rattle.definitions.specs.Refusals.{inOrder, isVectorLength, settingsShaped, goodSettings, goodFinality, goodRegistry}
 use Rattle.definitions.specs.File.{numbersFromBytes, settingsAt, settingsFrom, countOf, rootCountOf, slashingCountOf, contentsOf, goodHeader, fileShaped, readTests, stoppedAt, position}
 use Rattle.refusals.proofs.All.{both}
+use Rattle.record_file.specs.Answers.{Answered}
 
 -- Test 1
 
@@ -58,39 +58,35 @@ module _ (bytes registry slashings : List ℕ) where
 
   -- 6, 1, 2, 3
 
-  pub record Answered (refusal at : ℕ) : Type 0 where
-    pub number : refusal ≡ codeOf (readTests bytes registry slashings)
-    pub place : at ≡ position bytes registry slashings
-
-  pub answered-short : length bytes < 80 → Answered 6 0
+  pub answered-short : length bytes < 80 → Answered bytes registry slashings 6 0
   unfolding readTests position goodHeader
   answered-short l = record { number = rw (lt-leb _ _ l); place = rw (lt-ltb _ _ l) }
 
   module _ (l : 80 ≤ length bytes) where
-    pub answered-header : goodHeader bytes ≡ false → Answered 6 80
+    pub answered-header : goodHeader bytes ≡ false → Answered bytes registry slashings 6 80
     unfolding readTests position
     answered-header h = record { number = rw h; place = rw (le-ltb _ _ l, h) }
 
     module _ (h : goodHeader bytes ≡ true) where
-      pub answered-shape : fileShaped bytes registry slashings ≡ false → Answered 1 232
+      pub answered-shape : fileShaped bytes registry slashings ≡ false → Answered bytes registry slashings 1 232
       unfolding readTests position inOrder
       answered-shape t = record { number = rw (h, t); place = rw (le-ltb _ _ l, h, t) }
 
       module _ (t : fileShaped bytes registry slashings ≡ true) where
-        pub answered-settings : goodSettings (contentsOf bytes .settings) ≡ false → Answered 2 232
+        pub answered-settings : goodSettings (contentsOf bytes .settings) ≡ false → Answered bytes registry slashings 2 232
         unfolding readTests position inOrder
         answered-settings s = record { number = rw (h, t, s); place = rw (le-ltb _ _ l, h, t, s) }
 
         module _ (s : goodSettings (contentsOf bytes .settings) ≡ true) where
-          pub answered-finality : goodFinality (contentsOf bytes .finality) ≡ false → Answered 3 368
+          pub answered-finality : goodFinality (contentsOf bytes .finality) ≡ false → Answered bytes registry slashings 3 368
           unfolding readTests position inOrder
           answered-finality f = record { number = rw (h, t, s, f); place = rw (le-ltb _ _ l, h, t, s, f) }
 
           module _ (f : goodFinality (contentsOf bytes .finality) ≡ true) where
-            pub answered-registry : goodRegistry (contentsOf bytes .registry) ≡ false → Answered 3 (stoppedAt 368 (decode (contentsOf bytes .registry)))
+            pub answered-registry : goodRegistry (contentsOf bytes .registry) ≡ false → Answered bytes registry slashings 3 (stoppedAt 368 (decode (contentsOf bytes .registry)))
             unfolding readTests position inOrder
             answered-registry r = record { number = rw (h, t, s, f, r); place = rw (le-ltb _ _ l, h, t, s, f, r) }
 
-            pub answered-all : goodRegistry (contentsOf bytes .registry) ≡ true → Answered 0 (length bytes)
+            pub answered-all : goodRegistry (contentsOf bytes .registry) ≡ true → Answered bytes registry slashings 0 (length bytes)
             unfolding readTests position inOrder
             answered-all r = record { number = rw (h, t, s, f, r); place = rw (le-ltb _ _ l, h, t, s, f, r) }

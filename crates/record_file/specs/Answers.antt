@@ -1,4 +1,5 @@
 -- What the functions answer by value, in the words of definitions, File.antt.
+use mathlib.Core.Path.{_≡_}
 use mathlib.Core.Bool.{Bool, cond, _&&_}
 use mathlib.Core.List.{List}
 use Prim.Native.Nat.{ℕ, _/_}
@@ -6,9 +7,9 @@ use lib.Dec.{eqb}
 use lib.ListN.{length}
 use Rattle.types.specs.declared.Settings.{Settings}
 use Rattle.types.specs.declared.Finality.{Finality}
-use Rattle.definitions.specs.Checked.{badFile, numberOf}
+use Rattle.definitions.specs.Checked.{badFile, numberOf, codeOf}
 use Rattle.definitions.specs.Refusals.{settingsShaped, registryShaped, rootsShaped, slashingsShaped, lengthIs}
-use Rattle.definitions.specs.File.{Contents, fileLength, countOf, rootCountOf, slashingCountOf, goodHeader}
+use Rattle.definitions.specs.File.{Contents, fileLength, countOf, rootCountOf, slashingCountOf, goodHeader, readTests, position}
 use Rattle.record_file.specs.declared.Header.{Header}
 
 -- Test 6 alone: N, S and L, or refusal 6 and zeros
@@ -25,6 +26,11 @@ headerRead bytes =
 -- the most that the number at k of an entry may be
 abbrev pub limitAt : ℕ → ℕ
 limitAt k = cond (eqb k 1) 1 (cond (eqb k 7) 255 (cond (eqb k 8) 255 18446744073709551615))
+
+-- the answer of the tests of reading, and where reading stopped
+pub record Answered (bytes registry slashings : List ℕ) (refusal at : ℕ) : Type 0 where
+  pub number : refusal ≡ codeOf (readTests bytes registry slashings)
+  pub place : at ≡ position bytes registry slashings
 
 -- what the writer is handed
 abbrev pub contentsWith : Settings → Finality → List ℕ → List ℕ → List ℕ → Contents

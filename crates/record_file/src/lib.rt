@@ -6,8 +6,8 @@ ghost use lib.Dec.{eqb};
 ghost use lib.ListN.{length, drop};
 ghost use Rattle.definitions.specs.Record.{decode};
 ghost use Rattle.definitions.specs.Checked.{value, codeOf};
-ghost use Rattle.definitions.specs.File.{fileLength, header, settingsFrom, noFinality, numbersFromBytes, sameNumbers, fileShaped, stoppedAt, readTests, position, read, fileOf, writeTests, written};
-ghost use Rattle.record_file.specs.Answers.{noHeader, headerRead, limitAt, contentsWith, writeShaped};
+ghost use Rattle.definitions.specs.File.{fileLength, header, settingsFrom, noFinality, numbersFromBytes, sameNumbers, fileShaped, stoppedAt, read, fileOf, writeTests, written};
+ghost use Rattle.record_file.specs.Answers.{noHeader, headerRead, limitAt, Answered, contentsWith, writeShaped};
 use types::Checkpoint;
 use types::Finality;
 use types::Settings;
@@ -187,8 +187,7 @@ struct Tested {
 
 // 6, then 1, 2, 3.
 fn read_tests(bytes: &[u8], registry: &[u64], slashings: &[u64]) -> Tested
-    ensures { λ r. ⌜ r .refusal ≡ codeOf (readTests (now (bytes .entry)) (now (registry .entry)) (now (slashings .entry))) ⌝ }
-    ensures { λ r. ⌜ r .position ≡ position (now (bytes .entry)) (now (registry .entry)) (now (slashings .entry)) ⌝ }
+    ensures { λ r. ⌜ Answered (now (bytes .entry)) (now (registry .entry)) (now (slashings .entry)) (r .refusal) (r .position) ⌝ }
 {
     if bytes.len() < 80 {
         return Tested {

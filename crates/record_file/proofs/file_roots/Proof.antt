@@ -6,8 +6,11 @@ use Rattle.record_file.proofs.Reading.{Lengths, read-refused, read-acce
 use Rattle.record_file.proofs.file_roots.Statement.{statement}
 use Rattle.record_file.proofs.file_roots.Tie as tie
 
-lengths : (c : tie.Else1) → Lengths (c .before .before .before .before .before .before .args .bytes .now) (c .before .before .before .before .before .before .args .registry .now) (c .before .before .before .before .before .before .args .slashings .now)
-lengths c = read-lengths (c .before .before .before .before .before .before .args .bytes .now) (c .before .before .before .before .before .before .args .registry .now) (c .before .before .before .before .before .before .args .slashings .now) (c .before .before .read-tests .ensures .0) (c .if1 .left)
+abbrev Long : tie.Start → Type 0
+Long c = Lengths (c .args .bytes .now) (c .args .registry .now) (c .args .slashings .now)
+
+lengths : (c : tie.Else1) → Long (c .before .before .before .before .before .before)
+lengths c = read-lengths _ _ _ (c .before .before .read-tests .ensures .number) (c .if1 .left)
 
 read-tests-requires : tie.Need-read-tests-requires
 read-tests-requires c κs = search needs
@@ -23,7 +26,7 @@ part-result-end c = search needs
 
 returns : tie.Need-returns
 returns c =
-    let g = read-refused (c .before .before .before .before .before .before .before .args .bytes .now) (c .before .before .before .before .before .before .before .args .registry .now) (c .before .before .before .before .before .before .before .args .slashings .now) (c .before .before .before .read-tests .ensures .0) (c .before .if1 .taken) in
+    let g = read-refused _ _ _ (c .before .before .before .read-tests .ensures .number) (c .before .if1 .taken) in
     sym (ap (λ (k : Contents). k .roots) (g .contents))
 
 mul-from : tie.Need-mul-from
@@ -49,7 +52,7 @@ part-result-end-2 c = search needs
 
 returns-2 : tie.Need-returns-2
 returns-2 c =
-    let g = read-accepted (c .before .before .before .before .before .before .before .args .bytes .now) (c .before .before .before .before .before .before .before .args .registry .now) (c .before .before .before .before .before .before .before .args .slashings .now) (c .before .before .before .read-tests .ensures .0) (c .before .if1 .left) in
+    let g = read-accepted _ _ _ (c .before .before .before .read-tests .ensures .number) (c .before .if1 .left) in
     roots-part (lengths (c .before)) ∙ sym (ap (λ (k : Contents). k .roots) (g .contents))
 
 pub file-roots-spec : {M : Type 1} → statement M

@@ -1,8 +1,30 @@
+use mathlib.Core.Path.{_≡_}
+use mathlib.Core.Bool.{true}
+use mathlib.Core.List.{List}
+use Prim.Native.Nat.{ℕ, _^_, _≤_}
 use borrow.Author.Needs.{needs}
+use Rattle.definitions.specs.Refusals.{settingsShaped}
+use Rattle.definitions.specs.File.{countOf, rootCountOf, slashingCountOf}
 use Rattle.refusals.proofs.All.{fails, passes}
-use Rattle.record_file.proofs.ReadTests.{too-many, unlike-roots, unlike-slashings, not-vectors, other-registry, other-slashings, shaped}
+use Rattle.record_file.proofs.ReadTests.{settingsIn, too-many, unlike-roots, unlike-slashings, not-vectors, other-registry, other-slashings, shaped}
 use Rattle.record_file.proofs.file_shaped.Statement.{statement}
 use Rattle.record_file.proofs.file_shaped.Tie as tie
+
+-- what each passed test says of the bytes
+abbrev bytes : tie.Else1 → List ℕ
+bytes c = c .before .before .before .before .before .before .before .before .args .bytes .now
+
+few : (c : tie.Else1) → countOf (bytes c) ≤ 2 ^ 24
+few c = rw (c .before .before .before .before .number-at .ensures) at (c .if1 .left)
+
+roots : (c : tie.Else2) → rootCountOf (bytes (c .before .before)) ≡ settingsIn (bytes (c .before .before)) .«slots_per_historical_root»
+roots c = rw (c .before .before .before .before .before .number-at2 .ensures, c .before .before .before .read-settings .ensures) at (c .if2 .left)
+
+slash : (c : tie.Else3) → slashingCountOf (bytes (c .before .before .before .before)) ≡ settingsIn (bytes (c .before .before .before .before)) .«epochs_per_slashings_vector»
+slash c = rw (c .before .before .before .before .before .before .number-at3 .ensures, c .before .before .before .before .before .read-settings .ensures) at (c .if3 .left)
+
+vectors : (c : tie.Else4) → settingsShaped (settingsIn (bytes (c .before .before .before .before .before .before))) ≡ true
+vectors c = passes (rw (c .before .before .before .before .before .before .before .read-settings .ensures) at (c .before .settings-shaped .ensures)) (c .if4 .left)
 
 number-at-requires : tie.Need-number-at-requires
 number-at-requires c κs = search needs
@@ -17,40 +39,36 @@ read-settings-requires : tie.Need-read-settings-requires
 read-settings-requires c κs = search needs
 
 returns : tie.Need-returns
-returns c = too-many (c .before .before .before .before .before .before .before .before .args .bytes .now) (c .before .before .before .before .before .before .before .before .args .registry .now) (c .before .before .before .before .before .before .before .before .args .slashings .now) (rw (c .before .before .before .before .number-at .ensures) at (c .if1 .taken))
+returns c = too-many _ _ _ (rw (c .before .before .before .before .number-at .ensures) at (c .if1 .taken))
 
 returns-2 : tie.Need-returns-2
-returns-2 c = unlike-roots (c .before .before .before .before .before .before .before .before .before .before .args .bytes .now) (c .before .before .before .before .before .before .before .before .before .before .args .registry .now) (c .before .before .before .before .before .before .before .before .before .before .args .slashings .now) (rw (c .before .before .before .before .before .number-at2 .ensures, c .before .before .before .read-settings .ensures) at (c .if2 .taken))
+returns-2 c = unlike-roots _ _ _ (rw (c .before .before .before .before .before .number-at2 .ensures, c .before .before .before .read-settings .ensures) at (c .if2 .taken))
 
 returns-3 : tie.Need-returns-3
-returns-3 c = unlike-slashings (c .before .before .before .before .before .before .before .before .before .before .before .before .args .bytes .now) (c .before .before .before .before .before .before .before .before .before .before .before .before .args .registry .now) (c .before .before .before .before .before .before .before .before .before .before .before .before .args .slashings .now) (rw (c .before .before .before .before .before .before .number-at3 .ensures, c .before .before .before .before .before .read-settings .ensures) at (c .if3 .taken))
+returns-3 c = unlike-slashings _ _ _ (rw (c .before .before .before .before .before .before .number-at3 .ensures, c .before .before .before .before .before .read-settings .ensures) at (c .if3 .taken))
 
 settings-shaped-requires : tie.Need-settings-shaped-requires
 settings-shaped-requires c κs = search needs
 
 returns-4 : tie.Need-returns-4
-returns-4 c =
-    not-vectors (c .before .before .before .before .before .before .before .before .before .before .before .before .before .before .args .bytes .now) (c .before .before .before .before .before .before .before .before .before .before .before .before .before .before .args .registry .now) (c .before .before .before .before .before .before .before .before .before .before .before .before .before .before .args .slashings .now)
-    (rw (c .before .before .before .before .before .before .before .before .before .number-at2 .ensures, c .before .before .before .before .before .before .before .read-settings .ensures) at (c .before .before .before .before .if2 .left))
-    (rw (c .before .before .before .before .before .before .before .before .number-at3 .ensures, c .before .before .before .before .before .before .before .read-settings .ensures) at (c .before .before .if3 .left))
-    (fails (rw (c .before .before .before .before .before .before .before .read-settings .ensures) at (c .before .settings-shaped .ensures)) (c .if4 .taken))
+returns-4 c = not-vectors _ _ _ (roots (c .before .before .before .before)) (slash (c .before .before)) (fails (rw (c .before .before .before .before .before .before .before .read-settings .ensures) at (c .before .settings-shaped .ensures)) (c .if4 .taken))
 
 mul-if5 : tie.Need-mul-if5
 mul-if5 c = search needs
 
 returns-5 : tie.Need-returns-5
-returns-5 c = other-registry (c .before .before .before .before .before .before .before .before .before .before .before .before .before .before .before .args .bytes .now) (c .before .before .before .before .before .before .before .before .before .before .before .before .before .before .before .args .registry .now) (c .before .before .before .before .before .before .before .before .before .before .before .before .before .before .before .args .slashings .now) (rw (c .before .before .before .before .before .before .before .before .before .before .before .number-at .ensures) at (c .if5 .taken))
+returns-5 c = other-registry _ _ _ (rw (c .before .before .before .before .before .before .before .before .before .before .before .number-at .ensures) at (c .if5 .taken))
 
 returns-6 : tie.Need-returns-6
-returns-6 c = other-slashings (c .before .before .before .before .before .before .before .before .before .before .before .before .before .before .before .before .args .bytes .now) (c .before .before .before .before .before .before .before .before .before .before .before .before .before .before .before .before .args .registry .now) (c .before .before .before .before .before .before .before .before .before .before .before .before .before .before .before .before .args .slashings .now) (rw (c .before .before .before .before .before .before .before .before .before .before .number-at3 .ensures) at (c .if6 .taken))
+returns-6 c = other-slashings _ _ _ (rw (c .before .before .before .before .before .before .before .before .before .before .number-at3 .ensures) at (c .if6 .taken))
 
 returns-7 : tie.Need-returns-7
 returns-7 c =
-    shaped (c .before .before .before .before .before .before .before .before .before .before .before .before .before .before .before .before .args .bytes .now) (c .before .before .before .before .before .before .before .before .before .before .before .before .before .before .before .before .args .registry .now) (c .before .before .before .before .before .before .before .before .before .before .before .before .before .before .before .before .args .slashings .now)
-    (rw (c .before .before .before .before .before .before .before .before .before .before .before .number-at2 .ensures, c .before .before .before .before .before .before .before .before .before .read-settings .ensures) at (c .before .before .before .before .before .before .if2 .left))
-    (rw (c .before .before .before .before .before .before .before .before .before .before .number-at3 .ensures, c .before .before .before .before .before .before .before .before .before .read-settings .ensures) at (c .before .before .before .before .if3 .left))
-    (rw (c .before .before .before .before .before .before .before .before .before .before .before .before .number-at .ensures) at (c .before .before .before .before .before .before .before .before .if1 .left))
-    (passes (rw (c .before .before .before .before .before .before .before .before .before .read-settings .ensures) at (c .before .before .before .settings-shaped .ensures)) (c .before .before .if4 .left))
+    shaped _ _ _
+    (roots (c .before .before .before .before .before .before))
+    (slash (c .before .before .before .before))
+    (few (c .before .before .before .before .before .before .before .before))
+    (vectors (c .before .before))
     (rw (c .before .before .before .before .before .before .before .before .before .before .before .before .number-at .ensures) at (c .before .if5 .left))
     (rw (c .before .before .before .before .before .before .before .before .before .before .number-at3 .ensures) at (c .if6 .left))
 

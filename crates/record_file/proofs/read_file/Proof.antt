@@ -6,8 +6,11 @@ use Rattle.record_file.proofs.Reading.{Lengths, read-refused, read-acce
 use Rattle.record_file.proofs.read_file.Statement.{statement}
 use Rattle.record_file.proofs.read_file.Tie as tie
 
-lengths : (c : tie.Else1) → Lengths (c .before .before .before .before .before .before .before .before .args .bytes .now) (c .before .before .before .before .before .before .before .before .args .registry .now) (c .before .before .before .before .before .before .before .before .args .slashings .now)
-lengths c = read-lengths (c .before .before .before .before .before .before .before .before .args .bytes .now) (c .before .before .before .before .before .before .before .before .args .registry .now) (c .before .before .before .before .before .before .before .before .args .slashings .now) (c .before .before .read-tests .ensures .0) (c .if1 .left)
+abbrev Long : tie.Start → Type 0
+Long c = Lengths (c .args .bytes .now) (c .args .registry .now) (c .args .slashings .now)
+
+lengths : (c : tie.Else1) → Long (c .before .before .before .before .before .before .before .before)
+lengths c = read-lengths _ _ _ (c .before .before .read-tests .ensures .number) (c .if1 .left)
 
 read-tests-requires : tie.Need-read-tests-requires
 read-tests-requires c κs = search needs
@@ -28,12 +31,12 @@ returns : tie.Need-returns
 unfolding read
 returns c =
     let t = c .before .before .before .before .read-tests .ensures in
-    let g = read-refused (c .before .before .before .before .before .before .before .before .before .before .args .bytes .now) (c .before .before .before .before .before .before .before .before .before .before .args .registry .now) (c .before .before .before .before .before .before .before .before .before .before .args .slashings .now) (t .0) (c .before .before .if1 .taken) in
+    let g = read-refused _ _ _ (t .number) (c .before .before .if1 .taken) in
     let settings = c .before .no-settings .ensures ∙ sym (ap (λ (k : Contents). k .settings) (g .contents)) in
     let finality = c .no-finality .ensures ∙ sym (ap (λ (k : Contents). k .finality) (g .contents)) in
     let registry = sym (ap (λ (k : Contents). k .registry) (g .contents)) in
     let slashings = sym (ap (λ (k : Contents). k .slashings) (g .contents)) in
-    (g .number, (t .1, (settings, (finality, (registry, slashings)))))
+    (g .number, (t .place, (settings, (finality, (registry, slashings)))))
 
 read-settings-requires : tie.Need-read-settings-requires
 read-settings-requires c κs = omega (arith, lengths c)
@@ -64,12 +67,12 @@ unfolding read contentsOf
 returns-2 c =
     let t = c .before .before .before .before .before .before .before .before .before .before .before .before .read-tests .ensures in
     let l = lengths (c .before .before .before .before .before .before .before .before .before .before) in
-    let g = read-accepted (c .before .before .before .before .before .before .before .before .before .before .before .before .before .before .before .before .before .before .args .bytes .now) (c .before .before .before .before .before .before .before .before .before .before .before .before .before .before .before .before .before .before .args .registry .now) (c .before .before .before .before .before .before .before .before .before .before .before .before .before .before .before .before .before .before .args .slashings .now) (t .0) (c .before .before .before .before .before .before .before .before .before .before .if1 .left) in
+    let g = read-accepted _ _ _ (t .number) (c .before .before .before .before .before .before .before .before .before .before .if1 .left) in
     let settings = c .before .before .before .before .before .before .before .before .before .read-settings .ensures ∙ sym (ap (λ (k : Contents). k .settings) (g .contents)) in
     let finality = c .before .before .before .before .before .before .before .before .read-finality .ensures ∙ sym (ap (λ (k : Contents). k .finality) (g .contents)) in
     let registry = c .before .before .before .before .before .before .read-numbers .ensures ∙ registry-part l ∙ sym (ap (λ (k : Contents). k .registry) (g .contents)) in
     let slashings = c .before .before .read-numbers2 .ensures ∙ slashings-part l ∙ sym (ap (λ (k : Contents). k .slashings) (g .contents)) in
-    (g .number, (t .1, (settings, (finality, (registry, slashings)))))
+    (g .number, (t .place, (settings, (finality, (registry, slashings)))))
 
 pub read-file-spec : {M : Type 1} → statement M
 read-file-spec =

@@ -1,9 +1,7 @@
 use mathlib.Core.Path.{sym, _∙_}
 use borrow.Author.Needs.{needs}
-use Rattle.definitions.specs.File.{writeTests}
 use Rattle.refusals.proofs.Answers.{passed}
 use Rattle.round_trip.proofs.Written.{is-file}
-use Rattle.record_file.specs.Answers.{contentsWith}
 use Rattle.record_file.proofs.Writing.{write-refused}
 use Rattle.record_file.proofs.write_file.Statement.{statement}
 use Rattle.record_file.proofs.write_file.Tie as tie
@@ -17,10 +15,10 @@ same-length c = search needs
 returns : tie.Need-returns
 returns c =
     let e = c .before .write-tests .ensures in
-    (e, write-refused (contentsWith (c .before .before .before .before .before .before .before .args .settings) (c .before .before .before .before .before .before .before .args .finality) (c .before .before .before .before .before .before .before .args .registry .now) (c .before .before .before .before .before .before .before .args .roots .now) (c .before .before .before .before .before .before .before .args .slashings .now)) (c .before .before .before .before .before .before .before .args .file .now) e (c .if1 .taken))
+    (e, write-refused _ _ e (c .if1 .taken))
 
 put-record-requires : tie.Need-put-record-requires
-put-record-requires c κs = passed (writeTests (contentsWith (c .before .before .before .before .before .before .before .before .args .settings) (c .before .before .before .before .before .before .before .before .args .finality) (c .before .before .before .before .before .before .before .before .args .registry .now) (c .before .before .before .before .before .before .before .before .args .roots .now) (c .before .before .before .before .before .before .before .before .args .slashings .now)) (c .before .before .before .before .before .before .before .before .args .file .now)) (c .before .before .write-tests .ensures) (c .before .if1 .left)
+put-record-requires c κs = passed _ (c .before .before .write-tests .ensures) (c .before .if1 .left)
 
 same-length-2 : tie.Need-same-length-2
 same-length-2 c = search needs
@@ -29,9 +27,7 @@ returns-2 : tie.Need-returns-2
 returns-2 c =
     let e = c .before .before .before .before .before .write-tests .ensures in
     let z = c .before .before .before .before .if1 .left in
-    let w = contentsWith (c .before .before .before .before .before .before .before .before .before .before .before .args .settings) (c .before .before .before .before .before .before .before .before .before .before .before .args .finality) (c .before .before .before .before .before .before .before .before .before .before .before .args .registry .now) (c .before .before .before .before .before .before .before .before .before .before .before .args .roots .now) (c .before .before .before .before .before .before .before .before .before .before .before .args .slashings .now) in
-    let file = c .before .before .before .before .before .before .before .before .before .before .before .args .file .now in
-    (sym z ∙ e, c .before .before .put-record .ensures ∙ sym (is-file w file (passed (writeTests w file) e z)))
+    (sym z ∙ e, c .before .before .put-record .ensures ∙ sym (is-file _ _ (passed _ e z)))
 
 pub write-file-spec : {M : Type 1} → statement M
 write-file-spec =

@@ -1,0 +1,38 @@
+-- What slash gives, by where its evaluation goes.
+use mathlib.Core.Path.{_≡_}
+use Prim.Native.Nat.{ℕ, _/_}
+use borrow.Author.Tests.{eq-eqb, ne-eqb}
+use Rattle.types.specs.declared.Settings.{Settings}
+use Rattle.definitions.specs.Record.{Validator}
+use Rattle.definitions.specs.Checked.{value, refused, overflow, bind, add64, mul64}
+use Rattle.definitions.specs.Rust.Phase0.Helpers.{«decrease_balance»}
+use Rattle.definitions.specs.Rust.Altair.EpochProcessing.{isSlashingDue, slashingPenalty, slash}
+
+module _ (s : Settings) (epoch total adjusted : ℕ) (v : Validator) where
+  pub unslashed : (v .slashed ≡ 1 → ⊥) → slash s epoch total adjusted v ≡ value v
+  unfolding slash isSlashingDue bind
+  unslashed n = rw (ne-eqb _ _ n)
+
+  module _ (is : v .slashed ≡ 1) where
+    pub due-refused : add64 epoch (s .«epochs_per_slashings_vector» / 2) ≡ refused overflow → slash s epoch total adjusted v ≡ refused overflow
+    unfolding slash isSlashingDue bind
+    due-refused h = rw (eq-eqb _ _ is, h)
+
+    module _ {due : ℕ} (h : add64 epoch (s .«epochs_per_slashings_vector» / 2) ≡ value due) where
+      pub not-due : (due ≡ v .«withdrawable_epoch» → ⊥) → slash s epoch total adjusted v ≡ value v
+      unfolding slash isSlashingDue bind
+      not-due n = rw (eq-eqb _ _ is, h, ne-eqb _ _ n)
+
+      module _ (at : due ≡ v .«withdrawable_epoch») where
+        pub numerator-refused : mul64 (v .«effective_balance» / s .«effective_balance_increment») adjusted ≡ refused overflow → slash s epoch total adjusted v ≡ refused overflow
+        unfolding slash isSlashingDue slashingPenalty bind
+        numerator-refused g = rw (eq-eqb _ _ is, h, eq-eqb _ _ at, g)
+
+        module _ {numerator : ℕ} (g : mul64 (v .«effective_balance» / s .«effective_balance_increment») adjusted ≡ value numerator) where
+          pub penalty-refused : mul64 (numerator / total) (s .«effective_balance_increment») ≡ refused overflow → slash s epoch total adjusted v ≡ refused overflow
+          unfolding slash isSlashingDue slashingPenalty bind
+          penalty-refused k = rw (eq-eqb _ _ is, h, eq-eqb _ _ at, g, k)
+
+          pub penalized : {penalty : ℕ} → mul64 (numerator / total) (s .«effective_balance_increment») ≡ value penalty → slash s epoch total adjusted v ≡ value («decrease_balance» v penalty)
+          unfolding slash isSlashingDue slashingPenalty bind
+          penalized k = rw (eq-eqb _ _ is, h, eq-eqb _ _ at, g, k)

@@ -1,0 +1,57 @@
+use native.Mathlib.Omega.{arith}
+use borrow.Author.Needs.{needs}
+use Rattle.definitions.specs.Record.{encode}
+use Rattle.definitions.specs.Rust.Altair.EpochProcessing.{«process_slashings»}
+use Rattle.buffers.proofs.Closes.{closes-refused, step-done, step-restored}
+use Rattle.slashings.proofs.Passed.{slashings-passed}
+use Rattle.slashings.proofs.process_slashings.Statement.{statement}
+use Rattle.slashings.proofs.process_slashings.Tie as tie
+
+slashings-tests-requires : tie.Need-slashings-tests-requires
+slashings-tests-requires c κs = search needs
+
+same-length : tie.Need-same-length
+same-length c = search needs
+
+returns : tie.Need-returns
+returns c = closes-refused encode _ (c .before .slashings-tests .ensures) _ (c .if1 .taken)
+
+copy-requires : tie.Need-copy-requires
+copy-requires c κs = slashings-passed _ _ _ _ _ (c .before .before .slashings-tests .ensures) (c .before .if1 .left) .same
+
+slash-validators-requires : tie.Need-slash-validators-requires
+slash-validators-requires c κs =
+    let p = slashings-passed _ _ _ _ _ (c .before .before .before .before .before .before .slashings-tests .ensures) (c .before .before .before .before .before .if1 .left) in
+    (rw (c .before .before .before .copy .ensures) (p .shape .long), p .good)
+
+copy-requires-2 : tie.Need-copy-requires-2
+copy-requires-2 c κs =
+    let p = slashings-passed _ _ _ _ _ (c .before .before .before .before .before .before .before .before .before .before .before .slashings-tests .ensures) (c .before .before .before .before .before .before .before .before .before .before .if1 .left) in
+    omega (arith, p .same)
+
+same-length-2 : tie.Need-same-length-2
+same-length-2 c = search needs
+
+returns-2 : tie.Need-returns-2
+returns-2 c = step-restored («process_slashings» (c .before .before .before .before .before .before .before .before .before .before .before .before .before .before .before .before .before .before .before .args .s) (c .before .before .before .before .before .before .before .before .before .before .before .before .before .before .before .before .before .before .before .args .s .«proportional_slashing_multiplier_altair») (c .before .before .before .before .before .before .before .before .before .before .before .before .before .before .before .before .before .before .before .args .state-slot) (c .before .before .before .before .before .before .before .before .before .before .before .before .before .before .before .before .before .before .before .args .slashings .now)) _ (c .before .before .before .before .before .before .before .before .before .before .before .before .before .before .slashings-tests .ensures) (c .before .before .before .before .before .before .before .before .before .before .before .before .before .if1 .left) (c .before .before .before .before .before .before .before .before .before .before .before .copy .ensures) (c .before .before .before .before .before .before .before .slash-validators .ensures) (c .before .before .before .before .if2 .taken) (c .before .before .copy2 .ensures)
+
+same-length-3 : tie.Need-same-length-3
+same-length-3 c = search needs
+
+returns-3 : tie.Need-returns-3
+returns-3 c = step-done («process_slashings» (c .before .before .before .before .before .before .before .before .before .before .before .before .before .before .before .args .s) (c .before .before .before .before .before .before .before .before .before .before .before .before .before .before .before .args .s .«proportional_slashing_multiplier_altair») (c .before .before .before .before .before .before .before .before .before .before .before .before .before .before .before .args .state-slot) (c .before .before .before .before .before .before .before .before .before .before .before .before .before .before .before .args .slashings .now)) _ (c .before .before .before .before .before .before .before .before .before .before .slashings-tests .ensures) (c .before .before .before .before .before .before .before .before .before .if1 .left) (c .before .before .before .before .before .before .before .copy .ensures) (c .before .before .before .slash-validators .ensures) (c .if2 .left)
+
+pub process-slashings-spec : {M : Type 1} → statement M
+process-slashings-spec =
+    tie.close
+    (tie.spec
+    slashings-tests-requires
+    same-length
+    returns
+    copy-requires
+    slash-validators-requires
+    copy-requires-2
+    same-length-2
+    returns-2
+    same-length-3
+    returns-3)

@@ -1,0 +1,197 @@
+// process_slashings and process_slashings_reset.
+ghost use mathlib.Core.Path.{_≡_};
+ghost use mathlib.Core.Bool.{true};
+ghost use mathlib.Core.List.{List};
+ghost use Prim.Native.Nat.{ℕ, _*_, _/_, _<_};
+ghost use lib.ListN.{length};
+ghost use Rattle.definitions.specs.Record.{decode, encode};
+ghost use Rattle.definitions.specs.Checked.{value, codeOf, sum64, mapChecked};
+ghost use Rattle.definitions.specs.Answers.{Says};
+ghost use Rattle.definitions.specs.Refusals.{goodSettings, slashingsTests, slashingsResetTests};
+ghost use Rattle.definitions.specs.Rust.Phase0.EpochProcessing.{resetSlashings};
+ghost use Rattle.definitions.specs.Rust.Altair.EpochProcessing.{slash, «process_slashings»};
+ghost use Rattle.agreement.specs.Bounds.{Passed};
+ghost use Rattle.loops.specs.Ran.{Settles, Ran};
+ghost use Rattle.buffers.specs.Closes.{Closes};
+use arithmetic::add64;
+use arithmetic::min;
+use arithmetic::mul64;
+use balances::entry_decrease_balance;
+use buffers::copy;
+use leaf_refusals::current_epoch;
+use refusals::good_settings;
+use refusals::is_small;
+use refusals::settings_shaped;
+use registry_refusals::slot_registry_tests;
+use totals::total_active;
+use types::Number;
+use types::Settings;
+
+pub fn slashed_balance(slashings: &[u64]) -> Number
+    ensures { λ r. ⌜ Says (sum64 (now (slashings .entry))) r ⌝ }
+{
+    let n = slashings.len();
+    let mut sum: u64 = 0;
+    for i in 0..n {
+        let amount = slashings[i];
+        if 18446744073709551615 - sum < amount {
+            return Number::Refused(5);
+        }
+        sum += amount;
+    }
+    Number::Value(sum)
+}
+
+// The epoch is compared only where the validator is slashed, and the penalty worked out only where it is due.
+fn entry_slash(s: Settings, epoch: u64, total: u64, adjusted: u64, entry: &mut [u64]) -> u64
+    requires { ⌜ (length (now entry) ≡ 10) × (0 < s .«effective_balance_increment») × (0 < total) ⌝ }
+    ensures { λ r. ⌜ Settles (slash s epoch total adjusted) (now (entry .entry)) (now (entry .exit)) r ⌝ }
+{
+    if entry[1] != 1 {
+        return 0;
+    }
+    let Number::Value(due) = add64(epoch, s.epochs_per_slashings_vector / 2) else {
+        return 5;
+    };
+    if due != entry[5] {
+        return 0;
+    }
+    let increments = entry[0] / s.effective_balance_increment;
+    let Number::Value(numerator) = mul64(increments, adjusted) else {
+        return 5;
+    };
+    let Number::Value(penalty) = mul64(numerator / total, s.effective_balance_increment) else {
+        return 5;
+    };
+    entry_decrease_balance(entry, penalty);
+    0
+}
+
+fn slash_all(s: Settings, epoch: u64, total: u64, adjusted: u64, registry: &mut [u64]) -> u64
+    requires { ⌜ (length (now registry) ≡ 10 * (length (now registry) / 10)) × (0 < s .«effective_balance_increment») × (0 < total) ⌝ }
+    ensures { λ r. ⌜ Ran (mapChecked (slash s epoch total adjusted) (decode (now (registry .entry)))) (now (registry .exit)) r ⌝ }
+{
+    let n = registry.len() / 10;
+    for i in 0..n {
+        let a = 10 * i;
+        let b = a + 10;
+        let refusal = entry_slash(s, epoch, total, adjusted, &mut registry[a..b]);
+        if refusal != 0 {
+            return refusal;
+        }
+    }
+    0
+}
+
+// The step in place. Total, sum and product are evaluated also where nobody is due.
+pub fn slash_validators(
+    s: Settings,
+    multiplier: u64,
+    state_slot: u64,
+    slashings: &[u64],
+    registry: &mut [u64],
+) -> u64
+    requires { ⌜ (length (now registry) ≡ 10 * (length (now registry) / 10)) × (goodSettings s ≡ true) ⌝ }
+    ensures { λ r. ⌜ Ran («process_slashings» s multiplier «state_slot» (now (slashings .entry)) (decode (now (registry .entry)))) (now (registry .exit)) r ⌝ }
+{
+    let epoch = current_epoch(s, state_slot);
+    let Number::Value(total) = total_active(s, epoch, registry) else {
+        return 5;
+    };
+    let Number::Value(slashed) = slashed_balance(slashings) else {
+        return 5;
+    };
+    let Number::Value(product) = mul64(slashed, multiplier) else {
+        return 5;
+    };
+    let adjusted = min(product, total);
+    slash_all(s, epoch, total, adjusted, registry)
+}
+
+fn slashings_tests(
+    s: Settings,
+    state_slot: u64,
+    slashings: &[u64],
+    opening: &[u64],
+    closing: &[u64],
+) -> u64
+    ensures { λ r. ⌜ r ≡ codeOf (slashingsTests s «state_slot» (now (slashings .entry)) (now (opening .entry)) (now (closing .entry))) ⌝ }
+{
+    if slashings.len() as u64 != s.epochs_per_slashings_vector {
+        return 1;
+    }
+    if closing.len() != opening.len() {
+        return 1;
+    }
+    slot_registry_tests(s, state_slot, opening)
+}
+
+pub fn process_slashings(
+    s: Settings,
+    state_slot: u64,
+    slashings: &[u64],
+    opening: &[u64],
+    closing: &mut [u64],
+) -> u64
+    ensures { λ r. ⌜ Closes encode (slashingsTests s «state_slot» (now (slashings .entry)) (now (opening .entry)) (now (closing .entry))) («process_slashings» s (s .«proportional_slashing_multiplier_altair») «state_slot» (now (slashings .entry)) (decode (now (opening .entry)))) (now (opening .entry)) (now (closing .entry)) (now (closing .exit)) r ⌝ }
+{
+    let refusal = slashings_tests(s, state_slot, slashings, opening, closing);
+    if refusal != 0 {
+        return refusal;
+    }
+    copy(opening, closing);
+    let multiplier = s.proportional_slashing_multiplier_altair;
+    let done = slash_validators(s, multiplier, state_slot, slashings, closing);
+    if done != 0 {
+        copy(opening, closing);
+    }
+    done
+}
+
+// The reset in place: the next epoch's slot.
+pub fn reset_slashings(s: Settings, state_slot: u64, slashings: &mut [u64])
+    requires { ⌜ (length (now slashings) ≡ s .«epochs_per_slashings_vector») × (Passed s «state_slot») ⌝ }
+    ensures { λ _. ⌜ now (slashings .exit) ≡ resetSlashings s «state_slot» (now (slashings .entry)) ⌝ }
+{
+    let next = current_epoch(s, state_slot) + 1;
+    let at = next % s.epochs_per_slashings_vector;
+    slashings[at as usize] = 0;
+}
+
+fn slashings_reset_tests(s: Settings, state_slot: u64, opening: &[u64], closing: &[u64]) -> u64
+    ensures { λ r. ⌜ r ≡ codeOf (slashingsResetTests s «state_slot» (now (opening .entry)) (now (closing .entry))) ⌝ }
+{
+    if !settings_shaped(s) {
+        return 1;
+    }
+    if opening.len() as u64 != s.epochs_per_slashings_vector {
+        return 1;
+    }
+    if closing.len() != opening.len() {
+        return 1;
+    }
+    if !good_settings(s) {
+        return 2;
+    }
+    if !is_small(state_slot) {
+        return 3;
+    }
+    0
+}
+
+pub fn process_slashings_reset(
+    s: Settings,
+    state_slot: u64,
+    opening: &[u64],
+    closing: &mut [u64],
+) -> u64
+    ensures { λ r. ⌜ Closes (λ (xs : List ℕ). xs) (slashingsResetTests s «state_slot» (now (opening .entry)) (now (closing .entry))) (value (resetSlashings s «state_slot» (now (opening .entry)))) (now (opening .entry)) (now (closing .entry)) (now (closing .exit)) r ⌝ }
+{
+    let refusal = slashings_reset_tests(s, state_slot, opening, closing);
+    if refusal != 0 {
+        return refusal;
+    }
+    copy(opening, closing);
+    reset_slashings(s, state_slot, closing);
+    0
+}
