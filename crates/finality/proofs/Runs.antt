@@ -6,6 +6,7 @@ use native.Mathlib.Omega.{arith}
 use native.Mathlib.Nat.{div-div-eq-div-mul}
 use borrow.Author.Tests.{eq-eqb, ne-eqb, eqb-true, eqb-false}
 use lib.Dec.{eqb}
+use Rattle.types.specs.declared.Checkpoint.{Checkpoint}
 use Rattle.types.specs.declared.Finality.{Finality}
 use Rattle.definitions.specs.Document.Phase0.EpochProcessing.{bit, finalizedBy}
 
@@ -32,6 +33,15 @@ module _ (bits : ℕ) where
   run-1-3 = one-test (bits / 2 % 8) 7 (bits / 2 % 4) 3 (bits / 8 % 2) 1 (λ p q. omega arith) (λ p. omega arith) (λ p. omega arith) ∙ ap (λ t. t && bit 3 bits) run-1-2
 
 -- the four tests, the last one first
-pub finalized-by-runs : (epoch bits : ℕ) (old : Finality) → finalizedBy epoch bits old ≡ cond (eqb (bits % 4) 3 && eqb (old .«current_justified_checkpoint» .epoch + 1) epoch) (old .«current_justified_checkpoint») (cond (eqb (bits % 8) 7 && eqb (old .«current_justified_checkpoint» .epoch + 2) epoch) (old .«current_justified_checkpoint») (cond (eqb (bits / 2 % 4) 3 && eqb (old .«previous_justified_checkpoint» .epoch + 2) epoch) (old .«previous_justified_checkpoint») (cond (eqb (bits / 2 % 8) 7 && eqb (old .«previous_justified_checkpoint» .epoch + 3) epoch) (old .«previous_justified_checkpoint») (old .«finalized_checkpoint»))))
+abbrev pub finalizedByRuns : ℕ → ℕ → Finality → Checkpoint
+finalizedByRuns epoch bits old =
+    let previous = old .«previous_justified_checkpoint» in
+    let current = old .«current_justified_checkpoint» in
+    cond (eqb (bits % 4) 3 && eqb (current .epoch + 1) epoch) current
+    (cond (eqb (bits % 8) 7 && eqb (current .epoch + 2) epoch) current
+    (cond (eqb (bits / 2 % 4) 3 && eqb (previous .epoch + 2) epoch) previous
+    (cond (eqb (bits / 2 % 8) 7 && eqb (previous .epoch + 3) epoch) previous (old .«finalized_checkpoint»))))
+
+pub finalized-by-runs : (epoch bits : ℕ) (old : Finality) → finalizedBy epoch bits old ≡ finalizedByRuns epoch bits old
 unfolding finalizedBy
 finalized-by-runs epoch bits old = rw (run-0-1 bits, run-0-2 bits, run-1-2 bits, run-1-3 bits)

@@ -1,0 +1,60 @@
+use mathlib.Core.Path.{sym, ap, _∙_}
+use borrow.Author.Tests.{not-true, not-false}
+use Rattle.definitions.specs.Checked.{value}
+use Rattle.definitions.specs.Rust.Phase0.Helpers.{«get_block_root»}
+use Rattle.arithmetic.proofs.Answers.{tells-truth, answers-value, answers-overflow}
+use Rattle.roots.proofs.Codes.{given}
+use Rattle.roots.proofs.Lookups.{epoch-value}
+use Rattle.weighing.proofs.Tests.{only-justified, root-long, test-over, test-failed, test-refused, test-passed}
+use borrow.Author.Needs.{needs}
+use Rattle.weighing.proofs.test_epoch.Statement.{statement}
+use Rattle.weighing.proofs.test_epoch.Tie as tie
+
+is-justified-requires : tie.Need-is-justified-requires
+is-justified-requires c κs = search needs
+
+enum-known-passed : tie.Need-enum-known-passed
+enum-known-passed c = search needs
+
+enum-told : tie.Need-enum-told
+enum-told c = search needs
+
+returns : tie.Need-returns
+returns c = test-over _ _ _ _ _ _ (answers-overflow tells-truth (c .before .before .is-justified .ensures) (only-justified _ _) (c .enum-told .given .1) .0)
+
+returns-2 : tie.Need-returns-2
+returns-2 c = test-failed _ _ _ _ _ _ (answers-value tells-truth (c .before .before .before .before .is-justified .ensures) (c .before .before .passed .given .1) ∙ ap value (not-true _ (c .if1 .taken)))
+
+epoch-lookup-requires : tie.Need-epoch-lookup-requires
+epoch-lookup-requires c κs = search needs
+
+returns-3 : tie.Need-returns-3
+returns-3 c = test-refused _ _ _ _ _ _ (answers-value tells-truth (c .before .before .before .before .before .before .is-justified .ensures) (c .before .before .before .before .passed .given .1) ∙ ap value (not-false _ (c .before .before .if1 .left))) (c .before .epoch-lookup .ensures) (c .if2 .taken)
+
+epoch-root-requires : tie.Need-epoch-root-requires
+epoch-root-requires c κs =
+    let g = given («get_block_root» _ _ _ _) (c .before .epoch-lookup .ensures) (c .if2 .left) in
+    (c .before .before .before .before .before .before .before .before .pre .0, (c .before .before .before .before .before .before .before .before .pre .1, epoch-value _ _ _ _ (g .is) .fits))
+
+root-copy-requires : tie.Need-root-copy-requires
+root-copy-requires c κs = rw (c .epoch-root .ensures) (root-long _ _ _ (c .before .before .before .before .before .before .before .before .before .pre .0) (c .before .before .before .before .before .before .before .before .before .pre .1))
+
+returns-4 : tie.Need-returns-4
+returns-4 c =
+    let g = given («get_block_root» _ _ _ _) (c .before .before .before .epoch-lookup .ensures) (c .before .before .if2 .left) in
+    test-passed _ _ _ _ _ _ (answers-value tells-truth (c .before .before .before .before .before .before .before .before .is-justified .ensures) (c .before .before .before .before .before .before .passed .given .1) ∙ ap value (not-false _ (c .before .before .before .before .if1 .left))) (g .is ∙ ap value (sym (c .root-copy .ensures ∙ c .before .epoch-root .ensures ∙ epoch-value _ _ _ _ (g .is) .is)))
+
+pub test-epoch-spec : {M : Type 1} → statement M
+test-epoch-spec =
+    tie.close
+    (tie.spec
+    is-justified-requires
+    enum-known-passed
+    enum-told
+    returns
+    returns-2
+    epoch-lookup-requires
+    returns-3
+    epoch-root-requires
+    root-copy-requires
+    returns-4)

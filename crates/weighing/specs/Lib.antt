@@ -1,0 +1,2 @@
+-- What one epoch's part of the weighing answers.
+pub mod Tests
