@@ -1,0 +1,3 @@
+-- A flag's totals, and the tests.
+pub mod Tests
+pub mod Totals

@@ -1,0 +1,3 @@
+-- One validator's deltas, case by case.
+pub mod Flags
+pub mod Penalties
