@@ -1,0 +1,3 @@
+-- Laws of the step.
+pub mod Passed
+pub mod Totals
