@@ -16,8 +16,8 @@ use finalized::finalized_registry_tests;
 use finalized::is_leaking;
 use leaf_refusals::current_epoch;
 use leaf_refusals::previous_epoch;
-use rewards::flag_deltas;
 use rewards::Shared;
+use rewards::flag_deltas;
 use totals::total_active;
 use totals::total_participating;
 use types::DeltasAnswer;
@@ -86,16 +86,19 @@ pub fn get_flag_index_deltas(
 ) -> DeltasAnswer
     ensures { λ r. ⌜ SaysDeltas (afterTests (flagDeltasTests s «state_slot» «finalized_epoch» «flag_index» index (now (registry .entry))) («get_flag_index_deltas» s «state_slot» «finalized_epoch» (decode (now (registry .entry))) «flag_index» (getD (decode (now (registry .entry))) index nobody))) r ⌝ }
 {
-    let refusal =
-        flag_deltas_tests(s, state_slot, finalized_epoch, flag_index, index, registry);
+    let refusal = flag_deltas_tests(s, state_slot, finalized_epoch, flag_index, index, registry);
     if refusal != 0 {
         return DeltasAnswer::Refused(refusal);
     }
     let current = current_epoch(s, state_slot);
     let previous = previous_epoch(s, state_slot);
-    let Number::Value(participating) =
-        total_participating(s, current, flag_index, previous, registry)
-    else {
+    let Number::Value(participating) = total_participating(
+        s,
+        current,
+        flag_index,
+        previous,
+        registry,
+    ) else {
         return DeltasAnswer::Refused(5);
     };
     let Number::Value(total) = total_active(s, current, registry) else {

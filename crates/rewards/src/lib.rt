@@ -38,7 +38,10 @@ fn hit_deltas(s: Settings, h: Shared, weight: u64, increments: u64, base: u64) -
     ensures { λ r. ⌜ SaysDeltas (hitDeltas s weight (totalsOf h increments) base) r ⌝ }
 {
     if h.leaking {
-        let none = Deltas { reward: 0, penalty: 0 };
+        let none = Deltas {
+            reward: 0,
+            penalty: 0,
+        };
         return DeltasAnswer::Value(none);
     }
     let Number::Value(weighted) = mul64(base, weight) else {
@@ -52,7 +55,10 @@ fn hit_deltas(s: Settings, h: Shared, weight: u64, increments: u64, base: u64) -
         return DeltasAnswer::Refused(5);
     };
     let reward = numerator / denominator;
-    let deltas = Deltas { reward: reward, penalty: 0 };
+    let deltas = Deltas {
+        reward: reward,
+        penalty: 0,
+    };
     DeltasAnswer::Value(deltas)
 }
 
@@ -61,14 +67,20 @@ fn miss_deltas(flag_index: u64, weight: u64, base: u64) -> DeltasAnswer
     ensures { λ r. ⌜ SaysDeltas (missDeltas «flag_index» weight base) r ⌝ }
 {
     if flag_index == 2 {
-        let none = Deltas { reward: 0, penalty: 0 };
+        let none = Deltas {
+            reward: 0,
+            penalty: 0,
+        };
         return DeltasAnswer::Value(none);
     }
     let Number::Value(weighted) = mul64(base, weight) else {
         return DeltasAnswer::Refused(5);
     };
     let penalty = weighted / 64;
-    let deltas = Deltas { reward: 0, penalty: penalty };
+    let deltas = Deltas {
+        reward: 0,
+        penalty: penalty,
+    };
     DeltasAnswer::Value(deltas)
 }
 
@@ -98,7 +110,10 @@ pub fn flag_deltas(
     ensures { λ r. ⌜ SaysDeltas (flagIndexDeltas s (h .«current_epoch») (h .«previous_epoch») «flag_index» (totalsOf h increments) (decodeOne (now (entry .entry)))) r ⌝ }
 {
     if !entry_is_eligible(h.previous_epoch, entry) {
-        let none = Deltas { reward: 0, penalty: 0 };
+        let none = Deltas {
+            reward: 0,
+            penalty: 0,
+        };
         return DeltasAnswer::Value(none);
     }
     let Number::Value(reward) = base else {
@@ -127,11 +142,17 @@ pub fn penalty_deltas(
     ensures { λ r. ⌜ SaysDeltas (inactivityPenaltyDeltas s quotient «current_epoch» «previous_epoch» (decodeOne (now (entry .entry)))) r ⌝ }
 {
     if !entry_is_eligible(previous_epoch, entry) {
-        let none = Deltas { reward: 0, penalty: 0 };
+        let none = Deltas {
+            reward: 0,
+            penalty: 0,
+        };
         return DeltasAnswer::Value(none);
     }
     if entry_is_participating(current_epoch, 1, previous_epoch, entry) {
-        let none = Deltas { reward: 0, penalty: 0 };
+        let none = Deltas {
+            reward: 0,
+            penalty: 0,
+        };
         return DeltasAnswer::Value(none);
     }
     let Number::Value(numerator) = mul64(entry[0], entry[9]) else {
@@ -141,7 +162,10 @@ pub fn penalty_deltas(
         return DeltasAnswer::Refused(5);
     };
     let penalty = numerator / denominator;
-    let deltas = Deltas { reward: 0, penalty: penalty };
+    let deltas = Deltas {
+        reward: 0,
+        penalty: penalty,
+    };
     DeltasAnswer::Value(deltas)
 }
 

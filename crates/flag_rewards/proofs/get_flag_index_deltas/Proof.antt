@@ -48,7 +48,7 @@ enum-told-2 : tie.Need-enum-told-2
 enum-told-2 c = search needs
 
 returns-3 : tie.Need-returns-3
-returns-3 c = 
+returns-3 c =
     let participating = c .before .before .before .before .before .before .total-participating in
     tests-passed _ _ (c .before .before .before .before .before .before .before .before .before .before .flag-deltas-tests .ensures) (c .before .before .before .before .before .before .before .before .before .if1 .left) (flag-index _ _ _ _ _ (c .before .before .before .before .before .before .before .before .current-epoch .ensures) (c .before .before .before .before .before .before .before .previous-epoch .ensures) _ (next _ (participating .ensures) (c .before .before .before .before .participating .given .1) (stop _ (only-total _ _) (c .before .before .total-active .ensures) (c .enum-told2 .given .1) refl)))
 
@@ -62,7 +62,7 @@ enum-told-3 : tie.Need-enum-told-3
 enum-told-3 c = search needs
 
 returns-4 : tie.Need-returns-4
-returns-4 c = 
+returns-4 c =
     let participating = c .before .before .before .before .before .before .before .before .before .before .total-participating in
     let total = c .before .before .before .before .before .before .total-active in
     tests-passed _ _ (c .before .before .before .before .before .before .before .before .before .before .before .before .before .before .flag-deltas-tests .ensures) (c .before .before .before .before .before .before .before .before .before .before .before .before .before .if1 .left) (flag-index _ _ _ _ _ (c .before .before .before .before .before .before .before .before .before .before .before .before .current-epoch .ensures) (c .before .before .before .before .before .before .before .before .before .before .before .previous-epoch .ensures) _ (next _ (participating .ensures) (c .before .before .before .before .before .before .before .before .participating .given .1) (next _ (total .ensures) (c .before .before .before .before .total .given .1) (stop-told _ (only-leaking _ _ _) (c .before .before .is-leaking .ensures) tells-truth (c .enum-told3 .given .1) refl))))
@@ -86,13 +86,13 @@ part-entry-flag-deltas-end : tie.Need-part-entry-flag-deltas-end
 part-entry-flag-deltas-end c = let p = flag-passed _ _ _ _ _ _ (c .before .before .before .before .before .before .before .before .before .before .before .before .before .before .before .flag-deltas-tests .ensures) (c .before .before .before .before .before .before .before .before .before .before .before .before .before .before .if1 .left) in omega (arith, p .inside)
 
 entry-flag-deltas-requires : tie.Need-entry-flag-deltas-requires
-entry-flag-deltas-requires c κs = 
+entry-flag-deltas-requires c κs =
     let p = flag-passed _ _ _ _ _ _ (c .before .before .before .before .before .before .before .before .before .before .before .before .before .before .before .before .flag-deltas-tests .ensures) (c .before .before .before .before .before .before .before .before .before .before .before .before .before .before .before .if1 .left) in
     let least = total-least _ _ (says-value (c .before .before .before .before .before .before .before .before .total-active .ensures) (c .before .before .before .before .before .before .total .given .1)) in
     (good-settings _ (p .opened .settings .good) .positive .«effective_balance_increment», (least, (p .flag, part-length _ _ (p .inside))))
 
 returns-5 : tie.Need-returns-5
-returns-5 c = 
+returns-5 c =
     let a = c .before .before .before .before .before .before .before .before .before .before .before .before .before .before .before .before .before .before .before .args in
     let p = flag-passed _ _ _ _ _ _ (c .before .before .before .before .before .before .before .before .before .before .before .before .before .before .before .before .before .flag-deltas-tests .ensures) (c .before .before .before .before .before .before .before .before .before .before .before .before .before .before .before .before .if1 .left) in
     let participating = c .before .before .before .before .before .before .before .before .before .before .before .before .before .total-participating in

@@ -22,7 +22,7 @@ mul64-requires : tie.Need-mul64-requires
 mul64-requires c κs = search needs
 
 penalty-deltas-requires : tie.Need-penalty-deltas-requires
-penalty-deltas-requires c κs = 
+penalty-deltas-requires c κs =
     let p = slot-entry-passed _ _ _ (c .before .before .before .before .slot-entry-tests .ensures) (c .before .before .before .if1 .left) in
     (p .settings .positive .«inactivity_score_bias», (p .settings .positive .«inactivity_penalty_quotient_altair», (p .own .long, c .mul64 .ensures)))
 

@@ -1,0 +1,3 @@
+-- What changes is the balance; what refuses does so by overflow.
+pub mod Only
+pub mod Rewarded

@@ -1,0 +1,49 @@
+use Rattle.arithmetic.proofs.Laws.{says-value, says-overflow}
+use Rattle.loops.proofs.Checking.{settles-value, settles-refused}
+use Rattle.reward_balances.proofs.Only.{only-rewarded}
+use Rattle.reward_balances.proofs.Rewarded.{rewarded, not-rewarded, put-balance}
+use borrow.Author.Needs.{needs}
+use Rattle.reward_balances.proofs.entry_reward.Statement.{statement}
+use Rattle.reward_balances.proofs.entry_reward.Tie as tie
+
+new-balance-requires : tie.Need-new-balance-requires
+new-balance-requires c κs = search needs
+
+enum-known-balance : tie.Need-enum-known-balance
+enum-known-balance c = search needs
+
+enum-told : tie.Need-enum-told
+enum-told c = search needs
+
+same-length : tie.Need-same-length
+same-length c = search needs
+
+returns : tie.Need-returns
+returns c =
+    let k = says-overflow (c .before .before .new-balance .ensures) (only-rewarded _ _ _ _ _ _ _ _) (c .enum-told .given .1) .0 in
+    settles-refused _ (c .before .before .before .before .before .pre .1 .1 .1) (not-rewarded _ _ _ _ _ _ _ _ k)
+
+slice-write-entry : tie.Need-slice-write-entry
+slice-write-entry c = search needs
+
+same-length-2 : tie.Need-same-length-2
+same-length-2 c = search needs
+
+returns-2 : tie.Need-returns-2
+returns-2 c =
+    let a = c .before .before .before .before .before .before in
+    let k = says-value (c .before .before .before .new-balance .ensures) (c .before .balance .given .1) in
+    settles-value _ (rewarded _ _ _ _ _ _ _ _ k) (put-balance (a .args .entry .now) _ (a .pre .1 .1 .1))
+
+pub entry-reward-spec : {M : Type 1} → statement M
+entry-reward-spec =
+    tie.close
+    (tie.spec
+    new-balance-requires
+    enum-known-balance
+    enum-told
+    same-length
+    returns
+    slice-write-entry
+    same-length-2
+    returns-2)
