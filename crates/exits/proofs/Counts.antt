@@ -1,4 +1,5 @@
 -- How many leave at an epoch. An exit leaves each count as it was, or raises one to at most the churn limit.
+use mathlib.Core.Logic.{_⊎_, inl, inr, ⊎-elim}
 use mathlib.Core.Path.{_≡_, refl, sym, ap, _∙_}
 use mathlib.Core.Bool.{Bool, true, false, cond, not}
 use mathlib.Core.List.{List, [], _∷_, map}
@@ -89,27 +90,44 @@ module _ (least limit : ℕ) (vs : List Validator) {exit : ℕ} (q : queueEpoch 
       go true f e = omega (arith, none-later least exit vs (omega (arith, add64-value latest 1 e)) far)
       go false f e = rw (← value-same e) (leb-false limit (exitQueueChurn latest vs) f)
 
-pub exit-counts : (least limit delay : ℕ) (vs : List Validator) (i x : ℕ) {ws : List Validator} → 0 < limit → (x ≡ «FAR_FUTURE_EPOCH» → ⊥) → exitAt least limit delay vs i ≡ value ws → exitQueueChurn x ws ≤ max (exitQueueChurn x vs) limit
+-- What an exit that is not refused has done: nothing, or written an epoch of the queue
+
+pub record Exited (least limit : ℕ) (vs : List Validator) (i : ℕ) (ws : List Validator) : Type 0 where
+  pub exit : ℕ
+  pub withdrawable : ℕ
+  pub far : getD vs i nobody .«exit_epoch» ≡ «FAR_FUTURE_EPOCH»
+  pub queued : queueEpoch least limit vs ≡ value exit
+  pub is : ws ≡ set vs i (withExit exit withdrawable (getD vs i nobody))
+
+pub exit-gave : (least limit delay : ℕ) (vs : List Validator) (i : ℕ) {ws : List Validator} → exitAt least limit delay vs i ≡ value ws → (ws ≡ vs) ⊎ Exited least limit vs i ws
 unfolding exitAt
-exit-counts least limit delay vs i x {ws} pos far q = go (eqb (v .«exit_epoch») «FAR_FUTURE_EPOCH») q
+exit-gave least limit delay vs i {ws} q = go (eqb (v .«exit_epoch») «FAR_FUTURE_EPOCH») refl q
   where
     v : Validator
     v = getD vs i nobody
 
+    go : (t : Bool) → eqb (v .«exit_epoch») «FAR_FUTURE_EPOCH» ≡ t → cond t (bind (queueEpoch least limit vs) (λ exit. bind (add64 exit delay) (λ withdrawable. value (set vs i (withExit exit withdrawable v))))) (value vs) ≡ value ws → (ws ≡ vs) ⊎ Exited least limit vs i ws
+    go false f q = inl (sym (value-same q))
+    go true f q =
+        let a = bound (queueEpoch least limit vs) _ q in
+        let b = bound (add64 (a .first) delay) _ (a .then) in
+        inr (record { exit = a .first; withdrawable = b .first; far = eqb-true _ «FAR_FUTURE_EPOCH» f; queued = a .gave; is = sym (value-same (b .then)) })
+
+pub exit-counts : (least limit delay : ℕ) (vs : List Validator) (i x : ℕ) {ws : List Validator} → 0 < limit → (x ≡ «FAR_FUTURE_EPOCH» → ⊥) → exitAt least limit delay vs i ≡ value ws → exitQueueChurn x ws ≤ max (exitQueueChurn x vs) limit
+exit-counts least limit delay vs i x {ws} pos far q = ⊎-elim (λ e. omega (arith, ap count e)) written (exit-gave least limit delay vs i q)
+  where
     count : List Validator → ℕ
     count us = exitQueueChurn x us
 
-    at : (exit withdrawable : ℕ) → queueEpoch least limit vs ≡ value exit → (t : Bool) → eqb exit x ≡ t → count (set vs i (withExit exit withdrawable v)) ≤ count vs + cond t 1 0 → count (set vs i (withExit exit withdrawable v)) ≤ max (count vs) limit
-    at exit withdrawable e false f h = omega arith
-    at exit withdrawable e true f h =
-        let same = eqb-true exit x f in
-        let room : exitQueueChurn x vs < limit = rw (← same) (queued-room least limit vs e pos (λ z. far (sym same ∙ z))) in
-        omega arith
+    written : Exited least limit vs i ws → count ws ≤ max (count vs) limit
+    written w = rw (w .is) (go (eqb (w .exit) x) refl (count-raised (λ u. eqb (u .«exit_epoch») x) vs i after))
+      where
+        after : Validator
+        after = withExit (w .exit) (w .withdrawable) (getD vs i nobody)
 
-    go : (t : Bool) → cond t (bind (queueEpoch least limit vs) (λ exit. bind (add64 exit delay) (λ withdrawable. value (set vs i (withExit exit withdrawable v))))) (value vs) ≡ value ws → count ws ≤ max (count vs) limit
-    go false q = omega (arith, ap count (value-same q))
-    go true q =
-        let a = bound (queueEpoch least limit vs) _ q in
-        let b = bound (add64 (a .first) delay) _ (a .then) in
-        let u = withExit (a .first) (b .first) v in
-        rw (← value-same (b .then)) (at (a .first) (b .first) (a .gave) (eqb (a .first) x) refl (count-raised (λ w. eqb (w .«exit_epoch») x) vs i u))
+        go : (t : Bool) → eqb (w .exit) x ≡ t → count (set vs i after) ≤ count vs + cond t 1 0 → count (set vs i after) ≤ max (count vs) limit
+        go false f h = omega arith
+        go true f h =
+            let same = eqb-true (w .exit) x f in
+            let room : count vs < limit = rw (← same) (queued-room least limit vs (w .queued) pos (λ z. far (sym same ∙ z))) in
+            omega arith

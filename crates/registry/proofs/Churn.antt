@@ -1,24 +1,24 @@
 -- The churn limit does not change during the step: the epochs that are written lie above the present one, so that who is active now stays
 -- active now. So the limit that is worked out before the loop is the one that each exit and the activation read.
+use mathlib.Core.Logic.{⊎-elim}
 use mathlib.Core.Path.{_≡_, refl, sym, ap, _∙_}
 use mathlib.Core.Bool.{Bool, true, false, cond}
 use mathlib.Core.List.{List, [], _∷_}
 use Prim.Native.Nat.{ℕ, _+_, _/_, _^_, max, _<_}
 use native.Mathlib.Omega.{arith}
-use borrow.Author.Tests.{lt-ltb, eqb-true}
-use lib.Dec.{eqb}
+use borrow.Author.Tests.{lt-ltb}
 use lib.ListN.{getD, set}
 use Rattle.types.specs.declared.Settings.{Settings}
 use Rattle.definitions.specs.Record.{Validator, «FAR_FUTURE_EPOCH», nobody}
 use Rattle.definitions.specs.Updates.{withEligibility, withExit}
-use Rattle.definitions.specs.Checked.{Checked, value, refused, bind, add64, foldChecked}
+use Rattle.definitions.specs.Checked.{Checked, value, refused, bind, foldChecked}
 use Rattle.definitions.specs.Document.Phase0.Helpers.{«is_eligible_for_activation_queue», «get_active_validator_indices»}
 use Rattle.definitions.specs.Document.Phase0.EpochProcessing.{queueEligible, isEjected}
 use Rattle.definitions.specs.Rust.Phase0.Helpers.{«is_active_validator», «get_current_epoch», «compute_activation_exit_epoch», «get_validator_churn_limit»}
 use Rattle.definitions.specs.Rust.Phase0.EpochProcessing.{updateRegistryAt}
 use Rattle.laws.proofs.Checked.{bound, value-same}
-use Rattle.exits.specs.Exits.{queueEpoch, exitAt}
-use Rattle.exits.proofs.Counts.{count-kept, queued-late}
+use Rattle.exits.specs.Exits.{exitAt}
+use Rattle.exits.proofs.Counts.{count-kept, queued-late, Exited, exit-gave}
 use Rattle.exits.proofs.Exits.{exit-by-numbers}
 use Rattle.registry.specs.Updates.{updateAt}
 
@@ -48,19 +48,12 @@ module _ (s : Settings) (stateSlot : ℕ) where
 
   module _ {least : ℕ} (e : «compute_activation_exit_epoch» s epochOf ≡ value least) (small : epochOf < 2 ^ 48) (late : epochOf < least) where
     limit-exit : (limit delay : ℕ) (vs : List Validator) (i : ℕ) {ws : List Validator} → exitAt least limit delay vs i ≡ value ws → limitOf ws ≡ limitOf vs
-    unfolding exitAt
-    limit-exit limit delay vs i {ws} q = go (eqb (v .«exit_epoch») «FAR_FUTURE_EPOCH») refl q
+    limit-exit limit delay vs i {ws} q = ⊎-elim (λ e. ap limitOf e) written (exit-gave least limit delay vs i q)
       where
-        v : Validator
-        v = getD vs i nobody
-
-        go : (t : Bool) → eqb (v .«exit_epoch») «FAR_FUTURE_EPOCH» ≡ t → cond t (bind (queueEpoch least limit vs) (λ exit. bind (add64 exit delay) (λ withdrawable. value (set vs i (withExit exit withdrawable v))))) (value vs) ≡ value ws → limitOf ws ≡ limitOf vs
-        go false f q = ap limitOf (sym (value-same q))
-        go true f q =
-            let a = bound (queueEpoch least limit vs) _ q in
-            let b = bound (add64 (a .first) delay) _ (a .then) in
-            let l : epochOf < a .first = omega (arith, queued-late least limit vs (a .gave)) in
-            ap limitOf (sym (value-same (b .then))) ∙ limit-set vs i _ (exited-active epochOf (a .first) (b .first) v (eqb-true _ «FAR_FUTURE_EPOCH» f) l small)
+        written : Exited least limit vs i ws → limitOf ws ≡ limitOf vs
+        written w =
+            let l : epochOf < w .exit = omega (arith, queued-late least limit vs (w .queued)) in
+            ap limitOf (w .is) ∙ limit-set vs i _ (exited-active epochOf (w .exit) (w .withdrawable) (getD vs i nobody) (w .far) l small)
 
     limit-eligible : (vs : List Validator) (i : ℕ) → limitOf (set vs i (queueEligible s epochOf (getD vs i nobody))) ≡ limitOf vs
     limit-eligible vs i = limit-set vs i _ (eligible-active s epochOf (getD vs i nobody))
@@ -78,10 +71,11 @@ module _ (s : Settings) (stateSlot : ℕ) where
 
     update-by-numbers : (vs : List Validator) (i : ℕ) {limit : ℕ} → limitOf vs ≡ limit → updateRegistryAt s stateSlot vs i ≡ updateAt s epochOf least limit vs i
     unfolding updateRegistryAt updateAt
-    update-by-numbers vs i h = rw (exit-by-numbers s stateSlot (set vs i (queueEligible s («get_current_epoch» s stateSlot) (getD vs i nobody))) i e (limit-eligible vs i ∙ h))
+    update-by-numbers vs i h = rw (exit-by-numbers s stateSlot (set vs i (queueEligible s epochOf (getD vs i nobody))) i e (limit-eligible vs i ∙ h))
 
-    -- the loop
-    pub updates-by-numbers : (vs : List Validator) {limit : ℕ} → «get_validator_churn_limit» s stateSlot vs ≡ limit → (is : List ℕ) → foldChecked (updateRegistryAt s stateSlot) vs is ≡ foldChecked (updateAt s («get_current_epoch» s stateSlot) least limit) vs is
+    -- The loop
+
+    pub updates-by-numbers : (vs : List Validator) {limit : ℕ} → limitOf vs ≡ limit → (is : List ℕ) → foldChecked (updateRegistryAt s stateSlot) vs is ≡ foldChecked (updateAt s epochOf least limit) vs is
     unfolding foldChecked bind
     updates-by-numbers vs h [] = refl
     updates-by-numbers vs {limit} h (i ∷ is) = rw (update-by-numbers vs i h) (go (updateAt s epochOf least limit vs i) refl (λ ws k. updates-by-numbers ws k is))
@@ -90,7 +84,7 @@ module _ (s : Settings) (stateSlot : ℕ) where
         go (value ws) q k = k ws (limit-update limit vs i q ∙ h)
         go (refused p) q k = refl
 
-    pub limit-kept : (limit : ℕ) (vs : List Validator) (is : List ℕ) {ws : List Validator} → foldChecked (updateAt s («get_current_epoch» s stateSlot) least limit) vs is ≡ value ws → «get_validator_churn_limit» s stateSlot ws ≡ «get_validator_churn_limit» s stateSlot vs
+    pub limit-kept : (limit : ℕ) (vs : List Validator) (is : List ℕ) {ws : List Validator} → foldChecked (updateAt s epochOf least limit) vs is ≡ value ws → limitOf ws ≡ limitOf vs
     unfolding foldChecked
     limit-kept limit vs [] q = ap limitOf (sym (value-same q))
     limit-kept limit vs (i ∷ is) q =

@@ -8,7 +8,7 @@ use lib.ListN.{length, getD, set, length-set}
 use Rattle.types.specs.declared.Settings.{Settings}
 use Rattle.definitions.specs.Lists.{range}
 use Rattle.definitions.specs.Record.{Validator, decodeOne, encodeOne, encode, decode, nobody}
-use Rattle.definitions.specs.Checked.{value, bind, foldChecked}
+use Rattle.definitions.specs.Checked.{Checked, value, bind, foldChecked}
 use Rattle.definitions.specs.Document.Phase0.EpochProcessing.{queueEligible, isEjected, dequeued}
 use Rattle.definitions.specs.Rust.Phase0.Helpers.{«get_current_epoch», «get_validator_churn_limit»}
 use Rattle.definitions.specs.Rust.Phase0.EpochProcessing.{«process_registry_updates»}
@@ -33,7 +33,7 @@ module _ (s : Settings) (epoch least limit n : ℕ) (xs : List ℕ) (i : ℕ) (l
   queued : decode (putAt xs i e) ≡ set (decode xs) i eligible
   queued = ap decode written ∙ decode-encode (set (decode xs) i eligible)
 
-  pub turn-long : length (putAt xs i e) ≡ 10 * n
+  turn-long : length (putAt xs i e) ≡ 10 * n
   turn-long = rw (written, length-encode (set (decode xs) i eligible)) (simp length-set (omega (arith, length-decode n xs long)))
 
   module _ {b : Bool} (q : b ≡ isEjected s epoch (decodeOne (entryAt (putAt xs i e) i))) where
@@ -49,21 +49,22 @@ module _ (s : Settings) (epoch least limit n : ℕ) (xs : List ℕ) (i : ℕ) (l
     turn-ejects t k = rw (sym ejected ∙ t) (rw queued at k)
 
 -- The step: the loop has left ys and answered r
-module _ (s : Settings) (stateSlot finalizedEpoch : ℕ) (xs : List ℕ) {epoch limit : ℕ} (p : Epochs s stateSlot) (now : epoch ≡ «get_current_epoch» s stateSlot) (churn : limit ≡ «get_validator_churn_limit» s stateSlot (decode xs)) {ys : List ℕ} {r : ℕ} (h : Ran (foldChecked (updateAt s epoch (epoch + 1 + s .«max_seed_lookahead») limit) (decode xs) (range 0 (length (decode xs)))) ys r) where
-  all : List ℕ
-  all = range 0 (length (decode xs))
+module _ (s : Settings) (stateSlot finalizedEpoch : ℕ) (xs : List ℕ) {epoch limit : ℕ} (p : Epochs s stateSlot) (now : epoch ≡ «get_current_epoch» s stateSlot) (churn : limit ≡ «get_validator_churn_limit» s stateSlot (decode xs)) where
+  abbrev least : ℕ → ℕ
+  least epoch = epoch + 1 + s .«max_seed_lookahead»
 
-  loop : Ran (foldChecked (updateAt s («get_current_epoch» s stateSlot) («get_current_epoch» s stateSlot + 1 + s .«max_seed_lookahead») limit) (decode xs) (range 0 (length (decode xs)))) ys r
-  loop = rw now at h
+  abbrev loop : ℕ → Checked (List Validator)
+  loop epoch = foldChecked (updateAt s epoch (least epoch) limit) (decode xs) (range 0 (length (decode xs)))
 
-  as-written : «process_registry_updates» s stateSlot finalizedEpoch (decode xs) ≡ bind (foldChecked (updateAt s («get_current_epoch» s stateSlot) («get_current_epoch» s stateSlot + 1 + s .«max_seed_lookahead») limit) (decode xs) (range 0 (length (decode xs)))) (λ queued. value (dequeued («get_current_epoch» s stateSlot + 1 + s .«max_seed_lookahead») («get_validator_churn_limit» s stateSlot queued) finalizedEpoch queued))
+  as-written : «process_registry_updates» s stateSlot finalizedEpoch (decode xs) ≡ bind (loop epoch) (λ queued. value (dequeued (least epoch) («get_validator_churn_limit» s stateSlot queued) finalizedEpoch queued))
   unfolding «process_registry_updates» bind
-  as-written = rw (p .least, updates-by-numbers s stateSlot (p .least) (p .small) (omega arith) (decode xs) (sym churn) (range 0 (length (decode xs))))
+  as-written = rw (p .least, updates-by-numbers s stateSlot (p .least) (p .small) (omega arith) (decode xs) (sym churn) (range 0 (length (decode xs))), now)
 
-  pub step-stops : {zs : List ℕ} → (r ≡ 0 → ⊥) → Ran («process_registry_updates» s stateSlot finalizedEpoch (decode xs)) zs r
-  step-stops z = rw as-written (ran-stop loop _ z)
+  module _ {ys : List ℕ} {r : ℕ} (h : Ran (loop epoch) ys r) where
+    pub step-stops : {zs : List ℕ} → (r ≡ 0 → ⊥) → Ran («process_registry_updates» s stateSlot finalizedEpoch (decode xs)) zs r
+    step-stops z = rw as-written (ran-stop h _ z)
 
-  pub step-ends : {zs : List ℕ} → r ≡ 0 → zs ≡ encode (dequeued (epoch + 1 + s .«max_seed_lookahead») limit finalizedEpoch (decode ys)) → Ran («process_registry_updates» s stateSlot finalizedEpoch (decode xs)) zs 0
-  step-ends z k =
-      let kept = limit-kept s stateSlot (p .least) (p .small) (omega arith) limit (decode xs) (range 0 (length (decode xs))) (ran-gave loop z) in
-      rw as-written (ran-next loop _ z (rw (kept, ← churn) (ran-value (rw now at k))))
+    pub step-ends : {zs : List ℕ} → r ≡ 0 → zs ≡ encode (dequeued (least epoch) limit finalizedEpoch (decode ys)) → Ran («process_registry_updates» s stateSlot finalizedEpoch (decode xs)) zs 0
+    step-ends z k =
+        let kept = limit-kept s stateSlot (p .least) (p .small) (omega arith) limit (decode xs) (range 0 (length (decode xs))) (ran-gave (rw now at h) z) in
+        rw as-written (ran-next h _ z (rw (kept, ← churn) (ran-value k)))
