@@ -52,7 +52,7 @@ use std::{path::Path, process::ExitCode};
 
 const USAGE: &str = "\
 reference compare COUNT SEED          the Rust against the definitions on COUNT records
-reference vectors FOLDER              write the stored list
+reference vectors FOLDER LEAVES       write the stored list, and the words of its leaf cases to the file LEAVES
 reference record FILE                 reading, the eight steps and the close of a record file
 reference leaf FILE NAME NUMBERS..    a leaf on a record file: the validator's number where it is lent an entry, then its
                                       numbers but for the state's slot and finalized epoch, which are the record's";
@@ -67,9 +67,9 @@ fn main() -> ExitCode {
     let args: Vec<&str> = args.iter().map(String::as_str).collect();
     let done = match args[..] {
         ["compare", count, seed] => numbers(&[count, seed]).and_then(|n| compare(n[0], n[1])),
-        ["vectors", folder] => {
-            vectors::write(Path::new(folder)).map(|summary| print!("{summary}")).map_err(|e| e.to_string())
-        }
+        ["vectors", folder, leaves] => vectors::write(Path::new(folder), Path::new(leaves))
+            .map(|summary| print!("{summary}"))
+            .map_err(|e| e.to_string()),
         ["record", file] => read(file).and_then(|bytes| record(&bytes)),
         ["leaf", file, name, ref rest @ ..] => read(file).and_then(|bytes| leaf(&bytes, name, &numbers(rest)?)),
         _ => Err(USAGE.to_string()),

@@ -11,20 +11,21 @@ const BLOCK: usize = 65536;
 
 const MADE: &str = "made by reference/run --vectors from ralexstokes/ethereum-consensus at 5031d31e31, seed";
 
-pub fn write(folder: &Path) -> io::Result<String> {
+/// The list in a folder, but for the leaves' words: they are a file of their own, which a program of the gate reads.
+pub fn write(folder: &Path, leaves: &Path) -> io::Result<String> {
     fs::create_dir_all(folder)?;
     let (table, cases, records) = (stored::settings(), stored::cases(), stored::records());
     let (blocks, places) = record_blocks(&records);
     let files = [
-        ("leaves.txt", leaves_text(&table, &cases).into_bytes()),
-        ("leaves.bin", leaf_blocks(&table, &cases)),
-        ("records.txt", records_text(&records, &places).into_bytes()),
-        ("records.bin", blocks),
+        (folder.join("leaves.txt"), leaves_text(&table, &cases).into_bytes()),
+        (leaves.to_path_buf(), leaf_blocks(&table, &cases)),
+        (folder.join("records.txt"), records_text(&records, &places).into_bytes()),
+        (folder.join("records.bin"), blocks),
     ];
     let mut summary = format!("{} leaf cases, {} records\n", cases.len(), records.len());
-    for (name, bytes) in &files {
-        fs::write(folder.join(name), bytes)?;
-        let _ = writeln!(summary, "{name}: {} bytes", bytes.len());
+    for (file, bytes) in &files {
+        fs::write(file, bytes)?;
+        let _ = writeln!(summary, "{}: {} bytes", file.display(), bytes.len());
     }
     Ok(summary)
 }

@@ -1,0 +1,52 @@
+use borrow.Author.Needs.{needs}
+use Prim.Native.Nat.{_≤_, _-_}
+use mathlib.Core.Path.{_≡_}
+use lib.ListN.{length, length-set}
+use native.Mathlib.Omega.{arith}
+use Rattle.vectors.proofs.inputs.root_of.Statement.{statement}
+use Rattle.vectors.proofs.inputs.root_of.Tie as tie
+
+abbrev Inv-loop : tie.InvT-loop
+Inv-loop b r₀ i₀ r i = (i ≤ 32) × ((length b ≡ 32) × (length r ≡ 32))
+
+abbrev μ-loop : tie.MeasureT-loop
+μ-loop b r₀ i₀ r i = 32 - i
+
+returns : tie.Need-returns Inv-loop μ-loop
+returns c = search needs
+
+loop-holds : tie.Need-loop-holds Inv-loop μ-loop
+loop-holds c = search needs
+
+shared-slice-read-r : tie.Need-shared-slice-read-r Inv-loop μ-loop
+shared-slice-read-r c = omega arith
+
+array-write-r : tie.Need-array-write-r Inv-loop μ-loop
+array-write-r c = omega arith
+
+add-i : tie.Need-add-i Inv-loop μ-loop
+add-i c = omega arith
+
+loop-less : tie.Need-loop-less Inv-loop μ-loop
+loop-less c = omega arith
+
+loop-again : tie.Need-loop-again Inv-loop μ-loop
+loop-again c = simp length-set (omega arith)
+
+returns-2 : tie.Need-returns-2 Inv-loop μ-loop
+returns-2 c = search needs
+
+pub root-of-spec : {M : Type 1} → statement M
+root-of-spec =
+    tie.close
+    (tie.spec
+    Inv-loop
+    μ-loop
+    returns
+    loop-holds
+    shared-slice-read-r
+    array-write-r
+    add-i
+    loop-less
+    loop-again
+    returns-2)

@@ -1,0 +1,114 @@
+// What a case hands to its leaf.
+ghost use Prim.Native.Nat.{_*_, _≤_};
+ghost use mathlib.Core.Path.{_≡_};
+ghost use lib.ListN.{length};
+use crate::case::Case;
+use crate::words::bytes_part;
+use crate::words::part;
+use crate::words::past;
+use crate::words::word;
+use types::Checkpoint;
+use types::Finality;
+use types::Settings;
+
+fn settings_of(w: &[u64]) -> Settings
+    requires { ⌜ length (now w) ≡ 19 ⌝ }
+{
+    Settings {
+        slots_per_epoch: w[0],
+        slots_per_historical_root: w[1],
+        epochs_per_slashings_vector: w[2],
+        effective_balance_increment: w[3],
+        max_effective_balance: w[4],
+        hysteresis_quotient: w[5],
+        hysteresis_downward_multiplier: w[6],
+        hysteresis_upward_multiplier: w[7],
+        base_reward_factor: w[8],
+        min_epochs_to_inactivity_penalty: w[9],
+        inactivity_score_bias: w[10],
+        inactivity_score_recovery_rate: w[11],
+        inactivity_penalty_quotient_altair: w[12],
+        proportional_slashing_multiplier_altair: w[13],
+        max_seed_lookahead: w[14],
+        min_validator_withdrawability_delay: w[15],
+        ejection_balance: w[16],
+        min_per_epoch_churn_limit: w[17],
+        churn_limit_quotient: w[18],
+    }
+}
+
+pub fn settings(c: Case, words: &[u64]) -> Settings {
+    let at = c.settings;
+    let w = part(words, at, 19);
+    if w.len() != 19 {
+        let zeros = [0u64; 19];
+        return settings_of(&zeros);
+    }
+    settings_of(w)
+}
+
+pub fn number(c: Case, words: &[u64], k: usize) -> u64 {
+    word(words, c.numbers, k)
+}
+
+pub fn lent(c: Case, words: &[u64]) -> &[u64] {
+    part(words, c.lent, c.lent_words)
+}
+
+fn copy(from: &[u64], to: &mut [u64]) -> usize
+    ensures { λ r. ⌜ r ≤ length (now (to .exit)) ⌝ }
+{
+    let mut i: usize = 0;
+    while i < from.len() {
+        if i == to.len() {
+            return i;
+        }
+        to[i] = from[i];
+        i += 1;
+    }
+    i
+}
+
+// What is lent, at the start of the buffer, as far as that goes; and how many words.
+pub fn copy_lent(c: Case, words: &[u64], to: &mut [u64]) -> usize
+    ensures { λ r. ⌜ r ≤ length (now (to .exit)) ⌝ }
+{
+    copy(lent(c, words), to)
+}
+
+pub fn roots(c: Case, bytes: &[u8]) -> &[u8] {
+    bytes_part(bytes, c.roots, c.roots_bytes)
+}
+
+fn root_of(b: &[u8]) -> [u8; 32] {
+    let mut r = [0u8; 32];
+    if b.len() != 32 {
+        return r;
+    }
+    for i in 0..32usize {
+        r[i] = b[i];
+    }
+    r
+}
+
+fn checkpoint(words: &[u64], bytes: &[u8], at: usize) -> Checkpoint {
+    let root = root_of(bytes_part(bytes, past(at, 1, words.len()), 32));
+    Checkpoint {
+        epoch: word(words, at, 0),
+        root,
+    }
+}
+
+pub fn finality(c: Case, words: &[u64], bytes: &[u8]) -> Finality {
+    let at = c.finality;
+    let previous = checkpoint(words, bytes, past(at, 2, words.len()));
+    let current = checkpoint(words, bytes, past(at, 7, words.len()));
+    let finalized = checkpoint(words, bytes, past(at, 12, words.len()));
+    Finality {
+        slot: word(words, at, 0),
+        justification_bits: word(words, at, 1),
+        previous_justified_checkpoint: previous,
+        current_justified_checkpoint: current,
+        finalized_checkpoint: finalized,
+    }
+}
