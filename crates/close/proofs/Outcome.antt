@@ -1,0 +1,44 @@
+-- What the close hands back and what its closing buffers hold are the definition's. `x` is the number that the tests' code gave.
+use mathlib.Core.Path.{_≡_, sym, _∙_}
+use mathlib.Core.List.{List}
+use Prim.Native.Nat.{ℕ}
+use Rattle.types.specs.declared.FinalityAnswer.{FinalityAnswer}
+use Rattle.definitions.specs.Checked.{codeOf, bind}
+use Rattle.definitions.specs.Refusals.{afterTests, closingBuffer}
+use Rattle.definitions.specs.Close.{Call, Outcome, stateOf, closeTests, closed, close, «process_epoch»}
+use Rattle.refusals.proofs.Answers.{passed}
+use Rattle.loops.proofs.Ran.{code-value}
+use Rattle.close.specs.Called.{outcome}
+use Rattle.close.specs.Worked.{Worked, stateNow}
+use Rattle.close.proofs.Worked.{code-refused}
+
+same-outcome : {o p : Outcome} → o .refusal ≡ p .refusal → o .finality ≡ p .finality → o .closingRegistry ≡ p .closingRegistry → o .closingSlashings ≡ p .closingSlashings → o ≡ p
+same-outcome a b c d = λ i. record { refusal = a i; finality = b i; closingRegistry = c i; closingSlashings = d i }
+
+module _ (c : Call) {x : ℕ} (e : x ≡ codeOf (closeTests c)) where
+  -- a test refused
+  pub tests-refused : (x ≡ 0 → ⊥) → outcome (record { refusal = x; finality = c .finality }) (c .closingRegistry) (c .closingSlashings) ≡ close c
+  unfolding close closed afterTests bind closingBuffer
+  tests-refused z =
+      let p = code-refused (closeTests c) e z in
+      same-outcome (rw (p .is) (p .number)) (rw (p .is)) (rw (p .is)) (rw (p .is))
+
+  module _ (z : x ≡ 0) {copy registry slashings : List ℕ} {r : FinalityAnswer} (copied : copy ≡ c .registry) (worked : Worked (c .settings) (stateNow (c .finality) copy (c .slashings) (c .roots)) registry slashings r) where
+    w : Worked (c .settings) (stateOf c) registry slashings r
+    w = rw copied at worked
+
+    -- a step is refused, and the opening put back
+    pub steps-refused : {xs ys : List ℕ} → (r .refusal ≡ 0 → ⊥) → xs ≡ c .registry → ys ≡ c .slashings → outcome r xs ys ≡ close c
+    unfolding close closed afterTests bind closingBuffer
+    steps-refused y a b =
+        let t = passed (closeTests c) e z in
+        let p = code-refused («process_epoch» (c .settings) (stateOf c)) (w .code) y in
+        same-outcome (rw t (w .code)) (rw t (w .finality)) (rw (t, p .is) a) (rw (t, p .is) b)
+
+    pub steps-done : r .refusal ≡ 0 → outcome r registry slashings ≡ close c
+    unfolding close closed afterTests bind closingBuffer
+    steps-done y =
+        let t = passed (closeTests c) e z in
+        let v = code-value («process_epoch» (c .settings) (stateOf c)) (stateOf c) (sym (w .code) ∙ y) in
+        let h = w .held _ v in
+        same-outcome (rw t (w .code)) (rw t (w .finality)) (rw (t, v) (h .0)) (rw (t, v) (h .1))

@@ -1,0 +1,84 @@
+-- The eight steps, from what justification answered and what the five steps over the registry left.
+use mathlib.Core.Path.{_≡_, refl, sym, ap, _∙_}
+use mathlib.Core.List.{List}
+use Prim.Native.Nat.{ℕ}
+use Rattle.types.specs.declared.Settings.{Settings}
+use Rattle.types.specs.declared.Finality.{Finality}
+use Rattle.types.specs.declared.FinalityAnswer.{FinalityAnswer}
+use Rattle.definitions.specs.Record.{BeaconState, decode, encode}
+use Rattle.definitions.specs.Checked.{Checked, value, refused, codeOf, bind}
+use Rattle.definitions.specs.Answers.{finalityAnswerFor}
+use Rattle.definitions.specs.Rust.Phase0.EpochProcessing.{resetSlashings}
+use Rattle.definitions.specs.Rust.Altair.EpochProcessing.{«process_justification_and_finalization», «process_participation_flag_updates»}
+use Rattle.definitions.specs.Close.{«process_epoch»}
+use Rattle.laws.proofs.Checked.{not-value, value-same}
+use Rattle.loops.specs.Ran.{Ran}
+use Rattle.loops.proofs.Ran.{number-not-zero, ran-gave}
+use Rattle.refusals.proofs.Answers.{Refused}
+use Rattle.history.proofs.Justification.{justification-moves}
+use Rattle.close.specs.Worked.{registrySteps, stateNow, Worked}
+use Rattle.close.proofs.Steps.{justification-refused, lastSteps, eight-steps}
+
+-- refused by number q
+
+pub code-refused : {A : Type 0} (m : Checked A) {q : ℕ} → q ≡ codeOf m → (q ≡ 0 → ⊥) → Refused m q
+code-refused (value a) e z = absurd (z e)
+code-refused (refused r) e z = record { why = r; is = refl; number = e }
+
+bind-refused : {A B : Type 0} {m : Checked A} {n : Checked B} (k : A → Checked B) {q : ℕ} → n ≡ bind m k → Refused m q → Refused n q
+unfolding bind
+bind-refused k e p = record { why = p .why; is = e ∙ rw (p .is); number = p .number }
+
+-- what justification answered
+
+refusal-is : {r a : FinalityAnswer} → r ≡ a → r .refusal ≡ a .refusal
+refusal-is e = ap (λ (b : FinalityAnswer). b .refusal) e
+
+finality-is : {r a : FinalityAnswer} → r ≡ a → r .finality ≡ a .finality
+finality-is e = ap (λ (b : FinalityAnswer). b .finality) e
+
+gave : (m : Checked Finality) (f : Finality) {r : FinalityAnswer} → r ≡ finalityAnswerFor m f → r .refusal ≡ 0 → m ≡ value (r .finality)
+gave (value g) f h z = ap value (sym (finality-is h))
+gave (refused p) f h z = absurd (number-not-zero p (sym (refusal-is h) ∙ z))
+
+kept : (m : Checked Finality) (f : Finality) {r : FinalityAnswer} → r ≡ finalityAnswerFor m f → (r .refusal ≡ 0 → ⊥) → r .finality ≡ f
+kept (value g) f h z = absurd (z (refusal-is h))
+kept (refused p) f h z = finality-is h
+
+-- the steps are refused, or give `after`
+
+stopped : (s : Settings) (st : BeaconState) {registry slashings : List ℕ} {r : FinalityAnswer} → Refused («process_epoch» s st) (r .refusal) → r .finality ≡ st .finality → Worked s st registry slashings r
+stopped s st p e =
+    record { code = rw (p .is) (p .number); finality = rw (p .is) e; held = λ after v. absurd (not-value (sym (p .is) ∙ v)) }
+
+done : (s : Settings) (st after : BeaconState) {registry slashings : List ℕ} {r : FinalityAnswer} → «process_epoch» s st ≡ value after → r .refusal ≡ 0 → r .finality ≡ after .finality → registry ≡ encode (after .validators) → slashings ≡ after .slashings → Worked s st registry slashings r
+done s st after e z f a b =
+    record {
+      code = rw e z;
+      finality = rw e f;
+      held = λ other v. let same = value-same (sym e ∙ v) in (rw same at a, rw same at b);
+    }
+
+module _ (s : Settings) (f : Finality) (xs slashings roots : List ℕ) {r : FinalityAnswer} (h : r ≡ finalityAnswerFor («process_justification_and_finalization» s roots f (decode xs)) f) where
+  -- the slot stays
+  pub slot-kept : r .refusal ≡ 0 → r .finality .slot ≡ f .slot
+  slot-kept z = justification-moves s roots f (decode xs) (gave _ f h z) .slot
+
+  -- justification is refused
+  pub worked-unjustified : {ys zs : List ℕ} → (r .refusal ≡ 0 → ⊥) → Worked s (stateNow f xs slashings roots) ys zs r
+  worked-unjustified z =
+      let m = «process_justification_and_finalization» s roots f (decode xs) in
+      stopped s _ (justification-refused s (stateNow f xs slashings roots) (code-refused m (refusal-is h) z)) (kept m f h z)
+
+  module _ (z : r .refusal ≡ 0) {left : List ℕ} {q : ℕ} (ran : Ran (registrySteps s (r .finality .slot) (r .finality .«finalized_checkpoint» .epoch) slashings (decode xs)) left q) where
+    -- one of the five steps over the registry is
+    pub worked-refused : {ys zs : List ℕ} → (q ≡ 0 → ⊥) → Worked s (stateNow f xs slashings roots) ys zs (record { refusal = q; finality = f })
+    worked-refused y =
+        stopped s _ (bind-refused _ (eight-steps s (stateNow f xs slashings roots) (gave _ f h z)) (code-refused _ (ran .code) y)) refl
+
+    -- none is
+    pub worked-done : {ys zs : List ℕ} → q ≡ 0 → zs ≡ resetSlashings s (r .finality .slot) slashings → ys ≡ encode («process_participation_flag_updates» (decode left)) → Worked s (stateNow f xs slashings roots) ys zs r
+    unfolding bind
+    worked-done y a b =
+        done s _ (lastSteps s (stateNow (r .finality) left slashings roots))
+        (eight-steps s (stateNow f xs slashings roots) (gave _ f h z) ∙ rw (ran-gave ran y)) z refl b a

@@ -1,0 +1,80 @@
+use mathlib.Core.Path.{ap, _∙_}
+use native.Mathlib.Omega.{arith}
+use borrow.Author.Needs.{needs}
+use lib.ListN.{length}
+use Rattle.definitions.specs.Rust.Phase0.EpochProcessing.{resetSlashings}
+use Rattle.refusals.proofs.Laws.{small}
+use Rattle.close.proofs.Worked.{slot-kept, worked-unjustified, worked-refused, worked-done}
+use Rattle.close.proofs.run_steps.Statement.{statement}
+use Rattle.close.proofs.run_steps.Tie as tie
+
+justification-core-requires : tie.Need-justification-core-requires
+justification-core-requires c κs = search needs
+
+same-length : tie.Need-same-length
+same-length c = search needs
+
+returns : tie.Need-returns
+returns c = worked-unjustified _ _ _ _ _ (c .before .before .justification-core .ensures) (c .if1 .taken)
+
+registry-steps-requires : tie.Need-registry-steps-requires
+registry-steps-requires c κs =
+    let j = c .before .before .before in
+    let a = j .before .before .before .before .before .before .before .before in
+    let slot = slot-kept _ _ _ (a .args .slashings .now) _ (j .before .before .justification-core .ensures) (j .if1 .left) in
+    (a .pre .0 .settings .good, rw slot (small _ (a .pre .0 .settings .small)), a .pre .0 .registry)
+
+same-length-2 : tie.Need-same-length-2
+same-length-2 c = search needs
+
+returns-2 : tie.Need-returns-2
+returns-2 c =
+    let j = c .before .before .before .before .before .before .before in
+    worked-refused _ _ _ _ _ (j .before .before .justification-core .ensures) (j .if1 .left) (c .before .before .before .registry-steps .ensures) (c .if2 .taken)
+
+copy-requires : tie.Need-copy-requires
+copy-requires c κs = search needs
+
+reset-slashings-requires : tie.Need-reset-slashings-requires
+reset-slashings-requires c κs =
+    let j = c .before .before .before .before .before .before .before .before .before .before .before .before in
+    let a = j .before .before .before .before .before .before .before .before in
+    let slot = slot-kept _ _ _ (a .args .slashings .now) _ (j .before .before .justification-core .ensures) (j .if1 .left) in
+    (ap length (c .before .before .before .copy .ensures) ∙ a .pre .0 .slashings, rw slot (a .pre .0 .settings))
+
+rotate-flags-requires : tie.Need-rotate-flags-requires
+rotate-flags-requires c κs =
+    let k = c .before .before .before .before .before .before .before .before .before .before .before in
+    let a = k .before .before .before .before .before .before .before .before .before .before .before .before .before in
+    omega (arith, a .pre .0 .registry, k .closing-registry .given)
+
+same-length-3 : tie.Need-same-length-3
+same-length-3 c = search needs
+
+same-length-4 : tie.Need-same-length-4
+same-length-4 c = search needs
+
+returns-3 : tie.Need-returns-3
+returns-3 c =
+    let k = c .before .before .before .before .before .before .before .before .before .before .before .before in
+    let j = k .before .before .before .before .before .before .before in
+    worked-done _ _ _ _ _ (j .before .before .justification-core .ensures) (j .if1 .left) (k .before .before .before .registry-steps .ensures) (k .if2 .left)
+    (c .before .before .before .before .before .before .reset-slashings .ensures ∙ ap (resetSlashings _ _) (c .before .before .before .before .before .before .before .before .before .before .copy .ensures))
+    (c .before .before .rotate-flags .ensures)
+
+pub run-steps-spec : {M : Type 1} → statement M
+run-steps-spec =
+    tie.close
+    (tie.spec
+    justification-core-requires
+    same-length
+    returns
+    registry-steps-requires
+    same-length-2
+    returns-2
+    copy-requires
+    reset-slashings-requires
+    rotate-flags-requires
+    same-length-3
+    same-length-4
+    returns-3)

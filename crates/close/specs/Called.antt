@@ -1,0 +1,24 @@
+-- A call of the close, and what it came back with, as the definition's records.
+use mathlib.Core.List.{List}
+use Prim.Native.Nat.{ℕ}
+use Rattle.types.specs.declared.Settings.{Settings}
+use Rattle.types.specs.declared.Finality.{Finality}
+use Rattle.types.specs.declared.FinalityAnswer.{FinalityAnswer}
+use Rattle.definitions.specs.Close.{Call, Outcome}
+
+abbrev pub called : Settings → Finality → List ℕ → List ℕ → List ℕ → List ℕ → List ℕ → Call
+called s f registry slashings roots closingRegistry closingSlashings =
+    record {
+      settings = s;
+      finality = f;
+      registry = registry;
+      slashings = slashings;
+      roots = roots;
+      closingRegistry = closingRegistry;
+      closingSlashings = closingSlashings;
+    }
+
+-- the answer, and what the closing buffers hold
+abbrev pub outcome : FinalityAnswer → List ℕ → List ℕ → Outcome
+outcome r closingRegistry closingSlashings =
+    record { refusal = r .refusal; finality = r .finality; closingRegistry = closingRegistry; closingSlashings = closingSlashings }

@@ -1,0 +1,4 @@
+-- What the contracts of the close cite.
+pub mod Called
+pub mod Worked
+pub mod Returned

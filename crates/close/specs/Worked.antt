@@ -1,0 +1,42 @@
+-- The steps as the code groups them, and what it promises of them.
+use mathlib.Core.Path.{_≡_}
+use mathlib.Core.List.{List}
+use Prim.Native.Nat.{ℕ, _*_, _/_}
+use lib.ListN.{length}
+use Rattle.types.specs.declared.Settings.{Settings}
+use Rattle.types.specs.declared.Finality.{Finality}
+use Rattle.types.specs.declared.FinalityAnswer.{FinalityAnswer}
+use Rattle.definitions.specs.Record.{Validator, BeaconState, encode, decode}
+use Rattle.definitions.specs.Checked.{Checked, value, codeOf, settle, bind}
+use Rattle.definitions.specs.Refusals.{justificationTests}
+use Rattle.definitions.specs.Close.{«process_epoch»}
+use Rattle.definitions.specs.Rust.Phase0.EpochProcessing.{«process_registry_updates», «process_effective_balance_updates»}
+use Rattle.definitions.specs.Rust.Altair.EpochProcessing.{«process_inactivity_updates», «process_rewards_and_penalties», «process_slashings»}
+use Rattle.agreement.specs.Bounds.{Passed}
+
+-- The second to the sixth step, each on the registry that the one before it left
+unfoldable pub registrySteps : Settings → ℕ → ℕ → List ℕ → List Validator → Checked (List Validator)
+registrySteps s stateSlot finalizedEpoch slashings vs =
+    bind («process_inactivity_updates» s stateSlot finalizedEpoch vs) (λ scored.
+    bind («process_rewards_and_penalties» s (s .«inactivity_penalty_quotient_altair») stateSlot finalizedEpoch scored) (λ paid.
+    bind («process_registry_updates» s stateSlot finalizedEpoch paid) (λ updated.
+    bind («process_slashings» s (s .«proportional_slashing_multiplier_altair») stateSlot slashings updated) (λ slashed.
+    «process_effective_balance_updates» s slashed))))
+
+abbrev pub stateNow : Finality → List ℕ → List ℕ → List ℕ → BeaconState
+stateNow f registry slashings roots =
+    record { finality = f; validators = decode registry; slashings = slashings; «block_roots» = roots }
+
+-- What the tests of a close say of its opening, of registry xs, slashings ys and roots zs, and its steps rely on
+pub record Tested (s : Settings) (f : Finality) (xs ys zs : List ℕ) : Type 0 where
+  pub settings : Passed s (f .slot)
+  pub justification : codeOf (justificationTests s zs f xs) ≡ 0
+  pub registry : length xs ≡ 10 * (length xs / 10)
+  pub slashings : length ys ≡ s .«epochs_per_slashings_vector»
+
+-- The eight steps on the state `before`: the answer, and what registry and slashings hold where they are not refused. The caller puts the
+-- opening back where they are.
+pub record Worked (s : Settings) (before : BeaconState) (registry slashings : List ℕ) (r : FinalityAnswer) : Type 0 where
+  pub code : r .refusal ≡ codeOf («process_epoch» s before)
+  pub finality : r .finality ≡ settle («process_epoch» s before) before .finality
+  pub held : (after : BeaconState) → «process_epoch» s before ≡ value after → (registry ≡ encode (after .validators)) × (slashings ≡ after .slashings)

@@ -1,0 +1,2 @@
+-- The step from its totals, one after the other.
+pub mod Step
