@@ -11,10 +11,10 @@ ghost use Rattle.loops.specs.Ran.{Ran};
 ghost use Rattle.close.specs.Called.{called, outcome};
 ghost use Rattle.close.specs.Worked.{registrySteps, stateNow, Tested, Worked};
 use buffers::copy;
-use effective_balances::update_effective_balances;
+use effective_balances::effective_balances_core;
 use inactivity::inactivity_core;
 use justification::justification_core;
-use participation_flags::rotate_flags;
+use participation_flags::participation_flags_core;
 use refusals::good_finality;
 use refusals::good_registry;
 use refusals::good_settings;
@@ -22,8 +22,8 @@ use refusals::registry_shaped;
 use refusals::settings_shaped;
 use registry::registry_core;
 use rewards_step::rewards_core;
-use slashings::reset_slashings;
-use slashings::slash_validators;
+use slashings::slashings_core;
+use slashings::slashings_reset_core;
 use types::Finality;
 use types::FinalityAnswer;
 use types::Settings;
@@ -116,11 +116,11 @@ fn registry_steps(
         return updated;
     }
     let multiplier = s.proportional_slashing_multiplier_altair;
-    let slashed = slash_validators(s, multiplier, state_slot, slashings, registry);
+    let slashed = slashings_core(s, multiplier, state_slot, slashings, registry);
     if slashed != 0 {
         return slashed;
     }
-    update_effective_balances(s, registry)
+    effective_balances_core(s, registry)
 }
 
 // The eight steps, in place: justification, five over the registry, and two that are never refused. Slashings are first written by the
@@ -154,8 +154,8 @@ fn run_steps(
         return FinalityAnswer { refusal, finality };
     }
     copy(slashings, closing_slashings);
-    reset_slashings(s, weighed.slot, closing_slashings);
-    rotate_flags(closing_registry);
+    slashings_reset_core(s, weighed.slot, closing_slashings);
+    participation_flags_core(closing_registry);
     justified
 }
 

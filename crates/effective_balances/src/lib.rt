@@ -69,7 +69,7 @@ fn update_all(s: Settings, downward: u64, upward: u64, registry: &mut [u64]) -> 
 }
 
 // The step in place. Both thresholds are evaluated also over no validators.
-pub fn update_effective_balances(s: Settings, registry: &mut [u64]) -> u64
+pub fn effective_balances_core(s: Settings, registry: &mut [u64]) -> u64
     requires { ⌜ (length (now registry) ≡ 10 * (length (now registry) / 10)) × (goodSettings s ≡ true) ⌝ }
     ensures { λ r. ⌜ Ran («process_effective_balance_updates» s (decode (now (registry .entry)))) (now (registry .exit)) r ⌝ }
 {
@@ -100,7 +100,7 @@ pub fn process_effective_balance_updates(s: Settings, opening: &[u64], closing: 
         return refusal;
     }
     copy(opening, closing);
-    let done = update_effective_balances(s, closing);
+    let done = effective_balances_core(s, closing);
     if done != 0 {
         copy(opening, closing);
     }

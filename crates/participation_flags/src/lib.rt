@@ -21,7 +21,7 @@ fn entry_rotate(entry: &mut [u64])
 }
 
 // The step in place.
-pub fn rotate_flags(registry: &mut [u64])
+pub fn participation_flags_core(registry: &mut [u64])
     requires { ⌜ length (now registry) ≡ 10 * (length (now registry) / 10) ⌝ }
     ensures { λ _. ⌜ now (registry .exit) ≡ encode («process_participation_flag_updates» (decode (now (registry .entry)))) ⌝ }
 {
@@ -56,6 +56,6 @@ pub fn process_participation_flag_updates(opening: &[u64], closing: &mut [u64]) 
         return refusal;
     }
     copy(opening, closing);
-    rotate_flags(closing);
+    participation_flags_core(closing);
     0
 }

@@ -84,7 +84,7 @@ fn slash_all(s: Settings, epoch: u64, total: u64, adjusted: u64, registry: &mut 
 }
 
 // The step in place. Total, sum and product are evaluated also where nobody is due.
-pub fn slash_validators(
+pub fn slashings_core(
     s: Settings,
     multiplier: u64,
     state_slot: u64,
@@ -141,7 +141,7 @@ pub fn process_slashings(
     }
     copy(opening, closing);
     let multiplier = s.proportional_slashing_multiplier_altair;
-    let done = slash_validators(s, multiplier, state_slot, slashings, closing);
+    let done = slashings_core(s, multiplier, state_slot, slashings, closing);
     if done != 0 {
         copy(opening, closing);
     }
@@ -149,7 +149,7 @@ pub fn process_slashings(
 }
 
 // The reset in place: the next epoch's slot.
-pub fn reset_slashings(s: Settings, state_slot: u64, slashings: &mut [u64])
+pub fn slashings_reset_core(s: Settings, state_slot: u64, slashings: &mut [u64])
     requires { ⌜ (length (now slashings) ≡ s .«epochs_per_slashings_vector») × (Passed s «state_slot») ⌝ }
     ensures { λ _. ⌜ now (slashings .exit) ≡ resetSlashings s «state_slot» (now (slashings .entry)) ⌝ }
 {
@@ -192,6 +192,6 @@ pub fn process_slashings_reset(
         return refusal;
     }
     copy(opening, closing);
-    reset_slashings(s, state_slot, closing);
+    slashings_reset_core(s, state_slot, closing);
     0
 }

@@ -6,8 +6,8 @@ use Rattle.arithmetic.proofs.Operations.{only-sum64, only-mul64}
 use Rattle.arithmetic.proofs.Laws.{says-value}
 use Rattle.totals.proofs.Sums.{only-total, total-positive}
 use Rattle.buffers.proofs.Chained.{ran-given, ran-over}
-use Rattle.slashings.proofs.slash_validators.Statement.{statement}
-use Rattle.slashings.proofs.slash_validators.Tie as tie
+use Rattle.slashings.proofs.slashings_core.Statement.{statement}
+use Rattle.slashings.proofs.slashings_core.Tie as tie
 
 current-epoch-requires : tie.Need-current-epoch-requires
 current-epoch-requires c κs = good-settings (c .before .before .args .s) (c .before .before .pre .1) .positive .«slots_per_epoch»

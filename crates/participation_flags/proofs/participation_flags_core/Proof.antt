@@ -3,8 +3,8 @@ use native.Mathlib.Omega.{arith}
 use Rattle.definitions.specs.Document.Altair.EpochProcessing.{rotateParticipation}
 use Rattle.definitions.specs.Rust.Altair.EpochProcessing.{«process_participation_flag_updates»}
 use Rattle.loops.proofs.Mapped.{Mapped, mapped-none, mapped-ten, mapped-more, mapped-all}
-use Rattle.participation_flags.proofs.rotate_flags.Statement.{statement}
-use Rattle.participation_flags.proofs.rotate_flags.Tie as tie
+use Rattle.participation_flags.proofs.participation_flags_core.Statement.{statement}
+use Rattle.participation_flags.proofs.participation_flags_core.Tie as tie
 
 abbrev Inv-loop : tie.InvT-loop
 Inv-loop registry₀ n i₀ registry i = Mapped rotateParticipation n registry₀ i registry

@@ -4,8 +4,8 @@ use Rattle.definitions.specs.Rust.Phase0.EpochProcessing.{«process_effective_b
 use Rattle.refusals.proofs.Laws.{good-settings}
 use Rattle.arithmetic.proofs.Operations.{only-mul64}
 use Rattle.buffers.proofs.Chained.{ran-given, ran-over}
-use Rattle.effective_balances.proofs.update_effective_balances.Statement.{statement}
-use Rattle.effective_balances.proofs.update_effective_balances.Tie as tie
+use Rattle.effective_balances.proofs.effective_balances_core.Statement.{statement}
+use Rattle.effective_balances.proofs.effective_balances_core.Tie as tie
 
 div-increment : tie.Need-div-increment
 div-increment c = omega (arith, good-settings (c .before .before .args .s) (c .before .before .pre .1) .positive .«hysteresis_quotient»)

@@ -4,8 +4,8 @@ use borrow.Author.Needs.{needs, scaled-fits}
 use Rattle.definitions.specs.Document.Phase0.EpochProcessing.{resetSlashings}
 use Rattle.agreement.proofs.Bounds.{bounds}
 use Rattle.refusals.proofs.Laws.{settings-shaped, good-settings}
-use Rattle.slashings.proofs.reset_slashings.Statement.{statement}
-use Rattle.slashings.proofs.reset_slashings.Tie as tie
+use Rattle.slashings.proofs.slashings_reset_core.Statement.{statement}
+use Rattle.slashings.proofs.slashings_reset_core.Tie as tie
 
 current-epoch-requires : tie.Need-current-epoch-requires
 current-epoch-requires c κs = good-settings _ (c .before .pre .1 .good) .positive .«slots_per_epoch»
