@@ -46,8 +46,8 @@ returns-3 : tie.Need-returns-3
 unfolding «process_effective_balance_updates»
 returns-3 c = ran-given _ (c .before .before .before .before .before .before .before .before .before .before .before .mul64 .ensures) (c .before .before .before .before .before .before .before .before .before .downward .given .1) (ran-given _ (c .before .before .before .before .before .before .before .mul642 .ensures) (c .before .before .before .before .before .upward .given .1) (c .before .before .update-all .ensures))
 
-pub update-effective-balances-spec : {M : Type 1} → statement M
-update-effective-balances-spec =
+pub effective-balances-core-spec : {M : Type 1} → statement M
+effective-balances-core-spec =
     tie.close
     (tie.spec
     div-increment

@@ -19,8 +19,8 @@ returns c = closes-refused encode _ (c .before .effective-balance-tests .ensures
 copy-requires : tie.Need-copy-requires
 copy-requires c κs = effective-balance-passed _ _ _ (c .before .before .effective-balance-tests .ensures) (c .before .if1 .left) .same
 
-update-effective-balances-requires : tie.Need-update-effective-balances-requires
-update-effective-balances-requires c κs =
+effective-balances-core-requires : tie.Need-effective-balances-core-requires
+effective-balances-core-requires c κs =
     let p = effective-balance-passed _ _ _ (c .before .before .before .before .before .before .effective-balance-tests .ensures) (c .before .before .before .before .before .if1 .left) in
     (rw (c .before .before .before .copy .ensures) (p .shape .long), p .good)
 
@@ -33,13 +33,13 @@ same-length-2 : tie.Need-same-length-2
 same-length-2 c = search needs
 
 returns-2 : tie.Need-returns-2
-returns-2 c = step-restored («process_effective_balance_updates» (c .before .before .before .before .before .before .before .before .before .before .before .before .before .before .before .before .before .before .args .s)) _ (c .before .before .before .before .before .before .before .before .before .before .before .before .before .before .effective-balance-tests .ensures) (c .before .before .before .before .before .before .before .before .before .before .before .before .before .if1 .left) (c .before .before .before .before .before .before .before .before .before .before .before .copy .ensures) (c .before .before .before .before .before .before .before .update-effective-balances .ensures) (c .before .before .before .before .if2 .taken) (c .before .before .copy2 .ensures)
+returns-2 c = step-restored («process_effective_balance_updates» (c .before .before .before .before .before .before .before .before .before .before .before .before .before .before .before .before .before .before .args .s)) _ (c .before .before .before .before .before .before .before .before .before .before .before .before .before .before .effective-balance-tests .ensures) (c .before .before .before .before .before .before .before .before .before .before .before .before .before .if1 .left) (c .before .before .before .before .before .before .before .before .before .before .before .copy .ensures) (c .before .before .before .before .before .before .before .effective-balances-core .ensures) (c .before .before .before .before .if2 .taken) (c .before .before .copy2 .ensures)
 
 same-length-3 : tie.Need-same-length-3
 same-length-3 c = search needs
 
 returns-3 : tie.Need-returns-3
-returns-3 c = step-done («process_effective_balance_updates» (c .before .before .before .before .before .before .before .before .before .before .before .before .before .before .args .s)) _ (c .before .before .before .before .before .before .before .before .before .before .effective-balance-tests .ensures) (c .before .before .before .before .before .before .before .before .before .if1 .left) (c .before .before .before .before .before .before .before .copy .ensures) (c .before .before .before .update-effective-balances .ensures) (c .if2 .left)
+returns-3 c = step-done («process_effective_balance_updates» (c .before .before .before .before .before .before .before .before .before .before .before .before .before .before .args .s)) _ (c .before .before .before .before .before .before .before .before .before .before .effective-balance-tests .ensures) (c .before .before .before .before .before .before .before .before .before .if1 .left) (c .before .before .before .before .before .before .before .copy .ensures) (c .before .before .before .effective-balances-core .ensures) (c .if2 .left)
 
 pub process-effective-balance-updates-spec : {M : Type 1} → statement M
 process-effective-balance-updates-spec =
@@ -49,7 +49,7 @@ process-effective-balance-updates-spec =
     same-length
     returns
     copy-requires
-    update-effective-balances-requires
+    effective-balances-core-requires
     copy-requires-2
     same-length-2
     returns-2

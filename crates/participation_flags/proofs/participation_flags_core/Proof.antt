@@ -52,8 +52,8 @@ returns : tie.Need-returns Inv-loop μ-loop
 unfolding «process_participation_flag_updates»
 returns c = mapped-all (c .before .loop .inv) (c .loop-test .left)
 
-pub rotate-flags-spec : {M : Type 1} → statement M
-rotate-flags-spec =
+pub participation-flags-core-spec : {M : Type 1} → statement M
+participation-flags-core-spec =
     tie.close
     (tie.spec
     Inv-loop

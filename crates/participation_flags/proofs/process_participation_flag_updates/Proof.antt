@@ -17,14 +17,14 @@ returns c = closes-refused encode _ (c .before .rotation-tests .ensures) _ (c .i
 copy-requires : tie.Need-copy-requires
 copy-requires c κs = rotation-passed _ _ (c .before .before .rotation-tests .ensures) (c .before .if1 .left) .same
 
-rotate-flags-requires : tie.Need-rotate-flags-requires
-rotate-flags-requires c κs = rw (c .before .before .before .copy .ensures) (rotation-passed _ _ (c .before .before .before .before .before .before .rotation-tests .ensures) (c .before .before .before .before .before .if1 .left) .shape .long)
+participation-flags-core-requires : tie.Need-participation-flags-core-requires
+participation-flags-core-requires c κs = rw (c .before .before .before .copy .ensures) (rotation-passed _ _ (c .before .before .before .before .before .before .rotation-tests .ensures) (c .before .before .before .before .before .if1 .left) .shape .long)
 
 same-length-2 : tie.Need-same-length-2
 same-length-2 c = search needs
 
 returns-2 : tie.Need-returns-2
-returns-2 c = closes-plain encode _ (c .before .before .before .before .before .before .before .before .before .rotation-tests .ensures) _ (c .before .before .before .before .before .before .before .before .if1 .left) (rw (c .before .before .before .before .before .before .copy .ensures) at (c .before .before .rotate-flags .ensures))
+returns-2 c = closes-plain encode _ (c .before .before .before .before .before .before .before .before .before .rotation-tests .ensures) _ (c .before .before .before .before .before .before .before .before .if1 .left) (rw (c .before .before .before .before .before .before .copy .ensures) at (c .before .before .participation-flags-core .ensures))
 
 pub process-participation-flag-updates-spec : {M : Type 1} → statement M
 process-participation-flag-updates-spec =
@@ -34,6 +34,6 @@ process-participation-flag-updates-spec =
     same-length
     returns
     copy-requires
-    rotate-flags-requires
+    participation-flags-core-requires
     same-length-2
     returns-2)

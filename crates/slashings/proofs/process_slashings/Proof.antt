@@ -19,8 +19,8 @@ returns c = closes-refused encode _ (c .before .slashings-tests .ensures) _ (c .
 copy-requires : tie.Need-copy-requires
 copy-requires c κs = slashings-passed _ _ _ _ _ (c .before .before .slashings-tests .ensures) (c .before .if1 .left) .same
 
-slash-validators-requires : tie.Need-slash-validators-requires
-slash-validators-requires c κs =
+slashings-core-requires : tie.Need-slashings-core-requires
+slashings-core-requires c κs =
     let p = slashings-passed _ _ _ _ _ (c .before .before .before .before .before .before .slashings-tests .ensures) (c .before .before .before .before .before .if1 .left) in
     (rw (c .before .before .before .copy .ensures) (p .shape .long), p .good)
 
@@ -33,13 +33,13 @@ same-length-2 : tie.Need-same-length-2
 same-length-2 c = search needs
 
 returns-2 : tie.Need-returns-2
-returns-2 c = step-restored («process_slashings» (c .before .before .before .before .before .before .before .before .before .before .before .before .before .before .before .before .before .before .before .args .s) (c .before .before .before .before .before .before .before .before .before .before .before .before .before .before .before .before .before .before .before .args .s .«proportional_slashing_multiplier_altair») (c .before .before .before .before .before .before .before .before .before .before .before .before .before .before .before .before .before .before .before .args .state-slot) (c .before .before .before .before .before .before .before .before .before .before .before .before .before .before .before .before .before .before .before .args .slashings .now)) _ (c .before .before .before .before .before .before .before .before .before .before .before .before .before .before .slashings-tests .ensures) (c .before .before .before .before .before .before .before .before .before .before .before .before .before .if1 .left) (c .before .before .before .before .before .before .before .before .before .before .before .copy .ensures) (c .before .before .before .before .before .before .before .slash-validators .ensures) (c .before .before .before .before .if2 .taken) (c .before .before .copy2 .ensures)
+returns-2 c = step-restored («process_slashings» (c .before .before .before .before .before .before .before .before .before .before .before .before .before .before .before .before .before .before .before .args .s) (c .before .before .before .before .before .before .before .before .before .before .before .before .before .before .before .before .before .before .before .args .s .«proportional_slashing_multiplier_altair») (c .before .before .before .before .before .before .before .before .before .before .before .before .before .before .before .before .before .before .before .args .state-slot) (c .before .before .before .before .before .before .before .before .before .before .before .before .before .before .before .before .before .before .before .args .slashings .now)) _ (c .before .before .before .before .before .before .before .before .before .before .before .before .before .before .slashings-tests .ensures) (c .before .before .before .before .before .before .before .before .before .before .before .before .before .if1 .left) (c .before .before .before .before .before .before .before .before .before .before .before .copy .ensures) (c .before .before .before .before .before .before .before .slashings-core .ensures) (c .before .before .before .before .if2 .taken) (c .before .before .copy2 .ensures)
 
 same-length-3 : tie.Need-same-length-3
 same-length-3 c = search needs
 
 returns-3 : tie.Need-returns-3
-returns-3 c = step-done («process_slashings» (c .before .before .before .before .before .before .before .before .before .before .before .before .before .before .before .args .s) (c .before .before .before .before .before .before .before .before .before .before .before .before .before .before .before .args .s .«proportional_slashing_multiplier_altair») (c .before .before .before .before .before .before .before .before .before .before .before .before .before .before .before .args .state-slot) (c .before .before .before .before .before .before .before .before .before .before .before .before .before .before .before .args .slashings .now)) _ (c .before .before .before .before .before .before .before .before .before .before .slashings-tests .ensures) (c .before .before .before .before .before .before .before .before .before .if1 .left) (c .before .before .before .before .before .before .before .copy .ensures) (c .before .before .before .slash-validators .ensures) (c .if2 .left)
+returns-3 c = step-done («process_slashings» (c .before .before .before .before .before .before .before .before .before .before .before .before .before .before .before .args .s) (c .before .before .before .before .before .before .before .before .before .before .before .before .before .before .before .args .s .«proportional_slashing_multiplier_altair») (c .before .before .before .before .before .before .before .before .before .before .before .before .before .before .before .args .state-slot) (c .before .before .before .before .before .before .before .before .before .before .before .before .before .before .before .args .slashings .now)) _ (c .before .before .before .before .before .before .before .before .before .before .slashings-tests .ensures) (c .before .before .before .before .before .before .before .before .before .if1 .left) (c .before .before .before .before .before .before .before .copy .ensures) (c .before .before .before .slashings-core .ensures) (c .if2 .left)
 
 pub process-slashings-spec : {M : Type 1} → statement M
 process-slashings-spec =
@@ -49,7 +49,7 @@ process-slashings-spec =
     same-length
     returns
     copy-requires
-    slash-validators-requires
+    slashings-core-requires
     copy-requires-2
     same-length-2
     returns-2

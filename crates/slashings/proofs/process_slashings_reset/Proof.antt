@@ -16,8 +16,8 @@ returns c = closes-refused _ _ (c .before .slashings-reset-tests .ensures) _ (c 
 copy-requires : tie.Need-copy-requires
 copy-requires c κs = reset-passed _ _ _ _ (c .before .before .slashings-reset-tests .ensures) (c .before .if1 .left) .same
 
-reset-slashings-requires : tie.Need-reset-slashings-requires
-reset-slashings-requires c κs =
+slashings-reset-core-requires : tie.Need-slashings-reset-core-requires
+slashings-reset-core-requires c κs =
     let p = reset-passed _ _ _ _ (c .before .before .before .before .before .before .slashings-reset-tests .ensures) (c .before .before .before .before .before .if1 .left) in
     (rw (c .before .before .before .copy .ensures) (p .long), p .settings)
 
@@ -25,7 +25,7 @@ same-length-2 : tie.Need-same-length-2
 same-length-2 c = search needs
 
 returns-2 : tie.Need-returns-2
-returns-2 c = closes-plain _ _ (c .before .before .before .before .before .before .before .before .before .slashings-reset-tests .ensures) _ (c .before .before .before .before .before .before .before .before .if1 .left) (rw (c .before .before .before .before .before .before .copy .ensures) at (c .before .before .reset-slashings .ensures))
+returns-2 c = closes-plain _ _ (c .before .before .before .before .before .before .before .before .before .slashings-reset-tests .ensures) _ (c .before .before .before .before .before .before .before .before .if1 .left) (rw (c .before .before .before .before .before .before .copy .ensures) at (c .before .before .slashings-reset-core .ensures))
 
 pub process-slashings-reset-spec : {M : Type 1} → statement M
 process-slashings-reset-spec =
@@ -35,6 +35,6 @@ process-slashings-reset-spec =
     same-length
     returns
     copy-requires
-    reset-slashings-requires
+    slashings-reset-core-requires
     same-length-2
     returns-2)

@@ -75,8 +75,8 @@ returns-4 : tie.Need-returns-4
 unfolding «process_slashings» «get_total_active_balance»
 returns-4 c = rw (← c .before .before .before .before .before .before .before .before .before .before .before .before .before .before .before .before .before .before .current-epoch .ensures) (ran-given _ (c .before .before .before .before .before .before .before .before .before .before .before .before .before .before .before .before .total-active .ensures) (c .before .before .before .before .before .before .before .before .before .before .before .before .before .before .total .given .1) (ran-given _ (c .before .before .before .before .before .before .before .before .before .before .before .before .slashed-balance .ensures) (c .before .before .before .before .before .before .before .before .before .before .slashed .given .1) (ran-given _ (c .before .before .before .before .before .before .before .before .mul64 .ensures) (c .before .before .before .before .before .before .product .given .1) (rw (← c .before .before .before .before .min .ensures) (c .before .before .slash-all .ensures)))))
 
-pub slash-validators-spec : {M : Type 1} → statement M
-slash-validators-spec =
+pub slashings-core-spec : {M : Type 1} → statement M
+slashings-core-spec =
     tie.close
     (tie.spec
     current-epoch-requires

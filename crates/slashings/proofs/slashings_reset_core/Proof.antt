@@ -29,8 +29,8 @@ returns : tie.Need-returns
 unfolding resetSlashings
 returns c = rw (c .before .current-epoch .ensures)
 
-pub reset-slashings-spec : {M : Type 1} → statement M
-reset-slashings-spec =
+pub slashings-reset-core-spec : {M : Type 1} → statement M
+slashings-reset-core-spec =
     tie.close
     (tie.spec
     current-epoch-requires
