@@ -45,8 +45,8 @@ returns-3 c =
     (ran-next (j .before .before .before .rewards-core .ensures) _ (j .if2 .left)
     (ran-stop (c .before .before .before .registry-core .ensures) _ (c .if3 .taken)))
 
-slash-validators-requires : tie.Need-slash-validators-requires
-slash-validators-requires c κs = search needs
+slashings-core-requires : tie.Need-slashings-core-requires
+slashings-core-requires c κs = search needs
 
 same-length-4 : tie.Need-same-length-4
 same-length-4 c = search needs
@@ -60,10 +60,10 @@ returns-4 c =
     ran-next (k .before .before .before .inactivity-core .ensures) _ (k .if1 .left)
     (ran-next (j .before .before .before .rewards-core .ensures) _ (j .if2 .left)
     (ran-next (i .before .before .before .registry-core .ensures) _ (i .if3 .left)
-    (ran-stop (c .before .before .before .slash-validators .ensures) _ (c .if4 .taken))))
+    (ran-stop (c .before .before .before .slashings-core .ensures) _ (c .if4 .taken))))
 
-update-effective-balances-requires : tie.Need-update-effective-balances-requires
-update-effective-balances-requires c κs = search needs
+effective-balances-core-requires : tie.Need-effective-balances-core-requires
+effective-balances-core-requires c κs = search needs
 
 same-length-5 : tie.Need-same-length-5
 same-length-5 c = search needs
@@ -78,8 +78,8 @@ returns-5 c =
     ran-next (k .before .before .before .inactivity-core .ensures) _ (k .if1 .left)
     (ran-next (j .before .before .before .rewards-core .ensures) _ (j .if2 .left)
     (ran-next (i .before .before .before .registry-core .ensures) _ (i .if3 .left)
-    (ran-next (h .before .before .before .slash-validators .ensures) _ (h .if4 .left)
-    (c .before .before .update-effective-balances .ensures))))
+    (ran-next (h .before .before .before .slashings-core .ensures) _ (h .if4 .left)
+    (c .before .before .effective-balances-core .ensures))))
 
 pub registry-steps-spec : {M : Type 1} → statement M
 registry-steps-spec =
@@ -94,9 +94,9 @@ registry-steps-spec =
     registry-core-requires
     same-length-3
     returns-3
-    slash-validators-requires
+    slashings-core-requires
     same-length-4
     returns-4
-    update-effective-balances-requires
+    effective-balances-core-requires
     same-length-5
     returns-5)

@@ -35,15 +35,15 @@ returns-2 c =
 copy-requires : tie.Need-copy-requires
 copy-requires c κs = search needs
 
-reset-slashings-requires : tie.Need-reset-slashings-requires
-reset-slashings-requires c κs =
+slashings-reset-core-requires : tie.Need-slashings-reset-core-requires
+slashings-reset-core-requires c κs =
     let j = c .before .before .before .before .before .before .before .before .before .before .before .before in
     let a = j .before .before .before .before .before .before .before .before in
     let slot = slot-kept _ _ _ (a .args .slashings .now) _ (j .before .before .justification-core .ensures) (j .if1 .left) in
     (ap length (c .before .before .before .copy .ensures) ∙ a .pre .0 .slashings, rw slot (a .pre .0 .settings))
 
-rotate-flags-requires : tie.Need-rotate-flags-requires
-rotate-flags-requires c κs =
+participation-flags-core-requires : tie.Need-participation-flags-core-requires
+participation-flags-core-requires c κs =
     let k = c .before .before .before .before .before .before .before .before .before .before .before in
     let a = k .before .before .before .before .before .before .before .before .before .before .before .before .before in
     omega (arith, a .pre .0 .registry, k .closing-registry .given)
@@ -59,8 +59,8 @@ returns-3 c =
     let k = c .before .before .before .before .before .before .before .before .before .before .before .before in
     let j = k .before .before .before .before .before .before .before in
     worked-done _ _ _ _ _ (j .before .before .justification-core .ensures) (j .if1 .left) (k .before .before .before .registry-steps .ensures) (k .if2 .left)
-    (c .before .before .before .before .before .before .reset-slashings .ensures ∙ ap (resetSlashings _ _) (c .before .before .before .before .before .before .before .before .before .before .copy .ensures))
-    (c .before .before .rotate-flags .ensures)
+    (c .before .before .before .before .before .before .slashings-reset-core .ensures ∙ ap (resetSlashings _ _) (c .before .before .before .before .before .before .before .before .before .before .copy .ensures))
+    (c .before .before .participation-flags-core .ensures)
 
 pub run-steps-spec : {M : Type 1} → statement M
 run-steps-spec =
@@ -73,8 +73,8 @@ run-steps-spec =
     same-length-2
     returns-2
     copy-requires
-    reset-slashings-requires
-    rotate-flags-requires
+    slashings-reset-core-requires
+    participation-flags-core-requires
     same-length-3
     same-length-4
     returns-3)
