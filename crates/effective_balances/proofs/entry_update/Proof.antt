@@ -37,7 +37,11 @@ same-length c = search needs
 
 returns-2 : tie.Need-returns-2
 unfolding roundedBalance
-returns-2 c = settles-value _ (low-moved _ _ _ _ (says-value (c .before .before .before .before .before .add64 .ensures) (c .before .before .before .low .given .1)) (c .before .if1 .taken)) (rw (c .rounded .ensures, ten (c .before .before .before .before .before .before .before .before .before .args .entry .now) (c .before .before .before .before .before .before .before .before .before .pre .0)))
+returns-2 c =
+    let m = c .before .before .before in
+    let g = m .before .before in
+    let a = g .before .before .before .before in
+    settles-value _ (low-moved _ _ _ _ (says-value (g .add64 .ensures) (m .low .given .1)) (c .before .if1 .taken)) (rw (c .rounded .ensures, ten (a .args .entry .now) (a .pre .0)))
 
 add64-requires-2 : tie.Need-add64-requires-2
 add64-requires-2 c κs = search needs
@@ -49,7 +53,12 @@ enum-told-2 : tie.Need-enum-told-2
 enum-told-2 c = search needs
 
 returns-3 : tie.Need-returns-3
-returns-3 c = settles-refused _ (c .before .before .before .before .before .before .before .before .before .before .before .pre .0) (high-refused _ _ _ _ (says-value (c .before .before .before .before .before .before .before .add64 .ensures) (c .before .before .before .before .before .low .given .1)) (c .before .before .before .if1 .left) (says-overflow (c .before .before .add642 .ensures) (only-add64 _ _) (c .enum-told2 .given .1) .0))
+returns-3 c =
+    let m = c .before .before in
+    let l = m .before in
+    let k = l .before .before in
+    let g = k .before .before in
+    settles-refused _ (g .before .before .before .before .pre .0) (high-refused _ _ _ _ (says-value (g .add64 .ensures) (k .low .given .1)) (l .if1 .left) (says-overflow (m .add642 .ensures) (only-add64 _ _) (c .enum-told2 .given .1) .0))
 
 rounded-requires-2 : tie.Need-rounded-requires-2
 rounded-requires-2 c κs = search needs
@@ -62,10 +71,23 @@ same-length-2 c = search needs
 
 returns-4 : tie.Need-returns-4
 unfolding roundedBalance
-returns-4 c = settles-value _ (high-moved _ _ _ _ (says-value (c .before .before .before .before .before .before .before .before .before .before .add64 .ensures) (c .before .before .before .before .before .before .before .before .low .given .1)) (c .before .before .before .before .before .before .if1 .left) (says-value (c .before .before .before .before .before .add642 .ensures) (c .before .before .before .high .given .1)) (c .before .if2 .taken)) (rw (c .rounded2 .ensures, ten (c .before .before .before .before .before .before .before .before .before .before .before .before .before .before .args .entry .now) (c .before .before .before .before .before .before .before .before .before .before .before .before .before .before .pre .0)))
+returns-4 c =
+    let h = c .before .before .before in
+    let m = h .before .before in
+    let l = m .before in
+    let k = l .before .before in
+    let g = k .before .before in
+    let a = g .before .before .before .before in
+    settles-value _ (high-moved _ _ _ _ (says-value (g .add64 .ensures) (k .low .given .1)) (l .if1 .left) (says-value (m .add642 .ensures) (h .high .given .1)) (c .before .if2 .taken)) (rw (c .rounded2 .ensures, ten (a .args .entry .now) (a .pre .0)))
 
 returns-5 : tie.Need-returns-5
-returns-5 c = settles-value _ (kept _ _ _ _ (says-value (c .before .before .before .before .before .before .before .before .before .add64 .ensures) (c .before .before .before .before .before .before .before .low .given .1)) (c .before .before .before .before .before .if1 .left) (says-value (c .before .before .before .before .add642 .ensures) (c .before .before .high .given .1)) (c .if2 .left)) (ten _ (c .before .before .before .before .before .before .before .before .before .before .before .before .before .pre .0))
+returns-5 c =
+    let h = c .before .before in
+    let m = h .before .before in
+    let l = m .before in
+    let k = l .before .before in
+    let g = k .before .before in
+    settles-value _ (kept _ _ _ _ (says-value (g .add64 .ensures) (k .low .given .1)) (l .if1 .left) (says-value (m .add642 .ensures) (h .high .given .1)) (c .if2 .left)) (ten _ (g .before .before .before .before .pre .0))
 
 pub entry-update-spec : {M : Type 1} → statement M
 entry-update-spec =

@@ -42,7 +42,11 @@ same-length-2 c = search needs
 
 returns-2 : tie.Need-returns-2
 unfolding «process_slashings» «get_total_active_balance»
-returns-2 c = rw (← c .before .before .before .before .before .before .before .before .current-epoch .ensures) (ran-given _ (c .before .before .before .before .before .before .total-active .ensures) (c .before .before .before .before .total .given .1) (ran-over _ (only-sum64 _) (c .before .before .slashed-balance .ensures) (c .enum-told2 .given .1)))
+returns-2 c =
+    let m = c .before .before in
+    let h = m .before .before in
+    let g = h .before .before in
+    rw (← g .before .before .current-epoch .ensures) (ran-given _ (g .total-active .ensures) (h .total .given .1) (ran-over _ (only-sum64 _) (m .slashed-balance .ensures) (c .enum-told2 .given .1)))
 
 mul64-requires : tie.Need-mul64-requires
 mul64-requires c κs = search needs
@@ -58,22 +62,41 @@ same-length-3 c = search needs
 
 returns-3 : tie.Need-returns-3
 unfolding «process_slashings» «get_total_active_balance»
-returns-3 c = rw (← c .before .before .before .before .before .before .before .before .before .before .before .before .current-epoch .ensures) (ran-given _ (c .before .before .before .before .before .before .before .before .before .before .total-active .ensures) (c .before .before .before .before .before .before .before .before .total .given .1) (ran-given _ (c .before .before .before .before .before .before .slashed-balance .ensures) (c .before .before .before .before .slashed .given .1) (ran-over _ (only-mul64 _ _) (c .before .before .mul64 .ensures) (c .enum-told3 .given .1))))
+returns-3 c =
+    let m = c .before .before in
+    let k = m .before .before in
+    let j = k .before .before in
+    let h = j .before .before in
+    let g = h .before .before in
+    rw (← g .before .before .current-epoch .ensures) (ran-given _ (g .total-active .ensures) (h .total .given .1) (ran-given _ (j .slashed-balance .ensures) (k .slashed .given .1) (ran-over _ (only-mul64 _ _) (m .mul64 .ensures) (c .enum-told3 .given .1))))
 
 min-requires : tie.Need-min-requires
 min-requires c κs = search needs
 
 slash-all-requires : tie.Need-slash-all-requires
 slash-all-requires c κs =
-    let p = good-settings (c .before .before .before .before .before .before .before .before .before .before .before .before .before .before .before .before .before .before .args .s) (c .before .before .before .before .before .before .before .before .before .before .before .before .before .before .before .before .before .before .pre .1) .positive .«effective_balance_increment» in
-    (c .before .before .before .before .before .before .before .before .before .before .before .before .before .before .before .before .before .before .pre .0, p, total-positive _ _ (says-value (c .before .before .before .before .before .before .before .before .before .before .before .before .before .total-active .ensures) (c .before .before .before .before .before .before .before .before .before .before .before .total .given .1)) p)
+    let k = c .before .before .before .before .before .before .before .before .before in
+    let h = k .before .before in
+    let g = h .before .before in
+    let a = g .before .before .before .before .before in
+    let p = good-settings (a .args .s) (a .pre .1) .positive .«effective_balance_increment» in
+    (a .pre .0, p, total-positive _ _ (says-value (g .total-active .ensures) (h .total .given .1)) p)
 
 same-length-4 : tie.Need-same-length-4
 same-length-4 c = search needs
 
 returns-4 : tie.Need-returns-4
 unfolding «process_slashings» «get_total_active_balance»
-returns-4 c = rw (← c .before .before .before .before .before .before .before .before .before .before .before .before .before .before .before .before .before .before .current-epoch .ensures) (ran-given _ (c .before .before .before .before .before .before .before .before .before .before .before .before .before .before .before .before .total-active .ensures) (c .before .before .before .before .before .before .before .before .before .before .before .before .before .before .total .given .1) (ran-given _ (c .before .before .before .before .before .before .before .before .before .before .before .before .slashed-balance .ensures) (c .before .before .before .before .before .before .before .before .before .before .slashed .given .1) (ran-given _ (c .before .before .before .before .before .before .before .before .mul64 .ensures) (c .before .before .before .before .before .before .product .given .1) (rw (← c .before .before .before .before .min .ensures) (c .before .before .slash-all .ensures)))))
+returns-4 c =
+    let p = c .before .before in
+    let n = p .before .before in
+    let l = n .before .before in
+    let m = l .before .before in
+    let k = m .before .before in
+    let j = k .before .before in
+    let h = j .before .before in
+    let g = h .before .before in
+    rw (← g .before .before .current-epoch .ensures) (ran-given _ (g .total-active .ensures) (h .total .given .1) (ran-given _ (j .slashed-balance .ensures) (k .slashed .given .1) (ran-given _ (m .mul64 .ensures) (l .product .given .1) (rw (← n .min .ensures) (p .slash-all .ensures)))))
 
 pub slashings-core-spec : {M : Type 1} → statement M
 slashings-core-spec =
