@@ -1,58 +1,42 @@
 //! What is asked of both sides, the Rust and the definitions: the eight steps, the close and the leaves.
 use crate::record::{Finality, Record, Settings};
 
-/// The eight steps in the order of Altair beacon-chain.md, then the whole close.
-#[derive(Debug, Clone, Copy, PartialEq, Eq)]
-pub enum Operation {
-    Justification,
-    Inactivity,
-    Rewards,
-    Registry,
-    Slashings,
-    EffectiveBalances,
-    SlashingsReset,
-    ParticipationFlags,
-    Close,
+macro_rules! operations {
+    ($($operation:ident $name:literal)*) => {
+        #[derive(Debug, Clone, Copy, PartialEq, Eq)]
+        pub enum Operation { $($operation),* }
+
+        pub const OPERATIONS: [Operation; 9] = [$(Operation::$operation),*];
+
+        impl Operation {
+            pub fn name(self) -> &'static str {
+                match self {
+                    $(Operation::$operation => $name),*
+                }
+            }
+        }
+    };
 }
 
-pub const STEPS: [Operation; 8] = [
-    Operation::Justification,
-    Operation::Inactivity,
-    Operation::Rewards,
-    Operation::Registry,
-    Operation::Slashings,
-    Operation::EffectiveBalances,
-    Operation::SlashingsReset,
-    Operation::ParticipationFlags,
-];
+// the eight steps in the order of Altair beacon-chain.md, then the whole close
+operations! {
+    Justification "justification"
+    Inactivity "inactivity"
+    Rewards "rewards"
+    Registry "registry"
+    Slashings "slashings"
+    EffectiveBalances "effective-balances"
+    SlashingsReset "slashings-reset"
+    ParticipationFlags "participation-flags"
+    Close "close"
+}
 
-pub const OPERATIONS: [Operation; 9] = [
-    Operation::Justification,
-    Operation::Inactivity,
-    Operation::Rewards,
-    Operation::Registry,
-    Operation::Slashings,
-    Operation::EffectiveBalances,
-    Operation::SlashingsReset,
-    Operation::ParticipationFlags,
-    Operation::Close,
-];
+/// The eight steps.
+pub fn steps() -> impl Iterator<Item = Operation> {
+    OPERATIONS.into_iter().take(8)
+}
 
 impl Operation {
-    pub fn name(self) -> &'static str {
-        match self {
-            Operation::Justification => "justification",
-            Operation::Inactivity => "inactivity",
-            Operation::Rewards => "rewards",
-            Operation::Registry => "registry",
-            Operation::Slashings => "slashings",
-            Operation::EffectiveBalances => "effective-balances",
-            Operation::SlashingsReset => "slashings-reset",
-            Operation::ParticipationFlags => "participation-flags",
-            Operation::Close => "close",
-        }
-    }
-
     /// Lent a closing registry.
     pub fn writes_registry(self) -> bool {
         !matches!(self, Operation::Justification | Operation::SlashingsReset)

@@ -17,11 +17,16 @@ pub struct Tally {
 }
 
 impl Tally {
-    fn count(&mut self, refusal: u64) {
+    pub fn count(&mut self, refusal: u64) {
         match self.by_refusal.get_mut(refusal as usize) {
             Some(n) => *n += 1,
             None => self.unexpected += 1,
         }
+    }
+
+    pub fn add(&mut self, other: &Tally) {
+        self.by_refusal.iter_mut().zip(other.by_refusal).for_each(|(n, more)| *n += more);
+        self.unexpected += other.unexpected;
     }
 
     pub fn total(&self) -> u64 {
@@ -57,15 +62,21 @@ impl Report {
 pub fn run(seed: u64, count: u64) -> Report {
     let mut report = Report { leaves: vec![Tally::default(); LEAVES.len()], ..Report::default() };
     for i in 0..count {
-        // of ten records: two pools, four boundary, two queues, one leak, one damaged
-        let kind = [0, 0, 1, 1, 1, 1, 2, 2, 3, 4][(i % 10) as usize];
-        let rng = &mut Random::new(generate::seed_of(seed, i));
-        let record = generate::record(KINDS[kind], rng.next());
-        operations(rng, &record, kind, &mut report);
-        files(rng, &record, &mut report);
-        leaves(rng, &record, &mut report);
+        let (kind, mut rng, record) = drawn(seed, i);
+        operations(&mut rng, &record, kind, &mut report);
+        files(&mut rng, &record, &mut report);
+        leaves(&mut rng, &record, &mut report);
     }
     report
+}
+
+/// The i-th record of a run, its kind's place, and what the run's other choices for it are drawn from. Of ten records: two pools,
+/// four boundary, two queues, one leak, one damaged.
+pub fn drawn(seed: u64, i: u64) -> (usize, Random, Record) {
+    let kind = [0, 0, 1, 1, 1, 1, 2, 2, 3, 4][(i % 10) as usize];
+    let mut rng = Random::new(generate::seed_of(seed, i));
+    let record = generate::record(KINDS[kind], rng.next());
+    (kind, rng, record)
 }
 
 /// Closing buffers of the opening's lengths, or now and then of another, with contents of their own.
@@ -154,8 +165,8 @@ fn epoch_alone(case: &Case, rust: &Answer, report: &mut Report) {
     }
 }
 
-/// A line for each operation, leaf and kind, and the findings.
-pub fn print(report: &Report, seed: u64, count: u64) {
+/// A line for each operation, leaf and kind.
+pub fn table(report: &Report, seed: u64, count: u64) {
     println!("{count} records from seed {seed}");
     let head = |name: &str| {
         println!(
@@ -196,6 +207,11 @@ pub fn print(report: &Report, seed: u64, count: u64) {
             println!("boundary records accepted by the close: {percent:.1} percent");
         }
     }
+}
+
+/// The table, and the findings.
+pub fn print(report: &Report, seed: u64, count: u64) {
+    table(report, seed, count);
     println!("process_epoch itself against the eight steps: {} records", report.whole);
     for (place, count, text) in &report.findings {
         println!("DIFFERENCE in {place}, {count} times, first: {text}");

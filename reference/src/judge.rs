@@ -9,7 +9,7 @@ pub use leaves::{answer, leaf};
 
 use crate::{
     altair,
-    calls::{Call, Case, Operation, Outcome, STEPS},
+    calls::{steps, Call, Case, Operation, Outcome},
     error::Error,
     record::{at, Finality, Record, Settings},
     refusals,
@@ -18,6 +18,7 @@ use crate::{
 use caught::{judged, unexpected};
 use leaves::with_roots;
 use state::{context_of, finality_of, registry_of, state_of, State};
+use std::time::{Duration, Instant};
 
 fn step<const S: usize, const L: usize>(
     state: &mut State<S, L>,
@@ -39,12 +40,12 @@ fn step<const S: usize, const L: usize>(
             Ok(())
         }
         Operation::ParticipationFlags => altair::process_participation_flag_updates(state),
-        Operation::Close => STEPS.into_iter().try_for_each(|each| step(state, context, each)),
+        Operation::Close => steps().try_for_each(|each| step(state, context, each)),
     }
 }
 
 /// Finality, registry and slashings after an operation, or the number of its failure.
-type After = Result<(Finality, Vec<u64>, Vec<u64>), u64>;
+pub type After = Result<(Finality, Vec<u64>, Vec<u64>), u64>;
 
 fn run<const S: usize, const L: usize>(
     r: &Record,
@@ -147,4 +148,17 @@ pub fn outcome(c: &Call, operation: Operation) -> Outcome {
 /// slots_per_epoch: below that the historical roots step divides by 0.
 pub fn whole(r: &Record) -> After {
     run_whole(pair_for(&r.settings, true, true), r)
+}
+
+/// The close of a record of mainnet's S and L that passed the tests, and how long the eight steps took, without the making and the
+/// reading of the state.
+pub fn timed(r: &Record) -> (After, Duration) {
+    let mut spent = Duration::ZERO;
+    let after = run::<8192, 8192>(r, |state, context| {
+        let start = Instant::now();
+        let done = step(state, context, Operation::Close);
+        spent = start.elapsed();
+        done
+    });
+    (after, spent)
 }

@@ -1,61 +1,16 @@
-//! The Rust of ethereum-consensus as the judge of the epoch close: reference/README.md says what this is and is not.
-
-// What the four files name under `crate::`, and the files themselves.
-#[allow(dead_code)]
-#[path = "stand_ins/altair.rs"]
-mod altair;
-#[allow(dead_code)]
-#[path = "stand_ins/crypto.rs"]
-mod crypto;
-#[allow(dead_code)]
-#[path = "stand_ins/domains.rs"]
-mod domains;
-#[allow(dead_code)]
-#[path = "stand_ins/error.rs"]
-mod error;
-#[allow(dead_code)]
-#[path = "stand_ins/integer_sqrt.rs"]
-mod integer_sqrt;
-#[allow(dead_code)]
-#[path = "stand_ins/phase0.rs"]
-mod phase0;
-#[allow(dead_code)]
-#[path = "stand_ins/primitives.rs"]
-mod primitives;
-#[allow(dead_code)]
-#[path = "stand_ins/signing.rs"]
-mod signing;
-#[allow(dead_code)]
-#[path = "stand_ins/ssz.rs"]
-mod ssz;
-#[allow(dead_code)]
-#[path = "stand_ins/state_transition.rs"]
-mod state_transition;
-use error::Error;
-
-mod calls;
-mod compare;
-mod definitions;
-mod figures;
-mod generate;
-mod generate_leaves;
-mod judge;
-mod random;
-mod record;
-mod refusals;
-mod shrink;
-mod stored;
-mod vectors;
-
-use calls::{Case, Lent, Number, LEAVES, OPERATIONS};
+//! The reference's commands.
+use reference::{
+    calls::{Case, Lent, Number, LEAVES, OPERATIONS},
+    compare, figures, judge, record, refusals, stored, vectors,
+};
 use std::{path::Path, process::ExitCode};
 
 const USAGE: &str = "\
-reference compare COUNT SEED          the Rust against the definitions on COUNT records
-reference vectors FOLDER LEAVES       write the stored list, and the words of its leaf cases to the file LEAVES
-reference record FILE                 reading, the eight steps and the close of a record file
-reference leaf FILE NAME NUMBERS..    a leaf on a record file: the validator's number where it is lent an entry, then its
-                                      numbers but for the state's slot and finalized epoch, which are the record's";
+reference compare COUNT SEED             the Rust against the definitions on COUNT records
+reference vectors FOLDER LEAVES RECORDS  write the stored list: its texts to a folder, its words to two files
+reference record FILE                    reading, the eight steps and the close of a record file
+reference leaf FILE NAME NUMBERS..       a leaf on a record file: the validator's number where it is lent an entry, then its
+                                         numbers but for the state's slot and finalized epoch, which are the record's";
 
 fn main() -> ExitCode {
     judge::install_hook();
@@ -67,9 +22,11 @@ fn main() -> ExitCode {
     let args: Vec<&str> = args.iter().map(String::as_str).collect();
     let done = match args[..] {
         ["compare", count, seed] => numbers(&[count, seed]).and_then(|n| compare(n[0], n[1])),
-        ["vectors", folder, leaves] => vectors::write(Path::new(folder), Path::new(leaves))
-            .map(|summary| print!("{summary}"))
-            .map_err(|e| e.to_string()),
+        ["vectors", folder, leaves, records] => {
+            vectors::write(Path::new(folder), Path::new(leaves), Path::new(records))
+                .map(|summary| print!("{summary}"))
+                .map_err(|e| e.to_string())
+        }
         ["record", file] => read(file).and_then(|bytes| record(&bytes)),
         ["leaf", file, name, ref rest @ ..] => read(file).and_then(|bytes| leaf(&bytes, name, &numbers(rest)?)),
         _ => Err(USAGE.to_string()),
@@ -110,7 +67,7 @@ fn compare(count: u64, seed: u64) -> Result<(), String> {
 }
 
 /// A file with its answers, unless its S and L are good ones for which the Rust is not compiled.
-fn answers(bytes: &[u8]) -> Result<stored::StoredRecord, String> {
+fn answers(bytes: &[u8]) -> Result<stored::records::StoredRecord, String> {
     if bytes.len() >= 80 && refusals::header_good(bytes) {
         let (s, l) = (record::number_at(bytes, 24), record::number_at(bytes, 32));
         let in_range = [s, l].iter().all(|n| (1..=65536).contains(n));
@@ -120,7 +77,7 @@ fn answers(bytes: &[u8]) -> Result<stored::StoredRecord, String> {
             ));
         }
     }
-    Ok(stored::stored("given", bytes.to_vec()))
+    Ok(stored::records::stored("given", bytes.to_vec()))
 }
 
 fn record(bytes: &[u8]) -> Result<(), String> {

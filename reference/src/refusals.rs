@@ -5,7 +5,7 @@ use crate::{
 };
 
 /// Six settings divide.
-const DIVISORS: [usize; 6] =
+pub const DIVISORS: [usize; 6] =
     [at::SLOTS_PER_EPOCH, at::INCREMENT, at::HYSTERESIS_QUOTIENT, at::BIAS, at::PENALTY_QUOTIENT, at::CHURN_QUOTIENT];
 
 fn vectors_in_range(s: &Settings) -> bool {

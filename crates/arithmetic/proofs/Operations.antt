@@ -1,11 +1,11 @@
 -- Where each checked operation gives its value, where it is refused, and that overflow is its one refusal.
-use mathlib.Core.Path.{_≡_, sym}
-use mathlib.Core.Bool.{Bool, true, false, cond}
+use mathlib.Core.Path.{_≡_, refl, sym, _∙_}
+use mathlib.Core.Bool.{Bool, true, false, cond, _&&_, true≢false}
 use mathlib.Core.List.{List}
 use Prim.Native.Nat.{ℕ, _+_, _-_, _*_, _/_, _^_, _≤_, _<_}
 use native.Mathlib.Omega.{arith}
-use native.Mathlib.Nat.{le-div-iff-mul-le, div-lt-iff-lt-mul, mul-comm}
-use borrow.Author.Tests.{lt-ltb, le-ltb, le-leb, lt-leb}
+use native.Mathlib.Nat.{le-div-iff-mul-le, div-lt-iff-lt-mul, mul-comm, mul-le-mul}
+use borrow.Author.Tests.{lt-ltb, le-ltb, le-leb, lt-leb, ltb-true}
 use lib.Dec.{ltb, leb}
 use Rattle.definitions.specs.Checked.{Refusal, overflow, Checked, value, refused, bind, add64, sub64, mul64, sum64}
 use Rattle.definitions.specs.Lists.{sum}
@@ -45,6 +45,19 @@ pub product-over : (a b : ℕ) → (a ≡ 0 → ⊥) → 18446744073709551615 / 
 product-over a b n h =
     let t : 18446744073709551615 < b * a = div-lt-iff-lt-mul {k = a} (omega arith) .0 h in
     rw (mul-comm a b) (omega arith)
+
+-- and where both factors are below 2^32
+pub small-fits : (a b : ℕ) {t : Bool} → t ≡ (ltb a 4294967296 && ltb b 4294967296) → t ≡ true → a * b < 2 ^ 64
+small-fits a b e z = go (ltb a 4294967296) refl (ltb b 4294967296) refl (sym e ∙ z)
+  where
+    go : (s : Bool) → ltb a 4294967296 ≡ s → (t : Bool) → ltb b 4294967296 ≡ t → (s && t) ≡ true → a * b < 2 ^ 64
+    go true p true q h =
+        let k : a ≤ 4294967295 = omega (arith, ltb-true a 4294967296 p) in
+        let l : b ≤ 4294967295 = omega (arith, ltb-true b 4294967296 q) in
+        let m : a * b ≤ 4294967295 * 4294967295 = mul-le-mul k l in
+        omega arith
+    go true p false q h = absurd (true≢false (sym h))
+    go false p t q h = absurd (true≢false (sym h))
 
 -- No refusal but overflow
 pub record OnlyOverflow {A : Type 0} (m : Checked A) : Type 0 where

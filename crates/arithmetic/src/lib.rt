@@ -1,6 +1,8 @@
 // Numbers of 64 bits: sums, differences and products that are refused where they leave them, and the square root.
 ghost use mathlib.Core.Path.{_≡_};
+ghost use mathlib.Core.Bool.{_&&_};
 ghost use Prim.Native.Nat.{min, max};
+ghost use lib.Dec.{ltb};
 ghost use Rattle.definitions.specs.Checked.{add64, sub64, mul64};
 ghost use Rattle.definitions.specs.Document.Phase0.Helpers.{«integer_squareroot»};
 ghost use Rattle.definitions.specs.Answers.{Says};
@@ -26,10 +28,23 @@ pub fn sub64(a: u64, b: u64) -> Number
     Number::Value(a - b)
 }
 
-// Refusal 5 where the product is above 2^64 - 1.
+// Both below 2^32.
+fn both_small(a: u64, b: u64) -> bool
+    ensures { λ r. ⌜ r ≡ (ltb a 4294967296 && ltb b 4294967296) ⌝ }
+{
+    if a < 4294967296 {
+        return b < 4294967296;
+    }
+    false
+}
+
+// Refusal 5 where the product is above 2^64 - 1. Small factors, which most are, are multiplied without the division of the test.
 pub fn mul64(a: u64, b: u64) -> Number
     ensures { λ r. ⌜ Says (mul64 a b) r ⌝ }
 {
+    if both_small(a, b) {
+        return Number::Value(a * b);
+    }
     if a == 0 {
         return Number::Value(0);
     }

@@ -1,4 +1,4 @@
--- The definition's eight steps as the code groups them: justification, five over the registry, two that are never refused.
+-- The definition's eight steps as the code groups them: justification, six over the registry, the slashings' reset.
 use mathlib.Core.Path.{_≡_, refl}
 use mathlib.Core.List.{List, [], _∷_}
 use Prim.Native.Nat.{ℕ}
@@ -11,7 +11,7 @@ use Rattle.definitions.specs.Rust.Phase0.EpochProcessing.{resetSlashings}
 use Rattle.definitions.specs.Rust.Altair.EpochProcessing.{«process_justification_and_finalization», «process_participation_flag_updates»}
 use Rattle.definitions.specs.Close.{Step, inactivityStep, rewardsStep, registryStep, slashingsStep, effectiveBalancesStep, slashingsResetStep, participationFlagsStep, step, onValidators, finalizedEpochOf, closeUpTo, «process_epoch»}
 use Rattle.refusals.proofs.Answers.{Refused}
-use Rattle.close.specs.Worked.{registrySteps}
+use Rattle.registry_steps.specs.RegistrySteps.{registrySteps}
 
 -- a step over the registry, and then another
 module _ (st : BeaconState) (rest : BeaconState → Checked BeaconState) where
@@ -20,23 +20,23 @@ module _ (st : BeaconState) (rest : BeaconState → Checked BeaconState) where
   onto k last (value vs) h = h vs
   onto k last (refused r) h = refl
 
-  onto-last : (m : Checked (List Validator)) → bind (onValidators st m) rest ≡ bind m (λ vs. rest (withValidators vs st))
-  unfolding bind
-  onto-last (value vs) = refl
-  onto-last (refused r) = refl
+-- the slashings are reset
+abbrev pub reset : Settings → BeaconState → BeaconState
+reset s st = withSlashings (resetSlashings s (st .finality .slot) (st .slashings)) st
 
-registry-steps : (s : Settings) (st : BeaconState) (ks : List Step) → foldChecked (step s) st (inactivityStep ∷ rewardsStep ∷ registryStep ∷ slashingsStep ∷ effectiveBalancesStep ∷ ks) ≡ bind (registrySteps s (st .finality .slot) (finalizedEpochOf st) (st .slashings) (st .validators)) (λ vs. foldChecked (step s) (withValidators vs st) ks)
+-- the last two, neither of which is refused
+last-two : (s : Settings) (st : BeaconState) → foldChecked (step s) st (slashingsResetStep ∷ participationFlagsStep ∷ []) ≡ bind (value («process_participation_flag_updates» (st .validators))) (λ vs. value (withValidators vs (reset s st)))
+unfolding foldChecked step bind
+last-two s st = refl
+
+registry-steps : (s : Settings) (st : BeaconState) → foldChecked (step s) st (inactivityStep ∷ rewardsStep ∷ registryStep ∷ slashingsStep ∷ effectiveBalancesStep ∷ slashingsResetStep ∷ participationFlagsStep ∷ []) ≡ bind (registrySteps s (st .finality .slot) (finalizedEpochOf st) (st .slashings) (st .validators)) (λ vs. value (withValidators vs (reset s st)))
 unfolding foldChecked step registrySteps
-registry-steps s st ks =
+registry-steps s st =
     onto st _ _ _ _ (λ a.
     onto (withValidators a st) _ _ _ _ (λ b.
     onto (withValidators b st) _ _ _ _ (λ c.
     onto (withValidators c st) _ _ _ _ (λ d.
-    onto-last (withValidators d st) _ _))))
-
-abbrev pub lastSteps : Settings → BeaconState → BeaconState
-lastSteps s st =
-    withValidators («process_participation_flag_updates» (st .validators)) (withSlashings (resetSlashings s (st .finality .slot) (st .slashings)) st)
+    onto (withValidators d st) _ (λ vs. value («process_participation_flag_updates» vs)) _ _ (λ e. last-two s (withValidators e st))))))
 
 module _ (s : Settings) (st : BeaconState) where
   -- where justification is refused
@@ -45,6 +45,6 @@ module _ (s : Settings) (st : BeaconState) where
   justification-refused p = record { why = p .why; is = rw (p .is); number = p .number }
 
   -- where it gave f
-  pub eight-steps : {f : Finality} → «process_justification_and_finalization» s (st .«block_roots») (st .finality) (st .validators) ≡ value f → «process_epoch» s st ≡ bind (registrySteps s (f .slot) (f .«finalized_checkpoint» .epoch) (st .slashings) (st .validators)) (λ vs. value (lastSteps s (withValidators vs (withFinality f st))))
+  pub eight-steps : {f : Finality} → «process_justification_and_finalization» s (st .«block_roots») (st .finality) (st .validators) ≡ value f → «process_epoch» s st ≡ bind (registrySteps s (f .slot) (f .«finalized_checkpoint» .epoch) (st .slashings) (st .validators)) (λ vs. value (withValidators vs (reset s (withFinality f st))))
   unfolding «process_epoch» closeUpTo foldChecked step bind
-  eight-steps {f} h = rw h (registry-steps s (withFinality f st) (slashingsResetStep ∷ participationFlagsStep ∷ []))
+  eight-steps {f} h = rw h (registry-steps s (withFinality f st))

@@ -1,4 +1,4 @@
--- The eight steps, from what justification answered and what the five steps over the registry left.
+-- The eight steps, from what justification answered and what the six steps over the registry left.
 use mathlib.Core.Path.{_≡_, refl, sym, ap, _∙_}
 use mathlib.Core.List.{List}
 use Prim.Native.Nat.{ℕ}
@@ -6,18 +6,20 @@ use Rattle.types.specs.declared.Settings.{Settings}
 use Rattle.types.specs.declared.Finality.{Finality}
 use Rattle.types.specs.declared.FinalityAnswer.{FinalityAnswer}
 use Rattle.definitions.specs.Record.{BeaconState, decode, encode}
+use Rattle.definitions.specs.Updates.{withValidators}
 use Rattle.definitions.specs.Checked.{Checked, value, refused, codeOf, bind}
 use Rattle.definitions.specs.Answers.{finalityAnswerFor}
 use Rattle.definitions.specs.Rust.Phase0.EpochProcessing.{resetSlashings}
-use Rattle.definitions.specs.Rust.Altair.EpochProcessing.{«process_justification_and_finalization», «process_participation_flag_updates»}
+use Rattle.definitions.specs.Rust.Altair.EpochProcessing.{«process_justification_and_finalization»}
 use Rattle.definitions.specs.Close.{«process_epoch»}
 use Rattle.laws.proofs.Checked.{not-value, value-same}
 use Rattle.loops.specs.Ran.{Ran}
 use Rattle.loops.proofs.Ran.{number-not-zero, ran-gave}
 use Rattle.refusals.proofs.Answers.{Refused}
 use Rattle.history.proofs.Justification.{justification-moves}
-use Rattle.close.specs.Worked.{registrySteps, stateNow, Worked}
-use Rattle.close.proofs.Steps.{justification-refused, lastSteps, eight-steps}
+use Rattle.registry_steps.specs.RegistrySteps.{registrySteps}
+use Rattle.close.specs.Worked.{stateNow, Worked}
+use Rattle.close.proofs.Steps.{justification-refused, reset, eight-steps}
 
 -- refused by number q
 
@@ -71,14 +73,15 @@ module _ (s : Settings) (f : Finality) (xs slashings roots : List ℕ) {r : Fina
       stopped s _ (justification-refused s (stateNow f xs slashings roots) (code-refused m (refusal-is h) z)) (kept m f h z)
 
   module _ (z : r .refusal ≡ 0) {left : List ℕ} {q : ℕ} (ran : Ran (registrySteps s (r .finality .slot) (r .finality .«finalized_checkpoint» .epoch) slashings (decode xs)) left q) where
-    -- one of the five steps over the registry is
+    -- one of the six steps over the registry is
     pub worked-refused : {ys zs : List ℕ} → (q ≡ 0 → ⊥) → Worked s (stateNow f xs slashings roots) ys zs (record { refusal = q; finality = f })
     worked-refused y =
         stopped s _ (bind-refused _ (eight-steps s (stateNow f xs slashings roots) (gave _ f h z)) (code-refused _ (ran .code) y)) refl
 
     -- none is
-    pub worked-done : {ys zs : List ℕ} → q ≡ 0 → zs ≡ resetSlashings s (r .finality .slot) slashings → ys ≡ encode («process_participation_flag_updates» (decode left)) → Worked s (stateNow f xs slashings roots) ys zs r
+    pub worked-done : {zs : List ℕ} → q ≡ 0 → zs ≡ resetSlashings s (r .finality .slot) slashings → Worked s (stateNow f xs slashings roots) left zs r
     unfolding bind
-    worked-done y a b =
-        done s _ (lastSteps s (stateNow (r .finality) left slashings roots))
-        (eight-steps s (stateNow f xs slashings roots) (gave _ f h z) ∙ rw (ran-gave ran y)) z refl b a
+    worked-done y a =
+        let w = ran-gave ran y in
+        done s _ (withValidators (decode left) (reset s (stateNow (r .finality) xs slashings roots)))
+        (eight-steps s (stateNow f xs slashings roots) (gave _ f h z) ∙ rw w) z refl (ran .held _ w) a

@@ -10,18 +10,7 @@ use Rattle.definitions.specs.Record.{Validator, BeaconState, encode, decode}
 use Rattle.definitions.specs.Checked.{Checked, value, codeOf, settle, bind}
 use Rattle.definitions.specs.Refusals.{justificationTests}
 use Rattle.definitions.specs.Close.{«process_epoch»}
-use Rattle.definitions.specs.Rust.Phase0.EpochProcessing.{«process_registry_updates», «process_effective_balance_updates»}
-use Rattle.definitions.specs.Rust.Altair.EpochProcessing.{«process_inactivity_updates», «process_rewards_and_penalties», «process_slashings»}
 use Rattle.agreement.specs.Bounds.{Passed}
-
--- The second to the sixth step, each on the registry that the one before it left
-unfoldable pub registrySteps : Settings → ℕ → ℕ → List ℕ → List Validator → Checked (List Validator)
-registrySteps s stateSlot finalizedEpoch slashings vs =
-    bind («process_inactivity_updates» s stateSlot finalizedEpoch vs) (λ scored.
-    bind («process_rewards_and_penalties» s (s .«inactivity_penalty_quotient_altair») stateSlot finalizedEpoch scored) (λ paid.
-    bind («process_registry_updates» s stateSlot finalizedEpoch paid) (λ updated.
-    bind («process_slashings» s (s .«proportional_slashing_multiplier_altair») stateSlot slashings updated) (λ slashed.
-    «process_effective_balance_updates» s slashed))))
 
 abbrev pub stateNow : Finality → List ℕ → List ℕ → List ℕ → BeaconState
 stateNow f registry slashings roots =

@@ -1,29 +1,32 @@
 // process_epoch, the eight steps of it: the close.
 ghost use mathlib.Core.Path.{_≡_};
 ghost use mathlib.Core.Bool.{true, _&&_};
-ghost use Prim.Native.Nat.{_*_, _/_, _^_, _<_};
 ghost use lib.ListN.{length};
 ghost use Rattle.definitions.specs.Record.{decode};
 ghost use Rattle.definitions.specs.Checked.{codeOf};
-ghost use Rattle.definitions.specs.Refusals.{settingsShaped, registryShaped, rootsShaped, slashingsShaped, sameLength, goodSettings};
+ghost use Rattle.definitions.specs.Answers.{finalityAnswerFor};
+ghost use Rattle.definitions.specs.Refusals.{settingsShaped, registryShaped, rootsShaped, slashingsShaped, sameLength, justificationTests};
+ghost use Rattle.definitions.specs.Rust.Phase0.Helpers.{«get_current_epoch», «get_previous_epoch»};
+ghost use Rattle.definitions.specs.Rust.Altair.EpochProcessing.{«process_justification_and_finalization»};
 ghost use Rattle.definitions.specs.Close.{closeTests, close as closeOf};
-ghost use Rattle.loops.specs.Ran.{Ran};
 ghost use Rattle.close.specs.Called.{called, outcome};
-ghost use Rattle.close.specs.Worked.{registrySteps, stateNow, Tested, Worked};
+ghost use Rattle.survey.specs.Sums.{Surveyed};
+ghost use Rattle.close.specs.Worked.{stateNow, Tested, Worked};
 use buffers::copy;
-use effective_balances::effective_balances_core;
-use inactivity::inactivity_core;
 use justification::justification_core;
-use participation_flags::participation_flags_core;
+use justification::justification_given;
+use leaf_refusals::current_epoch;
+use leaf_refusals::previous_epoch;
 use refusals::good_finality;
 use refusals::good_registry;
 use refusals::good_settings;
 use refusals::registry_shaped;
 use refusals::settings_shaped;
-use registry::registry_core;
-use rewards_step::rewards_core;
-use slashings::slashings_core;
+use registry_steps::registry_steps;
 use slashings::slashings_reset_core;
+use survey::SumsAnswer;
+use survey::survey;
+use survey::totals;
 use types::Finality;
 use types::FinalityAnswer;
 use types::Settings;
@@ -91,40 +94,34 @@ fn close_tests(
     0
 }
 
-// The second to the sixth step, in place.
-fn registry_steps(
+// By the survey's sums, where none of them leaves 64 bits.
+fn justify(
     s: Settings,
-    state_slot: u64,
-    finalized_epoch: u64,
-    slashings: &[u64],
-    registry: &mut [u64],
-) -> u64
-    requires { ⌜ (goodSettings s ≡ true) × («state_slot» < 2 ^ 48) × (length (now registry) ≡ 10 * (length (now registry) / 10)) ⌝ }
-    ensures { λ r. ⌜ Ran (registrySteps s «state_slot» «finalized_epoch» (now (slashings .entry)) (decode (now (registry .entry)))) (now (registry .exit)) r ⌝ }
+    roots: &[u8],
+    old: Finality,
+    surveyed: SumsAnswer,
+    registry: &[u64],
+) -> FinalityAnswer
+    requires { ⌜ codeOf (justificationTests s (now roots) old (now registry)) ≡ 0 ⌝ }
+    requires { ⌜ Surveyed («get_current_epoch» s (old .slot)) («get_previous_epoch» s (old .slot)) (decode (now registry)) surveyed ⌝ }
+    ensures { λ r. ⌜ r ≡ finalityAnswerFor («process_justification_and_finalization» s (now (roots .entry)) old (decode (now (registry .entry)))) old ⌝ }
 {
-    let scored = inactivity_core(s, state_slot, finalized_epoch, registry);
-    if scored != 0 {
-        return scored;
-    }
-    let quotient = s.inactivity_penalty_quotient_altair;
-    let paid = rewards_core(s, quotient, state_slot, finalized_epoch, registry);
-    if paid != 0 {
-        return paid;
-    }
-    let updated = registry_core(s, state_slot, finalized_epoch, registry);
-    if updated != 0 {
-        return updated;
-    }
-    let multiplier = s.proportional_slashing_multiplier_altair;
-    let slashed = slashings_core(s, multiplier, state_slot, slashings, registry);
-    if slashed != 0 {
-        return slashed;
-    }
-    effective_balances_core(s, registry)
+    let SumsAnswer::Value(sums) = surveyed else {
+        return justification_core(s, roots, old, registry);
+    };
+    let totals = totals(sums, s.effective_balance_increment);
+    justification_given(
+        s,
+        roots,
+        old,
+        totals.active,
+        totals.target,
+        totals.current_target,
+    )
 }
 
-// The eight steps, in place: justification, five over the registry, and two that are never refused. Slashings are first written by the
-// seventh.
+// The eight steps, in place, from one survey of the registry: justification, the steps over the registry, the slashings' reset, which
+// is never refused.
 fn run_steps(
     s: Settings,
     finality: Finality,
@@ -137,7 +134,11 @@ fn run_steps(
     requires { ⌜ length (now «closing_slashings») ≡ length (now slashings) ⌝ }
     ensures { λ r. ⌜ Worked s (stateNow finality (now («closing_registry» .entry)) (now (slashings .entry)) (now (roots .entry))) (now («closing_registry» .exit)) (now («closing_slashings» .exit)) r ⌝ }
 {
-    let justified = justification_core(s, roots, finality, closing_registry);
+    let slot = finality.slot;
+    let current = current_epoch(s, slot);
+    let previous = previous_epoch(s, slot);
+    let surveyed = survey(current, previous, closing_registry);
+    let justified = justify(s, roots, finality, surveyed, closing_registry);
     if justified.refusal != 0 {
         return justified;
     }
@@ -147,6 +148,7 @@ fn run_steps(
         s,
         weighed.slot,
         finalized.epoch,
+        surveyed,
         slashings,
         closing_registry,
     );
@@ -155,7 +157,6 @@ fn run_steps(
     }
     copy(slashings, closing_slashings);
     slashings_reset_core(s, weighed.slot, closing_slashings);
-    participation_flags_core(closing_registry);
     justified
 }
 

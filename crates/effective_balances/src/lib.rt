@@ -29,7 +29,7 @@ fn rounded(s: Settings, balance: u64) -> u64
 }
 
 // The second sum is evaluated only where the first test failed.
-fn entry_update(s: Settings, downward: u64, upward: u64, entry: &mut [u64]) -> u64
+pub fn entry_update(s: Settings, downward: u64, upward: u64, entry: &mut [u64]) -> u64
     requires { ⌜ (length (now entry) ≡ 10) × (0 < s .«effective_balance_increment») ⌝ }
     ensures { λ r. ⌜ Settles (updateEffectiveBalance s downward upward) (now (entry .entry)) (now (entry .exit)) r ⌝ }
 {

@@ -1,4 +1,3 @@
 -- Laws of the epochs, and of what a leaf answers after its tests.
 pub mod Answers
 pub mod Passed
-pub mod Bounds

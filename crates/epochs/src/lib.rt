@@ -1,6 +1,5 @@
 // Epochs and slots: phase0/helpers.rs.
 ghost use mathlib.Core.Path.{_≡_};
-ghost use Prim.Native.Nat.{_<_};
 ghost use Rattle.definitions.specs.Answers.{Says};
 ghost use Rattle.definitions.specs.Checked.{value, codeOf};
 ghost use Rattle.definitions.specs.Refusals.{afterTests};
@@ -8,6 +7,8 @@ ghost use Rattle.definitions.specs.LeafRefusals.{settingsTests, slotTests};
 ghost use Rattle.definitions.specs.Rust.Phase0.Helpers.{«compute_epoch_at_slot», «compute_start_slot_at_epoch», «compute_activation_exit_epoch», «get_current_epoch», «get_previous_epoch»};
 use arithmetic::add64;
 use arithmetic::mul64;
+use leaf_refusals::current_epoch;
+use leaf_refusals::previous_epoch;
 use refusals::good_settings;
 use refusals::in_order;
 use refusals::is_small;
@@ -31,24 +32,6 @@ pub fn slot_refusal(s: Settings, state_slot: u64) -> u64
 
 // What is worked out once the tests have passed.
 
-pub fn epoch_at(s: Settings, slot: u64) -> u64
-    requires { ⌜ 0 < s .«slots_per_epoch» ⌝ }
-    ensures { λ r. ⌜ r ≡ «get_current_epoch» s slot ⌝ }
-{
-    slot / s.slots_per_epoch
-}
-
-pub fn previous_epoch_at(s: Settings, slot: u64) -> u64
-    requires { ⌜ 0 < s .«slots_per_epoch» ⌝ }
-    ensures { λ r. ⌜ r ≡ «get_previous_epoch» s slot ⌝ }
-{
-    let epoch = epoch_at(s, slot);
-    if epoch == 0 {
-        return 0;
-    }
-    epoch - 1
-}
-
 pub fn activation_exit_epoch(s: Settings, epoch: u64) -> Number
     ensures { λ r. ⌜ Says («compute_activation_exit_epoch» s epoch) r ⌝ }
 {
@@ -67,7 +50,7 @@ pub fn compute_epoch_at_slot(s: Settings, slot: u64) -> Number
     if refusal != 0 {
         return Number::Refused(refusal);
     }
-    Number::Value(epoch_at(s, slot))
+    Number::Value(current_epoch(s, slot))
 }
 
 pub fn compute_start_slot_at_epoch(s: Settings, epoch: u64) -> Number
@@ -97,7 +80,7 @@ pub fn get_current_epoch(s: Settings, state_slot: u64) -> Number
     if refusal != 0 {
         return Number::Refused(refusal);
     }
-    Number::Value(epoch_at(s, state_slot))
+    Number::Value(current_epoch(s, state_slot))
 }
 
 pub fn get_previous_epoch(s: Settings, state_slot: u64) -> Number
@@ -107,5 +90,5 @@ pub fn get_previous_epoch(s: Settings, state_slot: u64) -> Number
     if refusal != 0 {
         return Number::Refused(refusal);
     }
-    Number::Value(previous_epoch_at(s, state_slot))
+    Number::Value(previous_epoch(s, state_slot))
 }

@@ -56,7 +56,7 @@ maximum-least least [] = omega arith
 maximum-least least (x ∷ xs) = omega (arith, maximum-least least xs)
 
 -- nobody leaves after it
-none-later : (least x : ℕ) (vs : List Validator) → maximum least (exitEpochs vs) < x → (x ≡ «FAR_FUTURE_EPOCH» → ⊥) → exitQueueChurn x vs ≡ 0
+pub none-later : (least x : ℕ) (vs : List Validator) → maximum least (exitEpochs vs) < x → (x ≡ «FAR_FUTURE_EPOCH» → ⊥) → exitQueueChurn x vs ≡ 0
 unfolding maximum filter
 none-later least x [] l far = refl
 none-later least x (v ∷ vs) l far =

@@ -89,7 +89,7 @@ fn queue_epoch(registry: &[u64], n: usize, least: u64, limit: u64) -> Number
     add64(latest, 1)
 }
 
-fn write_exit(entry: &mut [u64], exit: u64, withdrawable: u64)
+pub fn write_exit(entry: &mut [u64], exit: u64, withdrawable: u64)
     requires { ⌜ length (now entry) ≡ 10 ⌝ }
     ensures { λ _. ⌜ now (entry .exit) ≡ encodeOne (withExit exit withdrawable (decodeOne (now (entry .entry)))) ⌝ }
 {
@@ -97,7 +97,8 @@ fn write_exit(entry: &mut [u64], exit: u64, withdrawable: u64)
     entry[5] = withdrawable;
 }
 
-// The exit of one validator, for steps, which have tested the record and worked the numbers out already.
+// The exit of one validator, once the record is tested and the numbers are worked out. It is the plain form: the registry step's exits go
+// by the pair of exit_queue, which answers the same.
 pub fn exit_at(
     registry: &mut [u64],
     n: usize,

@@ -1,44 +1,24 @@
-// The fields of a record file in the bytes lent: numbers of 8 bytes, little-endian, plain bytes, checkpoints, settings and
-// finality.
+// The fields of a record file: numbers, checkpoints, settings and finality, read through the reader and written.
 ghost use mathlib.Core.Path.{_≡_};
-ghost use Prim.Native.Nat.{_+_, _*_, _≤_, _<_};
+ghost use Prim.Native.Nat.{_+_, _*_, _≤_};
 ghost use lib.ListN.{length, drop};
 ghost use lib.Seq.{sets};
 ghost use Rattle.definitions.specs.Refusals.{settingsNumbers};
-ghost use Rattle.definitions.specs.File.{littleEndian, numbersToBytes, numbersFromBytes, numberAt, settingsAt, settingsFrom, checkpointAt, finalityFrom, checkpointToBytes, finalityToBytes};
+ghost use Rattle.definitions.specs.File.{littleEndian, numbersToBytes, numbersFromBytes, settingsAt, settingsFrom, checkpointAt, finalityFrom, checkpointToBytes, finalityToBytes};
 use types::Checkpoint;
 use types::Finality;
 use types::Settings;
-
-fn wide(b: u8) -> u64
-    ensures { λ r. ⌜ (r ≡ b) × (r < 256) ⌝ }
-{
-    b as u64
-}
-
-// From the last byte to the first: no number on the way is above the one read.
-pub fn number_at(bytes: &[u8], at: usize) -> u64
-    requires { ⌜ at + 8 ≤ length (now bytes) ⌝ }
-    ensures { λ r. ⌜ r ≡ numberAt at (now (bytes .entry)) ⌝ }
-{
-    let mut n: u64 = 0;
-    let mut k: usize = 8;
-    while 0 < k {
-        k -= 1;
-        let i = at + k;
-        n = wide(bytes[i]) + 256 * n;
-    }
-    n
-}
 
 // As many numbers as the buffer holds.
 pub fn read_numbers(bytes: &[u8], at: usize, numbers: &mut [u64])
     requires { ⌜ at + 8 * length (now numbers) ≤ length (now bytes) ⌝ }
     ensures { λ _. ⌜ now (numbers .exit) ≡ numbersFromBytes (length (now (numbers .entry))) (drop at (now (bytes .entry))) ⌝ }
 {
+    let mut position = at;
     for i in 0..numbers.len() {
-        let from = at + 8 * i;
-        numbers[i] = number_at(bytes, from);
+        let next = reader::read_number(bytes, position);
+        numbers[i] = next.number;
+        position = next.position;
     }
 }
 
@@ -108,26 +88,29 @@ fn checkpoint_at(bytes: &[u8], at: usize) -> Checkpoint
     requires { ⌜ at + 40 ≤ length (now bytes) ⌝ }
     ensures { λ r. ⌜ r ≡ checkpointAt at (now (bytes .entry)) ⌝ }
 {
-    let epoch = number_at(bytes, at);
-    let from = at + 8;
+    let epoch = reader::read_number(bytes, at);
+    let from = epoch.position;
     let to = from + 32;
     let mut root = [0u8; 32];
     put_bytes(&mut root, 0, &bytes[from..to]);
-    Checkpoint { epoch, root }
+    Checkpoint {
+        epoch: epoch.number,
+        root,
+    }
 }
 
 pub fn read_finality(bytes: &[u8]) -> Finality
     requires { ⌜ 368 ≤ length (now bytes) ⌝ }
     ensures { λ r. ⌜ r ≡ finalityFrom (now (bytes .entry)) ⌝ }
 {
-    let slot = number_at(bytes, 232);
-    let bits = number_at(bytes, 240);
-    let previous = checkpoint_at(bytes, 248);
+    let slot = reader::read_number(bytes, 232);
+    let bits = reader::read_number(bytes, slot.position);
+    let previous = checkpoint_at(bytes, bits.position);
     let current = checkpoint_at(bytes, 288);
     let finalized = checkpoint_at(bytes, 328);
     Finality {
-        slot,
-        justification_bits: bits,
+        slot: slot.number,
+        justification_bits: bits.number,
         previous_justified_checkpoint: previous,
         current_justified_checkpoint: current,
         finalized_checkpoint: finalized,

@@ -9,8 +9,8 @@ use Rattle.definitions.specs.LeafRefusals.{finalizedTests}
 use Rattle.refusals.proofs.All.{both}
 use Rattle.refusals.proofs.Laws.{in-order, settings-shaped, good-settings, small}
 use Rattle.epochs.proofs.Passed.{SlotPassed}
-use Rattle.definitions.specs.Rust.Phase0.EpochProcessing.{«get_finality_delay»}
-use Rattle.arithmetic.proofs.Operations.{OnlyOverflow, only-sub64}
+use Rattle.definitions.specs.Rust.Phase0.EpochProcessing.{«get_finality_delay», «is_in_inactivity_leak»}
+use Rattle.arithmetic.proofs.Operations.{OnlyOverflow, only-value, only-sub64, only-bind}
 
 pub record FinalizedPassed (s : Settings) (stateSlot finalizedEpoch : ℕ) : Type 0 where
   pub slot : SlotPassed s stateSlot
@@ -26,7 +26,11 @@ finalized-passed s stateSlot finalizedEpoch e z =
       finalized = small finalizedEpoch (q .second);
     }
 
--- the delay is refused only by overflow
+-- the delay and the leak are refused only by overflow
 pub only-delay : (s : Settings) (stateSlot finalizedEpoch : ℕ) → OnlyOverflow («get_finality_delay» s stateSlot finalizedEpoch)
 unfolding «get_finality_delay»
 only-delay s stateSlot finalizedEpoch = only-sub64 _ _
+
+pub only-leak : (s : Settings) (stateSlot finalizedEpoch : ℕ) → OnlyOverflow («is_in_inactivity_leak» s stateSlot finalizedEpoch)
+unfolding «is_in_inactivity_leak»
+only-leak s stateSlot finalizedEpoch = only-bind (only-delay s stateSlot finalizedEpoch) (λ delay. only-value _)

@@ -10,7 +10,7 @@ ghost use Rattle.definitions.specs.LeafRefusals.{finalizedTests};
 ghost use Rattle.definitions.specs.Document.Phase0.EpochProcessing.{justifiedBits, finalizedBy, weighed};
 ghost use Rattle.definitions.specs.Rust.Phase0.EpochProcessing.{«get_finality_delay», «is_in_inactivity_leak»};
 use arithmetic::sub64;
-use epochs::previous_epoch_at;
+use leaf_refusals::previous_epoch;
 use refusals::good_settings;
 use refusals::in_order;
 use refusals::is_small;
@@ -46,7 +46,7 @@ pub fn finality_delay(s: Settings, state_slot: u64, finalized_epoch: u64) -> Num
     requires { ⌜ 0 < s .«slots_per_epoch» ⌝ }
     ensures { λ r. ⌜ Says («get_finality_delay» s «state_slot» «finalized_epoch») r ⌝ }
 {
-    sub64(previous_epoch_at(s, state_slot), finalized_epoch)
+    sub64(previous_epoch(s, state_slot), finalized_epoch)
 }
 
 pub fn inactivity_leak(s: Settings, state_slot: u64, finalized_epoch: u64) -> Truth

@@ -1,3 +1,2 @@
--- The tests' refusals and what they give once passed; the leak's one refusal.
-pub mod Leak
+-- The tests' refusals and what they give once passed.
 pub mod Tests

@@ -1,6 +1,6 @@
 -- Tests 1, 2 and 3 of what is lent slot, finalized epoch and registry: how they refuse, and what they give once passed. `x` is the number that
 -- their code gave.
-use mathlib.Core.Bool.{true, false, _&&_}
+use mathlib.Core.Bool.{true, _&&_}
 use mathlib.Core.List.{List}
 use mathlib.Core.Path.{_≡_, sym, _∙_}
 use Prim.Native.Nat.{ℕ, _^_, _<_}

@@ -1,18 +1,11 @@
-// What is lent a finalized epoch, slot and registry: tests 1, 2 and 3, 0 or the number of the first that failed; and the leak.
+// What is lent a finalized epoch, slot and registry: tests 1, 2 and 3, 0 or the number of the first that failed.
 ghost use mathlib.Core.Path.{_≡_};
 ghost use mathlib.Core.Bool.{_&&_};
-ghost use Prim.Native.Nat.{_<_};
 ghost use Rattle.definitions.specs.Checked.{codeOf};
-ghost use Rattle.definitions.specs.Answers.{SaysTruth};
 ghost use Rattle.definitions.specs.Refusals.{inOrder, settingsShaped, registryShaped, isSmall, goodSettings, goodRegistry, registryTests};
-ghost use Rattle.definitions.specs.Rust.Phase0.EpochProcessing.{«is_in_inactivity_leak»};
-use arithmetic::sub64;
-use leaf_refusals::previous_epoch;
 use refusals::is_small;
 use registry_refusals::settings_registry_tests;
-use types::Number;
 use types::Settings;
-use types::Truth;
 
 // What all of them test, each beside its own.
 pub fn finalized_registry_tests(
@@ -50,17 +43,4 @@ pub fn registry_tests(
         return 1;
     }
     finalized_registry_tests(s, state_slot, finalized_epoch, opening)
-}
-
-// Whether the previous epoch is too far past the finalized one: refused where it lies before it.
-pub fn is_leaking(s: Settings, state_slot: u64, finalized_epoch: u64) -> Truth
-    requires { ⌜ 0 < s .«slots_per_epoch» ⌝ }
-    ensures { λ r. ⌜ SaysTruth («is_in_inactivity_leak» s «state_slot» «finalized_epoch») r ⌝ }
-{
-    let previous = previous_epoch(s, state_slot);
-    let Number::Value(delay) = sub64(previous, finalized_epoch) else {
-        return Truth::Refused(5);
-    };
-    let leaking = s.min_epochs_to_inactivity_penalty < delay;
-    Truth::Value(leaking)
 }

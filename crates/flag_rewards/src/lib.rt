@@ -12,8 +12,8 @@ ghost use Rattle.flag_rewards.specs.Totals.{flagTotalsOf};
 use arithmetic::mul64;
 use base_rewards::base_reward_per_increment;
 use base_rewards::entry_base_reward;
+use finality::inactivity_leak;
 use finalized::finalized_registry_tests;
-use finalized::is_leaking;
 use leaf_refusals::current_epoch;
 use leaf_refusals::previous_epoch;
 use rewards::Shared;
@@ -104,7 +104,7 @@ pub fn get_flag_index_deltas(
     let Number::Value(total) = total_active(s, current, registry) else {
         return DeltasAnswer::Refused(5);
     };
-    let Truth::Value(leaking) = is_leaking(s, state_slot, finalized_epoch) else {
+    let Truth::Value(leaking) = inactivity_leak(s, state_slot, finalized_epoch) else {
         return DeltasAnswer::Refused(5);
     };
     let a = 10 * index;

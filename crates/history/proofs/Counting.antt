@@ -1,7 +1,7 @@
 -- Counting the numbers below n that pass a test, and the front of a queue.
-use mathlib.Core.Path.{_≡_, refl, sym, ap, ap₂, _∙_, subst}
-use mathlib.Core.Bool.{Bool, true, false, cond, not, _&&_}
-use mathlib.Core.List.{List, [], _∷_}
+use mathlib.Core.Path.{_≡_, refl, sym, ap, _∙_, subst}
+use mathlib.Core.Bool.{Bool, true, false, not, _&&_}
+use mathlib.Core.List.{[]}
 use Prim.Native.Nat.{ℕ, zero, suc, _+_, _≤_, _<_}
 use native.Mathlib.Nat.{le-trans, le-antisymm}
 use native.Mathlib.Decide.{decLt}
@@ -9,6 +9,8 @@ use native.Mathlib.Omega.{arith}
 use lib.Dec.{T, not-T, ltb, nltb→le}
 use lib.ListN.{length}
 use Rattle.definitions.specs.Lists.{filter, range}
+use Rattle.queue.proofs.Filter.{flag, count-more}
+use Rattle.queue.proofs.Rank.{StrictTotal}
 
 pub and-T : (a b : Bool) → T a → T b → T (a && b)
 and-T true b p q = q
@@ -26,9 +28,6 @@ pub T-dec : (b : Bool) → Dec (T b)
 T-dec true = yes tt
 T-dec false = no (λ x. x)
 
-abbrev pub plus : Bool → ℕ → ℕ
-plus b x = cond b (suc x) x
-
 -- how many of the numbers below n pass a test
 unfoldable pub howMany : (ℕ → Bool) → ℕ → ℕ
 howMany p n = length (filter p (range 0 n))
@@ -37,46 +36,26 @@ how-zero : (p : ℕ → Bool) → howMany p 0 ≡ 0
 unfolding howMany filter range
 how-zero p = refl
 
-plus-plus : (a b : Bool) (x : ℕ) → plus a (plus b x) ≡ plus b (plus a x)
-plus-plus true true x = refl
-plus-plus true false x = refl
-plus-plus false b x = refl
-
-filter-cons : (p : ℕ → Bool) (k : ℕ) (xs : List ℕ) → length (filter p (k ∷ xs)) ≡ plus (p k) (length (filter p xs))
-unfolding filter
-filter-cons p k xs = go (p k)
-  where
-    go : (b : Bool) → length (cond b (k ∷ filter p xs) (filter p xs)) ≡ plus b (length (filter p xs))
-    go true = refl
-    go false = refl
-
-how-last : (p : ℕ → Bool) (n k : ℕ) → length (filter p (range k (suc n))) ≡ plus (p (n + k)) (length (filter p (range k n)))
+how-last : (p : ℕ → Bool) (n k : ℕ) → length (filter p (range k (suc n))) ≡ flag (p (n + k)) + length (filter p (range k n))
 unfolding range
-how-last p zero k = filter-cons p k [] ∙ ap (λ (x : ℕ). plus (p x) (length (filter p []))) (omega arith)
+how-last p zero k = count-more p k [] ∙ ap (λ (x : ℕ). flag (p x) + length (filter p [])) (omega arith)
 how-last p (suc n) k =
     let e : n + suc k ≡ suc n + k = omega arith in
-    filter-cons p k (range (suc k) (suc n))
-    ∙ ap (plus (p k)) (how-last p n (suc k))
-    ∙ plus-plus (p k) (p (n + suc k)) (length (filter p (range (suc k) n)))
-    ∙ ap₂ (λ (x y : ℕ). plus (p x) y) e (sym (filter-cons p k (range (suc k) n)))
+    omega (arith, count-more p k (range (suc k) (suc n)), how-last p n (suc k), count-more p k (range (suc k) n), ap (λ (x : ℕ). flag (p x)) e)
 
-how-suc : (p : ℕ → Bool) (n : ℕ) → howMany p (suc n) ≡ plus (p n) (howMany p n)
+how-suc : (p : ℕ → Bool) (n : ℕ) → howMany p (suc n) ≡ flag (p n) + howMany p n
 unfolding howMany
-how-suc p n = how-last p n 0 ∙ ap (λ (x : ℕ). plus (p x) (length (filter p (range 0 n)))) (omega arith)
+how-suc p n = how-last p n 0 ∙ ap (λ (x : ℕ). flag (p x) + length (filter p (range 0 n))) (omega arith)
 
-plus-le : (a b : Bool) {x y : ℕ} → (T a → T b) → x ≤ y → plus a x ≤ plus b y
+plus-le : (a b : Bool) {x y : ℕ} → (T a → T b) → x ≤ y → flag a + x ≤ flag b + y
 plus-le true true h l = omega arith
 plus-le true false h l = absurd (h tt)
 plus-le false true h l = omega arith
-plus-le false false h l = l
+plus-le false false h l = omega arith
 
-plus-none : (a : Bool) {x : ℕ} → (T a → ⊥) → plus a x ≡ x
+plus-none : (a : Bool) {x : ℕ} → (T a → ⊥) → flag a + x ≡ x
 plus-none true h = absurd (h tt)
-plus-none false h = refl
-
-plus-more : (a : Bool) {x : ℕ} → x ≤ plus a x
-plus-more true = omega arith
-plus-more false = omega arith
+plus-none false h = omega arith
 
 pub count-mono : (p q : ℕ → Bool) (n : ℕ) → ((j : ℕ) → j < n → T (p j) → T (q j)) → howMany p n ≤ howMany q n
 count-mono p q zero h = rw (how-zero p) (omega arith)
@@ -93,7 +72,7 @@ count-none p (suc n) h = how-suc p n ∙ plus-none (p n) (h n (omega arith)) ∙
 count-grow : (p : ℕ → Bool) (n m : ℕ) → n ≤ m → howMany p n ≤ howMany p m
 count-grow p zero m l = rw (how-zero p) (omega arith)
 count-grow p (suc n) zero l = absurd (omega arith)
-count-grow p (suc n) (suc m) l = elim (decLt n m) [ yes k ↦ le-trans (count-grow p (suc n) m k) (rw (how-suc p m) (plus-more (p m))) | no k ↦ omega (arith, ap (howMany p) (same n m l k)) ]
+count-grow p (suc n) (suc m) l = elim (decLt n m) [ yes k ↦ le-trans (count-grow p (suc n) m k) (omega (arith, how-suc p m)) | no k ↦ omega (arith, ap (howMany p) (same n m l k)) ]
   where
     same : (n m : ℕ) → suc n ≤ suc m → (n < m → ⊥) → suc n ≡ suc m
     same n m l k = omega arith
@@ -112,21 +91,16 @@ count-split p q zero = rw (how-zero p, how-zero (λ j. p j && q j), how-zero (λ
 count-split p q (suc n) =
     rw (how-suc p n, how-suc (λ j. p j && q j) n, how-suc (λ j. p j && not (q j)) n) (go (p n) (q n) _ _ _ (count-split p q n))
   where
-    go : (a b : Bool) (x y z : ℕ) → x ≡ y + z → plus a x ≡ plus (a && b) y + plus (a && not b) z
+    go : (a b : Bool) (x y z : ℕ) → x ≡ y + z → flag a + x ≡ (flag (a && b) + y) + (flag (a && not b) + z)
     go true true x y z e = omega arith
     go true false x y z e = omega arith
-    go false b x y z e = e
-
--- An order on numbers: nothing is before itself, and what is before what is before comes before.
-pub record Strict (lt : ℕ → ℕ → Bool) : Type 0 where
-  pub irrefl : (i : ℕ) → T (lt i i) → ⊥
-  pub trans : (i j k : ℕ) → T (lt i j) → T (lt j k) → T (lt i k)
+    go false b x y z e = omega arith
 
 data Least (p : ℕ → Bool) (lt : ℕ → ℕ → Bool) (n : ℕ) : Type 0 where
   nothing : ((j : ℕ) → j < n → T (p j) → ⊥) → Least p lt n
   first : (b : ℕ) → b < n → T (p b) → ((j : ℕ) → j < n → T (p j) → T (lt j b) → ⊥) → Least p lt n
 
-module _ (lt : ℕ → ℕ → Bool) (st : Strict lt) where
+module _ (lt : ℕ → ℕ → Bool) (st : StrictTotal lt) where
   -- a claim below n and at n is one below n + 1
   also : (P : ℕ → Type 0) (n : ℕ) → ((j : ℕ) → j < n → P j) → P n → (j : ℕ) → j < suc n → P j
   also P n h z j l = elim (decLt j n) [ yes k ↦ h j k | no k ↦ subst P (same j n l k) z ]
@@ -140,12 +114,12 @@ module _ (lt : ℕ → ℕ → Bool) (st : Strict lt) where
     where
       go : Least p lt n → Dec (T (p n)) → Least p lt (suc n)
       go (nothing h) (no z) = nothing (also (λ j. T (p j) → ⊥) n h z)
-      go (nothing h) (yes z) = first n (omega arith) z (also (λ j. T (p j) → T (lt j n) → ⊥) n (λ j l t. absurd (h j l t)) (λ t. st .irrefl n))
+      go (nothing h) (yes z) = first n (omega arith) z (also (λ j. T (p j) → T (lt j n) → ⊥) n (λ j l t. absurd (h j l t)) (λ t. st .irreflexive n))
       go (first b l t h) (no z) = first b (omega arith) t (also (λ j. T (p j) → T (lt j b) → ⊥) n h (λ t. absurd (z t)))
       go (first b l t h) (yes z) = at (T-dec (lt n b))
         where
           at : Dec (T (lt n b)) → Least p lt (suc n)
-          at (yes y) = first n (omega arith) z (also (λ j. T (p j) → T (lt j n) → ⊥) n (λ j k u v. h j k u (st .trans j n b v y)) (λ u. st .irrefl n))
+          at (yes y) = first n (omega arith) z (also (λ j. T (p j) → T (lt j n) → ⊥) n (λ j k u v. h j k u (st .transitive j n b v y)) (λ u. st .irreflexive n))
           at (no y) = first b (omega arith) t (also (λ j. T (p j) → T (lt j b) → ⊥) n h (λ u. y))
 
   -- p is the queue, below n; rank is how many of it are before
@@ -166,7 +140,7 @@ module _ (lt : ℕ → ℕ → Bool) (st : Strict lt) where
             inside j m u = at (T-dec (ltb (rank j) c))
               where
                 before : T (p j && lt j i)
-                before = and-T (p j) (lt j i) (T-left (p j) (lt j b) u) (st .trans j b i (T-right (p j) (lt j b) u) (T-right (p b) (lt b i) (T-left (p b && lt b i) (not (ltb (rank b) c)) t)))
+                before = and-T (p j) (lt j i) (T-left (p j) (lt j b) u) (st .transitive j b i (T-right (p j) (lt j b) u) (T-right (p b) (lt b i) (T-left (p b && lt b i) (not (ltb (rank b) c)) t)))
 
                 at : Dec (T (ltb (rank j) c)) → T ((p j && lt j i) && ltb (rank j) c)
                 at (yes y) = and-T (p j && lt j i) (ltb (rank j) c) before y

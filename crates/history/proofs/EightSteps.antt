@@ -9,7 +9,7 @@ use Rattle.definitions.specs.Checked.{value, foldChecked}
 use Rattle.definitions.specs.Rust.Phase0.Helpers.{«get_current_epoch», «get_validator_churn_limit»}
 use Rattle.definitions.specs.Close.{justificationStep, inactivityStep, rewardsStep, registryStep, slashingsStep, effectiveBalancesStep, slashingsResetStep, participationFlagsStep, step, closeUpTo, «process_epoch»}
 use Rattle.laws.proofs.Checked.{value-same, bound}
-use Rattle.history.specs.Waiting.{finalized}
+use Rattle.history.proofs.Waiting.{finalized}
 use Rattle.history.proofs.Shape.{Moved, Registered}
 use Rattle.history.proofs.Steps.{Spared, spared-none, spared-both, inactivity-spares, rewards-spare, slashings-spare, effective-spares, rotation-spares}
 use Rattle.history.proofs.Justification.{CheckpointsMoved, justification-moves}

@@ -1,18 +1,20 @@
 -- The premises can be met, and the bound is met exactly: two accepted closes, a refused one between them, and a validator that others add.
 use mathlib.Core.Path.{_≡_, refl, sym, ap, _∙_, subst}
-use mathlib.Core.List.{List, [], _∷_, map}
+use mathlib.Core.Bool.{Bool, true, false, cond}
+use mathlib.Core.List.{List, [], _∷_, map, foldl}
 use Prim.Native.Nat.{ℕ, suc, _+_, _/_}
 use native.Mathlib.Omega.{arith}
 use lib.Dec.{T}
-use lib.ListN.{length, replicate}
+use lib.ListN.{length, take, replicate}
 use Rattle.types.specs.declared.Settings.{Settings}
 use Rattle.types.specs.declared.Checkpoint.{Checkpoint}
-use Rattle.definitions.specs.Record.{Validator, BeaconState, «FAR_FUTURE_EPOCH»}
-use Rattle.history.specs.Waiting.{finalized, waits, earlier, ahead, waitsIn, aheadIn, activationIn, Others}
-use Rattle.history.specs.History.{Event, Close, closeOf, Reading, withOthers, withoutOthers, stoodBefore, standing, acceptedEpochs, acceptedBefore, Handed, Premises, Claim}
+use Rattle.definitions.specs.Record.{Validator, BeaconState, «FAR_FUTURE_EPOCH», encode}
+use Rattle.definitions.specs.Close.{Call, Outcome, finalizedEpochOf}
+use Rattle.history.specs.Demand3.{activation, waits, ahead, k, Others, Close, epoch, accepted, after, Premises, Claim}
 use Rattle.history.proofs.Computing.{computing}
+use Rattle.history.proofs.Premises.{Handed, met}
 use Rattle.history.proofs.Follow.{follow}
-use Rattle.history.proofs.WholeClose.{demand3}
+use Rattle.history.proofs.WholeClose.{closeOf, demand3}
 
 -- a base reward factor of 0 keeps the balances still
 abbrev pub settingsWith : ℕ → Settings
@@ -79,9 +81,18 @@ record-of slot bits previous current final vs =
       «block_roots» = replicate 256 0;
     }
 
--- closing buffers of n numbers and of one
-abbrev pub event : ℕ → BeaconState → Event
-event n o = record { opening = o; roots = replicate 256 0; closingRegistry = replicate n 7; closingSlashings = 7 ∷ [] }
+-- handed o, with closing buffers of n numbers and of one
+abbrev pub call : Settings → ℕ → BeaconState → Call
+call s n o =
+    record {
+      settings = s;
+      finality = o .finality;
+      registry = encode (o .validators);
+      slashings = o .slashings;
+      roots = replicate 256 0;
+      closingRegistry = replicate n 7;
+      closingSlashings = 7 ∷ [];
+    }
 
 -- one active, and four who wait: by their eligibility epochs, numbers 2 and 3 are ahead of 1 and 4
 abbrev start : BeaconState
@@ -99,31 +110,35 @@ opening slot = record-of slot 7 2 3 2 (validator 0 0 7 7 ∷ validator 1 far 0 0
 abbrev twice : BeaconState
 twice = record-of 19 15 3 4 3 (validator 0 0 7 0 ∷ validator 1 9 0 0 ∷ validator 0 8 0 0 ∷ validator 0 8 0 0 ∷ validator 1 9 0 0 ∷ validator 5 far 0 0 ∷ [])
 
-abbrev pub events : List Event
-events = event 50 start ∷ event 60 (opening 16) ∷ event 60 (opening 19) ∷ []
+abbrev pub calls : List Call
+calls = call settings 50 start ∷ call settings 60 (opening 16) ∷ call settings 60 (opening 19) ∷ []
 
 unfoldable pub run : List Close
-run = map (closeOf settings) events
+run = map closeOf calls
+
+abbrev outcome : ℕ → BeaconState → Outcome
+outcome refusal r =
+    record { refusal = refusal; finality = r .finality; closingRegistry = encode (r .validators); closingSlashings = r .slashings }
 
 abbrev closes : List Close
 closes =
-    record { opening = start; epoch = 3; lookahead = 4; refusal = 0; returned = once } ∷
-    record { opening = opening 16; epoch = 4; lookahead = 4; refusal = 4; returned = opening 16 } ∷
-    record { opening = opening 19; epoch = 4; lookahead = 4; refusal = 0; returned = twice } ∷
+    record { call = call settings 50 start; outcome = outcome 0 once } ∷
+    record { call = call settings 60 (opening 16); outcome = outcome 4 (opening 16) } ∷
+    record { call = call settings 60 (opening 19); outcome = outcome 0 twice } ∷
     []
 
 went : run ≡ closes
 unfolding run computing
 went = refl
 
-handed : (reading : Reading) → Handed reading start closes
-unfolding Handed
-handed reading = (
+handed : (w : Bool) → Handed w start closes
+unfolding computing
+handed w = (
   follow refl refl refl (refl, refl, (refl, refl, (refl, refl, (refl, refl, (refl, refl, tt))))),
   (
     added 16,
     (
-      third reading,
+      third w,
       tt,
     ),
   ),
@@ -132,69 +147,69 @@ handed reading = (
     added : (slot : ℕ) → Others once (opening slot)
     added slot = follow refl refl refl (refl, refl, (refl, refl, (refl, refl, (refl, refl, (refl, refl, (refl, refl, tt))))))
 
-    third : (reading : Reading) → Others (stoodBefore reading once (opening 16)) (opening 19)
-    third withOthers = follow refl refl refl (refl, refl, (refl, refl, (refl, refl, (refl, refl, (refl, refl, (refl, refl, tt))))))
-    third withoutOthers = added 19
+    third : (w : Bool) → Others (cond w (opening 16) once) (opening 19)
+    third true = follow refl refl refl (refl, refl, (refl, refl, (refl, refl, (refl, refl, (refl, refl, (refl, refl, tt))))))
+    third false = added 19
 
 -- the premises are met, in both readings
-pub premises : (reading : Reading) → Premises 2 reading start run
-unfolding acceptedEpochs
-premises reading = subst (Premises 2 reading start) (sym went) (record { churn = omega arith; handed = handed reading; rising = (omega arith, tt); ordered = (omega arith, omega arith, omega arith) })
+pub premises : (w : Bool) → Premises 2 (foldl (after w) start) run
+unfolding computing
+premises w = subst (Premises 2 (foldl (after w) start)) (sym went) (met w start closes (record { churn = omega arith; handed = handed w; rising = (omega arith, tt); ordered = record { low = omega arith; middle = omega arith; high = omega arith } }))
 
-pub refusals : map (λ c. c .refusal) run ≡ 0 ∷ 4 ∷ 0 ∷ []
-refusals = ap (map (λ c. c .refusal)) went
+pub refusals : map (λ c. c .outcome .refusal) run ≡ 0 ∷ 4 ∷ 0 ∷ []
+refusals = ap (map (λ c. c .outcome .refusal)) went
 
 -- validator 1 waits with 2 ahead and gets its epoch, 4 + 1 + 4, in exactly floor(2 / 2) + 1 closes: in the second that is accepted and not in the first
-pub record Exactly (reading : Reading) : Type 0 where
-  pub waiting : T (waitsIn start 1)
-  pub two-ahead : aheadIn start 1 ≡ 2
-  pub one-accepted : acceptedBefore run 2 ≡ 1
-  pub not-yet : activationIn (standing reading start run 2) 1 ≡ «FAR_FUTURE_EPOCH»
-  pub two-accepted : acceptedBefore run 3 ≡ aheadIn start 1 / 2 + 1
-  pub at-last : activationIn (standing reading start run 3) 1 ≡ 9
-  pub one-added : length (standing reading start run 3 .validators) ≡ suc (length (start .validators))
+pub record Exactly (w : Bool) : Type 0 where
+  pub waiting : T (waits start 1)
+  pub two-ahead : k start 1 ≡ 2
+  pub one-accepted : length (accepted (take 2 run)) ≡ 1
+  pub not-yet : activation (foldl (after w) start (take 2 run)) 1 ≡ «FAR_FUTURE_EPOCH»
+  pub two-accepted : length (accepted run) ≡ k start 1 / 2 + 1
+  pub at-last : activation (foldl (after w) start run) 1 ≡ 9
+  pub one-added : length (foldl (after w) start run .validators) ≡ suc (length (start .validators))
 
-pub exactly : (reading : Reading) → Exactly reading
-unfolding waits earlier ahead standing acceptedEpochs computing
-exactly reading =
+pub exactly : (w : Bool) → Exactly w
+unfolding waits ahead k computing
+exactly w =
     record {
       waiting = tt;
       two-ahead = refl;
-      one-accepted = ap (λ (cs : List Close). acceptedBefore cs 2) went;
-      not-yet = ap (λ (cs : List Close). activationIn (standing reading start cs 2) 1) went ∙ second reading;
-      two-accepted = ap (λ (cs : List Close). acceptedBefore cs 3) went;
-      at-last = ap (λ (cs : List Close). activationIn (standing reading start cs 3) 1) went;
-      one-added = ap (λ (cs : List Close). length (standing reading start cs 3 .validators)) went;
+      one-accepted = ap (λ (cs : List Close). length (accepted (take 2 cs))) went;
+      not-yet = ap (λ (cs : List Close). activation (foldl (after w) start (take 2 cs)) 1) went ∙ second w;
+      two-accepted = ap (λ (cs : List Close). length (accepted cs)) went;
+      at-last = ap (λ (cs : List Close). activation (foldl (after w) start cs) 1) went;
+      one-added = ap (λ (cs : List Close). length (foldl (after w) start cs .validators)) went;
     }
   where
-    second : (reading : Reading) → activationIn (stoodBefore reading once (opening 16)) 1 ≡ «FAR_FUTURE_EPOCH»
-    second withOthers = refl
-    second withoutOthers = refl
+    second : (w : Bool) → activation (cond w (opening 16) once) 1 ≡ «FAR_FUTURE_EPOCH»
+    second true = refl
+    second false = refl
 
 -- so that the claim says something here
-pub claimed : (reading : Reading) → Claim 2 reading start run
+pub claimed : (w : Bool) → Claim 2 (foldl (after w) start) run
 unfolding run
-claimed reading = demand3 settings reading start events (premises reading)
+claimed w = demand3 settings w start calls refl (premises w)
 
 -- a close of epoch 4 that justifies the previous epoch alone finalizes three epochs back
 abbrev deep : BeaconState
 deep = record-of 19 7 1 2 0 (validator 0 0 7 0 ∷ [])
 
 unfoldable pub run-deep : List Close
-run-deep = map (closeOf settings) (event 10 deep ∷ [])
+run-deep = map closeOf (call settings 10 deep ∷ [])
 
-pub record ThreeBack (reading : Reading) : Type 0 where
-  pub met : Premises 2 reading deep run-deep
-  pub epochs : acceptedEpochs run-deep ≡ 4 ∷ []
-  pub before : finalized deep .epoch ≡ 0
-  pub after : finalized (standing reading deep run-deep 1) .epoch + 3 ≡ 4
+pub record ThreeBack (w : Bool) : Type 0 where
+  pub premises-met : Premises 2 (foldl (after w) deep) run-deep
+  pub epochs : map epoch (accepted run-deep) ≡ 4 ∷ []
+  pub before : finalizedEpochOf deep ≡ 0
+  pub then : finalizedEpochOf (foldl (after w) deep run-deep) + 3 ≡ 4
 
-pub three-back : (reading : Reading) → ThreeBack reading
-unfolding run-deep standing Handed acceptedEpochs computing
-three-back reading =
+pub three-back : (w : Bool) → ThreeBack w
+unfolding run-deep computing
+three-back w =
     record {
-      met = record { churn = omega arith; handed = (follow refl refl refl (refl, refl, tt), tt); rising = tt; ordered = (omega arith, omega arith, omega arith) };
+      premises-met = met w deep run-deep (record { churn = omega arith; handed = (follow refl refl refl (refl, refl, tt), tt); rising = tt; ordered = record { low = omega arith; middle = omega arith; high = omega arith } });
       epochs = refl;
       before = refl;
-      after = refl;
+      then = refl;
     }

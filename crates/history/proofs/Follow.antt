@@ -5,7 +5,8 @@ use Prim.Native.Nat.{ℕ, zero, suc, _≤_, _<_}
 use native.Mathlib.Omega.{arith}
 use lib.ListN.{length}
 use Rattle.definitions.specs.Record.{Validator, BeaconState, «FAR_FUTURE_EPOCH»}
-use Rattle.history.specs.Waiting.{previousJustified, currentJustified, finalized, eligibilityAt, activationAt, Others}
+use Rattle.history.specs.Demand3.{Others}
+use Rattle.history.proofs.Waiting.{previousJustified, currentJustified, finalized, eligibilityAt, activationAt}
 
 -- both epochs as they were, and both FAR for each one added
 abbrev pub Follows : List Validator → List Validator → Type 0
@@ -40,8 +41,6 @@ follow {r} {o} p c f h =
       current = c;
       final = f;
       more = more (r .validators) (o .validators) h;
-      eligibility = λ i l. old (r .validators) (o .validators) h i l .0;
-      activation = λ i l. old (r .validators) (o .validators) h i l .1;
-      new-eligibility = λ i l k. new (r .validators) (o .validators) h i l k .0;
-      new-activation = λ i l k. new (r .validators) (o .validators) h i l k .1;
+      old = old (r .validators) (o .validators) h;
+      new = new (r .validators) (o .validators) h;
     }

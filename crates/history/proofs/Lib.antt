@@ -1,8 +1,10 @@
 -- Demand 3 and what it rests on.
+pub mod Waiting
 pub mod Counting
 pub mod Order
 pub mod Shape
 pub mod OneClose
+pub mod Premises
 pub mod EveryList
 pub mod Queue
 pub mod Steps

@@ -1,59 +1,63 @@
 -- The premises are needed. Without the order of the checkpoints a list is shown in which the finalized epoch falls; without m of 1 at least,
 -- a validator that never gets its epoch, whatever the list.
-use mathlib.Core.Path.{_≡_, refl, _∙_}
+use mathlib.Core.Path.{_≡_, refl, ap, _∙_}
 use mathlib.Core.Bool.{Bool, true, false, cond, _&&_}
-use mathlib.Core.List.{List, [], _∷_, map}
+use mathlib.Core.List.{List, [], _∷_, map, foldl, head-eq-of-cons-eq, tail-eq-of-cons-eq}
 use Prim.Native.Nat.{ℕ, zero, suc, _+_, _-_, _/_, _≤_, _<_}
 use native.Mathlib.Nat.{zero-div, div-zero}
 use native.Mathlib.Decide.{decLt}
 use native.Mathlib.Omega.{arith}
 use borrow.Author.Tests.{lt-leb, le-ltb}
 use lib.Dec.{T, ltb}
-use lib.ListN.{length}
+use lib.ListN.{length, replicate}
 use Rattle.types.specs.declared.Settings.{Settings}
 use Rattle.definitions.specs.Lists.{filter}
-use Rattle.definitions.specs.Record.{Validator, BeaconState, «FAR_FUTURE_EPOCH»}
+use Rattle.definitions.specs.Record.{Validator, BeaconState, «FAR_FUTURE_EPOCH», decode}
+use Rattle.definitions.specs.Close.{Call, finalizedEpochOf}
 use Rattle.definitions.specs.Rust.Phase0.Helpers.{«is_active_validator», «compute_epoch_at_slot», «get_current_epoch», «get_active_validator_indices», «get_validator_churn_limit»}
-use Rattle.history.specs.Waiting.{previousJustified, currentJustified, finalized, waits, earlier, ahead, waitsIn, aheadIn, activationIn, activationAt, Others}
-use Rattle.history.specs.History.{Event, Close, closeOf, accepted, Reading, stoodBefore, after, standing, acceptedEpochs, acceptedBefore, Handed, Rising, Ordered, Claim}
+use Rattle.history.specs.Demand3.{activation, waits, ahead, k, Others, Close, epoch, accepted, after, Claim}
+use Rattle.history.proofs.Waiting as list
+use Rattle.history.proofs.Waiting.{previousJustified, currentJustified, finalized, activationAt}
+use Rattle.history.proofs.Shape.{opening, accepts, returned}
+use Rattle.history.proofs.Premises.{Handed, Rising, Ordered}
 use Rattle.history.proofs.EveryList.{rests}
 use Rattle.history.proofs.EightSteps.{Eight}
-use Rattle.history.proofs.WholeClose.{closed-eight, close-shaped}
+use Rattle.history.proofs.WholeClose.{closeOf, closed-eight, close-shaped}
 use Rattle.history.proofs.Computing.{computing}
 use Rattle.history.proofs.Follow.{follow}
-use Rattle.history.proofs.Example.{settingsWith, settings, validator, record-of, event}
+use Rattle.history.proofs.Example.{settingsWith, settings, validator, record-of, call}
 
 -- Without finalized ≤ previous justified ≤ current justified
 
 unfoldable pub run-of : BeaconState → List Close
-run-of start = map (closeOf settings) (event 10 start ∷ [])
+run-of start = map closeOf (call settings 10 start ∷ [])
 
 -- one accepted close, of epoch e: the other premises hold, and the finalized epoch falls
-pub record Falls (reading : Reading) (start : BeaconState) (e : ℕ) : Type 0 where
+pub record Falls (w : Bool) (start : BeaconState) (e : ℕ) : Type 0 where
   pub churn : 1 ≤ settings .«min_per_epoch_churn_limit»
-  pub handed : Handed reading start (run-of start)
-  pub epochs : acceptedEpochs (run-of start) ≡ e ∷ []
-  pub falls : finalized (standing reading start (run-of start) 1) .epoch < finalized start .epoch
+  pub handed : Handed w start (run-of start)
+  pub epochs : map epoch (accepted (run-of start)) ≡ e ∷ []
+  pub falls : finalizedEpochOf (foldl (after w) start (run-of start)) < finalizedEpochOf start
 
-pub not-claimed : (reading : Reading) (start : BeaconState) (e : ℕ) → Falls reading start e → Claim 2 reading start (run-of start) → ⊥
-unfolding standing
-not-claimed reading start e f c = omega (arith, f .falls, c .kept 0)
+pub not-claimed : (w : Bool) (start : BeaconState) (e : ℕ) → Falls w start e → Claim 2 (foldl (after w) start) (run-of start) → ⊥
+unfolding run-of
+not-claimed w start e f c = omega (arith, f .falls, c .kept [] (run-of start) [] refl)
 
 -- finalized 3, previous justified 2, current justified 3, and a close of epoch 4 that justifies the previous epoch alone
 abbrev high-finalized : BeaconState
 high-finalized = record-of 19 3 2 3 3 (validator 0 0 7 0 ∷ [])
 
-pub without-low : (reading : Reading) → Falls reading high-finalized 4 × (previousJustified high-finalized .epoch ≤ currentJustified high-finalized .epoch) × (currentJustified high-finalized .epoch ≤ 4 - 1)
-unfolding run-of standing Handed acceptedEpochs computing
-without-low reading = (record { churn = omega arith; handed = (follow refl refl refl (refl, refl, tt), tt); epochs = refl; falls = omega arith }, omega arith, omega arith)
+pub without-low : (w : Bool) → Falls w high-finalized 4 × (previousJustified high-finalized .epoch ≤ currentJustified high-finalized .epoch) × (currentJustified high-finalized .epoch ≤ 4 - 1)
+unfolding run-of computing
+without-low w = (record { churn = omega arith; handed = (follow refl refl refl (refl, refl, tt), tt); epochs = refl; falls = omega arith }, omega arith, omega arith)
 
 -- finalized 2, previous justified 2, current justified 1, and a close of epoch 3 that justifies both
 abbrev low-current : BeaconState
 low-current = record-of 15 3 2 1 2 (validator 0 0 7 7 ∷ [])
 
-pub without-middle : (reading : Reading) → Falls reading low-current 3 × (finalized low-current .epoch ≤ previousJustified low-current .epoch) × (currentJustified low-current .epoch ≤ 3 - 1)
-unfolding run-of standing Handed acceptedEpochs computing
-without-middle reading = (record { churn = omega arith; handed = (follow refl refl refl (refl, refl, tt), tt); epochs = refl; falls = omega arith }, omega arith, omega arith)
+pub without-middle : (w : Bool) → Falls w low-current 3 × (finalized low-current .epoch ≤ previousJustified low-current .epoch) × (currentJustified low-current .epoch ≤ 3 - 1)
+unfolding run-of computing
+without-middle w = (record { churn = omega arith; handed = (follow refl refl refl (refl, refl, tt), tt); epochs = refl; falls = omega arith }, omega arith, omega arith)
 
 -- Without m of 1 at least
 
@@ -76,83 +80,84 @@ others-inactive : {i : ℕ} {r o : BeaconState} → Others r o → Inactive i (r
 others-inactive {i} {r} {o} h a = record { there = omega (arith, a .there, h .more); none = λ j l. go j l (decLt j (length (r .validators))) }
   where
     go : (j : ℕ) → j < length (o .validators) → Dec (j < length (r .validators)) → activationAt (o .validators) j ≡ «FAR_FUTURE_EPOCH»
-    go j l (yes k) = h .activation j k ∙ a .none j k
-    go j l (no k) = h .new-activation j (omega arith) l
+    go j l (yes k) = h .old j k .1 ∙ a .none j k
+    go j l (no k) = h .new j (omega arith) l .1
 
-close-inactive : {i : ℕ} (s : Settings) (v : Event) → s .«min_per_epoch_churn_limit» ≡ 0 → T (accepted (closeOf s v)) → Inactive i (v .opening .validators) → Inactive i (closeOf s v .returned .validators)
+close-inactive : {i : ℕ} (c : Call) → c .settings .«min_per_epoch_churn_limit» ≡ 0 → T (accepts (closeOf c)) → Inactive i (decode (c .registry)) → Inactive i (returned (closeOf c) .validators)
 unfolding «get_current_epoch» «compute_epoch_at_slot»
-close-inactive {i} s v z t a = record { there = omega (arith, a .there, n); none = λ j l. none j (omega (arith, l, n)) }
+close-inactive {i} c z t a = record { there = omega (arith, a .there, n); none = λ j l. none j (omega (arith, l, n)) }
   where
-    x : Eight s (v .opening .finality) (v .opening .validators) (closeOf s v .returned .finality) (closeOf s v .returned .validators)
-    x = closed-eight s v t
+    x : Eight (c .settings) (c .finality) (decode (c .registry)) (returned (closeOf c) .finality) (returned (closeOf c) .validators)
+    x = closed-eight c t
 
-    n : length (closeOf s v .returned .validators) ≡ length (v .opening .validators)
+    n : length (returned (closeOf c) .validators) ≡ length (decode (c .registry))
     n = x .registry .number
 
-    queued : (j : ℕ) → j < length (v .opening .validators) → activationAt (x .queue) j ≡ «FAR_FUTURE_EPOCH»
+    queued : (j : ℕ) → j < length (decode (c .registry)) → activationAt (x .queue) j ≡ «FAR_FUTURE_EPOCH»
     queued j l = x .registry .queue-activation j l ∙ a .none j l
 
     churn : ℕ
-    churn = «get_validator_churn_limit» s (v .opening .finality .slot) (x .queue)
+    churn = «get_validator_churn_limit» (c .settings) (c .finality .slot) (x .queue)
 
     limit : churn ≡ 0
-    limit = no-churn s (v .opening .finality .slot) (x .queue) z (omega (arith, close-shaped s v t .fits)) (λ j l. queued j (omega (arith, l, x .registry .queue-number)))
+    limit = no-churn (c .settings) (c .finality .slot) (x .queue) z (omega (arith, close-shaped c t .fits)) (λ j l. queued j (omega (arith, l, x .registry .queue-number)))
 
-    unchosen : (w : Bool) (k to was : ℕ) → cond (w && ltb k churn) to was ≡ was
+    unchosen : (b : Bool) (k to was : ℕ) → cond (b && ltb k churn) to was ≡ was
     unchosen false k to was = refl
     unchosen true k to was = rw (le-ltb k churn (omega (arith, limit)))
 
-    none : (j : ℕ) → j < length (v .opening .validators) → activationAt (closeOf s v .returned .validators) j ≡ «FAR_FUTURE_EPOCH»
-    none j l = x .registry .activation j l ∙ unchosen (waits _ (x .queue) j) (ahead _ (x .queue) j) _ (activationAt (x .queue) j) ∙ queued j l
+    none : (j : ℕ) → j < length (decode (c .registry)) → activationAt (returned (closeOf c) .validators) j ≡ «FAR_FUTURE_EPOCH»
+    none j l = x .registry .activation j l ∙ unchosen (list.waits _ (x .queue) j) (list.ahead _ (x .queue) j) _ (activationAt (x .queue) j) ∙ queued j l
 
-module _ (s : Settings) (z : s .«min_per_epoch_churn_limit» ≡ 0) (reading : Reading) where
-  after-inactive : {i : ℕ} (v : Event) {r : BeaconState} → Others r (v .opening) → Inactive i (r .validators) → Inactive i (after reading r (closeOf s v) .validators)
-  after-inactive {i} v {r} h a = go (accepted (closeOf s v)) (λ t. close-inactive s v z t (others-inactive h a))
-    where
-      go : (b : Bool) → (T b → Inactive i (closeOf s v .returned .validators)) → Inactive i (cond b (closeOf s v .returned) (stoodBefore reading r (v .opening)) .validators)
-      go true f = f tt
-      go false f = others-inactive (rests reading h) a
+after-inactive : {i : ℕ} (w : Bool) (c : Call) {r : BeaconState} → c .settings .«min_per_epoch_churn_limit» ≡ 0 → Others r (opening (closeOf c)) → Inactive i (r .validators) → Inactive i (after w r (closeOf c) .validators)
+after-inactive {i} w c {r} z h a = go (accepts (closeOf c)) (λ t. close-inactive c z t (others-inactive h a))
+  where
+    go : (b : Bool) → (T b → Inactive i (returned (closeOf c) .validators)) → Inactive i (cond b (returned (closeOf c)) (cond w (opening (closeOf c)) r) .validators)
+    go true f = f tt
+    go false f = others-inactive (rests w h) a
 
-  -- whatever the list, nobody is ever activated
-  pub never : {i : ℕ} (events : List Event) (r : BeaconState) → Inactive i (r .validators) → Handed reading r (map (closeOf s) events) → (t : ℕ) → Inactive i (standing reading r (map (closeOf s) events) t .validators)
-  unfolding standing Handed
-  never events r a h zero = a
-  never [] r a h (suc t) = a
-  never (v ∷ events) r a h (suc t) = never events (after reading r (closeOf s v)) (after-inactive v (h .0) a) (h .1) t
+-- whatever the list, nobody is ever activated
+pub never : {i : ℕ} (w : Bool) (s : Settings) → s .«min_per_epoch_churn_limit» ≡ 0 → (calls : List Call) (r : BeaconState) → map (λ c. c .settings) calls ≡ replicate (length calls) s → Inactive i (r .validators) → Handed w r (map closeOf calls) → Inactive i (foldl (after w) r (map closeOf calls) .validators)
+never w s z [] r e a h = a
+never w s z (c ∷ calls) r e a h = never w s z calls (after w r (closeOf c)) (tail-eq-of-cons-eq e) (after-inactive w c (ap (λ (x : Settings). x .«min_per_epoch_churn_limit») (head-eq-of-cons-eq e) ∙ z) (h .0) a) (h .1)
 
 -- one who waits with nobody ahead, and two closes, of epochs 0 and 1, in which it is not activated
 abbrev alone : ℕ → BeaconState
 alone slot = record-of slot 0 0 0 0 (validator 0 «FAR_FUTURE_EPOCH» 0 0 ∷ [])
 
+abbrev calls-alone : List Call
+calls-alone = call (settingsWith 0) 10 (alone 3) ∷ call (settingsWith 0) 10 (alone 7) ∷ []
+
 unfoldable pub run-alone : List Close
-run-alone = map (closeOf (settingsWith 0)) (event 10 (alone 3) ∷ event 10 (alone 7) ∷ [])
+run-alone = map closeOf calls-alone
 
 -- the other premises hold, and more than floor(0 / 0) + 1 closes are accepted, where a quotient by 0 is 0; nor do any other closes help
-pub record Never (reading : Reading) : Type 0 where
-  pub handed : Handed reading (alone 3) run-alone
-  pub rising : Rising (acceptedEpochs run-alone)
-  pub ordered : Ordered (alone 3) (acceptedEpochs run-alone)
-  pub waiting : T (waitsIn (alone 3) 0)
-  pub none-ahead : aheadIn (alone 3) 0 ≡ 0
-  pub enough : aheadIn (alone 3) 0 / 0 + 1 ≤ acceptedBefore run-alone 2
-  pub never-activated : (events : List Event) → Handed reading (alone 3) (map (closeOf (settingsWith 0)) events) → (t : ℕ) → activationIn (standing reading (alone 3) (map (closeOf (settingsWith 0)) events) t) 0 ≡ «FAR_FUTURE_EPOCH»
+pub record Never (w : Bool) : Type 0 where
+  pub handed : Handed w (alone 3) run-alone
+  pub rising : Rising (accepted run-alone)
+  pub ordered : Ordered (alone 3) (accepted run-alone)
+  pub waiting : T (waits (alone 3) 0)
+  pub none-ahead : k (alone 3) 0 ≡ 0
+  pub enough : k (alone 3) 0 / 0 + 1 ≤ length (accepted run-alone)
+  pub never-activated : (calls : List Call) → map (λ c. c .settings) calls ≡ replicate (length calls) (settingsWith 0) → Handed w (alone 3) (map closeOf calls) → activation (foldl (after w) (alone 3) (map closeOf calls)) 0 ≡ «FAR_FUTURE_EPOCH»
 
-pub without-churn : (reading : Reading) → Never reading
-unfolding run-alone standing Handed acceptedEpochs waits earlier ahead computing
-without-churn reading =
+pub without-churn : (w : Bool) → Never w
+unfolding run-alone waits ahead k computing
+without-churn w =
     record {
       handed = (follow refl refl refl (refl, refl, tt), (follow refl refl refl (refl, refl, tt), tt));
       rising = (omega arith, tt);
-      ordered = (omega arith, omega arith, omega arith);
+      ordered = record { low = omega arith; middle = omega arith; high = omega arith };
       waiting = tt;
       none-ahead = refl;
-      enough = omega (arith, div-zero (aheadIn (alone 3) 0));
-      never-activated = λ events h t. let a = still events h t in a .none 0 (a .there);
+      enough = omega (arith, div-zero (k (alone 3) 0));
+      never-activated = λ calls e h. let a = never {i = 0} w (settingsWith 0) refl calls (alone 3) e (record { there = omega arith; none = first }) h in a .none 0 (a .there);
     }
   where
     first : (j : ℕ) → j < 1 → activationAt (alone 3 .validators) j ≡ «FAR_FUTURE_EPOCH»
     first zero l = refl
     first (suc j) l = absurd (omega arith)
 
-    still : (events : List Event) → Handed reading (alone 3) (map (closeOf (settingsWith 0)) events) → (t : ℕ) → Inactive 0 (standing reading (alone 3) (map (closeOf (settingsWith 0)) events) t .validators)
-    still events h t = never (settingsWith 0) refl reading events (alone 3) (record { there = omega arith; none = first }) h t
+pub not-claimed-either : (w : Bool) → Never w → Claim 0 (foldl (after w) (alone 3)) run-alone → ⊥
+unfolding run-alone
+not-claimed-either w n c = c .activated [] run-alone [] [] 0 refl (n .waiting) (n .enough) .0 (n .never-activated calls-alone refl (n .handed))

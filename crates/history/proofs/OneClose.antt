@@ -1,6 +1,6 @@
 -- What others and one accepted close do to the order of the checkpoints, and to one who waits.
 use mathlib.Core.Path.{_≡_, refl, sym, ap, _∙_}
-use mathlib.Core.Logic.{inl, inr}
+use mathlib.Core.Logic.{_≢_, _⊎_, inl, inr}
 use mathlib.Core.Bool.{Bool, true, false, cond, not, _&&_}
 use mathlib.Core.List.{List}
 use Prim.Native.Nat.{ℕ, _+_, _-_, _≤_, _<_}
@@ -10,11 +10,11 @@ use lib.ListN.{length}
 use Rattle.types.specs.declared.Checkpoint.{Checkpoint}
 use Rattle.types.specs.declared.Finality.{Finality}
 use Rattle.definitions.specs.Record.{Validator, BeaconState, «FAR_FUTURE_EPOCH»}
-use Rattle.history.specs.Waiting.{finalized, eligibilityAt, activationAt, waits, ahead, Others}
-use Rattle.history.specs.History.{Close, Justified}
+use Rattle.history.specs.Demand3.{Others}
+use Rattle.history.proofs.Waiting.{finalized, eligibilityAt, activationAt, waits, ahead}
 use Rattle.history.proofs.Shape.{CurrentMoved, FinalizedMoved, Moved, Marked, Registered}
 use Rattle.history.proofs.Counting.{howMany, and-T, T-left, T-right, T-dec, count-le, behind}
-use Rattle.history.proofs.Order.{Waits, from-waits, to-waits, Earlier, from-earlier, before, strict, earlier-same}
+use Rattle.history.proofs.Order.{Waits, from-waits, to-waits, before, strict, earlier-low, earlier-same}
 
 -- the checkpoints' epochs do not fall in this order
 pub record InOrder (f : Finality) (e : ℕ) : Type 0 where
@@ -66,15 +66,18 @@ module _ {e : ℕ} {o : Finality} (g : InOrder o (e - 1)) where
         },
       )
 
--- where the finalized checkpoint changes
-pub close-changed : (c : Close) {f : Finality} → Moved (c .epoch) (c .opening .finality) f → (f .«finalized_checkpoint» ≡ finalized (c .opening) → ⊥) → Justified (f .«finalized_checkpoint») c
-close-changed c (Moved.kept p q r) n = absurd (n r)
-close-changed c {f} (Moved.weighed q j g) n = go g
+-- where the finalized checkpoint changes: one of the two justified ones, one to three epochs back
+abbrev pub Justified : ℕ → Finality → Checkpoint → Type 0
+Justified e was f = ((f ≡ was .«previous_justified_checkpoint») ⊎ (f ≡ was .«current_justified_checkpoint»)) × (f .epoch + 1 ≤ e) × (e ≤ f .epoch + 3)
+
+pub close-changed : {e : ℕ} {was now : Finality} → Moved e was now → now .«finalized_checkpoint» ≢ was .«finalized_checkpoint» → Justified e was (now .«finalized_checkpoint»)
+close-changed (Moved.kept p q r) n = absurd (n r)
+close-changed {e} {was} {now} (Moved.weighed q j g) n = go g
   where
-    go : FinalizedMoved (c .epoch) (c .opening .finality) (f .«finalized_checkpoint») → Justified (f .«finalized_checkpoint») c
+    go : FinalizedMoved e was (now .«finalized_checkpoint») → Justified e was (now .«finalized_checkpoint»)
     go (FinalizedMoved.same q) = absurd (n q)
-    go (FinalizedMoved.fromPrevious q a b) = record { one = inl q; back = omega (arith, epoch-of q, a); within = omega (arith, epoch-of q, b) }
-    go (FinalizedMoved.fromCurrent q a b) = record { one = inr q; back = omega (arith, epoch-of q, a); within = omega (arith, epoch-of q, b) }
+    go (FinalizedMoved.fromPrevious q a b) = (inl q, omega (arith, epoch-of q, a), omega (arith, epoch-of q, b))
+    go (FinalizedMoved.fromCurrent q a b) = (inr q, omega (arith, epoch-of q, a), omega (arith, epoch-of q, b))
 
 -- others: who waits waits on, with no more ahead
 module _ {r o : BeaconState} (h : Others r o) where
@@ -84,8 +87,8 @@ module _ {r o : BeaconState} (h : Others r o) where
       to-waits (finalized o .epoch) (o .validators) i
       (record {
         there = omega (arith, h .more, w .there);
-        eligible = omega (arith, h .eligibility i (w .there), epoch-of (h .final), w .eligible);
-        inactive = h .activation i (w .there) ∙ w .inactive;
+        eligible = omega (arith, h .old i (w .there) .0, epoch-of (h .final), w .eligible);
+        inactive = h .old i (w .there) .1 ∙ w .inactive;
       })
 
   pub others-ahead : (i : ℕ) → T (waits (finalized r .epoch) (r .validators) i) → finalized r .epoch < «FAR_FUTURE_EPOCH» → ahead (finalized o .epoch) (o .validators) i ≤ ahead (finalized r .epoch) (r .validators) i
@@ -103,23 +106,23 @@ module _ {r o : BeaconState} (h : Others r o) where
             (to-waits (finalized r .epoch) (r .validators) j
             (record {
               there = there;
-              eligible = omega (arith, h .eligibility j there, epoch-of (h .final), wj .eligible);
-              inactive = sym (h .activation j there) ∙ wj .inactive;
+              eligible = omega (arith, h .old j there .0, epoch-of (h .final), wj .eligible);
+              inactive = sym (h .old j there .1) ∙ wj .inactive;
             }))
-            (earlier-same j i (h .eligibility j there) (h .eligibility i (wi .there)) (T-right (waits (finalized o .epoch) (o .validators) j) (before (o .validators) j i) u)),
+            (earlier-same j i (h .old j there .0) (h .old i (wi .there) .0) (T-right (waits (finalized o .epoch) (o .validators) j) (before (o .validators) j i) u)),
       )
         where
           wj : Waits (finalized o .epoch) (o .validators) j
           wj = from-waits (finalized o .epoch) (o .validators) j (T-left (waits (finalized o .epoch) (o .validators) j) (before (o .validators) j i) u)
 
-          bj : Earlier (eligibilityAt (o .validators) j) j (eligibilityAt (o .validators) i) i
-          bj = from-earlier (eligibilityAt (o .validators) j) j (eligibilityAt (o .validators) i) i (T-right (waits (finalized o .epoch) (o .validators) j) (before (o .validators) j i) u)
+          bj : eligibilityAt (o .validators) j ≤ eligibilityAt (o .validators) i
+          bj = earlier-low (eligibilityAt (o .validators) j) j (eligibilityAt (o .validators) i) i (T-right (waits (finalized o .epoch) (o .validators) j) (before (o .validators) j i) u)
 
           old : Dec (T (ltb j (length (r .validators)))) → j < length (r .validators)
           old (yes y) = ltb→lt j (length (r .validators)) y
           old (no y) =
               let l : length (r .validators) ≤ j = nltb→le j (length (r .validators)) (not-T (ltb j (length (r .validators))) y) in
-              absurd (omega (arith, h .new-eligibility j l (wj .there), bj .low, h .eligibility i (wi .there), wi .eligible))
+              absurd (omega (arith, h .new j l (wj .there) .0, bj, h .old i (wi .there) .0, wi .eligible))
 
           there : j < length (r .validators)
           there = old (T-dec (ltb j (length (r .validators))))
@@ -196,7 +199,7 @@ module _ {e to churn f : ℕ} {vs queue ws : List Validator} (a : Registered e t
             l = omega (arith, w .there, a .queue-number)
 
             k : eligibilityAt queue j ≤ g
-            k = omega (arith, from-earlier (eligibilityAt queue j) j (eligibilityAt queue i) i b .low, kept-i, opened .eligible)
+            k = omega (arith, earlier-low (eligibilityAt queue j) j (eligibilityAt queue i) i b, kept-i, opened .eligible)
 
             z : eligibilityAt queue j ≡ eligibilityAt vs j
             z = kept j l k

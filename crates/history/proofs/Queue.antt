@@ -1,5 +1,5 @@
 -- The activations of the registry step, validator by validator: those who wait with fewer than the churn limit ahead.
-use mathlib.Core.Path.{_≡_, refl, sym, ap, ap₂, _∙_}
+use mathlib.Core.Path.{_≡_, refl, ap, ap₂, _∙_}
 use mathlib.Core.Bool.{Bool, true, false, cond, _&&_}
 use mathlib.Core.List.{List}
 use Prim.Native.Nat.{ℕ, _<_}
@@ -12,9 +12,9 @@ use Rattle.definitions.specs.Document.Phase0.Helpers.{«is_eligible_for_activat
 use Rattle.definitions.specs.Document.Phase0.EpochProcessing.{dequeued}
 use Rattle.queue.specs.Queue as queue
 use Rattle.queue.proofs.Dequeued as Dequeued
-use Rattle.history.specs.Waiting.{eligibilityAt, activationAt, waits, ahead}
+use Rattle.history.proofs.Waiting.{eligibilityAt, activationAt, waits, ahead}
 use Rattle.history.proofs.Counting.{howMany, count-same}
-use Rattle.history.proofs.Order.{queued-before, before}
+use Rattle.history.proofs.Order.{before}
 
 -- who waits passes the queue's test
 waits-eligible : (f : ℕ) (vs : List Validator) (i : ℕ) → i < length vs → «is_eligible_for_activation» f (getD vs i nobody) ≡ waits f vs i
@@ -25,8 +25,7 @@ waits-eligible f vs i l = rw (lt-ltb i (length vs) l)
 same-ahead : (f : ℕ) (vs : List Validator) (i : ℕ) → queue.ahead f vs i ≡ ahead f vs i
 unfolding queue.ahead ahead howMany
 same-ahead f vs i =
-    ap (λ (lt : ℕ → ℕ → Bool). howMany (λ j. «is_eligible_for_activation» f (getD vs j nobody) && lt j i) (length vs)) (sym (queued-before vs))
-    ∙ count-same (λ j. «is_eligible_for_activation» f (getD vs j nobody) && before vs j i) (λ j. waits f vs j && before vs j i) (length vs) (λ j m. ap (λ (b : Bool). b && before vs j i) (waits-eligible f vs j m))
+    count-same (λ j. «is_eligible_for_activation» f (getD vs j nobody) && before vs j i) (λ j. waits f vs j && before vs j i) (length vs) (λ j m. ap (λ (b : Bool). b && before vs j i) (waits-eligible f vs j m))
 
 module _ (to churn f : ℕ) (vs : List Validator) where
   -- the step, validator by validator

@@ -19,7 +19,7 @@ use Rattle.definitions.specs.Document.Phase0.EpochProcessing.{queueEligible, is
 use Rattle.definitions.specs.Rust.Phase0.Helpers.{«compute_activation_exit_epoch», «get_current_epoch», «get_validator_churn_limit», «initiate_validator_exit»}
 use Rattle.definitions.specs.Rust.Phase0.EpochProcessing.{updateRegistryAt, «process_registry_updates»}
 use Rattle.laws.proofs.Checked.{value-same, bound, add64-value}
-use Rattle.history.specs.Waiting.{eligibilityAt, activationAt}
+use Rattle.history.proofs.Waiting.{eligibilityAt, activationAt}
 use Rattle.history.proofs.Shape.{Marked, Registered}
 use Rattle.history.proofs.Counting.{T-left}
 use Rattle.history.proofs.Steps.{epochs, Spared, spared-given, spared-number, spared-eligibility, spared-activation, either}

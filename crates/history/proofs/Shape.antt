@@ -1,15 +1,18 @@
 -- What the claim over lists of closes has to know about one accepted close: its interface. A close of another fork, with other settings,
 -- or followed by exit orders joins the claim by having it.
 use mathlib.Core.Path.{_≡_}
-use mathlib.Core.Bool.{cond, _&&_}
-use mathlib.Core.List.{List}
+use mathlib.Core.Bool.{Bool, cond, _&&_}
+use mathlib.Core.List.{List, [], _∷_}
 use Prim.Native.Nat.{ℕ, _+_, _-_, _≤_, _<_}
-use lib.Dec.{ltb}
+use lib.Dec.{T, ltb, eqb}
 use lib.ListN.{length}
 use Rattle.types.specs.declared.Checkpoint.{Checkpoint}
 use Rattle.types.specs.declared.Finality.{Finality}
-use Rattle.definitions.specs.Record.{Validator, BeaconState, «FAR_FUTURE_EPOCH»}
-use Rattle.history.specs.Waiting.{eligibilityAt, activationAt, waits, ahead}
+use Rattle.definitions.specs.Record.{Validator, BeaconState, «FAR_FUTURE_EPOCH», decode}
+use Rattle.definitions.specs.Updates.{withFinality, withValidators, withSlashings}
+use Rattle.definitions.specs.Close.{stateOf}
+use Rattle.history.specs.Demand3.{Close, epoch}
+use Rattle.history.proofs.Waiting.{eligibilityAt, activationAt, waits, ahead}
 
 -- the current justified checkpoint of a close of epoch e: kept, or of the previous or the present epoch
 pub data CurrentMoved (e : ℕ) (was now : Checkpoint) : Type 0 where
@@ -56,3 +59,27 @@ pub record CloseShape (m e lookahead : ℕ) (o c : BeaconState) : Type 0 where
   pub checkpoints : Moved e (o .finality) (c .finality)
   pub queue : List Validator
   pub registry : Registered e (e + 1 + lookahead) churn (c .finality .«finalized_checkpoint» .epoch) (o .validators) queue (c .validators)
+
+-- what a close of the list was handed, whether it is accepted, and what it returned
+
+abbrev pub opening : Close → BeaconState
+opening c = stateOf (c .call)
+
+abbrev pub lookahead : Close → ℕ
+lookahead c = c .call .settings .«max_seed_lookahead»
+
+abbrev pub accepts : Close → Bool
+accepts c = eqb (c .outcome .refusal) 0
+
+abbrev pub returned : Close → BeaconState
+returned c =
+    let out = c .outcome in
+    withFinality (out .finality) (withValidators (decode (out .closingRegistry)) (withSlashings (out .closingSlashings) (opening c)))
+
+-- a close has the interface where it is accepted
+abbrev pub Shaped : ℕ → Close → Type 0
+Shaped m c = T (accepts c) → CloseShape m (epoch c) (lookahead c) (opening c) (returned c)
+
+abbrev pub EachShaped : ℕ → List Close → Type 0
+EachShaped m [] = Unit {0}
+EachShaped m (c ∷ cs) = Shaped m c × EachShaped m cs

@@ -12,12 +12,12 @@ use Rattle.definitions.specs.Updates.{withBalance, withEffectiveBalance, withSc
 use Rattle.definitions.specs.Checked.{Checked, value, mapChecked, foldChecked}
 use Rattle.definitions.specs.Document.Phase0.EpochProcessing.{roundedBalance}
 use Rattle.definitions.specs.Document.Altair.EpochProcessing.{rotateParticipation}
-use Rattle.definitions.specs.Rust.Phase0.Helpers.{«get_current_epoch», «get_previous_epoch», «increase_balance», «decrease_balance»}
+use Rattle.definitions.specs.Rust.Phase0.Helpers.{«get_current_epoch», «increase_balance», «decrease_balance»}
 use Rattle.definitions.specs.Rust.Phase0.EpochProcessing.{isEligible, updateEffectiveBalance, «process_effective_balance_updates»}
 use Rattle.definitions.specs.Rust.Altair.Helpers.{FlagTotals}
 use Rattle.definitions.specs.Rust.Altair.EpochProcessing.{updateInactivityScore, «process_inactivity_updates», applyDelta, rewardAndPenalize, «process_rewards_and_penalties», slash, «process_slashings», «process_participation_flag_updates»}
 use Rattle.laws.proofs.Checked.{value-same, bound}
-use Rattle.history.specs.Waiting.{eligibilityAt, activationAt}
+use Rattle.history.proofs.Waiting.{eligibilityAt, activationAt}
 
 -- the two epochs of a validator
 abbrev pub epochs : Validator → ℕ × ℕ

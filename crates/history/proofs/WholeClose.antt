@@ -1,12 +1,12 @@
 -- An accepted close has the interface, so that demand 3 holds of the whole close.
-use mathlib.Core.Path.{_≡_, refl, sym, ap, _∙_, subst₃}
+use mathlib.Core.Path.{_≡_, refl, sym, ap, _∙_, subst, subst₂}
 use mathlib.Core.Bool.{Bool, true, false, _&&_}
-use mathlib.Core.List.{List, [], _∷_, map}
+use mathlib.Core.List.{List, [], _∷_, map, head-eq-of-cons-eq, tail-eq-of-cons-eq}
 use Prim.Native.Nat.{ℕ, zero, suc, _^_, _<_}
 use native.Mathlib.Nat.{div-le-self}
 use native.Mathlib.Omega.{arith}
 use lib.Dec.{T, leb, eqb, ltb→lt}
-use lib.ListN.{length, getD}
+use lib.ListN.{length, getD, replicate}
 use Rattle.types.specs.declared.Settings.{Settings}
 use Rattle.types.specs.declared.Finality.{Finality}
 use Rattle.definitions.specs.Lists.{all}
@@ -17,11 +17,12 @@ use Rattle.definitions.specs.Rust.Phase0.Helpers.{«compute_epoch_at_slot», «
 use Rattle.definitions.specs.Close.{«process_epoch», Call, stateOf, closeTests, closed, close}
 use Rattle.laws.proofs.Checked.{not-value, bound}
 use Rattle.laws.proofs.Encode.{decode-encode}
-use Rattle.history.specs.History.{Event, callOf, closeOf, accepted, Demand3}
+use Rattle.history.specs.Demand3.{Close, Demand3}
 use Rattle.history.proofs.Counting.{T-left, T-right}
+use Rattle.history.proofs.Shape.{accepts, opening, returned, Shaped, EachShaped}
 use Rattle.history.proofs.Registry.{churn-enough}
 use Rattle.history.proofs.EightSteps.{Eight, eight}
-use Rattle.history.proofs.EveryList.{Shaped, EachShaped, claim}
+use Rattle.history.proofs.EveryList.{claim}
 
 -- The tests: slot and lookahead are small, so that the activation epoch that a close gives is below FAR
 
@@ -100,36 +101,40 @@ accepted-close c t = accepted-as c (given (closed c) t .1)
 
 -- The interface, and demand 3
 
--- the eight steps took the opening to the record returned
-pub closed-eight : (s : Settings) (v : Event) → T (accepted (closeOf s v)) → Eight s (v .opening .finality) (v .opening .validators) (closeOf s v .returned .finality) (closeOf s v .returned .validators)
-closed-eight s v t =
-    subst₃ (Eight s (v .opening .finality)) (decode-encode (v .opening .validators)) (sym (a .finality)) (sym (ap decode (a .registry) ∙ decode-encode (a .state .validators))) (eight s (stateOf (callOf s v)) (a .worked))
-  where
-    a : Accepted (callOf s v)
-    a = accepted-close (callOf s v) t
+-- a call and its outcome by the definition
+abbrev pub closeOf : Call → Close
+closeOf c = record { call = c; outcome = close c }
 
-pub close-shaped : (s : Settings) (v : Event) → Shaped (s .«min_per_epoch_churn_limit») (closeOf s v)
+-- the eight steps took the opening to the record returned
+pub closed-eight : (c : Call) → T (accepts (closeOf c)) → Eight (c .settings) (c .finality) (decode (c .registry)) (returned (closeOf c) .finality) (returned (closeOf c) .validators)
+closed-eight c t =
+    subst₂ (Eight (c .settings) (c .finality) (decode (c .registry))) (sym (a .finality)) (sym (ap decode (a .registry) ∙ decode-encode (a .state .validators))) (eight (c .settings) (stateOf c) (a .worked))
+  where
+    a : Accepted c
+    a = accepted-close c t
+
+pub close-shaped : (c : Call) → Shaped (c .settings .«min_per_epoch_churn_limit») (closeOf c)
 unfolding «get_current_epoch» «compute_epoch_at_slot»
-close-shaped s v t =
+close-shaped c t =
     record {
-      churn = «get_validator_churn_limit» s (v .opening .finality .slot) (x .queue);
-      enough = churn-enough s (v .opening .finality .slot) (x .queue);
-      fits = omega (arith, a .small .0, a .small .1, div-le-self (v .opening .finality .slot) (s .«slots_per_epoch»));
+      churn = «get_validator_churn_limit» (c .settings) (c .finality .slot) (x .queue);
+      enough = churn-enough (c .settings) (c .finality .slot) (x .queue);
+      fits = omega (arith, a .small .0, a .small .1, div-le-self (c .finality .slot) (c .settings .«slots_per_epoch»));
       checkpoints = x .checkpoints;
       queue = x .queue;
       registry = x .registry;
     }
   where
-    a : Accepted (callOf s v)
-    a = accepted-close (callOf s v) t
+    a : Accepted c
+    a = accepted-close c t
 
-    x : Eight s (v .opening .finality) (v .opening .validators) (closeOf s v .returned .finality) (closeOf s v .returned .validators)
-    x = closed-eight s v t
+    x : Eight (c .settings) (c .finality) (decode (c .registry)) (returned (closeOf c) .finality) (returned (closeOf c) .validators)
+    x = closed-eight c t
 
-each-shaped : (s : Settings) (events : List Event) → EachShaped (s .«min_per_epoch_churn_limit») (map (closeOf s) events)
-each-shaped s [] = tt
-each-shaped s (v ∷ events) = (close-shaped s v, each-shaped s events)
+each-shaped : (s : Settings) (calls : List Call) → map (λ c. c .settings) calls ≡ replicate (length calls) s → EachShaped (s .«min_per_epoch_churn_limit») (map closeOf calls)
+each-shaped s [] e = tt
+each-shaped s (c ∷ calls) e = (subst (λ (z : Settings). Shaped (z .«min_per_epoch_churn_limit») (closeOf c)) (head-eq-of-cons-eq e) (close-shaped c), each-shaped s calls (tail-eq-of-cons-eq e))
 
 -- Demand 3
 pub demand3 : Demand3
-demand3 s reading r events p = claim (s .«min_per_epoch_churn_limit») reading r (map (closeOf s) events) (each-shaped s events) p
+demand3 s w start calls e p = claim (s .«min_per_epoch_churn_limit») w start (map closeOf calls) (each-shaped s calls e) p

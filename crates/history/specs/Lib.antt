@@ -1,3 +1,2 @@
--- The statement of demand 3: who waits for activation, lists of closes, the premises and the claim.
-pub mod Waiting
-pub mod History
+-- The statement of demand 3.
+pub mod Demand3

@@ -15,7 +15,7 @@ use arithmetic::min;
 use buffers::copy;
 use entries::entry_is_eligible;
 use entries::entry_is_participating;
-use finalized::is_leaking;
+use finality::inactivity_leak;
 use finalized::registry_tests;
 use leaf_refusals::current_epoch;
 use leaf_refusals::previous_epoch;
@@ -55,7 +55,7 @@ fn new_score(s: Settings, participating: bool, leaking: bool, score: u64) -> Num
     Number::Value(recovered)
 }
 
-fn entry_update_score(
+pub fn entry_update_score(
     s: Settings,
     current_epoch: u64,
     previous_epoch: u64,
@@ -119,7 +119,7 @@ pub fn inactivity_core(
     if current == 0 {
         return 0;
     }
-    let Truth::Value(leaking) = is_leaking(s, state_slot, finalized_epoch) else {
+    let Truth::Value(leaking) = inactivity_leak(s, state_slot, finalized_epoch) else {
         return 5;
     };
     let previous = previous_epoch(s, state_slot);

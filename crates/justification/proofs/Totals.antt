@@ -14,6 +14,7 @@ use Rattle.definitions.specs.Rust.Phase0.Helpers.{«get_current_epoch», «get_
 use Rattle.definitions.specs.Rust.Phase0.EpochProcessing.{«weigh_justification_and_finalization»}
 use Rattle.definitions.specs.Rust.Altair.Helpers.{isUnslashedParticipating, «get_unslashed_participating_indices»}
 use Rattle.definitions.specs.Rust.Altair.EpochProcessing.{«process_justification_and_finalization»}
+use Rattle.justification.specs.Given.{Given}
 use Rattle.arithmetic.proofs.Operations.{OnlyOverflow, only-bind, only-sum64, only-value}
 
 pub only-total : (s : Settings) (members : List Validator) → OnlyOverflow («get_total_balance» s members)
@@ -40,6 +41,11 @@ module _ (s : Settings) (roots : List ℕ) (old : Finality) (vs : List Validator
   pub later-epochs : 1 < «get_current_epoch» s (old .slot) → «process_justification_and_finalization» s roots old vs ≡ weighedTotals s roots old vs («get_current_epoch» s (old .slot)) («get_previous_epoch» s (old .slot))
   unfolding «process_justification_and_finalization» «get_total_active_balance» «get_unslashed_participating_indices»
   later-epochs h = rw (lt-leb _ _ h)
+
+  -- by the totals themselves
+  pub weighs-given : {total previousTarget currentTarget : ℕ} → 1 < «get_current_epoch» s (old .slot) → Given s (old .slot) vs total previousTarget currentTarget → «process_justification_and_finalization» s roots old vs ≡ «weigh_justification_and_finalization» s roots old total previousTarget currentTarget
+  unfolding «process_justification_and_finalization» bind
+  weighs-given h p = rw (lt-leb _ _ h, p .active, p .previous, p .current)
 
   -- a is the answer of the code, which has worked out the two epochs
   module _ {current previous : ℕ} (l : 1 < current) (e : current ≡ «get_current_epoch» s (old .slot)) (d : previous ≡ «get_previous_epoch» s (old .slot)) where

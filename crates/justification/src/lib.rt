@@ -2,11 +2,13 @@
 ghost use mathlib.Core.Path.{_≡_};
 ghost use Rattle.definitions.specs.Answers.{finalityAnswerFor};
 ghost use Rattle.definitions.specs.Checked.{codeOf};
+ghost use Rattle.definitions.specs.LeafRefusals.{weighTests};
 ghost use Rattle.definitions.specs.Record.{decode};
 ghost use Rattle.definitions.specs.Refusals.{afterTests, justificationTests};
 ghost use Rattle.definitions.specs.Rust.Altair.EpochProcessing.{«process_justification_and_finalization»};
-use epochs::epoch_at;
-use epochs::previous_epoch_at;
+ghost use Rattle.justification.specs.Given.{JustifiesGiven};
+use leaf_refusals::current_epoch;
+use leaf_refusals::previous_epoch;
 use refusals::good_finality;
 use refusals::good_registry;
 use refusals::good_settings;
@@ -52,14 +54,14 @@ pub fn justification_core(
     ensures { λ r. ⌜ r ≡ finalityAnswerFor («process_justification_and_finalization» s (now (roots .entry)) old (decode (now (registry .entry)))) old ⌝ }
 {
     let slot = old.slot;
-    let current = epoch_at(s, slot);
+    let current = current_epoch(s, slot);
     if current <= 1 {
         return FinalityAnswer {
             refusal: 0,
             finality: old,
         };
     }
-    let previous = previous_epoch_at(s, slot);
+    let previous = previous_epoch(s, slot);
     let Number::Value(total) = total_active(s, current, registry) else {
         return FinalityAnswer {
             refusal: 5,
@@ -79,6 +81,28 @@ pub fn justification_core(
             finality: old,
         };
     };
+    weigh(s, roots, old, total, previous_target, current_target)
+}
+
+// The same for callers that have the three totals of the registry.
+pub fn justification_given(
+    s: Settings,
+    roots: &[u8],
+    old: Finality,
+    total: u64,
+    previous_target: u64,
+    current_target: u64,
+) -> FinalityAnswer
+    requires { ⌜ codeOf (weighTests s (now roots) old) ≡ 0 ⌝ }
+    ensures { λ r. ⌜ JustifiesGiven s (now (roots .entry)) old total «previous_target» «current_target» r ⌝ }
+{
+    let epoch = current_epoch(s, old.slot);
+    if epoch < 2 {
+        return FinalityAnswer {
+            refusal: 0,
+            finality: old,
+        };
+    }
     weigh(s, roots, old, total, previous_target, current_target)
 }
 

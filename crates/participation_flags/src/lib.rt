@@ -12,7 +12,7 @@ use buffers::copy;
 use refusals::good_registry;
 use refusals::registry_shaped;
 
-fn entry_rotate(entry: &mut [u64])
+pub fn entry_rotate(entry: &mut [u64])
     requires { ⌜ length (now entry) ≡ 10 ⌝ }
     ensures { λ _. ⌜ now (entry .exit) ≡ encodeOne (rotateParticipation (decodeOne (now (entry .entry)))) ⌝ }
 {

@@ -1,6 +1,3 @@
--- Laws of the header, of the tests, and of what is read and written.
-pub mod Headers
-pub mod Registry
-pub mod ReadTests
+-- Laws of what is read and written.
 pub mod Reading
 pub mod Writing

@@ -1,5 +1,6 @@
--- What a read answers and leaves, by the number that the tests gave.
+-- What a read answers and leaves, by what the tests gave.
 use mathlib.Core.Path.{_≡_, refl, sym, _∙_}
+use mathlib.Core.Bool.{true, false}
 use mathlib.Core.List.{List, [], _∷_}
 use Prim.Native.Nat.{ℕ, _+_, _-_, _*_, _^_}
 use native.Mathlib.Omega.{arith}
@@ -8,10 +9,27 @@ use lib.Dec.{leb, eqb}
 use lib.ListN.{length, take, drop}
 use Rattle.definitions.specs.Checked.{Checked, value, refused, bind, codeOf, settle}
 use Rattle.definitions.specs.Refusals.{isVectorLength, lengthIs}
-use Rattle.definitions.specs.File.{Contents, numbersFromBytes, slashingsAt, countOf, rootCountOf, slashingCountOf, rootsAt, fileLength, contentsOf, fileShaped, readTests, readFile, nothing, read}
+use Rattle.definitions.specs.File.{Contents, numbersFromBytes, slashingsAt, countOf, rootCountOf, slashingCountOf, rootsAt, fileLength, contentsOf, goodHeader, fileShaped, readTests, readFile, nothing, read}
 use Rattle.refusals.proofs.Answers.{passed}
 use Rattle.round_trip.proofs.Tests.{tests}
 use Rattle.round_trip.proofs.Passed.{Passed, read-passed, good-header}
+use Rattle.record_file.specs.declared.Header.{Header}
+use Rattle.record_file.specs.Answers.{noHeader, headerRead}
+
+-- The header
+
+abbrev headerOf : ℕ → ℕ → ℕ → Header
+headerOf n S L = record { refusal = 0; validators = n; roots = S; slashings = L }
+
+pub header-refused : (bytes : List ℕ) → goodHeader bytes ≡ false → noHeader ≡ headerRead bytes
+unfolding headerRead
+header-refused bytes g = rw g
+
+pub header-accepted : (bytes : List ℕ) {n S L : ℕ} → goodHeader bytes ≡ true → n ≡ countOf bytes → S ≡ rootCountOf bytes → L ≡ slashingCountOf bytes → headerOf n S L ≡ headerRead bytes
+unfolding headerRead
+header-accepted bytes g n S L = rw (g, n, S, L)
+
+-- The whole file
 
 code-bind : {A : Type 0} (m : Checked (Unit {0})) (a : A) → codeOf (bind m (λ _. value a)) ≡ codeOf m
 unfolding bind

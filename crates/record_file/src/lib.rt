@@ -1,13 +1,9 @@
 // A record file read and written over lent bytes and buffers: all of it is tested before anything is written.
 ghost use mathlib.Core.Path.{_≡_};
 ghost use mathlib.Core.List.{[]};
-ghost use Prim.Native.Nat.{_+_, _*_, _^_, _≤_, _<_};
-ghost use lib.Dec.{eqb};
-ghost use lib.ListN.{length, drop};
-ghost use Rattle.definitions.specs.Record.{decode};
 ghost use Rattle.definitions.specs.Checked.{value, codeOf};
-ghost use Rattle.definitions.specs.File.{fileLength, header, settingsFrom, noFinality, numbersFromBytes, sameNumbers, fileShaped, stoppedAt, read, fileOf, writeTests, written};
-ghost use Rattle.record_file.specs.Answers.{noHeader, headerRead, limitAt, Answered, contentsWith, writeShaped};
+ghost use Rattle.definitions.specs.File.{settingsFrom, noFinality, read, fileOf, writeTests, written};
+ghost use Rattle.record_file.specs.Answers.{noHeader, headerRead, contentsWith};
 use types::Checkpoint;
 use types::Finality;
 use types::Settings;
@@ -21,64 +17,6 @@ pub struct Header {
     pub validators: u64,
     pub roots: u64,
     pub slashings: u64,
-}
-
-// Whether a file is as long as its counts call for. Each count is compared with what is left of the length, so nothing wraps.
-fn as_long(length: u64, validators: u64, roots: u64, slashings: u64) -> bool
-    ensures { λ r. ⌜ r ≡ eqb length (fileLength validators roots slashings) ⌝ }
-{
-    if length < 368 {
-        return false;
-    }
-    let from_validators = length - 368;
-    if from_validators / 80 < validators {
-        return false;
-    }
-    let from_roots = from_validators - 80 * validators;
-    if from_roots / 32 < roots {
-        return false;
-    }
-    let from_slashings = from_roots - 32 * roots;
-    if from_slashings / 8 < slashings {
-        return false;
-    }
-    if from_slashings != 8 * slashings {
-        return false;
-    }
-    true
-}
-
-fn header_of(validators: u64, roots: u64, slashings: u64) -> [u64; 10]
-    requires { ⌜ fileLength validators roots slashings < 2 ^ 64 ⌝ }
-    ensures { λ r. ⌜ r ≡ header validators roots slashings ⌝ }
-{
-    let roots_at = 368 + 80 * validators;
-    let slashings_at = roots_at + 32 * roots;
-    let end = slashings_at + 8 * slashings;
-    [
-        1,
-        end,
-        validators,
-        roots,
-        slashings,
-        80,
-        232,
-        368,
-        roots_at,
-        slashings_at,
-    ]
-}
-
-fn same_numbers(a: &[u64], b: &[u64]) -> bool
-    requires { ⌜ length (now a) ≡ length (now b) ⌝ }
-    ensures { λ r. ⌜ r ≡ sameNumbers (now (a .entry)) (now (b .entry)) ⌝ }
-{
-    for i in 0..a.len() {
-        if a[i] != b[i] {
-            return false;
-        }
-    }
-    true
 }
 
 fn no_header() -> Header
@@ -95,144 +33,15 @@ fn no_header() -> Header
 pub fn read_header(bytes: &[u8]) -> Header
     ensures { λ r. ⌜ r ≡ headerRead (now (bytes .entry)) ⌝ }
 {
-    if bytes.len() < 80 {
+    if !file_header::good_header(bytes) {
         return no_header();
     }
-    let mut found = [0u64; 10];
-    fields::read_numbers(bytes, 0, &mut found);
-    let validators = found[2];
-    let roots = found[3];
-    let slashings = found[4];
-    if !as_long(bytes.len() as u64, validators, roots, slashings) {
-        return no_header();
-    }
-    let called_for = header_of(validators, roots, slashings);
-    if !same_numbers(&found, &called_for) {
-        return no_header();
-    }
+    let counts = file_header::read_counts(bytes);
     Header {
         refusal: 0,
-        validators,
-        roots,
-        slashings,
-    }
-}
-
-// The tests of reading
-
-// The most that a validator's number at a place may be.
-fn limit(place: usize) -> u64
-    ensures { λ r. ⌜ r ≡ limitAt place ⌝ }
-{
-    match place {
-        1 => 1,
-        7 => 255,
-        8 => 255,
-        _ => 18446744073709551615,
-    }
-}
-
-// The offset of the first bad number of the first bad validator, or of the end of the registry.
-fn first_bad(bytes: &[u8], validators: usize) -> usize
-    requires { ⌜ 368 + 80 * validators ≤ length (now bytes) ⌝ }
-    ensures { λ r. ⌜ r ≡ stoppedAt 368 (decode (numbersFromBytes (10 * validators) (drop 368 (now (bytes .entry))))) ⌝ }
-{
-    let mut stopped = 368 + 80 * validators;
-    'validators: for i in 0..validators {
-        for k in 0..10 {
-            let at = 368 + 80 * i + 8 * k;
-            if limit(k) < fields::number_at(bytes, at) {
-                stopped = at;
-                break 'validators;
-            }
-        }
-    }
-    stopped
-}
-
-// Test 1.
-fn file_shaped(bytes: &[u8], registry: &[u64], slashings: &[u64]) -> bool
-    requires { ⌜ 368 ≤ length (now bytes) ⌝ }
-    ensures { λ r. ⌜ r ≡ fileShaped (now (bytes .entry)) (now (registry .entry)) (now (slashings .entry)) ⌝ }
-{
-    let validators = fields::number_at(bytes, 16);
-    let root_count = fields::number_at(bytes, 24);
-    let slashing_count = fields::number_at(bytes, 32);
-    let s = fields::read_settings(bytes);
-    if 16777216 < validators {
-        return false;
-    }
-    if root_count != s.slots_per_historical_root {
-        return false;
-    }
-    if slashing_count != s.epochs_per_slashings_vector {
-        return false;
-    }
-    if !refusals::settings_shaped(s) {
-        return false;
-    }
-    if registry.len() as u64 != 10 * validators {
-        return false;
-    }
-    if slashings.len() as u64 != slashing_count {
-        return false;
-    }
-    true
-}
-
-struct Tested {
-    refusal: u64,
-    position: u64,
-}
-
-// 6, then 1, 2, 3.
-fn read_tests(bytes: &[u8], registry: &[u64], slashings: &[u64]) -> Tested
-    ensures { λ r. ⌜ Answered (now (bytes .entry)) (now (registry .entry)) (now (slashings .entry)) (r .refusal) (r .position) ⌝ }
-{
-    if bytes.len() < 80 {
-        return Tested {
-            refusal: 6,
-            position: 0,
-        };
-    }
-    let header = read_header(bytes);
-    if header.refusal != 0 {
-        return Tested {
-            refusal: 6,
-            position: 80,
-        };
-    }
-    if !file_shaped(bytes, registry, slashings) {
-        return Tested {
-            refusal: 1,
-            position: 232,
-        };
-    }
-    let settings = fields::read_settings(bytes);
-    if !refusals::good_settings(settings) {
-        return Tested {
-            refusal: 2,
-            position: 232,
-        };
-    }
-    let finality = fields::read_finality(bytes);
-    if !refusals::good_finality(finality) {
-        return Tested {
-            refusal: 3,
-            position: 368,
-        };
-    }
-    let validators = header.validators as usize;
-    let stopped = first_bad(bytes, validators);
-    if stopped != 368 + 80 * validators {
-        return Tested {
-            refusal: 3,
-            position: stopped as u64,
-        };
-    }
-    Tested {
-        refusal: 0,
-        position: bytes.len() as u64,
+        validators: counts.validators,
+        roots: counts.roots,
+        slashings: counts.slashings,
     }
 }
 
@@ -298,7 +107,7 @@ pub fn read_file(bytes: &[u8], registry: &mut [u64], slashings: &mut [u64]) -> R
     ensures { λ _. ⌜ now (registry .exit) ≡ read (now (bytes .entry)) (now (registry .entry)) (now (slashings .entry)) .contents .registry ⌝ }
     ensures { λ _. ⌜ now (slashings .exit) ≡ read (now (bytes .entry)) (now (registry .entry)) (now (slashings .entry)) .contents .slashings ⌝ }
 {
-    let tested = read_tests(bytes, &registry[..], &slashings[..]);
+    let tested = file_refusals::read_tests(bytes, &registry[..], &slashings[..]);
     if tested.refusal != 0 {
         return ReadAnswer {
             refusal: tested.refusal,
@@ -324,7 +133,7 @@ pub fn read_file(bytes: &[u8], registry: &mut [u64], slashings: &mut [u64]) -> R
 pub fn file_roots<'a>(bytes: &'a [u8], registry: &[u64], slashings: &[u64]) -> &'a [u8]
     ensures { λ r. ⌜ now r ≡ read (now (bytes .entry)) (now (registry .entry)) (now (slashings .entry)) .contents .roots ⌝ }
 {
-    let tested = read_tests(bytes, registry, slashings);
+    let tested = file_refusals::read_tests(bytes, registry, slashings);
     if tested.refusal != 0 {
         return &bytes[0..0];
     }
@@ -334,64 +143,6 @@ pub fn file_roots<'a>(bytes: &'a [u8], registry: &[u64], slashings: &[u64]) -> &
 }
 
 // Writing
-
-// Test 1.
-fn write_shaped(
-    settings: Settings,
-    registry: &[u64],
-    roots: &[u8],
-    slashings: &[u64],
-    file: &[u8],
-) -> bool
-    ensures { λ r. ⌜ r ≡ writeShaped settings (now (registry .entry)) (now (roots .entry)) (now (slashings .entry)) (now (file .entry)) ⌝ }
-{
-    if !refusals::settings_shaped(settings) {
-        return false;
-    }
-    if !refusals::registry_shaped(registry) {
-        return false;
-    }
-    let root_count = settings.slots_per_historical_root;
-    let slashing_count = settings.epochs_per_slashings_vector;
-    if roots.len() as u64 != 32 * root_count {
-        return false;
-    }
-    if slashings.len() as u64 != slashing_count {
-        return false;
-    }
-    as_long(
-        file.len() as u64,
-        (registry.len() / 10) as u64,
-        root_count,
-        slashing_count,
-    )
-}
-
-// 1, then 2, 3.
-fn write_tests(
-    settings: Settings,
-    finality: Finality,
-    registry: &[u64],
-    roots: &[u8],
-    slashings: &[u64],
-    file: &[u8],
-) -> u64
-    ensures { λ r. ⌜ r ≡ codeOf (writeTests (contentsWith settings finality (now (registry .entry)) (now (roots .entry)) (now (slashings .entry))) (now (file .entry))) ⌝ }
-{
-    if !write_shaped(settings, registry, roots, slashings, file) {
-        return 1;
-    }
-    if !refusals::good_settings(settings) {
-        return 2;
-    }
-    if !refusals::good_finality(finality) {
-        return 3;
-    }
-    if !refusals::good_registry(registry) {
-        return 3;
-    }
-    0
-}
 
 // Part by part, each behind the one before.
 fn put_record(
@@ -408,7 +159,7 @@ fn put_record(
     let validators = registry.len() / 10;
     let roots_at = 368 + 80 * validators;
     let slashings_at = roots_at + roots.len();
-    let head = header_of(
+    let head = file_header::header_of(
         validators as u64,
         settings.slots_per_historical_root,
         settings.epochs_per_slashings_vector,
@@ -432,7 +183,14 @@ pub fn write_file(
     ensures { λ r. ⌜ r ≡ codeOf (writeTests (contentsWith settings finality (now (registry .entry)) (now (roots .entry)) (now (slashings .entry))) (now (file .entry))) ⌝ }
     ensures { λ _. ⌜ now (file .exit) ≡ written (contentsWith settings finality (now (registry .entry)) (now (roots .entry)) (now (slashings .entry))) (now (file .entry)) ⌝ }
 {
-    let refusal = write_tests(settings, finality, registry, roots, slashings, &file[..]);
+    let refusal = file_refusals::write_tests(
+        settings,
+        finality,
+        registry,
+        roots,
+        slashings,
+        &file[..],
+    );
     if refusal != 0 {
         return refusal;
     }

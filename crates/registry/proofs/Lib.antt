@@ -2,3 +2,5 @@
 pub mod Epochs
 pub mod Churn
 pub mod Turns
+pub mod Step
+pub mod Total

@@ -1,70 +1,136 @@
--- What the code's ways through a turn, and through the step, give.
-use mathlib.Core.Path.{_≡_, sym, ap, _∙_}
-use mathlib.Core.Bool.{Bool, true, false}
+-- One validator's turn by the exit queue's pair: what the code's ways through it give, and that it is the rescanning turn while the pair tracks
+-- the registry. The loop keeps that.
+use mathlib.Core.Path.{_≡_, refl, sym, ap, _∙_}
+use mathlib.Core.Bool.{Bool, true, false, cond}
 use mathlib.Core.List.{List}
-use Prim.Native.Nat.{ℕ, _+_, _*_, _<_}
+use Prim.Native.Nat.{ℕ, _+_, _*_, _≤_, _<_}
 use native.Mathlib.Omega.{arith}
-use lib.ListN.{length, getD, set, length-set}
+use lib.ListN.{length, getD, set}
+use lib.Seq.{getD-set-same, set-set}
 use Rattle.types.specs.declared.Settings.{Settings}
 use Rattle.definitions.specs.Lists.{range}
-use Rattle.definitions.specs.Record.{Validator, decodeOne, encodeOne, encode, decode, nobody}
-use Rattle.definitions.specs.Checked.{Checked, value, bind, foldChecked}
-use Rattle.definitions.specs.Document.Phase0.EpochProcessing.{queueEligible, isEjected, dequeued}
-use Rattle.definitions.specs.Rust.Phase0.Helpers.{«get_current_epoch», «get_validator_churn_limit»}
-use Rattle.definitions.specs.Rust.Phase0.EpochProcessing.{«process_registry_updates»}
-use Rattle.laws.proofs.Encode.{length-encode, length-decode, decode-encode}
+use Rattle.definitions.specs.Record.{Validator, «FAR_FUTURE_EPOCH», decodeOne, encodeOne, decode, nobody}
+use Rattle.definitions.specs.Updates.{withEligibility}
+use Rattle.definitions.specs.Checked.{Checked, value, bind, codeOf, settle, foldChecked}
+use Rattle.definitions.specs.Document.Phase0.Helpers.{«is_eligible_for_activation_queue»}
+use Rattle.definitions.specs.Document.Phase0.EpochProcessing.{queueEligible, isEjected}
+use Rattle.laws.proofs.Checked.{value-same}
+use Rattle.laws.proofs.Encode.{length-decode}
 use Rattle.loops.specs.Ran.{Ran}
-use Rattle.loops.proofs.Entry.{entryAt, putAt, entry-is, entry-back}
-use Rattle.loops.proofs.Ran.{ran-value, ran-gave, ran-next, ran-stop}
+use Rattle.loops.proofs.Entry.{entryAt, putAt, entry-ten}
+use Rattle.loops.proofs.Iterated.{Iterated, iterated-none, iterated-more, iterated-stop, iterated-all}
 use Rattle.exits.specs.Exits.{exitAt}
-use Rattle.registry.specs.Updates.{updateAt}
-use Rattle.registry.proofs.Epochs.{Epochs}
-use Rattle.registry.proofs.Churn.{updates-by-numbers, limit-kept}
+use Rattle.exit_queue.specs.declared.ExitQueue.{ExitQueue}
+use Rattle.exit_queue.specs.declared.Turn.{Turn}
+use Rattle.exit_queue.specs.Queue.{Tracks, exitBy, moved}
+use Rattle.exit_queue.specs.Turns.{Exits, Turns}
+use Rattle.exit_queue.proofs.Tracks.{tracks-kept, tracks-few}
+use Rattle.exit_queue.proofs.Exits.{exit-tracked, exit-keeps}
+use Rattle.exit_queue.proofs.Turns.{moved-none, moved-from, turn-ran, turn-tracks}
+use Rattle.registry.specs.Updates.{updateAt, turnBy}
 
--- The turn: the eligibility epoch is written, and the part came back as e
-module _ (s : Settings) (epoch least limit n : ℕ) (xs : List ℕ) (i : ℕ) (long : length xs ≡ 10 * n) (l : i < n) {e : List ℕ} (h : e ≡ encodeOne (queueEligible s epoch (decodeOne (entryAt xs i)))) where
-  eligible : Validator
-  eligible = queueEligible s epoch (getD (decode xs) i nobody)
+-- eligibility leaves the exit epoch as it is
+eligible-exit : (s : Settings) (epoch : ℕ) (v : Validator) → queueEligible s epoch v .«exit_epoch» ≡ v .«exit_epoch»
+unfolding queueEligible
+eligible-exit s epoch v = go («is_eligible_for_activation_queue» s v)
+  where
+    go : (t : Bool) → cond t (withEligibility (epoch + 1) v) v .«exit_epoch» ≡ v .«exit_epoch»
+    go true = refl
+    go false = refl
 
-  written : putAt xs i e ≡ encode (set (decode xs) i eligible)
-  unfolding eligible
-  written = entry-back n xs i long l eligible (h ∙ ap (λ (v : Validator). encodeOne (queueEligible s epoch v)) (entry-is n xs i long l))
+module _ (s : Settings) (epoch limit : ℕ) (q : ExitQueue) where
+  abbrev delay : ℕ
+  delay = s .«min_validator_withdrawability_delay»
 
-  queued : decode (putAt xs i e) ≡ set (decode xs) i eligible
-  queued = ap decode written ∙ decode-encode (set (decode xs) i eligible)
+  abbrev eligible : Validator → Validator
+  eligible v = queueEligible s epoch v
 
-  turn-long : length (putAt xs i e) ≡ 10 * n
-  turn-long = rw (written, length-encode (set (decode xs) i eligible)) (simp length-set (omega (arith, length-decode n xs long)))
+  -- The eligibility epoch is written, and the ten numbers are e. Whether the validator is ejected is b.
+  module _ (before : List ℕ) {e : List ℕ} (h : e ≡ encodeOne (eligible (decodeOne before))) {b : Bool} (k : b ≡ isEjected s epoch (decodeOne e)) where
+    ejected : {t : Bool} → b ≡ t → isEjected s epoch (eligible (decodeOne before)) ≡ t
+    ejected z = sym (ap (λ (xs : List ℕ). isEjected s epoch (decodeOne xs)) h) ∙ sym k ∙ z
 
-  module _ {b : Bool} (q : b ≡ isEjected s epoch (decodeOne (entryAt (putAt xs i e) i))) where
-    ejected : b ≡ isEjected s epoch (getD (set (decode xs) i eligible) i nobody)
-    ejected = q ∙ ap (isEjected s epoch) (entry-is n (putAt xs i e) i turn-long l ∙ ap (λ (vs : List Validator). getD vs i nobody) queued)
+    stays : b ≡ false → turnBy s epoch limit q (decodeOne before) ≡ value (eligible (decodeOne before))
+    unfolding turnBy
+    stays z = rw (ejected z)
 
-    pub turn-stays : b ≡ false → Ran (updateAt s epoch least limit (decode xs) i) (putAt xs i e) 0
-    unfolding updateAt eligible
-    turn-stays t = rw (sym ejected ∙ t) (ran-value written)
+    exits : b ≡ true → turnBy s epoch limit q (decodeOne before) ≡ exitBy limit delay q (eligible (decodeOne before))
+    unfolding turnBy
+    exits z = rw (ejected z)
 
-    pub turn-ejects : b ≡ true → {ys : List ℕ} {r : ℕ} → Ran (exitAt least limit (s .«min_validator_withdrawability_delay») (decode (putAt xs i e)) i) ys r → Ran (updateAt s epoch least limit (decode xs) i) ys r
-    unfolding updateAt eligible
-    turn-ejects t k = rw (sym ejected ∙ t) (rw queued at k)
+    pub turn-stays : b ≡ false → Turns (turnBy s epoch limit q) q before e (record { refusal = 0; queue = q })
+    turn-stays z =
+        let v = decodeOne before in
+        record {
+          code = ap codeOf (sym (stays z));
+          held = λ w g. h ∙ ap encodeOne (value-same (sym (stays z) ∙ g));
+          queue = λ w g. sym (moved-none q v w (ap (λ (u : Validator). u .«exit_epoch») (sym (value-same (sym (stays z) ∙ g))) ∙ eligible-exit s epoch v));
+        }
 
--- The step: the loop has left ys and answered r
-module _ (s : Settings) (stateSlot finalizedEpoch : ℕ) (xs : List ℕ) {epoch limit : ℕ} (p : Epochs s stateSlot) (now : epoch ≡ «get_current_epoch» s stateSlot) (churn : limit ≡ «get_validator_churn_limit» s stateSlot (decode xs)) where
-  abbrev least : ℕ → ℕ
-  least epoch = epoch + 1 + s .«max_seed_lookahead»
+    pub turn-exits : b ≡ true → {after : List ℕ} {r : Turn} → Exits (exitBy limit delay q) q e after r → Turns (turnBy s epoch limit q) q before after r
+    turn-exits z {after} {r} x =
+        let v = decodeOne before in
+        let y : Exits (exitBy limit delay q) q (encodeOne (eligible v)) after r = rw h at x in
+        record {
+          code = y .settles .code ∙ ap codeOf (sym (exits z));
+          held = λ w g. y .settles .held ∙ ap (λ (m : Checked Validator). encodeOne (settle m (eligible v))) (sym (exits z) ∙ g);
+          queue = λ w g. y .queue ∙ ap (λ (m : Checked Validator). moved q (eligible v) (settle m (eligible v))) (sym (exits z) ∙ g) ∙ moved-from q (eligible v) v w (eligible-exit s epoch v);
+        }
 
-  abbrev loop : ℕ → Checked (List Validator)
-  loop epoch = foldChecked (updateAt s epoch (least epoch) limit) (decode xs) (range 0 (length (decode xs)))
+  pub turn-keeps : (v w : Validator) → turnBy s epoch limit q v ≡ value w → (v .«exit_epoch» ≡ «FAR_FUTURE_EPOCH» → ⊥) → w .«exit_epoch» ≡ v .«exit_epoch»
+  unfolding turnBy
+  turn-keeps v w g f = go (isEjected s epoch (eligible v)) g ∙ eligible-exit s epoch v
+    where
+      go : (t : Bool) → cond t (exitBy limit delay q (eligible v)) (value (eligible v)) ≡ value w → w .«exit_epoch» ≡ eligible v .«exit_epoch»
+      go true g = exit-keeps limit delay q (eligible v) w g (λ z. f (sym (eligible-exit s epoch v) ∙ z))
+      go false g = ap (λ (u : Validator). u .«exit_epoch») (sym (value-same g))
 
-  as-written : «process_registry_updates» s stateSlot finalizedEpoch (decode xs) ≡ bind (loop epoch) (λ queued. value (dequeued (least epoch) («get_validator_churn_limit» s stateSlot queued) finalizedEpoch queued))
-  unfolding «process_registry_updates» bind
-  as-written = rw (p .least, updates-by-numbers s stateSlot (p .least) (p .small) (omega arith) (decode xs) (sym churn) (range 0 (length (decode xs))), now)
+  pub turn-tracked : {least : ℕ} {vs : List Validator} → Tracks least vs q → (i : ℕ) → i < length vs → updateAt s epoch least limit vs i ≡ bind (turnBy s epoch limit q (getD vs i nobody)) (λ w. value (set vs i w))
+  unfolding updateAt turnBy bind
+  turn-tracked {least} {vs} t i l = rw same (go (isEjected s epoch u))
+    where
+      u : Validator
+      u = eligible (getD vs i nobody)
 
-  module _ {ys : List ℕ} {r : ℕ} (h : Ran (loop epoch) ys r) where
-    pub step-stops : {zs : List ℕ} → (r ≡ 0 → ⊥) → Ran («process_registry_updates» s stateSlot finalizedEpoch (decode xs)) zs r
-    step-stops z = rw as-written (ran-stop h _ z)
+      same : getD (set vs i u) i nobody ≡ u
+      same = getD-set-same vs i u nobody l
 
-    pub step-ends : {zs : List ℕ} → r ≡ 0 → zs ≡ encode (dequeued (least epoch) limit finalizedEpoch (decode ys)) → Ran («process_registry_updates» s stateSlot finalizedEpoch (decode xs)) zs 0
-    step-ends z k =
-        let kept = limit-kept s stateSlot (p .least) (p .small) (omega arith) limit (decode xs) (range 0 (length (decode xs))) (ran-gave (rw now at h) z) in
-        rw as-written (ran-next h _ z (rw (kept, ← churn) (ran-value k)))
+      go : (b : Bool) → cond b (exitAt least limit delay (set vs i u) i) (value (set vs i u)) ≡ bind (cond b (exitBy limit delay q u) (value u)) (λ w. value (set vs i w))
+      go true = exit-tracked least limit delay (tracks-kept t i u (eligible-exit s epoch (getD vs i nobody))) i ∙ rw same (simp set-set)
+      go false = refl
+
+-- The registry xs and the pair q after i turns that were not refused
+pub record Updating (s : Settings) (epoch least limit n : ℕ) (xs₀ : List ℕ) (i : ℕ) (xs : List ℕ) (q : ExitQueue) : Type 0 where
+  pub iterated : Iterated (updateAt s epoch least limit) n xs₀ i xs
+  pub tracked : Tracks least (decode xs) q
+
+pub updating-none : (s : Settings) (epoch limit : ℕ) {least n : ℕ} {xs₀ : List ℕ} {q : ExitQueue} → length xs₀ ≡ 10 * n → Tracks least (decode xs₀) q → Updating s epoch least limit n xs₀ 0 xs₀ q
+updating-none s epoch limit h t = record { iterated = iterated-none _ h; tracked = t }
+
+module _ {s : Settings} {epoch least limit n : ℕ} {xs₀ : List ℕ} {i : ℕ} {xs : List ℕ} {q : ExitQueue} (g : Updating s epoch least limit n xs₀ i xs q) where
+  pub updating-few : q .number ≤ n
+  updating-few = let f = tracks-few (g .tracked) in omega (arith, length-decode n xs (g .iterated .long))
+
+  pub updating-all : n ≤ i → Ran (foldChecked (updateAt s epoch least limit) (decode xs₀) (range 0 (length (decode xs₀)))) xs 0
+  updating-all l = iterated-all (g .iterated) l
+
+  module _ (l : i < n) where
+    pub updating-ten : length (entryAt xs i) ≡ 10
+    updating-ten = entry-ten n xs i (g .iterated .long) l
+
+    -- the part came back as e, and the answer is r
+    module _ {e : List ℕ} {r : Turn} (h : Turns (turnBy s epoch limit q) q (entryAt xs i) e r) where
+      ran : Ran (updateAt s epoch least limit (decode xs) i) (putAt xs i e) (r .refusal)
+      ran =
+          rw (turn-tracked s epoch limit q (g .tracked) i (omega (arith, length-decode n xs (g .iterated .long))))
+          (turn-ran (turnBy s epoch limit q) n xs i (g .iterated .long) l h)
+
+      pub updating-more : r .refusal ≡ 0 → length (putAt xs i e) ≡ length xs → Updating s epoch least limit n xs₀ (i + 1) (putAt xs i e) (r .queue)
+      updating-more z k =
+          record {
+            iterated = iterated-more (g .iterated) l ran z k;
+            tracked = turn-tracks (turnBy s epoch limit q) n xs i (g .iterated .long) l h (g .tracked) (turn-keeps s epoch limit q (getD (decode xs) i nobody)) z;
+          }
+
+      pub updating-stop : {zs : List ℕ} → (r .refusal ≡ 0 → ⊥) → Ran (foldChecked (updateAt s epoch least limit) (decode xs₀) (range 0 (length (decode xs₀)))) zs (r .refusal)
+      updating-stop z = iterated-stop (g .iterated) l ran z

@@ -2,15 +2,27 @@
 -- `least` its activation exit epoch, `limit` the churn limit. proofs/Churn.antt: it is the Rust's turn, all through the loop.
 use mathlib.Core.Bool.{cond}
 use mathlib.Core.List.{List}
-use Prim.Native.Nat.{ℕ}
+use Prim.Native.Nat.{ℕ, _+_}
 use lib.ListN.{getD, set}
 use Rattle.types.specs.declared.Settings.{Settings}
 use Rattle.definitions.specs.Record.{Validator, nobody}
 use Rattle.definitions.specs.Checked.{Checked, value}
 use Rattle.definitions.specs.Document.Phase0.EpochProcessing.{queueEligible, isEjected}
 use Rattle.exits.specs.Exits.{exitAt}
+use Rattle.exit_queue.specs.declared.ExitQueue.{ExitQueue}
+use Rattle.exit_queue.specs.Queue.{exitBy}
+
+-- the activation exit epoch of an epoch
+abbrev pub leastExit : Settings → ℕ → ℕ
+leastExit s epoch = epoch + 1 + s .«max_seed_lookahead»
 
 unfoldable pub updateAt : Settings → ℕ → ℕ → ℕ → List Validator → ℕ → Checked (List Validator)
 updateAt s epoch least limit vs index =
     let queued = set vs index (queueEligible s epoch (getD vs index nobody)) in
     cond (isEjected s epoch (getD queued index nobody)) (exitAt least limit (s .«min_validator_withdrawability_delay») queued index) (value queued)
+
+-- the same turn on one validator, by the exit queue's pair. proofs/Turns.antt: it is updateAt's, all through the loop.
+unfoldable pub turnBy : Settings → ℕ → ℕ → ExitQueue → Validator → Checked Validator
+turnBy s epoch limit q v =
+    let queued = queueEligible s epoch v in
+    cond (isEjected s epoch queued) (exitBy limit (s .«min_validator_withdrawability_delay») q queued) (value queued)

@@ -1,4 +1,5 @@
-// process_registry_updates: eligibility and ejection in register order, then activation.
+// process_registry_updates: eligibility and ejection in register order, then activation. Passes over the registry: one that counts the
+// active and makes the exit queue's pair, one for the turns, and those of activation.
 ghost use mathlib.Core.Path.{_≡_};
 ghost use mathlib.Core.Bool.{true};
 ghost use Prim.Native.Nat.{_*_, _/_, _^_, _<_};
@@ -11,15 +12,20 @@ ghost use Rattle.definitions.specs.Document.Phase0.EpochProcessing.{queueEligib
 ghost use Rattle.definitions.specs.Rust.Phase0.EpochProcessing.{«process_registry_updates»};
 ghost use Rattle.loops.specs.Ran.{Ran};
 ghost use Rattle.buffers.specs.Closes.{Closes};
-ghost use Rattle.registry.specs.Updates.{updateAt};
+ghost use Rattle.exit_queue.specs.Queue.{Tracks};
+ghost use Rattle.exit_queue.specs.Turns.{Turns};
+ghost use Rattle.registry.specs.Updates.{leastExit, updateAt, turnBy};
 use activation::activate;
+use arithmetic::max;
 use buffers::copy;
 use entries::entry_is_active;
 use entries::entry_is_eligible_for_activation_queue;
-use exits::exit_at;
+use exit_queue::ExitQueue;
+use exit_queue::Turn;
+use exit_queue::count_exits;
+use exit_queue::exit_entry;
 use finalized::registry_tests;
 use leaf_refusals::current_epoch;
-use totals::churn_limit;
 use types::Settings;
 
 fn entry_queue_eligible(s: Settings, epoch: u64, entry: &mut [u64])
@@ -42,45 +48,43 @@ fn entry_is_ejected(s: Settings, epoch: u64, entry: &[u64]) -> bool
     entry[0] <= s.ejection_balance
 }
 
-// One validator's turn. An ejection rescans the exit epochs as they stand now.
-fn update_at(
-    s: Settings,
-    epoch: u64,
-    least: u64,
-    limit: u64,
-    registry: &mut [u64],
-    n: usize,
-    index: usize,
-) -> u64
-    requires { ⌜ (length (now registry) ≡ 10 * n) × (index < n) × (epoch < 2 ^ 48) ⌝ }
-    ensures { λ r. ⌜ Ran (updateAt s epoch least limit (decode (now (registry .entry))) index) (now (registry .exit)) r ⌝ }
+// One validator's turn. An ejection takes its epoch from the exit queue's pair.
+fn update_entry(s: Settings, epoch: u64, limit: u64, queue: ExitQueue, entry: &mut [u64]) -> Turn
+    requires { ⌜ (length (now entry) ≡ 10) × (epoch < 2 ^ 48) × (queue .number < 18446744073709551615) ⌝ }
+    ensures { λ r. ⌜ Turns (turnBy s epoch limit queue) queue (now (entry .entry)) (now (entry .exit)) r ⌝ }
 {
-    let a = 10 * index;
-    let b = a + 10;
-    entry_queue_eligible(s, epoch, &mut registry[a..b]);
-    if !entry_is_ejected(s, epoch, &registry[a..b]) {
-        return 0;
+    entry_queue_eligible(s, epoch, entry);
+    if !entry_is_ejected(s, epoch, &entry[..]) {
+        return Turn {
+            refusal: 0,
+            queue: queue,
+        };
     }
     let delay = s.min_validator_withdrawability_delay;
-    exit_at(registry, n, index, least, limit, delay)
+    exit_entry(entry, queue, limit, delay)
 }
 
 fn update_all(
     s: Settings,
     epoch: u64,
-    least: u64,
     limit: u64,
+    first: ExitQueue,
     registry: &mut [u64],
     n: usize,
 ) -> u64
-    requires { ⌜ (length (now registry) ≡ 10 * n) × (epoch < 2 ^ 48) ⌝ }
-    ensures { λ r. ⌜ Ran (foldChecked (updateAt s epoch least limit) (decode (now (registry .entry))) (range 0 (length (decode (now (registry .entry)))))) (now (registry .exit)) r ⌝ }
+    requires { ⌜ (length (now registry) ≡ 10 * n) × (epoch < 2 ^ 48) × Tracks (leastExit s epoch) (decode (now registry)) first ⌝ }
+    ensures { λ r. ⌜ Ran (foldChecked (updateAt s epoch (leastExit s epoch) limit) (decode (now (registry .entry))) (range 0 (length (decode (now (registry .entry)))))) (now (registry .exit)) r ⌝ }
 {
+    let mut queue = first;
     for i in 0..n {
-        let refusal = update_at(s, epoch, least, limit, registry, n, i);
+        let a = 10 * i;
+        let b = a + 10;
+        let turn = update_entry(s, epoch, limit, queue, &mut registry[a..b]);
+        let refusal = turn.refusal;
         if refusal != 0 {
             return refusal;
         }
+        queue = turn.queue;
     }
     0
 }
@@ -99,9 +103,13 @@ pub fn registry_core(
 {
     let n = registry.len() / 10;
     let epoch = current_epoch(s, state_slot);
-    let limit = churn_limit(s, state_slot, &registry[..]);
     let least = epoch + 1 + s.max_seed_lookahead;
-    let refusal = update_all(s, epoch, least, limit, registry, n);
+    let counts = count_exits(&registry[..], n, epoch, least);
+    let limit = max(
+        s.min_per_epoch_churn_limit,
+        counts.active / s.churn_limit_quotient,
+    );
+    let refusal = update_all(s, epoch, limit, counts.queue, registry, n);
     if refusal != 0 {
         return refusal;
     }

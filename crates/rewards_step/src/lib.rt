@@ -15,7 +15,7 @@ ghost use Rattle.flag_rewards.specs.Totals.{flagTotalsOf};
 use arithmetic::mul64;
 use base_rewards::base_reward_per_increment;
 use buffers::copy;
-use finalized::is_leaking;
+use finality::inactivity_leak;
 use finalized::registry_tests;
 use leaf_refusals::current_epoch;
 use leaf_refusals::previous_epoch;
@@ -130,7 +130,7 @@ pub fn rewards_core(
     let Number::Value(total) = total_active(s, current, registry) else {
         return 5;
     };
-    let Truth::Value(leaking) = is_leaking(s, state_slot, finalized_epoch) else {
+    let Truth::Value(leaking) = inactivity_leak(s, state_slot, finalized_epoch) else {
         return 5;
     };
     let Number::Value(target) = total_participating(s, current, 1, previous, registry) else {

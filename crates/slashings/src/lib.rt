@@ -43,7 +43,7 @@ pub fn slashed_balance(slashings: &[u64]) -> Number
 }
 
 // The epoch is compared only where the validator is slashed, and the penalty worked out only where it is due.
-fn entry_slash(s: Settings, epoch: u64, total: u64, adjusted: u64, entry: &mut [u64]) -> u64
+pub fn entry_slash(s: Settings, epoch: u64, total: u64, adjusted: u64, entry: &mut [u64]) -> u64
     requires { ⌜ (length (now entry) ≡ 10) × (0 < s .«effective_balance_increment») × (0 < total) ⌝ }
     ensures { λ r. ⌜ Settles (slash s epoch total adjusted) (now (entry .entry)) (now (entry .exit)) r ⌝ }
 {

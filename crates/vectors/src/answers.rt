@@ -108,7 +108,8 @@ fn checkpoint_stands(p: Checkpoint, words: &[u64], bytes: &[u8], at: usize) -> b
     check::same(&root, bytes_part(bytes, past(at, 1, words.len()), 32))
 }
 
-fn finality_stands(f: Finality, words: &[u64], bytes: &[u8], at: usize) -> bool {
+// The finality is that of seventeen words at a place.
+pub fn finality_stands(f: Finality, words: &[u64], bytes: &[u8], at: usize) -> bool {
     if word(words, at, 0) != f.slot {
         return false;
     }

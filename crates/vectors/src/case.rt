@@ -20,7 +20,8 @@ pub struct Case {
     pub is_whole: bool,
 }
 
-fn whole_words(bytes: usize) -> usize {
+// How many words hold so many bytes.
+pub fn whole_words(bytes: usize) -> usize {
     let n = bytes / 8;
     if bytes % 8 == 0 {
         return n;
@@ -28,7 +29,8 @@ fn whole_words(bytes: usize) -> usize {
     n + 1
 }
 
-fn counted(words: &[u64], at: usize, counts: usize) -> usize {
+// The count at a place, where one stands there.
+pub fn counted(words: &[u64], at: usize, counts: usize) -> usize {
     if counts == 0 {
         return 0;
     }
@@ -36,7 +38,7 @@ fn counted(words: &[u64], at: usize, counts: usize) -> usize {
 }
 
 // Where a set of settings stands: after the block's two counts. At the block's start where the leaf is handed none.
-fn settings_at(words: &[u64], at: usize, handed: usize) -> usize {
+fn settings_place(words: &[u64], at: usize, handed: usize) -> usize {
     if handed == 0 {
         return 0;
     }
@@ -86,7 +88,7 @@ fn is_whole(leaf: u64, settings: usize, last: usize, end: usize) -> bool {
 pub fn read_case(words: &[u64], at: usize, end: usize) -> Case {
     let leaf = word(words, at, 0);
     let first = past(at, 2, end);
-    let settings = settings_at(words, first, shape::settings_words(leaf));
+    let settings = settings_place(words, first, shape::settings_words(leaf));
     let roots_count = past(first, shape::settings_words(leaf), end);
     let roots_bytes = counted(words, roots_count, shape::roots_counts(leaf));
     let roots = past(roots_count, shape::roots_counts(leaf), end);

@@ -37,14 +37,18 @@ fn settings_of(w: &[u64]) -> Settings
     }
 }
 
-pub fn settings(c: Case, words: &[u64]) -> Settings {
-    let at = c.settings;
+// The settings of nineteen words at a place; zeros where they do not lie inside.
+pub fn settings_at(words: &[u64], at: usize) -> Settings {
     let w = part(words, at, 19);
     if w.len() != 19 {
         let zeros = [0u64; 19];
         return settings_of(&zeros);
     }
     settings_of(w)
+}
+
+pub fn settings(c: Case, words: &[u64]) -> Settings {
+    settings_at(words, c.settings)
 }
 
 pub fn number(c: Case, words: &[u64], k: usize) -> u64 {
@@ -99,8 +103,8 @@ fn checkpoint(words: &[u64], bytes: &[u8], at: usize) -> Checkpoint {
     }
 }
 
-pub fn finality(c: Case, words: &[u64], bytes: &[u8]) -> Finality {
-    let at = c.finality;
+// The finality of seventeen words at a place.
+pub fn finality_at(words: &[u64], bytes: &[u8], at: usize) -> Finality {
     let previous = checkpoint(words, bytes, past(at, 2, words.len()));
     let current = checkpoint(words, bytes, past(at, 7, words.len()));
     let finalized = checkpoint(words, bytes, past(at, 12, words.len()));
@@ -111,4 +115,8 @@ pub fn finality(c: Case, words: &[u64], bytes: &[u8]) -> Finality {
         current_justified_checkpoint: current,
         finalized_checkpoint: finalized,
     }
+}
+
+pub fn finality(c: Case, words: &[u64], bytes: &[u8]) -> Finality {
+    finality_at(words, bytes, c.finality)
 }

@@ -9,9 +9,9 @@ ghost use Rattle.definitions.specs.LeafRefusals.{weighTests};
 ghost use Rattle.definitions.specs.Rust.Phase0.EpochProcessing.{isJustified, «weigh_justification_and_finalization»};
 ghost use Rattle.weighing.specs.Tests.{testEpoch, epochTestFor};
 use arithmetic::mul64;
-use epochs::epoch_at;
-use epochs::previous_epoch_at;
 use finality::weighed;
+use leaf_refusals::current_epoch;
+use leaf_refusals::previous_epoch;
 use refusals::good_finality;
 use refusals::good_settings;
 use refusals::in_order;
@@ -122,8 +122,8 @@ pub fn weigh(
     ensures { λ r. ⌜ r ≡ finalityAnswerFor («weigh_justification_and_finalization» s (now (roots .entry)) old total previous current) old ⌝ }
 {
     let slot = old.slot;
-    let previous_epoch = previous_epoch_at(s, slot);
-    let current_epoch = epoch_at(s, slot);
+    let previous_epoch = previous_epoch(s, slot);
+    let current_epoch = current_epoch(s, slot);
     let p = test_epoch(s, roots, slot, previous_epoch, previous, total);
     if p.refusal != 0 {
         return FinalityAnswer {

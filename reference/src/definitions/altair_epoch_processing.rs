@@ -1,7 +1,7 @@
 //! Rust/Altair/EpochProcessing.antt.
 use super::{
     altair_helpers::{
-        flag_index_deltas, flag_totals, get_inactivity_penalty_deltas, get_unslashed_participating_indices,
+        flag_index_deltas, flag_totals, get_unslashed_participating_indices, inactivity_penalty_deltas,
         is_unslashed_participating, Deltas, FlagTotals, TIMELY_HEAD_FLAG_INDEX, TIMELY_SOURCE_FLAG_INDEX,
         TIMELY_TARGET_FLAG_INDEX,
     },
@@ -54,10 +54,14 @@ fn recovered_score(s: &Settings, leaking: bool, score: Nat) -> Nat {
     }
 }
 
-fn update_inactivity_score(s: &Settings, state_slot: Nat, leaking: bool, v: &Validator) -> Checked<Validator> {
-    let previous_epoch = get_previous_epoch(s, state_slot);
-    let participating =
-        is_unslashed_participating(get_current_epoch(s, state_slot), TIMELY_TARGET_FLAG_INDEX, previous_epoch, v);
+fn update_inactivity_score(
+    s: &Settings,
+    current_epoch: Nat,
+    previous_epoch: Nat,
+    leaking: bool,
+    v: &Validator,
+) -> Checked<Validator> {
+    let participating = is_unslashed_participating(current_epoch, TIMELY_TARGET_FLAG_INDEX, previous_epoch, v);
     if !is_eligible(previous_epoch, v) {
         return Ok(*v);
     }
@@ -71,11 +75,12 @@ pub fn process_inactivity_updates(
     finalized_epoch: Nat,
     vs: &[Validator],
 ) -> Checked<Vec<Validator>> {
-    if get_current_epoch(s, state_slot) == GENESIS_EPOCH {
+    let current_epoch = get_current_epoch(s, state_slot);
+    if current_epoch == GENESIS_EPOCH {
         return Ok(vs.to_vec());
     }
     let leaking = is_in_inactivity_leak(s, state_slot, finalized_epoch)?;
-    map_checked(|v| update_inactivity_score(s, state_slot, leaking, v), vs)
+    map_checked(|v| update_inactivity_score(s, current_epoch, get_previous_epoch(s, state_slot), leaking, v), vs)
 }
 
 fn apply_delta(v: Validator, d: Deltas) -> Checked<Validator> {
@@ -83,19 +88,22 @@ fn apply_delta(v: Validator, d: Deltas) -> Checked<Validator> {
     Ok(decrease_balance(&w, d.penalty))
 }
 
+#[allow(clippy::too_many_arguments)]
 fn reward_and_penalize(
     s: &Settings,
     quotient: Nat,
-    state_slot: Nat,
+    current_epoch: Nat,
+    previous_epoch: Nat,
     source: &FlagTotals,
     target: &FlagTotals,
     head: &FlagTotals,
     v: &Validator,
 ) -> Checked<Validator> {
-    let a = flag_index_deltas(s, state_slot, TIMELY_SOURCE_FLAG_INDEX, source, v)?;
-    let b = flag_index_deltas(s, state_slot, TIMELY_TARGET_FLAG_INDEX, target, v)?;
-    let c = flag_index_deltas(s, state_slot, TIMELY_HEAD_FLAG_INDEX, head, v)?;
-    let d = get_inactivity_penalty_deltas(s, quotient, state_slot, v)?;
+    let deltas = |flag_index, t| flag_index_deltas(s, current_epoch, previous_epoch, flag_index, t, v);
+    let a = deltas(TIMELY_SOURCE_FLAG_INDEX, source)?;
+    let b = deltas(TIMELY_TARGET_FLAG_INDEX, target)?;
+    let c = deltas(TIMELY_HEAD_FLAG_INDEX, head)?;
+    let d = inactivity_penalty_deltas(s, quotient, current_epoch, previous_epoch, v)?;
     fold_checked(apply_delta, *v, [a, b, c, d])
 }
 
@@ -107,13 +115,15 @@ pub fn process_rewards_and_penalties(
     vs: &[Validator],
 ) -> Checked<Vec<Validator>> {
     let totals = |flag_index| flag_totals(s, state_slot, finalized_epoch, vs, flag_index);
-    if get_current_epoch(s, state_slot) == GENESIS_EPOCH {
+    let current_epoch = get_current_epoch(s, state_slot);
+    if current_epoch == GENESIS_EPOCH {
         return Ok(vs.to_vec());
     }
     let source = totals(TIMELY_SOURCE_FLAG_INDEX)?;
     let target = totals(TIMELY_TARGET_FLAG_INDEX)?;
     let head = totals(TIMELY_HEAD_FLAG_INDEX)?;
-    map_checked(|v| reward_and_penalize(s, quotient, state_slot, &source, &target, &head, v), vs)
+    let previous_epoch = get_previous_epoch(s, state_slot);
+    map_checked(|v| reward_and_penalize(s, quotient, current_epoch, previous_epoch, &source, &target, &head, v), vs)
 }
 
 fn is_slashing_due(s: &Settings, epoch: Nat, v: &Validator) -> Checked<bool> {
@@ -163,12 +173,11 @@ pub fn process_slashings(
     map_checked(|v| slash(s, get_current_epoch(s, state_slot), total_balance, product.min(total_balance), v), vs)
 }
 
+/// The document's.
+fn rotate_participation(v: &Validator) -> Validator {
+    Validator { previous_epoch_participation: v.current_epoch_participation, current_epoch_participation: 0, ..*v }
+}
+
 pub fn process_participation_flag_updates(vs: &[Validator]) -> Vec<Validator> {
-    vs.iter()
-        .map(|v| Validator {
-            previous_epoch_participation: v.current_epoch_participation,
-            current_epoch_participation: 0,
-            ..*v
-        })
-        .collect()
+    vs.iter().map(rotate_participation).collect()
 }

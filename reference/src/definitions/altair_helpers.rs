@@ -102,14 +102,14 @@ fn miss_deltas(flag_index: Nat, weight: Nat, base_reward: Nat) -> Checked<Deltas
 
 pub fn flag_index_deltas(
     s: &Settings,
-    state_slot: Nat,
+    current_epoch: Nat,
+    previous_epoch: Nat,
     flag_index: Nat,
     t: &FlagTotals,
     v: &Validator,
 ) -> Checked<Deltas> {
     let weight = PARTICIPATION_FLAG_WEIGHTS.get(flag_index as usize).copied().unwrap_or(0);
-    let previous_epoch = get_previous_epoch(s, state_slot);
-    let participates = is_unslashed_participating(get_current_epoch(s, state_slot), flag_index, previous_epoch, v);
+    let participates = is_unslashed_participating(current_epoch, flag_index, previous_epoch, v);
     if !is_eligible(previous_epoch, v) {
         return Ok(NO_DELTAS);
     }
@@ -130,17 +130,25 @@ pub fn get_flag_index_deltas(
     v: &Validator,
 ) -> Checked<Deltas> {
     let t = flag_totals(s, state_slot, finalized_epoch, vs, flag_index)?;
-    flag_index_deltas(s, state_slot, flag_index, &t, v)
+    flag_index_deltas(s, get_current_epoch(s, state_slot), get_previous_epoch(s, state_slot), flag_index, &t, v)
 }
 
-pub fn get_inactivity_penalty_deltas(s: &Settings, quotient: Nat, state_slot: Nat, v: &Validator) -> Checked<Deltas> {
-    let previous_epoch = get_previous_epoch(s, state_slot);
-    let matching =
-        is_unslashed_participating(get_current_epoch(s, state_slot), TIMELY_TARGET_FLAG_INDEX, previous_epoch, v);
+pub fn inactivity_penalty_deltas(
+    s: &Settings,
+    quotient: Nat,
+    current_epoch: Nat,
+    previous_epoch: Nat,
+    v: &Validator,
+) -> Checked<Deltas> {
+    let matching = is_unslashed_participating(current_epoch, TIMELY_TARGET_FLAG_INDEX, previous_epoch, v);
     if !(is_eligible(previous_epoch, v) && !matching) {
         return Ok(NO_DELTAS);
     }
     let numerator = mul64(v.effective_balance, v.inactivity_score)?;
     let denominator = mul64(s.inactivity_score_bias, quotient)?;
     Ok(Deltas { reward: 0, penalty: numerator / denominator })
+}
+
+pub fn get_inactivity_penalty_deltas(s: &Settings, quotient: Nat, state_slot: Nat, v: &Validator) -> Checked<Deltas> {
+    inactivity_penalty_deltas(s, quotient, get_current_epoch(s, state_slot), get_previous_epoch(s, state_slot), v)
 }

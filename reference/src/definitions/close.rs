@@ -16,40 +16,52 @@ use super::{
         settings_shaped, slashings_reset_tests, slashings_shaped, slashings_tests,
     },
 };
-use crate::calls::{Call, Operation, Outcome, STEPS};
+use crate::calls::{steps, Call, Operation, Outcome};
 
 fn with_validators(vs: Vec<Validator>, st: BeaconState) -> BeaconState {
     BeaconState { validators: vs, ..st }
 }
 
+fn on_validators(st: BeaconState, closing: Checked<Vec<Validator>>) -> Checked<BeaconState> {
+    Ok(with_validators(closing?, st))
+}
+
+fn finalized_epoch_of(st: &BeaconState) -> Nat {
+    st.finality.finalized_checkpoint.epoch
+}
+
 fn step(s: &Settings, st: BeaconState, step: Operation) -> Checked<BeaconState> {
     let slot = st.finality.slot;
-    let finalized_epoch = st.finality.finalized_checkpoint.epoch;
+    let finalized_epoch = finalized_epoch_of(&st);
     let vs = &st.validators;
-    match step {
+    let closing = match step {
         Operation::Justification => {
             let finality = process_justification_and_finalization(s, &st.block_roots, &st.finality, vs)?;
-            Ok(BeaconState { finality, ..st })
+            return Ok(BeaconState { finality, ..st });
         }
-        Operation::Inactivity => Ok(with_validators(process_inactivity_updates(s, slot, finalized_epoch, vs)?, st)),
+        Operation::Inactivity => process_inactivity_updates(s, slot, finalized_epoch, vs),
         Operation::Rewards => {
             let quotient = s.inactivity_penalty_quotient_altair;
-            Ok(with_validators(process_rewards_and_penalties(s, quotient, slot, finalized_epoch, vs)?, st))
+            process_rewards_and_penalties(s, quotient, slot, finalized_epoch, vs)
         }
-        Operation::Registry => Ok(with_validators(process_registry_updates(s, slot, finalized_epoch, vs)?, st)),
+        Operation::Registry => process_registry_updates(s, slot, finalized_epoch, vs),
         Operation::Slashings => {
             let multiplier = s.proportional_slashing_multiplier_altair;
-            Ok(with_validators(process_slashings(s, multiplier, slot, &st.slashings, vs)?, st))
+            process_slashings(s, multiplier, slot, &st.slashings, vs)
         }
-        Operation::EffectiveBalances => Ok(with_validators(process_effective_balance_updates(s, vs)?, st)),
-        Operation::SlashingsReset => Ok(BeaconState { slashings: reset_slashings(s, slot, &st.slashings), ..st }),
-        Operation::ParticipationFlags => Ok(with_validators(process_participation_flag_updates(vs), st)),
-        Operation::Close => process_epoch(s, st),
-    }
+        Operation::EffectiveBalances => process_effective_balance_updates(s, vs),
+        Operation::SlashingsReset => {
+            let slashings = reset_slashings(s, slot, &st.slashings);
+            return Ok(BeaconState { slashings, ..st });
+        }
+        Operation::ParticipationFlags => Ok(process_participation_flag_updates(vs)),
+        Operation::Close => return process_epoch(s, st),
+    };
+    on_validators(st, closing)
 }
 
 fn close_up_to(n: usize, s: &Settings, st: BeaconState) -> Checked<BeaconState> {
-    fold_checked(|st, which| step(s, st, which), st, STEPS.into_iter().take(n))
+    fold_checked(|st, which| step(s, st, which), st, steps().take(n))
 }
 
 fn process_epoch(s: &Settings, st: BeaconState) -> Checked<BeaconState> {

@@ -3,6 +3,7 @@ use super::{edge, record, Kind};
 use crate::{
     random::Random,
     record::{at, of, write_file, Record, FAR, SMALL},
+    refusals::DIVISORS,
 };
 
 /// A record of another kind with one or two numbers out of range, or a part of the wrong length.
@@ -24,14 +25,7 @@ pub fn damage(rng: &mut Random, r: &mut Record) {
             r.settings[k] = large(rng);
         }
         1 | 2 => {
-            let k = rng.pick(&[
-                at::SLOTS_PER_EPOCH,
-                at::INCREMENT,
-                at::HYSTERESIS_QUOTIENT,
-                at::BIAS,
-                at::PENALTY_QUOTIENT,
-                at::CHURN_QUOTIENT,
-            ]);
+            let k = rng.pick(&DIVISORS);
             r.settings[k] = 0;
         }
         3 => r.settings[rng.pick(&[at::S, at::L])] = rng.pick(&[0, 65537, 7, SMALL, FAR]),

@@ -3,6 +3,7 @@ use super::{assemble, damage::damage, edge, epoch_of, finality, registry, roots,
 use crate::{
     random::Random,
     record::{at, of, Finality, Record, Settings, FAR, MAINNET, SMALL},
+    refusals::DIVISORS,
 };
 
 /// Epochs at the edges of the tests that read them.
@@ -84,17 +85,7 @@ fn move_setting(rng: &mut Random, s: &mut Settings) {
         2 => rng.any_size() % SMALL,
         _ => rng.below(3),
     };
-    if s[k] == 0
-        && [
-            at::SLOTS_PER_EPOCH,
-            at::INCREMENT,
-            at::HYSTERESIS_QUOTIENT,
-            at::BIAS,
-            at::PENALTY_QUOTIENT,
-            at::CHURN_QUOTIENT,
-        ]
-        .contains(&k)
-    {
+    if s[k] == 0 && DIVISORS.contains(&k) {
         s[k] = 1;
     }
 }

@@ -80,42 +80,37 @@ pub fn with_only<R>(index: ValidatorIndex, run: impl FnOnce() -> R) -> R {
     run()
 }
 
-/// phase0's, or the total that a leaf is handed.
-pub fn get_total_active_balance<
-    const S: usize,
-    const A: usize,
-    const B: usize,
-    const C: usize,
-    const D: usize,
-    const L: usize,
-    const E: usize,
-    const F: usize,
->(
-    state: &BeaconState<S, A, B, C, D, L, E, F>,
-    context: &Context,
-) -> Result<Gwei> {
+/// A function that the four files call, over a state of any sizes.
+macro_rules! over_states {
+    ($name:ident<$a:lifetime>($state:ident, $context:ident) -> $answer:ty $body:block) => {
+        pub fn $name<
+            $a,
+            const S: usize,
+            const A: usize,
+            const B: usize,
+            const C: usize,
+            const D: usize,
+            const L: usize,
+            const E: usize,
+            const F: usize,
+        >(
+            $state: &$a BeaconState<S, A, B, C, D, L, E, F>,
+            $context: &Context,
+        ) -> $answer $body
+    };
+}
+
+// phase0's, or the total that a leaf is handed
+over_states!(get_total_active_balance<'a>(state, context) -> Result<Gwei> {
     match TOTAL.get() {
         Some(total) => Ok(total),
         None => crate::phase0::helpers::get_total_active_balance(state, context),
     }
-}
+});
 
-/// phase0's, less all but one where a leaf asks for one validator.
-pub fn get_eligible_validator_indices<
-    'a,
-    const S: usize,
-    const A: usize,
-    const B: usize,
-    const C: usize,
-    const D: usize,
-    const L: usize,
-    const E: usize,
-    const F: usize,
->(
-    state: &'a BeaconState<S, A, B, C, D, L, E, F>,
-    context: &Context,
-) -> impl Iterator<Item = ValidatorIndex> + 'a {
+// phase0's, less all but one where a leaf asks for one validator
+over_states!(get_eligible_validator_indices<'a>(state, context) -> impl Iterator<Item = ValidatorIndex> + 'a {
     let only = ONLY.get();
     crate::phase0::helpers::get_eligible_validator_indices(state, context)
         .filter(move |&i| only.is_none_or(|one| one == i))
-}
+});

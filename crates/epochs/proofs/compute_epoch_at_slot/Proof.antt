@@ -11,13 +11,13 @@ settings-refusal-requires c κs = search needs
 returns : tie.Need-returns
 returns c = refused-says _ (c .before .settings-refusal .ensures) _ (c .if1 .taken)
 
-epoch-at-requires : tie.Need-epoch-at-requires
-epoch-at-requires c κs = settings-passed _ (c .before .settings-refusal .ensures) (c .if1 .left) .good .positive .«slots_per_epoch»
+current-epoch-requires : tie.Need-current-epoch-requires
+current-epoch-requires c κs = settings-passed _ (c .before .settings-refusal .ensures) (c .if1 .left) .good .positive .«slots_per_epoch»
 
 returns-2 : tie.Need-returns-2
 unfolding «get_current_epoch»
-returns-2 c = then-says _ (c .before .before .settings-refusal .ensures) (c .before .if1 .left) (c .epoch-at .ensures)
+returns-2 c = then-says _ (c .before .before .settings-refusal .ensures) (c .before .if1 .left) (c .current-epoch .ensures)
 
 pub compute-epoch-at-slot-spec : {M : Type 1} → statement M
 compute-epoch-at-slot-spec =
-    tie.close (tie.spec settings-refusal-requires returns epoch-at-requires returns-2)
+    tie.close (tie.spec settings-refusal-requires returns current-epoch-requires returns-2)

@@ -10,12 +10,12 @@ slot-refusal-requires c κs = search needs
 returns : tie.Need-returns
 returns c = refused-says _ (c .before .slot-refusal .ensures) _ (c .if1 .taken)
 
-previous-epoch-at-requires : tie.Need-previous-epoch-at-requires
-previous-epoch-at-requires c κs = slot-passed _ _ (c .before .slot-refusal .ensures) (c .if1 .left) .settings .good .positive .«slots_per_epoch»
+previous-epoch-requires : tie.Need-previous-epoch-requires
+previous-epoch-requires c κs = slot-passed _ _ (c .before .slot-refusal .ensures) (c .if1 .left) .settings .good .positive .«slots_per_epoch»
 
 returns-2 : tie.Need-returns-2
-returns-2 c = then-says _ (c .before .before .slot-refusal .ensures) (c .before .if1 .left) (c .previous-epoch-at .ensures)
+returns-2 c = then-says _ (c .before .before .slot-refusal .ensures) (c .before .if1 .left) (c .previous-epoch .ensures)
 
 pub get-previous-epoch-spec : {M : Type 1} → statement M
 get-previous-epoch-spec =
-    tie.close (tie.spec slot-refusal-requires returns previous-epoch-at-requires returns-2)
+    tie.close (tie.spec slot-refusal-requires returns previous-epoch-requires returns-2)

@@ -10,27 +10,23 @@ use Rattle.fields.proofs.read_numbers.Statement.{statement}
 use Rattle.fields.proofs.read_numbers.Tie as tie
 
 abbrev Inv-loop : tie.InvT-loop
-Inv-loop bytes at numbers₀ i₀ i-end numbers i =
-    (i ≤ length numbers₀) × Storing numbers₀ 0 (numbersFromBytes (length numbers₀) (drop at bytes)) numbers i (numbersFromBytes (length numbers₀ - i) (drop (at + 8 * i) bytes))
+Inv-loop bytes at numbers₀ position₀ i₀ i-end numbers position i =
+    (i ≤ length numbers₀)
+    × (position ≡ at + 8 * i)
+    × Storing numbers₀ 0 (numbersFromBytes (length numbers₀) (drop at bytes)) numbers i (numbersFromBytes (length numbers₀ - i) (drop (at + 8 * i) bytes))
 
 abbrev μ-loop : tie.MeasureT-loop
-μ-loop bytes at numbers₀ i₀ i-end numbers i = length numbers₀ - i
+μ-loop bytes at numbers₀ position₀ i₀ i-end numbers position i = length numbers₀ - i
 
 loop-holds : tie.Need-loop-holds Inv-loop μ-loop
 loop-holds c =
     let a = c .before .before .args in
     let m : length (a .numbers .now) - 0 ≡ length (a .numbers .now) = omega arith in
     let k : a .at + 0 ≡ a .at = omega arith in
-    (omega arith, rw (m, k) (storing-none _ _ _ _ refl))
+    (omega arith, omega arith, rw (m, k) (storing-none _ _ _ _ refl))
 
-mul-from : tie.Need-mul-from Inv-loop μ-loop
-mul-from c = omega arith
-
-add-from : tie.Need-add-from Inv-loop μ-loop
-add-from c = omega arith
-
-number-at-requires : tie.Need-number-at-requires Inv-loop μ-loop
-number-at-requires c κs = omega arith
+read-number-requires : tie.Need-read-number-requires Inv-loop μ-loop
+read-number-requires c κs = omega arith
 
 mul-numbers : tie.Need-mul-numbers Inv-loop μ-loop
 mul-numbers c = omega arith
@@ -49,8 +45,9 @@ loop-again c =
     let a = c .before .before .before .before .before .args in
     let l = c .before .before .loop in (
       omega arith,
-      rw (c .number-at .ensures)
-          (storing-one (l .inv .1) _ _ _ (from-bytes-more (length (a .numbers .now)) (a .bytes .now) (a .at) (l .i) (omega arith)) (omega arith)),
+      omega arith,
+      rw (c .read-number .ensures .0, l .inv .1)
+          (storing-one (l .inv .2) _ _ _ (from-bytes-more (length (a .numbers .now)) (a .bytes .now) (a .at) (l .i) (omega arith)) (omega arith)),
     )
 
 same-length : tie.Need-same-length Inv-loop μ-loop
@@ -60,7 +57,7 @@ returns : tie.Need-returns Inv-loop μ-loop
 returns c =
     let a = c .before .before .before .before .args in
     let n = length (a .numbers .now) in
-    storing-all (c .before .loop .inv .1) (from-bytes-none n _ (c .before .loop .i) (c .loop-test .left))
+    storing-all (c .before .loop .inv .2) (from-bytes-none n _ (c .before .loop .i) (c .loop-test .left))
     ∙ sets-whole (a .numbers .now) _ (length-from-bytes n (drop (a .at) (a .bytes .now)))
 
 pub read-numbers-spec : {M : Type 1} → statement M
@@ -70,9 +67,7 @@ read-numbers-spec =
     Inv-loop
     μ-loop
     loop-holds
-    mul-from
-    add-from
-    number-at-requires
+    read-number-requires
     mul-numbers
     slice-write-numbers
     add-i

@@ -6,7 +6,7 @@ use Rattle.arithmetic.proofs.Answers.{tells-deltas, tells-truth}
 use Rattle.arithmetic.proofs.Laws.{says-value, next, stop, next-told, stop-told}
 use Rattle.base_rewards.proofs.After.{tests-refused, tests-passed}
 use Rattle.totals.proofs.Sums.{only-total}
-use Rattle.finalized.proofs.Leak.{only-leaking}
+use Rattle.finality.proofs.Passed.{only-leak}
 use Rattle.flag_rewards.proofs.Tests.{flag-passed}
 use Rattle.flag_rewards.proofs.Totals.{total-least, flag-index}
 use native.Mathlib.Omega.{arith}
@@ -52,8 +52,8 @@ returns-3 c =
     let participating = c .before .before .before .before .before .before .total-participating in
     tests-passed _ _ (c .before .before .before .before .before .before .before .before .before .before .flag-deltas-tests .ensures) (c .before .before .before .before .before .before .before .before .before .if1 .left) (flag-index _ _ _ _ _ (c .before .before .before .before .before .before .before .before .current-epoch .ensures) (c .before .before .before .before .before .before .before .previous-epoch .ensures) _ (next _ (participating .ensures) (c .before .before .before .before .participating .given .1) (stop _ (only-total _ _) (c .before .before .total-active .ensures) (c .enum-told2 .given .1) refl)))
 
-is-leaking-requires : tie.Need-is-leaking-requires
-is-leaking-requires c κs = good-settings _ (flag-passed _ _ _ _ _ _ (c .before .before .before .before .before .before .before .before .before .before .before .flag-deltas-tests .ensures) (c .before .before .before .before .before .before .before .before .before .before .if1 .left) .opened .settings .good) .positive .«slots_per_epoch»
+inactivity-leak-requires : tie.Need-inactivity-leak-requires
+inactivity-leak-requires c κs = good-settings _ (flag-passed _ _ _ _ _ _ (c .before .before .before .before .before .before .before .before .before .before .before .flag-deltas-tests .ensures) (c .before .before .before .before .before .before .before .before .before .before .if1 .left) .opened .settings .good) .positive .«slots_per_epoch»
 
 enum-known-leaking : tie.Need-enum-known-leaking
 enum-known-leaking c = search needs
@@ -65,7 +65,7 @@ returns-4 : tie.Need-returns-4
 returns-4 c =
     let participating = c .before .before .before .before .before .before .before .before .before .before .total-participating in
     let total = c .before .before .before .before .before .before .total-active in
-    tests-passed _ _ (c .before .before .before .before .before .before .before .before .before .before .before .before .before .before .flag-deltas-tests .ensures) (c .before .before .before .before .before .before .before .before .before .before .before .before .before .if1 .left) (flag-index _ _ _ _ _ (c .before .before .before .before .before .before .before .before .before .before .before .before .current-epoch .ensures) (c .before .before .before .before .before .before .before .before .before .before .before .previous-epoch .ensures) _ (next _ (participating .ensures) (c .before .before .before .before .before .before .before .before .participating .given .1) (next _ (total .ensures) (c .before .before .before .before .total .given .1) (stop-told _ (only-leaking _ _ _) (c .before .before .is-leaking .ensures) tells-truth (c .enum-told3 .given .1) refl))))
+    tests-passed _ _ (c .before .before .before .before .before .before .before .before .before .before .before .before .before .before .flag-deltas-tests .ensures) (c .before .before .before .before .before .before .before .before .before .before .before .before .before .if1 .left) (flag-index _ _ _ _ _ (c .before .before .before .before .before .before .before .before .before .before .before .before .current-epoch .ensures) (c .before .before .before .before .before .before .before .before .before .before .before .previous-epoch .ensures) _ (next _ (participating .ensures) (c .before .before .before .before .before .before .before .before .participating .given .1) (next _ (total .ensures) (c .before .before .before .before .total .given .1) (stop-told _ (only-leak _ _ _) (c .before .before .inactivity-leak .ensures) tells-truth (c .enum-told3 .given .1) refl))))
 
 mul-a : tie.Need-mul-a
 mul-a c = let p = flag-passed _ _ _ _ _ _ (c .before .before .before .before .before .before .before .before .before .before .before .before .before .before .before .flag-deltas-tests .ensures) (c .before .before .before .before .before .before .before .before .before .before .before .before .before .before .if1 .left) in omega (arith, p .inside)
@@ -97,7 +97,7 @@ returns-5 c =
     let p = flag-passed _ _ _ _ _ _ (c .before .before .before .before .before .before .before .before .before .before .before .before .before .before .before .before .before .flag-deltas-tests .ensures) (c .before .before .before .before .before .before .before .before .before .before .before .before .before .before .before .before .if1 .left) in
     let participating = c .before .before .before .before .before .before .before .before .before .before .before .before .before .total-participating in
     let total = c .before .before .before .before .before .before .before .before .before .total-active in
-    let leaking = c .before .before .before .before .before .is-leaking in
+    let leaking = c .before .before .before .before .before .inactivity-leak in
     rw (← part-decoded (a .registry .now) (a .index) nobody (p .inside))
     (tests-passed _ _ (c .before .before .before .before .before .before .before .before .before .before .before .before .before .before .before .before .before .flag-deltas-tests .ensures) (c .before .before .before .before .before .before .before .before .before .before .before .before .before .before .before .before .if1 .left) (flag-index _ _ _ _ _ (c .before .before .before .before .before .before .before .before .before .before .before .before .before .before .before .current-epoch .ensures) (c .before .before .before .before .before .before .before .before .before .before .before .before .before .before .previous-epoch .ensures) _ (next _ (participating .ensures) (c .before .before .before .before .before .before .before .before .before .before .before .participating .given .1) (next _ (total .ensures) (c .before .before .before .before .before .before .before .total .given .1) (next-told _ (leaking .ensures) tells-truth (c .before .before .before .leaking .given .1) (c .entry-flag-deltas .ensures))))))
 
@@ -117,7 +117,7 @@ get-flag-index-deltas-spec =
     enum-known-total
     enum-told-2
     returns-3
-    is-leaking-requires
+    inactivity-leak-requires
     enum-known-leaking
     enum-told-3
     returns-4

@@ -8,7 +8,7 @@ use Rattle.refusals.proofs.Laws.{good-settings}
 use Rattle.arithmetic.proofs.Answers.{tells-truth, answers-value, answers-overflow}
 use Rattle.loops.proofs.Ran.{ran-value}
 use Rattle.buffers.proofs.Chained.{ran-overflow}
-use Rattle.finalized.proofs.Leak.{only-leaking}
+use Rattle.finality.proofs.Passed.{only-leak}
 use Rattle.inactivity.proofs.inactivity_core.Statement.{statement}
 use Rattle.inactivity.proofs.inactivity_core.Tie as tie
 
@@ -19,8 +19,8 @@ returns : tie.Need-returns
 unfolding «process_inactivity_updates»
 returns c = rw (← c .before .current-epoch .ensures, c .if1 .taken) (ran-value (sym (encode-decode _ _ (c .before .before .before .pre .1))))
 
-is-leaking-requires : tie.Need-is-leaking-requires
-is-leaking-requires c κs = good-settings _ (c .before .before .before .pre .0) .positive .«slots_per_epoch»
+inactivity-leak-requires : tie.Need-inactivity-leak-requires
+inactivity-leak-requires c κs = good-settings _ (c .before .before .before .pre .0) .positive .«slots_per_epoch»
 
 enum-known-leaking : tie.Need-enum-known-leaking
 enum-known-leaking c = search needs
@@ -32,7 +32,7 @@ returns-2 : tie.Need-returns-2
 unfolding «process_inactivity_updates» bind
 returns-2 c =
     let m = c .before .before in
-    let k = answers-overflow tells-truth (m .is-leaking .ensures) (only-leaking _ _ _) (c .enum-told .given .1) .0 in
+    let k = answers-overflow tells-truth (m .inactivity-leak .ensures) (only-leak _ _ _) (c .enum-told .given .1) .0 in
     rw (← m .before .before .current-epoch .ensures, ne-eqb _ _ (m .before .if1 .left), k) (ran-overflow refl)
 
 previous-epoch-requires : tie.Need-previous-epoch-requires
@@ -50,7 +50,7 @@ returns-3 c =
     let u = c .before .before in
     let p = u .before .before in
     let m = p .before .before .before .before in
-    let k = answers-value tells-truth (m .is-leaking .ensures) (p .before .before .leaking .given .1) in
+    let k = answers-value tells-truth (m .inactivity-leak .ensures) (p .before .before .leaking .given .1) in
     rw (← m .before .before .current-epoch .ensures, ne-eqb _ _ (m .before .if1 .left), k, ← p .previous-epoch .ensures) (u .update-scores .ensures)
 
 pub inactivity-core-spec : {M : Type 1} → statement M
@@ -59,7 +59,7 @@ inactivity-core-spec =
     (tie.spec
     current-epoch-requires
     returns
-    is-leaking-requires
+    inactivity-leak-requires
     enum-known-leaking
     enum-told
     returns-2

@@ -9,17 +9,17 @@ use borrow.Author.Needs.{needs}
 use Rattle.justification.proofs.justification_core.Statement.{statement}
 use Rattle.justification.proofs.justification_core.Tie as tie
 
-epoch-at-requires : tie.Need-epoch-at-requires
-epoch-at-requires c κs = justification-passed _ _ _ _ (c .before .before .pre) .epoch
+current-epoch-requires : tie.Need-current-epoch-requires
+current-epoch-requires c κs = justification-passed _ _ _ _ (c .before .before .pre) .epoch
 
 returns : tie.Need-returns
 returns c =
     let a = c .before .before .before .before .args in
-    let l = rw (c .before .epoch-at .ensures) at (c .if1 .taken) in
+    let l = rw (c .before .current-epoch .ensures) at (c .if1 .taken) in
     hands-on (a .old) (first-epochs (a .s) (a .roots .now) (a .old) (decode (a .registry .now)) l) refl
 
-previous-epoch-at-requires : tie.Need-previous-epoch-at-requires
-previous-epoch-at-requires c κs = justification-passed _ _ _ _ (c .before .before .before .before .pre) .epoch
+previous-epoch-requires : tie.Need-previous-epoch-requires
+previous-epoch-requires c κs = justification-passed _ _ _ _ (c .before .before .before .before .pre) .epoch
 
 total-active-requires : tie.Need-total-active-requires
 total-active-requires c κs = justification-passed _ _ _ _ (c .before .before .before .before .before .pre) .shape .long
@@ -35,7 +35,7 @@ returns-2 c =
     let f = c .before .before in
     let e = f .before in
     let a = e .before .before .before .before .before .args in
-    weighs-totals (a .s) (a .roots .now) (a .old) (decode (a .registry .now)) (e .before .if1 .left) (e .before .before .epoch-at .ensures) (e .previous-epoch-at .ensures)
+    weighs-totals (a .s) (a .roots .now) (a .old) (decode (a .registry .now)) (e .before .if1 .left) (e .before .before .current-epoch .ensures) (e .previous-epoch .ensures)
     (stop _ (only-total _ _) (f .total-active .ensures) (c .enum-told .given .1) refl)
 
 total-participating-requires : tie.Need-total-participating-requires
@@ -53,7 +53,7 @@ returns-3 c =
     let f = g .before .before .before .before in
     let e = f .before in
     let a = e .before .before .before .before .before .args in
-    weighs-totals (a .s) (a .roots .now) (a .old) (decode (a .registry .now)) (e .before .if1 .left) (e .before .before .epoch-at .ensures) (e .previous-epoch-at .ensures)
+    weighs-totals (a .s) (a .roots .now) (a .old) (decode (a .registry .now)) (e .before .if1 .left) (e .before .before .current-epoch .ensures) (e .previous-epoch .ensures)
     (next _ (f .total-active .ensures) (g .before .before .total .given .1)
     (stop _ (only-total _ _) (g .total-participating .ensures) (c .enum-told2 .given .1) refl))
 
@@ -73,7 +73,7 @@ returns-4 c =
     let f = g .before .before .before .before in
     let e = f .before in
     let a = e .before .before .before .before .before .args in
-    weighs-totals (a .s) (a .roots .now) (a .old) (decode (a .registry .now)) (e .before .if1 .left) (e .before .before .epoch-at .ensures) (e .previous-epoch-at .ensures)
+    weighs-totals (a .s) (a .roots .now) (a .old) (decode (a .registry .now)) (e .before .if1 .left) (e .before .before .current-epoch .ensures) (e .previous-epoch .ensures)
     (next _ (f .total-active .ensures) (g .before .before .total .given .1)
     (next _ (g .total-participating .ensures) (h .before .before .previous-target .given .1)
     (stop _ (only-total _ _) (h .total-participating2 .ensures) (c .enum-told3 .given .1) refl)))
@@ -88,7 +88,7 @@ returns-5 c =
     let f = g .before .before .before .before in
     let e = f .before in
     let a = e .before .before .before .before .before .args in
-    weighs-totals (a .s) (a .roots .now) (a .old) (decode (a .registry .now)) (e .before .if1 .left) (e .before .before .epoch-at .ensures) (e .previous-epoch-at .ensures)
+    weighs-totals (a .s) (a .roots .now) (a .old) (decode (a .registry .now)) (e .before .if1 .left) (e .before .before .current-epoch .ensures) (e .previous-epoch .ensures)
     (next _ (f .total-active .ensures) (g .before .before .total .given .1)
     (next _ (g .total-participating .ensures) (h .before .before .previous-target .given .1)
     (next _ (h .total-participating2 .ensures) (c .before .before .current-target .given .1)
@@ -98,9 +98,9 @@ pub justification-core-spec : {M : Type 1} → statement M
 justification-core-spec =
     tie.close
     (tie.spec
-    epoch-at-requires
+    current-epoch-requires
     returns
-    previous-epoch-at-requires
+    previous-epoch-requires
     total-active-requires
     enum-known-total
     enum-told

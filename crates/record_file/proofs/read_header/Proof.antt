@@ -1,92 +1,34 @@
-use mathlib.Core.Path.{_≡_, sym, _∙_}
-use Prim.Native.Nat.{_≤_}
-use native.Mathlib.Omega.{arith}
-use borrow.Author.Tests.{eqb-true}
+use mathlib.Core.Path.{_≡_, _∙_}
+use mathlib.Core.Bool.{true}
 use borrow.Author.Needs.{needs}
-use lib.ListN.{length, getD}
-use Rattle.definitions.specs.File.{fileLength}
+use Rattle.definitions.specs.File.{goodHeader}
 use Rattle.refusals.proofs.All.{fails, passes}
-use Rattle.record_file.proofs.Headers.{header-short, header-wrong-length, header-wrong, header-right}
+use Rattle.round_trip.proofs.Passed.{good-header}
+use Rattle.record_file.proofs.Reading.{header-refused, header-accepted}
 use Rattle.record_file.proofs.read_header.Statement.{statement}
 use Rattle.record_file.proofs.read_header.Tie as tie
+
+header : (c : tie.Else1) → goodHeader (c .before .before .before .args .bytes .now) ≡ true
+header c = passes (c .before .good-header .ensures) (c .if1 .left)
+
+good-header-requires : tie.Need-good-header-requires
+good-header-requires c κs = search needs
 
 no-header-requires : tie.Need-no-header-requires
 no-header-requires c κs = search needs
 
 returns : tie.Need-returns
-returns c = c .no-header .ensures ∙ sym (header-short _ (c .before .if1 .taken))
+returns c = c .no-header .ensures ∙ header-refused _ (fails (c .before .before .good-header .ensures) (c .before .if1 .taken))
 
-slice-aggregate-read-numbers : tie.Need-slice-aggregate-read-numbers
-slice-aggregate-read-numbers c = search needs
-
-read-numbers-requires : tie.Need-read-numbers-requires
-read-numbers-requires c κs = search needs
-
-array-read-validators : tie.Need-array-read-validators
-array-read-validators c = search needs
-
-array-read-roots : tie.Need-array-read-roots
-array-read-roots c = search needs
-
-array-read-slashings : tie.Need-array-read-slashings
-array-read-slashings c = search needs
-
-as-long-requires : tie.Need-as-long-requires
-as-long-requires c κs = search needs
-
-no-header-requires-2 : tie.Need-no-header-requires-2
-no-header-requires-2 c κs = search needs
+read-counts-requires : tie.Need-read-counts-requires
+read-counts-requires c κs = good-header _ (header c) .enough
 
 returns-2 : tie.Need-returns-2
-returns-2 c = c .no-header2 .ensures ∙ sym (header-wrong-length (c .before .before .before .before .before .before .before .before .args .bytes .now) _ (c .before .before .before .before .read-numbers .ensures) (fails (c .before .before .as-long .ensures) (c .before .if2 .taken)))
-
-header-of-requires : tie.Need-header-of-requires
-header-of-requires c κs =
-    let found = c .before .before .before .read-numbers .last .1 .1 .0 in
-    let e : length (c .before .before .before .before .before .before .before .args .bytes .now) ≡ fileLength (getD found 2 0) (getD found 3 0) (getD found 4 0) = eqb-true _ _ (passes (c .before .as-long .ensures) (c .if2 .left)) in
-    omega arith
-
-slice-aggregate-same-numbers : tie.Need-slice-aggregate-same-numbers
-slice-aggregate-same-numbers c = search needs
-
-slice-aggregate-same-numbers-2 : tie.Need-slice-aggregate-same-numbers-2
-slice-aggregate-same-numbers-2 c = search needs
-
-same-numbers-requires : tie.Need-same-numbers-requires
-same-numbers-requires c κs = search needs
-
-no-header-requires-3 : tie.Need-no-header-requires-3
-no-header-requires-3 c κs = search needs
-
-returns-3 : tie.Need-returns-3
-returns-3 c =
-    let t = c .before .before .same-numbers .ensures in
-    c .no-header3 .ensures ∙ sym (header-wrong (c .before .before .before .before .before .before .before .before .before .before .before .before .before .args .bytes .now) _ (c .before .before .before .before .before .before .before .before .before .read-numbers .ensures) (fails (rw (c .before .before .before .before .before .header-of .ensures) at t) (c .before .if3 .taken)))
-
-returns-4 : tie.Need-returns-4
-returns-4 c =
-    let t = c .before .same-numbers .ensures in
-    let l : 80 ≤ length (c .before .before .before .before .before .before .before .before .before .before .before .before .args .bytes .now) = omega arith in
-    sym (header-right (c .before .before .before .before .before .before .before .before .before .before .before .before .args .bytes .now) _ (c .before .before .before .before .before .before .before .before .read-numbers .ensures) l (passes (c .before .before .before .before .before .before .as-long .ensures) (c .before .before .before .before .before .if2 .left)) (passes (rw (c .before .before .before .before .header-of .ensures) at t) (c .if3 .left)))
+returns-2 c =
+    let counts = c .read-counts .ensures in
+    header-accepted _ (header (c .before)) (counts .0) (counts .1) (counts .2)
 
 pub read-header-spec : {M : Type 1} → statement M
 read-header-spec =
     tie.close
-    (tie.spec
-    no-header-requires
-    returns
-    slice-aggregate-read-numbers
-    read-numbers-requires
-    array-read-validators
-    array-read-roots
-    array-read-slashings
-    as-long-requires
-    no-header-requires-2
-    returns-2
-    header-of-requires
-    slice-aggregate-same-numbers
-    slice-aggregate-same-numbers-2
-    same-numbers-requires
-    no-header-requires-3
-    returns-3
-    returns-4)
+    (tie.spec good-header-requires no-header-requires returns read-counts-requires returns-2)

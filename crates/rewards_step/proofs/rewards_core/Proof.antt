@@ -5,7 +5,7 @@ use Rattle.refusals.proofs.Laws.{good-settings}
 use Rattle.arithmetic.proofs.Answers.{tells-number, tells-truth}
 use Rattle.arithmetic.proofs.Laws.{says-value}
 use Rattle.totals.proofs.Sums.{only-total}
-use Rattle.finalized.proofs.Leak.{only-leaking}
+use Rattle.finality.proofs.Passed.{only-leak}
 use Rattle.flag_rewards.proofs.Totals.{total-least}
 use Rattle.rewards_step.proofs.Step.{ran-next, ran-stop, rewards-genesis, rewards-from}
 use borrow.Author.Needs.{needs}
@@ -56,8 +56,8 @@ returns-3 c =
     (ran-next _ (c .before .before .before .before .before .before .before .total-participating .ensures) tells-number (c .before .before .before .before .before .source .given .1)
     (ran-stop _ (only-total _ _) (c .before .before .total-active .ensures) tells-number (c .enum-told2 .given .1)))
 
-is-leaking-requires : tie.Need-is-leaking-requires
-is-leaking-requires c κs = good-settings _ (c .before .before .before .before .before .before .before .before .before .before .before .before .before .before .pre .0) .positive .«slots_per_epoch»
+inactivity-leak-requires : tie.Need-inactivity-leak-requires
+inactivity-leak-requires c κs = good-settings _ (c .before .before .before .before .before .before .before .before .before .before .before .before .before .before .pre .0) .positive .«slots_per_epoch»
 
 enum-known-leaking : tie.Need-enum-known-leaking
 enum-known-leaking c = search needs
@@ -73,7 +73,7 @@ returns-4 c =
     rewards-from _ _ _ _ _ (c .before .before .before .before .before .before .before .before .before .before .before .before .before .before .before .current-epoch .ensures) (c .before .before .before .before .before .before .before .before .before .before .before .before .before .previous-epoch .ensures) (c .before .before .before .before .before .before .before .before .before .before .before .before .before .before .if1 .left)
     (ran-next _ (c .before .before .before .before .before .before .before .before .before .before .before .total-participating .ensures) tells-number (c .before .before .before .before .before .before .before .before .before .source .given .1)
     (ran-next _ (c .before .before .before .before .before .before .total-active .ensures) tells-number (c .before .before .before .before .total .given .1)
-    (ran-stop _ (only-leaking _ _ _) (c .before .before .is-leaking .ensures) tells-truth (c .enum-told3 .given .1))))
+    (ran-stop _ (only-leak _ _ _) (c .before .before .inactivity-leak .ensures) tells-truth (c .enum-told3 .given .1))))
 
 total-participating-requires-2 : tie.Need-total-participating-requires-2
 total-participating-requires-2 c κs = search needs
@@ -92,7 +92,7 @@ returns-5 c =
     rewards-from _ _ _ _ _ (c .before .before .before .before .before .before .before .before .before .before .before .before .before .before .before .before .before .before .before .before .current-epoch .ensures) (c .before .before .before .before .before .before .before .before .before .before .before .before .before .before .before .before .before .before .previous-epoch .ensures) (c .before .before .before .before .before .before .before .before .before .before .before .before .before .before .before .before .before .before .before .if1 .left)
     (ran-next _ (c .before .before .before .before .before .before .before .before .before .before .before .before .before .before .before .before .total-participating .ensures) tells-number (c .before .before .before .before .before .before .before .before .before .before .before .before .before .before .source .given .1)
     (ran-next _ (c .before .before .before .before .before .before .before .before .before .before .before .total-active .ensures) tells-number (c .before .before .before .before .before .before .before .before .before .total .given .1)
-    (ran-next _ (c .before .before .before .before .before .before .before .is-leaking .ensures) tells-truth (c .before .before .before .before .before .leaking .given .1)
+    (ran-next _ (c .before .before .before .before .before .before .before .inactivity-leak .ensures) tells-truth (c .before .before .before .before .before .leaking .given .1)
     (ran-stop _ (only-total _ _) (c .before .before .total-participating2 .ensures) tells-number (c .enum-told4 .given .1)))))
 
 total-participating-requires-3 : tie.Need-total-participating-requires-3
@@ -112,7 +112,7 @@ returns-6 c =
     rewards-from _ _ _ _ _ (c .before .before .before .before .before .before .before .before .before .before .before .before .before .before .before .before .before .before .before .before .before .before .before .before .before .current-epoch .ensures) (c .before .before .before .before .before .before .before .before .before .before .before .before .before .before .before .before .before .before .before .before .before .before .before .previous-epoch .ensures) (c .before .before .before .before .before .before .before .before .before .before .before .before .before .before .before .before .before .before .before .before .before .before .before .before .if1 .left)
     (ran-next _ (c .before .before .before .before .before .before .before .before .before .before .before .before .before .before .before .before .before .before .before .before .before .total-participating .ensures) tells-number (c .before .before .before .before .before .before .before .before .before .before .before .before .before .before .before .before .before .before .before .source .given .1)
     (ran-next _ (c .before .before .before .before .before .before .before .before .before .before .before .before .before .before .before .before .total-active .ensures) tells-number (c .before .before .before .before .before .before .before .before .before .before .before .before .before .before .total .given .1)
-    (ran-next _ (c .before .before .before .before .before .before .before .before .before .before .before .before .is-leaking .ensures) tells-truth (c .before .before .before .before .before .before .before .before .before .before .leaking .given .1)
+    (ran-next _ (c .before .before .before .before .before .before .before .before .before .before .before .before .inactivity-leak .ensures) tells-truth (c .before .before .before .before .before .before .before .before .before .before .leaking .given .1)
     (ran-next _ (c .before .before .before .before .before .before .before .total-participating2 .ensures) tells-number (c .before .before .before .before .before .target .given .1)
     (ran-stop _ (only-total _ _) (c .before .before .total-participating3 .ensures) tells-number (c .enum-told5 .given .1))))))
 
@@ -131,7 +131,7 @@ returns-7 c =
     rewards-from _ _ _ _ _ (c .before .before .before .before .before .before .before .before .before .before .before .before .before .before .before .before .before .before .before .before .before .before .before .before .before .before .before .before .before .before .current-epoch .ensures) (c .before .before .before .before .before .before .before .before .before .before .before .before .before .before .before .before .before .before .before .before .before .before .before .before .before .before .before .before .previous-epoch .ensures) (c .before .before .before .before .before .before .before .before .before .before .before .before .before .before .before .before .before .before .before .before .before .before .before .before .before .before .before .before .before .if1 .left)
     (ran-next _ (c .before .before .before .before .before .before .before .before .before .before .before .before .before .before .before .before .before .before .before .before .before .before .before .before .before .before .total-participating .ensures) tells-number (c .before .before .before .before .before .before .before .before .before .before .before .before .before .before .before .before .before .before .before .before .before .before .before .before .source .given .1)
     (ran-next _ (c .before .before .before .before .before .before .before .before .before .before .before .before .before .before .before .before .before .before .before .before .before .total-active .ensures) tells-number (c .before .before .before .before .before .before .before .before .before .before .before .before .before .before .before .before .before .before .before .total .given .1)
-    (ran-next _ (c .before .before .before .before .before .before .before .before .before .before .before .before .before .before .before .before .before .is-leaking .ensures) tells-truth (c .before .before .before .before .before .before .before .before .before .before .before .before .before .before .before .leaking .given .1)
+    (ran-next _ (c .before .before .before .before .before .before .before .before .before .before .before .before .before .before .before .before .before .inactivity-leak .ensures) tells-truth (c .before .before .before .before .before .before .before .before .before .before .before .before .before .before .before .leaking .given .1)
     (ran-next _ (c .before .before .before .before .before .before .before .before .before .before .before .before .total-participating2 .ensures) tells-number (c .before .before .before .before .before .before .before .before .before .before .target .given .1)
     (ran-next _ (c .before .before .before .before .before .before .before .total-participating3 .ensures) tells-number (c .before .before .before .before .before .head .given .1)
     (c .before .before .reward-registry .ensures))))))
@@ -153,7 +153,7 @@ rewards-core-spec =
     enum-told-2
     same-length-2
     returns-3
-    is-leaking-requires
+    inactivity-leak-requires
     enum-known-leaking
     enum-told-3
     same-length-3

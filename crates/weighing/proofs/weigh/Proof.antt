@@ -3,11 +3,11 @@ use Rattle.weighing.proofs.Weighed.{previous-refused, current-refused, 
 use Rattle.weighing.proofs.weigh.Statement.{statement}
 use Rattle.weighing.proofs.weigh.Tie as tie
 
-previous-epoch-at-requires : tie.Need-previous-epoch-at-requires
-previous-epoch-at-requires c κs = weigh-passed _ _ _ (c .before .pre) .settings .good .positive .«slots_per_epoch»
+previous-epoch-requires : tie.Need-previous-epoch-requires
+previous-epoch-requires c κs = weigh-passed _ _ _ (c .before .pre) .settings .good .positive .«slots_per_epoch»
 
-epoch-at-requires : tie.Need-epoch-at-requires
-epoch-at-requires c κs = weigh-passed _ _ _ (c .before .before .pre) .settings .good .positive .«slots_per_epoch»
+current-epoch-requires : tie.Need-current-epoch-requires
+current-epoch-requires c κs = weigh-passed _ _ _ (c .before .before .pre) .settings .good .positive .«slots_per_epoch»
 
 test-epoch-requires : tie.Need-test-epoch-requires
 test-epoch-requires c κs = let p = weigh-passed _ _ _ (c .before .before .before .pre) in (p .long, p .settings .shape .roots .least)
@@ -15,7 +15,7 @@ test-epoch-requires c κs = let p = weigh-passed _ _ _ (c .before .before .befor
 returns : tie.Need-returns
 returns c =
     let a = c .before .before .before .before .before .before .args in
-    previous-refused (a .s) (a .roots .now) (a .old) (a .total) (a .previous) (a .current) (rw (c .before .before .before .before .previous-epoch-at .ensures) at (c .before .before .test-epoch .ensures)) (c .if1 .taken)
+    previous-refused (a .s) (a .roots .now) (a .old) (a .total) (a .previous) (a .current) (rw (c .before .before .before .before .previous-epoch .ensures) at (c .before .before .test-epoch .ensures)) (c .if1 .taken)
 
 test-epoch-requires-2 : tie.Need-test-epoch-requires-2
 test-epoch-requires-2 c κs = let p = weigh-passed _ _ _ (c .before .before .before .before .before .before .pre) in (p .long, p .settings .shape .roots .least)
@@ -23,8 +23,8 @@ test-epoch-requires-2 c κs = let p = weigh-passed _ _ _ (c .before .before .bef
 returns-2 : tie.Need-returns-2
 returns-2 c =
     let a = c .before .before .before .before .before .before .before .before .before .args in
-    let p = rw (c .before .before .before .before .before .before .before .previous-epoch-at .ensures) at (c .before .before .before .before .before .test-epoch .ensures) in
-    let q = rw (c .before .before .before .before .before .before .epoch-at .ensures) at (c .before .before .test-epoch2 .ensures) in
+    let p = rw (c .before .before .before .before .before .before .before .previous-epoch .ensures) at (c .before .before .before .before .before .test-epoch .ensures) in
+    let q = rw (c .before .before .before .before .before .before .current-epoch .ensures) at (c .before .before .test-epoch2 .ensures) in
     current-refused (a .s) (a .roots .now) (a .old) (a .total) (a .previous) (a .current) p (c .before .before .before .if1 .left) q (c .if2 .taken)
 
 weighed-requires : tie.Need-weighed-requires
@@ -33,17 +33,17 @@ weighed-requires c κs = let p = weigh-passed _ _ _ (c .before .before .before .
 returns-3 : tie.Need-returns-3
 returns-3 c =
     let a = c .before .before .before .before .before .before .before .before .before .before .before .before .args in
-    let p = rw (c .before .before .before .before .before .before .before .before .before .before .previous-epoch-at .ensures) at (c .before .before .before .before .before .before .before .before .test-epoch .ensures) in
-    let q = rw (c .before .before .before .before .before .before .before .before .before .epoch-at .ensures) at (c .before .before .before .before .before .test-epoch2 .ensures) in
-    let e = rw (c .before .before .before .before .before .before .before .before .before .before .previous-epoch-at .ensures, c .before .before .before .before .before .before .before .before .before .epoch-at .ensures) at (c .weighed .ensures) in
+    let p = rw (c .before .before .before .before .before .before .before .before .before .before .previous-epoch .ensures) at (c .before .before .before .before .before .before .before .before .test-epoch .ensures) in
+    let q = rw (c .before .before .before .before .before .before .before .before .before .current-epoch .ensures) at (c .before .before .before .before .before .test-epoch2 .ensures) in
+    let e = rw (c .before .before .before .before .before .before .before .before .before .before .previous-epoch .ensures, c .before .before .before .before .before .before .before .before .before .current-epoch .ensures) at (c .weighed .ensures) in
     both-tested (a .s) (a .roots .now) (a .old) (a .total) (a .previous) (a .current) p (c .before .before .before .before .before .before .if1 .left) q (c .before .before .before .if2 .left) e
 
 pub weigh-spec : {M : Type 1} → statement M
 weigh-spec =
     tie.close
     (tie.spec
-    previous-epoch-at-requires
-    epoch-at-requires
+    previous-epoch-requires
+    current-epoch-requires
     test-epoch-requires
     returns
     test-epoch-requires-2

@@ -1,0 +1,411 @@
+/* The Altair epoch close: every function of the static library.
+ *
+ * Link target/staticlib/libexports.a (`rt staticlib exports` makes it), for x86-64:
+ *
+ *     cc -o close_record bindings/c/close_record.c target/staticlib/libexports.a
+ *
+ * Each function is proved to give what its definition says, for every input: nothing traps, nothing is kept between calls,
+ * and nothing but the named buffers is written. C must see to what no proof can: a pointer points to as many elements as the
+ * length behind it says and is not NULL, and a buffer that is written overlaps no other buffer of the call.
+ *
+ * An answer's `refusal` is 0, or the number of the first test that failed:
+ *   1  a length, a vector's size or an index is not the one called for
+ *   2  a setting is 0 where it divides, or 2^48 or more
+ *   3  a slot, epoch, bit field or flag of the record is out of range
+ *   4  a block root is wanted that the record does not keep
+ *   5  a sum, product or difference that is evaluated leaves 64 bits
+ *   6  a record file's header is not as it must be
+ * Where it is not 0, the values beside it are zeros, unless a line below says otherwise.
+ */
+#ifndef ALTAIR_H
+#define ALTAIR_H
+
+#include <stddef.h>
+#include <stdint.h>
+
+#ifdef __cplusplus
+extern "C" {
+#endif
+
+/* The number of this interface. altair_version() answers the number of the library that was linked. */
+#define ALTAIR_VERSION 1
+
+/* 2^64 - 1, which means none. */
+#define ALTAIR_FAR_FUTURE_EPOCH UINT64_MAX
+
+enum altair_refusal {
+    ALTAIR_ACCEPTED = 0,
+    ALTAIR_BAD_SHAPE = 1,
+    ALTAIR_BAD_SETTINGS = 2,
+    ALTAIR_BAD_RECORD = 3,
+    ALTAIR_NO_ROOT = 4,
+    ALTAIR_OVERFLOW = 5,
+    ALTAIR_BAD_FILE = 6
+};
+
+/* A validator is ten numbers of the registry; validator i has those from ALTAIR_VALIDATOR_LENGTH * i on. */
+enum altair_validator {
+    ALTAIR_EFFECTIVE_BALANCE,
+    ALTAIR_SLASHED,
+    ALTAIR_ACTIVATION_ELIGIBILITY_EPOCH,
+    ALTAIR_ACTIVATION_EPOCH,
+    ALTAIR_EXIT_EPOCH,
+    ALTAIR_WITHDRAWABLE_EPOCH,
+    ALTAIR_BALANCE,
+    ALTAIR_PREVIOUS_EPOCH_PARTICIPATION,
+    ALTAIR_CURRENT_EPOCH_PARTICIPATION,
+    ALTAIR_INACTIVITY_SCORE,
+    ALTAIR_VALIDATOR_LENGTH
+};
+
+/* The nineteen settings of a network. */
+typedef struct altair_settings {
+    uint64_t slots_per_epoch;
+    uint64_t slots_per_historical_root;
+    uint64_t epochs_per_slashings_vector;
+    uint64_t effective_balance_increment;
+    uint64_t max_effective_balance;
+    uint64_t hysteresis_quotient;
+    uint64_t hysteresis_downward_multiplier;
+    uint64_t hysteresis_upward_multiplier;
+    uint64_t base_reward_factor;
+    uint64_t min_epochs_to_inactivity_penalty;
+    uint64_t inactivity_score_bias;
+    uint64_t inactivity_score_recovery_rate;
+    uint64_t inactivity_penalty_quotient_altair;
+    uint64_t proportional_slashing_multiplier_altair;
+    uint64_t max_seed_lookahead;
+    uint64_t min_validator_withdrawability_delay;
+    uint64_t ejection_balance;
+    uint64_t min_per_epoch_churn_limit;
+    uint64_t churn_limit_quotient;
+} altair_settings;
+
+/* Those of mainnet, in braces. */
+#define ALTAIR_MAINNET                                                                                                 \
+    {                                                                                                                  \
+        32, 8192, 8192, 1000000000, 32000000000, 4, 1, 5, 64, 4, 4, 16, 50331648, 2, 4, 256, 16000000000, 4, 65536     \
+    }
+
+typedef struct altair_checkpoint {
+    uint64_t epoch;
+    uint8_t root[32];
+} altair_checkpoint;
+
+/* Bit i of justification_bits counts 2^i; bit 0 is the current epoch's. */
+typedef struct altair_finality {
+    uint64_t slot;
+    uint64_t justification_bits;
+    altair_checkpoint previous_justified_checkpoint;
+    altair_checkpoint current_justified_checkpoint;
+    altair_checkpoint finalized_checkpoint;
+} altair_finality;
+
+/* The finality after the call, or the refusal and the finality that was handed in. */
+typedef struct altair_finality_answer {
+    uint64_t refusal;
+    altair_finality finality;
+} altair_finality_answer;
+
+typedef struct altair_number_answer {
+    uint64_t refusal;
+    uint64_t value;
+} altair_number_answer;
+
+/* value is 1 for true and 0 for false. */
+typedef struct altair_truth_answer {
+    uint64_t refusal;
+    uint64_t value;
+} altair_truth_answer;
+
+typedef struct altair_deltas_answer {
+    uint64_t refusal;
+    uint64_t reward;
+    uint64_t penalty;
+} altair_deltas_answer;
+
+typedef struct altair_root_answer {
+    uint64_t refusal;
+    uint8_t root[32];
+} altair_root_answer;
+
+/* How much a record file holds. Its roots are the 32 * roots bytes from ALTAIR_ROOTS_AT(validators) on. */
+typedef struct altair_header {
+    uint64_t refusal;
+    uint64_t validators;
+    uint64_t roots;
+    uint64_t slashings;
+} altair_header;
+
+#define ALTAIR_ROOTS_AT(validators) (368 + 80 * (validators))
+#define ALTAIR_FILE_LENGTH(validators, roots, slashings) (368 + 80 * (validators) + 32 * (roots) + 8 * (slashings))
+
+/* position is where reading stopped: the file's length where it was accepted. */
+typedef struct altair_read_answer {
+    uint64_t refusal;
+    uint64_t position;
+    altair_settings settings;
+    altair_finality finality;
+} altair_read_answer;
+
+/* The numbers of a listing's first line. */
+typedef struct altair_head {
+    uint64_t refusal;
+    uint64_t epoch;
+    uint64_t justified_epoch;
+    uint64_t finalized_epoch;
+    uint64_t justification_bits;
+    uint64_t charged;
+} altair_head;
+
+/* The numbers of one validator's line: effective balance and score are those after the close. */
+typedef struct altair_line {
+    uint64_t refusal;
+    uint64_t index;
+    uint64_t opening_balance;
+    uint64_t closing_balance;
+    uint64_t effective_balance;
+    uint64_t inactivity_score;
+} altair_line;
+
+/* Answers ALTAIR_VERSION of the header that the library was made for.
+ * There are no buffers. */
+uint64_t altair_version(void);
+
+/* -- The close -------------------------------------------------------------------------------------------------------- */
+
+/* Answers the closed record's finality, or 1 to 5 and the finality handed in.
+ * Closing buffers hold the closed record; after 1, 2 and 3 what they held before, after 4 and 5 the opening's numbers. */
+altair_finality_answer altair_close(altair_settings settings, altair_finality finality, const uint64_t *registry,
+                                    size_t registry_length, const uint64_t *slashings, size_t slashings_length,
+                                    const uint8_t *roots, size_t roots_length, uint64_t *closing_registry,
+                                    size_t closing_registry_length, uint64_t *closing_slashings,
+                                    size_t closing_slashings_length);
+
+/* Answers how many validators of the opening registry were active in the previous epoch, or 1, 2 or 3.
+ * The registry is read. */
+altair_number_answer altair_charged(altair_settings settings, uint64_t state_slot, const uint64_t *registry,
+                                    size_t registry_length);
+
+/* -- The listing of a close -------------------------------------------------------------------------------------------- */
+
+/* Answers the numbers of the first line, of the opening's slot and registry and the closing finality; or 1, 2 or 3.
+ * The opening registry is read. */
+altair_head altair_listing_head(altair_settings settings, uint64_t state_slot, altair_finality closing,
+                                const uint64_t *opening, size_t opening_length);
+
+/* Answers the numbers of validator `index`'s line, from the opening and the closing registry; or 1.
+ * Both registries are read. */
+altair_line altair_listing_line(const uint64_t *opening, size_t opening_length, const uint64_t *closing,
+                                size_t closing_length, uint64_t index);
+
+/* -- A record file ---------------------------------------------------------------------------------------------------- */
+
+/* Answers how many validators, roots and slashings the file holds, or 6.
+ * The file is read. */
+altair_header altair_read_header(const uint8_t *file, size_t file_length);
+
+/* Answers settings, finality and where reading stopped, or 6, 1, 2 or 3. registry has ten numbers a validator of the header.
+ * Registry and slashings hold the file's numbers; after a refusal what they held before. */
+altair_read_answer altair_read_file(const uint8_t *file, size_t file_length, uint64_t *registry, size_t registry_length,
+                                    uint64_t *slashings, size_t slashings_length);
+
+/* Answers 0, or 1, 2 or 3. The file is ALTAIR_FILE_LENGTH bytes long.
+ * It holds the record's file; after a refusal what it held before. */
+uint64_t altair_write_file(altair_settings settings, altair_finality finality, const uint64_t *registry,
+                           size_t registry_length, const uint8_t *roots, size_t roots_length, const uint64_t *slashings,
+                           size_t slashings_length, uint8_t *file, size_t file_length);
+
+/* -- The eight steps, in the order of the close ------------------------------------------------------------------------ */
+
+/* Answers the finality after justification, or 1 to 5 and the finality handed in.
+ * Roots and registry are read. */
+altair_finality_answer altair_process_justification_and_finalization(altair_settings settings, const uint8_t *roots,
+                                                                     size_t roots_length, altair_finality finality,
+                                                                     const uint64_t *registry, size_t registry_length);
+
+/* Answers 0, or 1, 2, 3 or 5.
+ * closing holds the registry with the new scores; after 1, 2 and 3 what it held before, after 5 the opening's numbers. */
+uint64_t altair_process_inactivity_updates(altair_settings settings, uint64_t state_slot, uint64_t finalized_epoch,
+                                           const uint64_t *opening, size_t opening_length, uint64_t *closing,
+                                           size_t closing_length);
+
+/* Answers 0, or 1, 2, 3 or 5.
+ * closing holds the registry with the new balances; after 1, 2 and 3 what it held before, after 5 the opening's numbers. */
+uint64_t altair_process_rewards_and_penalties(altair_settings settings, uint64_t state_slot, uint64_t finalized_epoch,
+                                              const uint64_t *opening, size_t opening_length, uint64_t *closing,
+                                              size_t closing_length);
+
+/* Answers 0, or 1, 2, 3 or 5.
+ * closing holds the registry after queueing, ejecting and activating; after 1, 2 and 3 as before, after 5 the opening's. */
+uint64_t altair_process_registry_updates(altair_settings settings, uint64_t state_slot, uint64_t finalized_epoch,
+                                         const uint64_t *opening, size_t opening_length, uint64_t *closing,
+                                         size_t closing_length);
+
+/* Answers 0, or 1, 2, 3 or 5.
+ * closing holds the registry less the slashing penalties; after 1, 2 and 3 what it held before, after 5 the opening's numbers. */
+uint64_t altair_process_slashings(altair_settings settings, uint64_t state_slot, const uint64_t *slashings,
+                                  size_t slashings_length, const uint64_t *opening, size_t opening_length,
+                                  uint64_t *closing, size_t closing_length);
+
+/* Answers 0, or 1, 2, 3 or 5.
+ * closing holds the registry with the new effective balances; after 1, 2 and 3 as before, after 5 the opening's numbers. */
+uint64_t altair_process_effective_balance_updates(altair_settings settings, const uint64_t *opening,
+                                                  size_t opening_length, uint64_t *closing, size_t closing_length);
+
+/* Answers 0, or 1, 2 or 3. opening and closing are slashings.
+ * closing holds the slashings with the next epoch's place 0; after a refusal what it held before. */
+uint64_t altair_process_slashings_reset(altair_settings settings, uint64_t state_slot, const uint64_t *opening,
+                                        size_t opening_length, uint64_t *closing, size_t closing_length);
+
+/* Answers 0, or 1 or 3.
+ * closing holds the registry with current flags as previous ones and none current; after a refusal what it held before. */
+uint64_t altair_process_participation_flag_updates(const uint64_t *opening, size_t opening_length, uint64_t *closing,
+                                                   size_t closing_length);
+
+/* -- Slots and epochs -------------------------------------------------------------------------------------------------- */
+
+/* Answers the largest number whose square is at most n. It refuses nothing.
+ * There are no buffers. */
+uint64_t altair_integer_sqrt(uint64_t n);
+
+/* Answers slot / slots_per_epoch, or 1 or 2.
+ * There are no buffers. */
+altair_number_answer altair_compute_epoch_at_slot(altair_settings settings, uint64_t slot);
+
+/* Answers epoch * slots_per_epoch, or 1, 2 or 5.
+ * There are no buffers. */
+altair_number_answer altair_compute_start_slot_at_epoch(altair_settings settings, uint64_t epoch);
+
+/* Answers epoch + 1 + max_seed_lookahead, or 1, 2 or 5.
+ * There are no buffers. */
+altair_number_answer altair_compute_activation_exit_epoch(altair_settings settings, uint64_t epoch);
+
+/* Answers the epoch of the state's slot, or 1, 2 or 3.
+ * There are no buffers. */
+altair_number_answer altair_get_current_epoch(altair_settings settings, uint64_t state_slot);
+
+/* Answers the epoch before the state's, 0 at epoch 0; or 1, 2 or 3.
+ * There are no buffers. */
+altair_number_answer altair_get_previous_epoch(altair_settings settings, uint64_t state_slot);
+
+/* -- One validator: `validator` has ten numbers ------------------------------------------------------------------------ */
+
+/* Answers whether the validator is active in the epoch, or 1 or 3.
+ * The ten numbers are read. */
+altair_truth_answer altair_is_active_validator(const uint64_t *validator, size_t validator_length, uint64_t epoch);
+
+/* Answers whether it may join the activation queue, or 1, 2 or 3.
+ * The ten numbers are read. */
+altair_truth_answer altair_is_eligible_for_activation_queue(altair_settings settings, const uint64_t *validator,
+                                                            size_t validator_length);
+
+/* Answers whether it waits in the queue for activation, or 1 or 3.
+ * The ten numbers are read. */
+altair_truth_answer altair_is_eligible_for_activation(uint64_t finalized_epoch, const uint64_t *validator,
+                                                      size_t validator_length);
+
+/* Answers whether it earns and pays: active in the previous epoch, or slashed and withdrawable only later; or 1, 2 or 3.
+ * The ten numbers are read. */
+altair_truth_answer altair_is_eligible(altair_settings settings, uint64_t state_slot, const uint64_t *validator,
+                                       size_t validator_length);
+
+/* Answers 0, or 1, 3 or 5.
+ * The balance holds delta more; after a refusal all ten numbers are as before. */
+uint64_t altair_increase_balance(uint64_t *validator, size_t validator_length, uint64_t delta);
+
+/* Answers 0, or 1 or 3.
+ * The balance holds delta less, not below 0; after a refusal all ten numbers are as before. */
+uint64_t altair_decrease_balance(uint64_t *validator, size_t validator_length, uint64_t delta);
+
+/* Answers whether flag flag_index (0 source, 1 target, 2 head, up to 7) is in flags, or 1.
+ * There are no buffers. */
+altair_truth_answer altair_has_flag(uint8_t flags, uint64_t flag_index);
+
+/* Answers the flags with flag flag_index (up to 7) in them, or 1.
+ * There are no buffers. */
+altair_number_answer altair_add_flag(uint8_t flags, uint64_t flag_index);
+
+/* Answers whether it is unslashed, active and has the flag (0 to 2) in the epoch, the previous or the current one; or 1, 2 or 3.
+ * The ten numbers are read. */
+altair_truth_answer altair_is_unslashed_participating(altair_settings settings, uint64_t state_slot, uint64_t flag_index,
+                                                      uint64_t epoch, const uint64_t *validator,
+                                                      size_t validator_length);
+
+/* -- Block roots ------------------------------------------------------------------------------------------------------- */
+
+/* Answers the root at the slot, or 1, 2, 3 or 4.
+ * The roots, 32 bytes each, are read. */
+altair_root_answer altair_get_block_root_at_slot(altair_settings settings, const uint8_t *roots, size_t roots_length,
+                                                 uint64_t state_slot, uint64_t slot);
+
+/* Answers the root at the epoch's first slot, or 1, 2, 3, 4 or 5.
+ * The roots, 32 bytes each, are read. */
+altair_root_answer altair_get_block_root(altair_settings settings, const uint8_t *roots, size_t roots_length,
+                                         uint64_t state_slot, uint64_t epoch);
+
+/* -- The registry ------------------------------------------------------------------------------------------------------ */
+
+/* Answers the effective balance of all that are active, at least one increment; or 1, 2, 3 or 5.
+ * The registry is read. */
+altair_number_answer altair_get_total_active_balance(altair_settings settings, uint64_t state_slot,
+                                                     const uint64_t *registry, size_t registry_length);
+
+/* Answers that of the unslashed participants of a flag (0 to 2) in the previous or current epoch; or 1, 2, 3 or 5.
+ * The registry is read. */
+altair_number_answer altair_get_participating_balance(altair_settings settings, uint64_t state_slot, uint64_t flag_index,
+                                                      uint64_t epoch, const uint64_t *registry, size_t registry_length);
+
+/* Answers how many may enter or leave in an epoch, or 1, 2 or 3.
+ * The registry is read. */
+altair_number_answer altair_get_validator_churn_limit(altair_settings settings, uint64_t state_slot,
+                                                      const uint64_t *registry, size_t registry_length);
+
+/* Answers 0, or 1, 2, 3 or 5.
+ * Validator `index` has an exit and a withdrawable epoch, those that it had or new ones; after a refusal all is as before. */
+uint64_t altair_initiate_validator_exit(altair_settings settings, uint64_t state_slot, uint64_t index,
+                                        uint64_t *registry, size_t registry_length);
+
+/* -- Rewards ----------------------------------------------------------------------------------------------------------- */
+
+/* Answers the base reward per increment at a total active balance, or 1, 2 or 5.
+ * There are no buffers. */
+altair_number_answer altair_get_base_reward_per_increment(altair_settings settings, uint64_t total);
+
+/* Answers the validator's base reward at a total active balance, or 1, 2, 3 or 5.
+ * The ten numbers are read. */
+altair_number_answer altair_get_base_reward(altair_settings settings, uint64_t total, const uint64_t *validator,
+                                            size_t validator_length);
+
+/* Answers what validator `index` gains and loses by a flag (0 to 2), or 1, 2, 3 or 5.
+ * The registry is read. */
+altair_deltas_answer altair_get_flag_index_deltas(altair_settings settings, uint64_t state_slot, uint64_t finalized_epoch,
+                                                  uint64_t flag_index, size_t index, const uint64_t *registry,
+                                                  size_t registry_length);
+
+/* Answers what the validator loses by its score, or 1, 2, 3 or 5; reward is 0.
+ * The ten numbers are read. */
+altair_deltas_answer altair_get_inactivity_penalty_deltas(altair_settings settings, uint64_t state_slot,
+                                                          const uint64_t *validator, size_t validator_length);
+
+/* -- Finality ---------------------------------------------------------------------------------------------------------- */
+
+/* Answers previous epoch less finalized epoch, or 1, 2, 3 or 5.
+ * There are no buffers. */
+altair_number_answer altair_get_finality_delay(altair_settings settings, uint64_t state_slot, uint64_t finalized_epoch);
+
+/* Answers whether that is above min_epochs_to_inactivity_penalty, or 1, 2, 3 or 5.
+ * There are no buffers. */
+altair_truth_answer altair_is_in_inactivity_leak(altair_settings settings, uint64_t state_slot, uint64_t finalized_epoch);
+
+/* Answers the finality from three totals (all active, previous target, current target), or 1 to 5 and the one handed in.
+ * The roots are read. */
+altair_finality_answer altair_weigh_justification_and_finalization(altair_settings settings, const uint8_t *roots,
+                                                                   size_t roots_length, altair_finality finality,
+                                                                   uint64_t total, uint64_t previous, uint64_t current);
+
+#ifdef __cplusplus
+}
+#endif
+
+#endif

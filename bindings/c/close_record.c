@@ -1,0 +1,80 @@
+/* Closes the record file on standard input and prints the close, or `refused` and the number:
+ *
+ *     cc -Wall -Wextra -Werror -o close_record bindings/c/close_record.c target/staticlib/libexports.a
+ *     tools/record write samples/example.json - | ./close_record
+ */
+#include "altair.h"
+
+#include <inttypes.h>
+#include <stdio.h>
+#include <stdlib.h>
+
+/* Room for `count` elements; never NULL, also where count is 0. */
+static void *room(size_t count, size_t size) {
+    void *p = calloc(count + 1, size);
+    if (p == NULL) {
+        fputs("close_record: no memory\n", stderr);
+        exit(2);
+    }
+    return p;
+}
+
+static uint8_t *read_all(FILE *in, size_t *length) {
+    size_t held = 0, size = 65536;
+    uint8_t *bytes = room(size, 1);
+    for (size_t got; (got = fread(bytes + held, 1, size - held, in)) > 0;) {
+        held += got;
+        if (held == size) {
+            size *= 2;
+            bytes = realloc(bytes, size);
+            if (bytes == NULL) {
+                fputs("close_record: no memory\n", stderr);
+                exit(2);
+            }
+        }
+    }
+    *length = held;
+    return bytes;
+}
+
+static int refused(uint64_t number) {
+    printf("refused %" PRIu64 "\n", number);
+    return 1;
+}
+
+int main(void) {
+    size_t length;
+    uint8_t *file = read_all(stdin, &length);
+
+    altair_header header = altair_read_header(file, length);
+    if (header.refusal != 0)
+        return refused(header.refusal);
+
+    /* the header says how long the buffers must be; its numbers fit the bytes that were read */
+    size_t numbers = ALTAIR_VALIDATOR_LENGTH * header.validators, slashings_length = header.slashings;
+    uint64_t *registry = room(numbers, sizeof *registry), *closing = room(numbers, sizeof *closing);
+    uint64_t *slashings = room(slashings_length, sizeof *slashings);
+    uint64_t *closing_slashings = room(slashings_length, sizeof *closing_slashings);
+    altair_read_answer record = altair_read_file(file, length, registry, numbers, slashings, slashings_length);
+    if (record.refusal != 0)
+        return refused(record.refusal);
+
+    const uint8_t *roots = file + ALTAIR_ROOTS_AT(header.validators);
+    altair_finality_answer closed =
+        altair_close(record.settings, record.finality, registry, numbers, slashings, slashings_length, roots,
+                     32 * header.roots, closing, numbers, closing_slashings, slashings_length);
+    if (closed.refusal != 0)
+        return refused(closed.refusal);
+
+    altair_head head =
+        altair_listing_head(record.settings, record.finality.slot, closed.finality, registry, numbers);
+    printf("epoch %" PRIu64 " justified %" PRIu64 " finalized %" PRIu64 " bits %" PRIu64 " charged %" PRIu64 "\n",
+           head.epoch, head.justified_epoch, head.finalized_epoch, head.justification_bits, head.charged);
+    for (uint64_t i = 0; i < header.validators; i++) {
+        altair_line line = altair_listing_line(registry, numbers, closing, numbers, i);
+        printf("%" PRIu64 " %" PRIu64 " %" PRIu64 " %" PRIu64 " %" PRIu64 "\n", line.index, line.opening_balance,
+               line.closing_balance, line.effective_balance, line.inactivity_score);
+    }
+    free(file), free(registry), free(closing), free(slashings), free(closing_slashings);
+    return 0;
+}

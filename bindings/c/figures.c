@@ -1,0 +1,287 @@
+/* Calls every function of altair.h once or more and compares with document 01's figures. Prints how many agreed.
+ *
+ *     cc -Wall -Wextra -Werror -o figures bindings/c/figures.c target/staticlib/libexports.a && ./figures
+ */
+#include "altair.h"
+
+#include <inttypes.h>
+#include <stdio.h>
+#include <string.h>
+
+#define FAR ALTAIR_FAR_FUTURE_EPOCH
+#define ETH UINT64_C(1000000000)
+#define FIVE (5 * ALTAIR_VALIDATOR_LENGTH)
+#define ENTRY ALTAIR_VALIDATOR_LENGTH
+
+static const altair_settings mainnet = ALTAIR_MAINNET;
+static int agreed, parted;
+
+static void same(uint64_t got, uint64_t wanted, const char *what, int line) {
+    if (got == wanted) {
+        agreed++;
+        return;
+    }
+    parted++;
+    printf("line %d: %s is %" PRIu64 ", not %" PRIu64 "\n", line, what, got, wanted);
+}
+
+#define SAME(got, wanted) same((got), (wanted), #got, __LINE__)
+/* a refusal, and the value beside it */
+#define VALUE(answer, wanted)                                                                                          \
+    do {                                                                                                               \
+        SAME((answer).refusal, 0);                                                                                     \
+        SAME((answer).value, (wanted));                                                                                \
+    } while (0)
+#define REFUSED(answer, number)                                                                                        \
+    do {                                                                                                               \
+        SAME((answer).refusal, (number));                                                                              \
+        SAME((answer).value, 0);                                                                                       \
+    } while (0)
+
+/* n validators of 32 * 10^9, active from epoch 0, with all flags */
+static void fill(uint64_t *registry, size_t n) {
+    for (size_t i = 0; i < n; i++) {
+        uint64_t v[ENTRY] = {32 * ETH, 0, 0, 0, FAR, FAR, 32 * ETH, 7, 7, 0};
+        memcpy(registry + ENTRY * i, v, sizeof v);
+    }
+}
+
+static altair_finality finality_at(uint64_t slot) {
+    altair_finality f;
+    memset(&f, 0, sizeof f);
+    f.slot = slot;
+    return f;
+}
+
+static void slots_and_epochs(void) {
+    altair_settings bad = mainnet;
+    SAME(altair_version(), ALTAIR_VERSION);
+    SAME(altair_integer_sqrt(160 * ETH), 400000);
+    SAME(altair_integer_sqrt(UINT64_MAX), 4294967295);
+    VALUE(altair_compute_epoch_at_slot(mainnet, 127), 3);
+    VALUE(altair_compute_start_slot_at_epoch(mainnet, 3), 96);
+    REFUSED(altair_compute_start_slot_at_epoch(mainnet, FAR), 5);
+    VALUE(altair_compute_activation_exit_epoch(mainnet, 3), 8);
+    VALUE(altair_get_current_epoch(mainnet, 127), 3);
+    VALUE(altair_get_previous_epoch(mainnet, 127), 2);
+    VALUE(altair_get_previous_epoch(mainnet, 31), 0);
+    REFUSED(altair_get_current_epoch(mainnet, UINT64_C(1) << 48), 3);
+    bad.slots_per_epoch = 0;
+    REFUSED(altair_get_current_epoch(bad, 127), 2);
+    bad.slots_per_historical_root = 0;
+    REFUSED(altair_get_current_epoch(bad, 127), 1);
+}
+
+static void one_validator(void) {
+    uint64_t v[ENTRY], before[ENTRY];
+    fill(v, 1);
+    VALUE(altair_is_active_validator(v, ENTRY, 3), 1);
+    REFUSED(altair_is_active_validator(v, ENTRY - 1, 3), 1);
+    VALUE(altair_is_eligible(mainnet, 127, v, ENTRY), 1);
+    VALUE(altair_is_unslashed_participating(mainnet, 127, 1, 2, v, ENTRY), 1);
+    REFUSED(altair_is_unslashed_participating(mainnet, 127, 1, 1, v, ENTRY), 1);
+    VALUE(altair_get_base_reward(mainnet, 160 * ETH, v, ENTRY), 5120000);
+    REFUSED(altair_get_base_reward(mainnet, 0, v, ENTRY), 1);
+
+    SAME(altair_increase_balance(v, ENTRY, 5), 0);
+    SAME(v[ALTAIR_BALANCE], 32 * ETH + 5);
+    memcpy(before, v, sizeof v);
+    SAME(altair_increase_balance(v, ENTRY, UINT64_MAX), 5);
+    SAME(memcmp(before, v, sizeof v), 0);
+    SAME(altair_decrease_balance(v, ENTRY, 33 * ETH), 0);
+    SAME(v[ALTAIR_BALANCE], 0);
+
+    v[ALTAIR_ACTIVATION_EPOCH] = FAR;
+    VALUE(altair_is_active_validator(v, ENTRY, 3), 0);
+    VALUE(altair_is_eligible_for_activation(0, v, ENTRY), 1);
+    VALUE(altair_is_eligible_for_activation_queue(mainnet, v, ENTRY), 0);
+    v[ALTAIR_ACTIVATION_ELIGIBILITY_EPOCH] = FAR;
+    VALUE(altair_is_eligible_for_activation_queue(mainnet, v, ENTRY), 1);
+    v[ALTAIR_SLASHED] = 2;
+    REFUSED(altair_is_eligible_for_activation_queue(mainnet, v, ENTRY), 3);
+
+    VALUE(altair_has_flag(6, 1), 1);
+    VALUE(altair_has_flag(6, 0), 0);
+    REFUSED(altair_has_flag(6, 8), 1);
+    VALUE(altair_add_flag(5, 1), 7);
+
+    fill(v, 1);
+    v[ALTAIR_PREVIOUS_EPOCH_PARTICIPATION] = 5;
+    v[ALTAIR_INACTIVITY_SCORE] = 100;
+    altair_deltas_answer lost = altair_get_inactivity_penalty_deltas(mainnet, 127, v, ENTRY);
+    SAME(lost.refusal, 0), SAME(lost.reward, 0), SAME(lost.penalty, 15894);
+}
+
+static void block_roots(void) {
+    static uint8_t roots[32 * 8192];
+    uint8_t zeros[32] = {0};
+    memset(roots, 9, 32);
+    memset(roots + 32 * 64, 7, 32);
+    altair_root_answer root = altair_get_block_root_at_slot(mainnet, roots, sizeof roots, 8192, 0);
+    SAME(root.refusal, 0), SAME(memcmp(root.root, roots, 32), 0);
+    root = altair_get_block_root_at_slot(mainnet, roots, sizeof roots, 8193, 0);
+    SAME(root.refusal, 4), SAME(memcmp(root.root, zeros, 32), 0);
+    root = altair_get_block_root(mainnet, roots, sizeof roots, 127, 2);
+    SAME(root.refusal, 0), SAME(memcmp(root.root, roots + 32 * 64, 32), 0);
+    root = altair_get_block_root(mainnet, roots, sizeof roots, 127, FAR);
+    SAME(root.refusal, 5), SAME(memcmp(root.root, zeros, 32), 0);
+
+    /* total 3 * 10^9: target 2 * 10^9 justifies, 1999999999 does not */
+    altair_finality f = finality_at(127);
+    altair_finality_answer weighed =
+        altair_weigh_justification_and_finalization(mainnet, roots, sizeof roots, f, 3 * ETH, 2 * ETH, 1999999999);
+    SAME(weighed.refusal, 0), SAME(weighed.finality.justification_bits, 2);
+    SAME(weighed.finality.current_justified_checkpoint.epoch, 2);
+    SAME(memcmp(weighed.finality.current_justified_checkpoint.root, roots + 32 * 64, 32), 0);
+    weighed = altair_weigh_justification_and_finalization(mainnet, roots, 32, f, 3 * ETH, 2 * ETH, 0);
+    SAME(weighed.refusal, 1), SAME(memcmp(&weighed.finality, &f, sizeof f), 0);
+
+    VALUE(altair_get_finality_delay(mainnet, 127, 1), 1);
+    REFUSED(altair_get_finality_delay(mainnet, 127, 3), 5);
+    VALUE(altair_is_in_inactivity_leak(mainnet, 127, 1), 0);
+    VALUE(altair_is_in_inactivity_leak(mainnet, 32 * 6, 0), 1);
+}
+
+static void the_registry(void) {
+    uint64_t registry[FIVE];
+    fill(registry, 5);
+    VALUE(altair_charged(mainnet, 127, registry, FIVE), 5);
+    VALUE(altair_get_total_active_balance(mainnet, 127, registry, FIVE), 160 * ETH);
+    VALUE(altair_get_total_active_balance(mainnet, 127, registry, 0), ETH);
+    VALUE(altair_get_participating_balance(mainnet, 127, 1, 2, registry, FIVE), 160 * ETH);
+    VALUE(altair_get_validator_churn_limit(mainnet, 127, registry, FIVE), 4);
+    VALUE(altair_get_base_reward_per_increment(mainnet, 160 * ETH), 160000);
+    altair_deltas_answer d = altair_get_flag_index_deltas(mainnet, 127, 1, 1, 4, registry, FIVE);
+    SAME(d.refusal, 0), SAME(d.reward, 2080000), SAME(d.penalty, 0);
+    registry[ENTRY * 4 + ALTAIR_PREVIOUS_EPOCH_PARTICIPATION] = 0;
+    d = altair_get_flag_index_deltas(mainnet, 127, 1, 1, 0, registry, FIVE);
+    SAME(d.refusal, 0), SAME(d.reward, 1664000), SAME(d.penalty, 0);
+    d = altair_get_flag_index_deltas(mainnet, 127, 1, 1, 4, registry, FIVE);
+    SAME(d.refusal, 0), SAME(d.reward, 0), SAME(d.penalty, 2080000);
+    d = altair_get_flag_index_deltas(mainnet, 127, 1, 1, 5, registry, FIVE);
+    SAME(d.refusal, 1), SAME(d.reward, 0), SAME(d.penalty, 0);
+
+    SAME(altair_initiate_validator_exit(mainnet, 127, 1, registry, FIVE), 0);
+    SAME(registry[ENTRY + ALTAIR_EXIT_EPOCH], 8), SAME(registry[ENTRY + ALTAIR_WITHDRAWABLE_EPOCH], 264);
+    SAME(registry[ALTAIR_EXIT_EPOCH], FAR);
+    SAME(altair_initiate_validator_exit(mainnet, 127, 5, registry, FIVE), 1);
+}
+
+static void the_steps(void) {
+    static uint8_t roots[32 * 8192];
+    static uint64_t slashings[8192], closing_slashings[8192];
+    uint64_t opening[FIVE], closing[FIVE] = {0};
+    fill(opening, 5);
+
+    altair_finality f = finality_at(127);
+    altair_finality_answer justified =
+        altair_process_justification_and_finalization(mainnet, roots, sizeof roots, f, opening, FIVE);
+    SAME(justified.refusal, 0), SAME(justified.finality.justification_bits, 3);
+    SAME(justified.finality.current_justified_checkpoint.epoch, 3);
+
+    opening[ALTAIR_INACTIVITY_SCORE] = 10;
+    SAME(altair_process_inactivity_updates(mainnet, 127, 1, opening, FIVE, closing, FIVE), 0);
+    SAME(closing[ALTAIR_INACTIVITY_SCORE], 0);
+    SAME(altair_process_inactivity_updates(mainnet, 127, 3, opening, FIVE, closing, FIVE), 5);
+    SAME(memcmp(closing, opening, sizeof opening), 0);
+
+    SAME(altair_process_rewards_and_penalties(mainnet, 127, 1, opening, FIVE, closing, FIVE), 0);
+    SAME(closing[ALTAIR_BALANCE], 32 * ETH + 1120000 + 2080000 + 1120000);
+
+    opening[ENTRY + ALTAIR_ACTIVATION_EPOCH] = FAR;
+    SAME(altair_process_registry_updates(mainnet, 127, 1, opening, FIVE, closing, FIVE), 0);
+    SAME(closing[ENTRY + ALTAIR_ACTIVATION_EPOCH], 8);
+    closing[0] = 99;
+    SAME(altair_process_registry_updates(mainnet, 127, 1, opening, FIVE, closing, FIVE - ENTRY), 1);
+    SAME(closing[0], 99);
+
+    fill(opening, 5);
+    slashings[3] = 32 * ETH;
+    opening[ALTAIR_SLASHED] = 1;
+    opening[ALTAIR_WITHDRAWABLE_EPOCH] = 3 + 8192 / 2;
+    SAME(altair_process_slashings(mainnet, 127, slashings, 8192, opening, FIVE, closing, FIVE), 0);
+    SAME(closing[ALTAIR_BALANCE], 20 * ETH), SAME(closing[ENTRY + ALTAIR_BALANCE], 32 * ETH);
+
+    opening[ALTAIR_BALANCE] = 31749999999;
+    opening[ENTRY + ALTAIR_BALANCE] = 31750000000;
+    SAME(altair_process_effective_balance_updates(mainnet, opening, FIVE, closing, FIVE), 0);
+    SAME(closing[ALTAIR_EFFECTIVE_BALANCE], 31 * ETH), SAME(closing[ENTRY + ALTAIR_EFFECTIVE_BALANCE], 32 * ETH);
+
+    slashings[4] = 6;
+    SAME(altair_process_slashings_reset(mainnet, 127, slashings, 8192, closing_slashings, 8192), 0);
+    SAME(closing_slashings[3], 32 * ETH), SAME(closing_slashings[4], 0);
+
+    opening[ALTAIR_CURRENT_EPOCH_PARTICIPATION] = 5;
+    SAME(altair_process_participation_flag_updates(opening, FIVE, closing, FIVE), 0);
+    SAME(closing[ALTAIR_PREVIOUS_EPOCH_PARTICIPATION], 5), SAME(closing[ALTAIR_CURRENT_EPOCH_PARTICIPATION], 0);
+}
+
+/* written, read and closed; the close is that of the program close_record */
+static void the_file(void) {
+    static uint8_t file[ALTAIR_FILE_LENGTH(5, 64, 64)], roots[32 * 64];
+    uint64_t registry[FIVE], slashings[64] = {0}, back[FIVE] = {0}, slashings_back[64], closing[FIVE];
+    altair_settings s = mainnet;
+    s.slots_per_epoch = 8, s.slots_per_historical_root = 64, s.epochs_per_slashings_vector = 64;
+    altair_finality f = finality_at(31);
+    f.justification_bits = 3;
+    f.previous_justified_checkpoint.epoch = 1;
+    f.current_justified_checkpoint.epoch = 2;
+    f.finalized_checkpoint.epoch = 1;
+    fill(registry, 5);
+    roots[5] = 1;
+    SAME(altair_write_file(s, f, registry, FIVE, roots, sizeof roots, slashings, 64, file, sizeof file - 1), 1);
+    SAME(file[0], 0);
+    SAME(altair_write_file(s, f, registry, FIVE, roots, sizeof roots, slashings, 64, file, sizeof file), 0);
+    altair_header header = altair_read_header(file, sizeof file);
+    SAME(header.refusal, 0), SAME(header.validators, 5), SAME(header.roots, 64), SAME(header.slashings, 64);
+    SAME(memcmp(file + ALTAIR_ROOTS_AT(5), roots, sizeof roots), 0);
+    altair_read_answer read = altair_read_file(file, sizeof file, back, FIVE, slashings_back, 64);
+    SAME(read.refusal, 0), SAME(read.position, sizeof file), SAME(memcmp(&read.settings, &s, sizeof s), 0);
+    SAME(memcmp(&read.finality, &f, sizeof f), 0), SAME(memcmp(back, registry, sizeof back), 0);
+    SAME(memcmp(slashings_back, slashings, sizeof slashings), 0);
+
+    altair_finality_answer closed = altair_close(s, f, registry, FIVE, slashings, 64, roots, sizeof roots, closing, FIVE,
+                                                 slashings_back, 64);
+    SAME(closed.refusal, 0), SAME(closed.finality.finalized_checkpoint.epoch, 2);
+    SAME(closing[ALTAIR_BALANCE], 32 * ETH + 1120000 + 2080000 + 1120000);
+    altair_head head = altair_listing_head(s, 31, closed.finality, registry, FIVE);
+    SAME(head.refusal, 0), SAME(head.epoch, 3), SAME(head.justified_epoch, 3), SAME(head.finalized_epoch, 2);
+    SAME(head.justification_bits, 7), SAME(head.charged, 5);
+    registry[ENTRY * 4 + ALTAIR_BALANCE] = 6, closing[ENTRY * 4 + ALTAIR_BALANCE] = 7;
+    closing[ENTRY * 4 + ALTAIR_EFFECTIVE_BALANCE] = 8, closing[ENTRY * 4 + ALTAIR_INACTIVITY_SCORE] = 9;
+    altair_line line = altair_listing_line(registry, FIVE, closing, FIVE, 4);
+    SAME(line.refusal, 0), SAME(line.index, 4), SAME(line.opening_balance, 6), SAME(line.closing_balance, 7);
+    SAME(line.effective_balance, 8), SAME(line.inactivity_score, 9);
+    line = altair_listing_line(registry, FIVE, closing, FIVE, 5);
+    SAME(line.refusal, 1), SAME(line.index, 0);
+
+    /* a balance that overflows: the opening's finality and numbers come back */
+    registry[ALTAIR_BALANCE] = UINT64_MAX;
+    closed = altair_close(s, f, registry, FIVE, slashings, 64, roots, sizeof roots, closing, FIVE, slashings_back, 64);
+    SAME(closed.refusal, 5), SAME(memcmp(&closed.finality, &f, sizeof f), 0);
+    SAME(memcmp(closing, registry, sizeof closing), 0), SAME(memcmp(slashings_back, slashings, sizeof slashings), 0);
+    closing[0] = 99;
+    f.finalized_checkpoint.epoch = UINT64_C(1) << 48;
+    closed = altair_close(s, f, registry, FIVE, slashings, 64, roots, sizeof roots, closing, FIVE, slashings_back, 64);
+    SAME(closed.refusal, 3), SAME(memcmp(&closed.finality, &f, sizeof f), 0), SAME(closing[0], 99);
+
+    /* the second validator's flags are bad: reading stops there, and writes nothing */
+    file[368 + 80 + 8 * ALTAIR_CURRENT_EPOCH_PARTICIPATION + 1] = 1;
+    back[0] = 99;
+    read = altair_read_file(file, sizeof file, back, FIVE, slashings_back, 64);
+    SAME(read.refusal, 3), SAME(read.position, 368 + 80 + 8 * ALTAIR_CURRENT_EPOCH_PARTICIPATION), SAME(back[0], 99);
+    file[0] = 2;
+    header = altair_read_header(file, sizeof file);
+    SAME(header.refusal, 6), SAME(header.validators, 0);
+}
+
+int main(void) {
+    slots_and_epochs();
+    one_validator();
+    block_roots();
+    the_registry();
+    the_steps();
+    the_file();
+    printf("%d figures agreed, %d did not\n", agreed, parted);
+    return parted != 0;
+}

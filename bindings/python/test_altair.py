@@ -1,0 +1,170 @@
+#!/usr/bin/env python3
+"""Every function, at document 01's figures: bindings/python/test_altair.py"""
+import unittest
+
+import altair
+from altair import *  # noqa: F403
+from altair import BALANCE, Checkpoint, Deltas, Finality, MAINNET, Refused
+
+ETH = 10**9
+FAR = altair.FAR_FUTURE_EPOCH
+HIT = [32 * ETH, 0, 0, 0, FAR, FAR, 32 * ETH, 7, 7, 0]
+
+
+def changed(numbers, **places):
+    """numbers with some set, by the names of a validator's places; `at` is the validator"""
+    numbers, at = list(numbers), 10 * places.pop("at", 0)
+    for name, value in places.items():
+        numbers[at + getattr(altair, name.upper())] = value
+    return numbers
+
+
+class Figures(unittest.TestCase):
+    def refused(self, number, function, *arguments):
+        with self.assertRaises(Refused) as caught:
+            function(*arguments)
+        self.assertEqual(caught.exception.number, number)
+        return caught.exception
+
+    def test_slots_and_epochs(self):
+        self.assertEqual(altair.version(), altair.VERSION)
+        self.assertEqual(integer_sqrt(160 * ETH), 400000)
+        self.assertEqual(integer_sqrt(2**64 - 1), 4294967295)
+        self.assertEqual(compute_epoch_at_slot(MAINNET, 127), 3)
+        self.assertEqual(compute_start_slot_at_epoch(MAINNET, 3), 96)
+        self.refused(5, compute_start_slot_at_epoch, MAINNET, FAR)
+        self.assertEqual(compute_activation_exit_epoch(MAINNET, 3), 8)
+        self.assertEqual(get_current_epoch(MAINNET, 127), 3)
+        self.assertEqual(get_previous_epoch(MAINNET, 127), 2)
+        self.assertEqual(get_previous_epoch(MAINNET, 31), 0)
+        self.refused(3, get_current_epoch, MAINNET, 2**48)
+        self.refused(2, get_current_epoch, MAINNET._replace(slots_per_epoch=0), 127)
+        self.refused(1, get_current_epoch, MAINNET._replace(slots_per_historical_root=0), 127)
+
+    def test_numbers_out_of_64_bits_are_not_cut(self):
+        self.assertRaises(OverflowError, integer_sqrt, 2**64)
+        self.assertRaises(OverflowError, integer_sqrt, -1)
+        self.assertRaises(OverflowError, is_active_validator, [2**64] * 10, 0)
+        self.assertRaises(OverflowError, has_flag, 256, 0)
+        with self.assertRaises(Exception):
+            get_current_epoch(MAINNET._replace(slots_per_epoch=2**64), 0)
+
+    def test_one_validator(self):
+        self.assertTrue(is_active_validator(HIT, 3))
+        self.refused(1, is_active_validator, HIT[1:], 3)
+        self.assertTrue(is_eligible(MAINNET, 127, HIT))
+        self.assertTrue(is_unslashed_participating(MAINNET, 127, 1, 2, HIT))
+        self.refused(1, is_unslashed_participating, MAINNET, 127, 1, 1, HIT)
+        self.assertEqual(get_base_reward(MAINNET, 160 * ETH, HIT), 5120000)
+        self.refused(1, get_base_reward, MAINNET, 0, HIT)
+        self.assertEqual(list(increase_balance(HIT, 5)), changed(HIT, balance=32 * ETH + 5))
+        self.refused(5, increase_balance, HIT, 2**64 - 1)
+        self.assertEqual(list(decrease_balance(HIT, 33 * ETH)), changed(HIT, balance=0))
+        waiting = changed(HIT, activation_epoch=FAR)
+        self.assertFalse(is_active_validator(waiting, 3))
+        self.assertTrue(is_eligible_for_activation(0, waiting))
+        self.assertFalse(is_eligible_for_activation_queue(MAINNET, waiting))
+        new = changed(waiting, activation_eligibility_epoch=FAR)
+        self.assertTrue(is_eligible_for_activation_queue(MAINNET, new))
+        self.refused(3, is_eligible_for_activation_queue, MAINNET, changed(new, slashed=2))
+        self.assertTrue(has_flag(6, 1))
+        self.assertFalse(has_flag(6, 0))
+        self.refused(1, has_flag, 6, 8)
+        self.assertEqual(add_flag(5, 1), 7)
+        missed = changed(HIT, previous_epoch_participation=5, inactivity_score=100)
+        self.assertEqual(get_inactivity_penalty_deltas(MAINNET, 127, missed), Deltas(0, 15894))
+
+    def test_block_roots_and_finality(self):
+        roots = bytearray(32 * 8192)
+        roots[:32] = bytes([9] * 32)
+        roots[32 * 64 : 32 * 65] = bytes([7] * 32)
+        for lent in roots, bytes(roots):
+            self.assertEqual(get_block_root_at_slot(MAINNET, lent, 8192, 0), bytes([9] * 32))
+            self.refused(4, get_block_root_at_slot, MAINNET, lent, 8193, 0)
+            self.assertEqual(get_block_root(MAINNET, lent, 127, 2), bytes([7] * 32))
+            self.refused(5, get_block_root, MAINNET, lent, 127, FAR)
+        # total 3 * 10^9: target 2 * 10^9 justifies, 1999999999 does not
+        after = weigh_justification_and_finalization(MAINNET, roots, Finality(127), 3 * ETH, 2 * ETH, 1999999999)
+        self.assertEqual(after, Finality(127, 2, current_justified_checkpoint=Checkpoint(2, bytes([7] * 32))))
+        self.refused(1, weigh_justification_and_finalization, MAINNET, b"", Finality(127), 3 * ETH, 2 * ETH, 0)
+        self.assertEqual(get_finality_delay(MAINNET, 127, 1), 1)
+        self.refused(5, get_finality_delay, MAINNET, 127, 3)
+        self.assertFalse(is_in_inactivity_leak(MAINNET, 127, 1))
+        self.assertTrue(is_in_inactivity_leak(MAINNET, 32 * 6, 0))
+
+    def test_the_registry(self):
+        registry = HIT * 5
+        self.assertEqual(charged(MAINNET, 127, registry), 5)
+        self.assertEqual(get_total_active_balance(MAINNET, 127, registry), 160 * ETH)
+        self.assertEqual(get_total_active_balance(MAINNET, 127, []), ETH)
+        self.assertEqual(get_participating_balance(MAINNET, 127, 1, 2, registry), 160 * ETH)
+        self.assertEqual(get_validator_churn_limit(MAINNET, 127, registry), 4)
+        self.assertEqual(get_base_reward_per_increment(MAINNET, 160 * ETH), 160000)
+        self.assertEqual(get_flag_index_deltas(MAINNET, 127, 1, 1, 4, registry), Deltas(2080000, 0))
+        missed = changed(registry, at=4, previous_epoch_participation=0)
+        self.assertEqual(get_flag_index_deltas(MAINNET, 127, 1, 1, 0, missed), Deltas(1664000, 0))
+        self.assertEqual(get_flag_index_deltas(MAINNET, 127, 1, 1, 4, missed), Deltas(0, 2080000))
+        self.refused(1, get_flag_index_deltas, MAINNET, 127, 1, 1, 5, missed)
+        left = list(initiate_validator_exit(MAINNET, 127, 1, registry))
+        self.assertEqual(left, changed(registry, at=1, exit_epoch=8, withdrawable_epoch=264))
+        self.refused(1, initiate_validator_exit, MAINNET, 127, 5, registry)
+
+    def test_the_steps(self):
+        registry = HIT * 5
+        after = process_justification_and_finalization(MAINNET, bytes(32 * 8192), Finality(127), registry)
+        self.assertEqual((after.justification_bits, after.current_justified_checkpoint.epoch), (3, 3))
+        scored = changed(registry, inactivity_score=10)
+        self.assertEqual(list(process_inactivity_updates(MAINNET, 127, 1, scored)), registry)
+        self.refused(5, process_inactivity_updates, MAINNET, 127, 3, scored)
+        paid = process_rewards_and_penalties(MAINNET, 127, 1, registry)
+        self.assertEqual(paid[BALANCE], 32 * ETH + 1120000 + 2080000 + 1120000)
+        waiting = changed(registry, at=1, activation_epoch=FAR)
+        self.assertEqual(list(process_registry_updates(MAINNET, 127, 1, waiting)), changed(waiting, at=1, activation_epoch=8))
+        slashings = [0] * 8192
+        slashings[3] = 32 * ETH
+        slashed = changed(registry, slashed=1, withdrawable_epoch=3 + 8192 // 2)
+        self.assertEqual(list(process_slashings(MAINNET, 127, slashings, slashed)), changed(slashed, balance=20 * ETH))
+        low = changed(changed(registry, balance=31749999999), at=1, balance=31750000000)
+        self.assertEqual(list(process_effective_balance_updates(MAINNET, low)), changed(low, effective_balance=31 * ETH))
+        reset = process_slashings_reset(MAINNET, 127, slashings[:4] + [6] + slashings[5:])
+        self.assertEqual(list(reset), slashings)
+        turned = process_participation_flag_updates(changed(HIT, current_epoch_participation=5))
+        self.assertEqual(list(turned), changed(HIT, previous_epoch_participation=5, current_epoch_participation=0))
+        self.refused(1, process_participation_flag_updates, HIT[1:])
+
+    def test_the_file_and_the_close(self):
+        settings = MAINNET._replace(slots_per_epoch=8, slots_per_historical_root=64, epochs_per_slashings_vector=64)
+        finality = Finality(31, 3, Checkpoint(1), Checkpoint(2), Checkpoint(1))
+        registry = changed(HIT * 5, at=4, previous_epoch_participation=0, current_epoch_participation=0)
+        slashings, roots = [0] * 64, bytes(32 * 64)
+        file = write_file(settings, finality, registry, roots, slashings)
+        self.assertEqual(tuple(read_header(file)), (5, 64, 64))
+        record = read_file(file)
+        self.assertEqual((record.settings, record.finality, record.roots), (settings, finality, roots))
+        self.assertEqual((list(record.registry), list(record.slashings)), (registry, slashings))
+
+        closed = close(settings, finality, registry, slashings, roots)
+        self.assertEqual(list(closed.registry[BALANCE::10]), [32003456000] * 4 + [31996800000])
+        self.assertEqual(closed.finality.finalized_checkpoint.epoch, 2)
+        self.assertEqual(list(closed.slashings), slashings)
+        head = listing_head(settings, 31, closed.finality, registry)
+        self.assertEqual(head, altair.Head(3, 3, 2, 7, 5))
+        last = changed(closed.registry, at=4, effective_balance=8, inactivity_score=9)
+        self.assertEqual(listing_line(registry, last, 4), altair.Line(4, 32 * ETH, 31996800000, 8, 9))
+        self.refused(1, listing_line, registry, last, 5)
+        self.refused(5, close, settings, finality, changed(registry, balance=2**64 - 1), slashings, roots)
+        self.refused(3, close, settings, finality._replace(slot=2**48), registry, slashings, roots)
+        self.refused(1, close, settings, finality, registry, slashings, roots[1:])
+
+        # the second validator's flags are bad: reading stops there
+        at = 368 + 80 + 8 * altair.CURRENT_EPOCH_PARTICIPATION
+        bad = file[: at + 1] + b"\1" + file[at + 2 :]
+        self.assertEqual(self.refused(3, read_file, bad).position, at)
+        self.assertEqual(self.refused(6, read_file, file[1:]).position, 80)
+        self.assertEqual(self.refused(6, read_file, b"").position, 0)
+        self.refused(6, read_header, b"")
+        self.refused(1, write_file, settings, finality, registry[1:], roots, slashings)
+
+
+if __name__ == "__main__":
+    unittest.main()

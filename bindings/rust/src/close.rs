@@ -1,0 +1,86 @@
+//! The whole close, and the figures of its listing.
+use crate::raw;
+use crate::refusal::Refusal;
+use crate::types::{Finality, Head, Line, Settings};
+
+/// Closes the opening record into the closing buffers, which are as long as the opening's, and gives its finality.
+///
+/// Refused with 1, 2 or 3 the closing buffers keep what they held; with 4 or 5 they hold the opening's numbers.
+///
+/// ```
+/// use altair_close::{close, validator, Finality, Refusal, Settings};
+///
+/// let settings = Settings { slots_per_historical_root: 64, epochs_per_slashings_vector: 64, ..Settings::MAINNET };
+/// let finality = Finality { slot: 31, ..Finality::default() };
+/// let registry = validator::new(32_000_000_000);
+/// let (slashings, roots) = (vec![0; 64], vec![0; 32 * 64]);
+/// let (mut closing, mut closing_slashings) = (vec![0; 10], vec![0; 64]);
+/// let closed = close(&settings, &finality, &registry, &slashings, &roots, &mut closing, &mut closing_slashings)?;
+/// assert_eq!((closed.slot, closing[validator::BALANCE]), (31, 32_000_000_000));
+///
+/// let short = close(&settings, &finality, &registry, &slashings, &roots[1..], &mut closing, &mut closing_slashings);
+/// assert_eq!(short, Err(Refusal::Shape));
+/// # Ok::<(), Refusal>(())
+/// ```
+pub fn close(
+    settings: &Settings,
+    finality: &Finality,
+    registry: &[u64],
+    slashings: &[u64],
+    roots: &[u8],
+    closing_registry: &mut [u64],
+    closing_slashings: &mut [u64],
+) -> Result<Finality, Refusal> {
+    unsafe {
+        raw::altair_close(
+            *settings,
+            *finality,
+            registry.as_ptr(),
+            registry.len(),
+            slashings.as_ptr(),
+            slashings.len(),
+            roots.as_ptr(),
+            roots.len(),
+            closing_registry.as_mut_ptr(),
+            closing_registry.len(),
+            closing_slashings.as_mut_ptr(),
+            closing_slashings.len(),
+        )
+    }
+    .result()
+}
+
+/// How many validators of the opening registry were active in the previous epoch.
+///
+/// ```
+/// use altair_close::{charged, validator, Settings};
+/// let registry = validator::new(32_000_000_000).repeat(5);
+/// assert_eq!(charged(&Settings::MAINNET, 127, &registry), Ok(5));
+/// ```
+pub fn charged(settings: &Settings, state_slot: u64, registry: &[u64]) -> Result<u64, Refusal> {
+    unsafe { raw::altair_charged(*settings, state_slot, registry.as_ptr(), registry.len()) }.result()
+}
+
+/// The numbers of the listing's first line, of the opening's slot and registry and the closing finality.
+pub fn listing_head(
+    settings: &Settings,
+    state_slot: u64,
+    closing: &Finality,
+    opening: &[u64],
+) -> Result<Head, Refusal> {
+    unsafe { raw::altair_listing_head(*settings, state_slot, *closing, opening.as_ptr(), opening.len()) }.result()
+}
+
+/// The numbers of validator `index`'s line, from the opening and the closing registry.
+///
+/// ```
+/// use altair_close::{listing_line, validator, Refusal};
+/// let (opening, closing) = (validator::new(32_000_000_000), validator::new(31_000_000_000));
+/// assert_eq!(listing_line(&opening, &closing, 0)?.closing_balance, 31_000_000_000);
+/// assert_eq!(listing_line(&opening, &closing, 1), Err(Refusal::Shape));
+/// # Ok::<(), Refusal>(())
+/// ```
+pub fn listing_line(opening: &[u64], closing: &[u64], index: u64) -> Result<Line, Refusal> {
+    unsafe { raw::altair_listing_line(opening.as_ptr(), opening.len(), closing.as_ptr(), closing.len(), index) }
+        .result()
+}

@@ -1,0 +1,355 @@
+//! The library's functions as bindings/c/altair.h declares them: a slice is a pointer and a length in elements.
+use crate::refusal::Refusal;
+use crate::types::{Checkpoint, Deltas, Finality, Head, Line, Settings};
+
+#[repr(C)]
+pub struct FinalityAnswer {
+    refusal: u64,
+    finality: Finality,
+}
+
+#[repr(C)]
+pub struct NumberAnswer {
+    refusal: u64,
+    value: u64,
+}
+
+#[repr(C)]
+pub struct TruthAnswer {
+    refusal: u64,
+    value: u64,
+}
+
+#[repr(C)]
+pub struct DeltasAnswer {
+    refusal: u64,
+    reward: u64,
+    penalty: u64,
+}
+
+#[repr(C)]
+pub struct RootAnswer {
+    refusal: u64,
+    root: [u8; 32],
+}
+
+#[repr(C)]
+pub struct Header {
+    pub refusal: u64,
+    pub validators: u64,
+    pub roots: u64,
+    pub slashings: u64,
+}
+
+#[repr(C)]
+pub struct ReadAnswer {
+    pub refusal: u64,
+    pub position: u64,
+    pub settings: Settings,
+    pub finality: Finality,
+}
+
+#[repr(C)]
+pub struct HeadAnswer {
+    refusal: u64,
+    epoch: u64,
+    justified_epoch: u64,
+    finalized_epoch: u64,
+    justification_bits: u64,
+    charged: u64,
+}
+
+#[repr(C)]
+pub struct LineAnswer {
+    refusal: u64,
+    index: u64,
+    opening_balance: u64,
+    closing_balance: u64,
+    effective_balance: u64,
+    inactivity_score: u64,
+}
+
+impl FinalityAnswer {
+    pub fn result(self) -> Result<Finality, Refusal> {
+        Refusal::or(self.refusal, self.finality)
+    }
+}
+
+impl NumberAnswer {
+    pub fn result(self) -> Result<u64, Refusal> {
+        Refusal::or(self.refusal, self.value)
+    }
+}
+
+impl TruthAnswer {
+    pub fn result(self) -> Result<bool, Refusal> {
+        Refusal::or(self.refusal, self.value == 1)
+    }
+}
+
+impl DeltasAnswer {
+    pub fn result(self) -> Result<Deltas, Refusal> {
+        Refusal::or(self.refusal, Deltas { reward: self.reward, penalty: self.penalty })
+    }
+}
+
+impl RootAnswer {
+    pub fn result(self) -> Result<[u8; 32], Refusal> {
+        Refusal::or(self.refusal, self.root)
+    }
+}
+
+impl HeadAnswer {
+    pub fn result(self) -> Result<Head, Refusal> {
+        let HeadAnswer { refusal, epoch, justified_epoch, finalized_epoch, justification_bits, charged } = self;
+        Refusal::or(refusal, Head { epoch, justified_epoch, finalized_epoch, justification_bits, charged })
+    }
+}
+
+impl LineAnswer {
+    pub fn result(self) -> Result<Line, Refusal> {
+        let LineAnswer { refusal, index, opening_balance, closing_balance, effective_balance, inactivity_score } = self;
+        Refusal::or(refusal, Line { index, opening_balance, closing_balance, effective_balance, inactivity_score })
+    }
+}
+
+// the sizes that the header has
+const _: () = assert!(size_of::<Settings>() == 152 && size_of::<Checkpoint>() == 40 && size_of::<Finality>() == 136);
+
+extern "C" {
+    pub fn altair_version() -> u64;
+
+    // the close
+    pub fn altair_close(
+        settings: Settings,
+        finality: Finality,
+        registry: *const u64,
+        registry_length: usize,
+        slashings: *const u64,
+        slashings_length: usize,
+        roots: *const u8,
+        roots_length: usize,
+        closing_registry: *mut u64,
+        closing_registry_length: usize,
+        closing_slashings: *mut u64,
+        closing_slashings_length: usize,
+    ) -> FinalityAnswer;
+    pub fn altair_charged(settings: Settings, state_slot: u64, registry: *const u64, length: usize) -> NumberAnswer;
+
+    // the listing of a close
+    pub fn altair_listing_head(
+        settings: Settings,
+        state_slot: u64,
+        closing: Finality,
+        opening: *const u64,
+        opening_length: usize,
+    ) -> HeadAnswer;
+    pub fn altair_listing_line(
+        opening: *const u64,
+        opening_length: usize,
+        closing: *const u64,
+        closing_length: usize,
+        index: u64,
+    ) -> LineAnswer;
+
+    // a record file
+    pub fn altair_read_header(file: *const u8, file_length: usize) -> Header;
+    pub fn altair_read_file(
+        file: *const u8,
+        file_length: usize,
+        registry: *mut u64,
+        registry_length: usize,
+        slashings: *mut u64,
+        slashings_length: usize,
+    ) -> ReadAnswer;
+    pub fn altair_write_file(
+        settings: Settings,
+        finality: Finality,
+        registry: *const u64,
+        registry_length: usize,
+        roots: *const u8,
+        roots_length: usize,
+        slashings: *const u64,
+        slashings_length: usize,
+        file: *mut u8,
+        file_length: usize,
+    ) -> u64;
+
+    // the eight steps
+    pub fn altair_process_justification_and_finalization(
+        settings: Settings,
+        roots: *const u8,
+        roots_length: usize,
+        finality: Finality,
+        registry: *const u64,
+        registry_length: usize,
+    ) -> FinalityAnswer;
+    pub fn altair_process_inactivity_updates(
+        settings: Settings,
+        state_slot: u64,
+        finalized_epoch: u64,
+        opening: *const u64,
+        opening_length: usize,
+        closing: *mut u64,
+        closing_length: usize,
+    ) -> u64;
+    pub fn altair_process_rewards_and_penalties(
+        settings: Settings,
+        state_slot: u64,
+        finalized_epoch: u64,
+        opening: *const u64,
+        opening_length: usize,
+        closing: *mut u64,
+        closing_length: usize,
+    ) -> u64;
+    pub fn altair_process_registry_updates(
+        settings: Settings,
+        state_slot: u64,
+        finalized_epoch: u64,
+        opening: *const u64,
+        opening_length: usize,
+        closing: *mut u64,
+        closing_length: usize,
+    ) -> u64;
+    pub fn altair_process_slashings(
+        settings: Settings,
+        state_slot: u64,
+        slashings: *const u64,
+        slashings_length: usize,
+        opening: *const u64,
+        opening_length: usize,
+        closing: *mut u64,
+        closing_length: usize,
+    ) -> u64;
+    pub fn altair_process_effective_balance_updates(
+        settings: Settings,
+        opening: *const u64,
+        opening_length: usize,
+        closing: *mut u64,
+        closing_length: usize,
+    ) -> u64;
+    pub fn altair_process_slashings_reset(
+        settings: Settings,
+        state_slot: u64,
+        opening: *const u64,
+        opening_length: usize,
+        closing: *mut u64,
+        closing_length: usize,
+    ) -> u64;
+    pub fn altair_process_participation_flag_updates(
+        opening: *const u64,
+        opening_length: usize,
+        closing: *mut u64,
+        closing_length: usize,
+    ) -> u64;
+
+    // slots and epochs
+    pub fn altair_integer_sqrt(n: u64) -> u64;
+    pub fn altair_compute_epoch_at_slot(settings: Settings, slot: u64) -> NumberAnswer;
+    pub fn altair_compute_start_slot_at_epoch(settings: Settings, epoch: u64) -> NumberAnswer;
+    pub fn altair_compute_activation_exit_epoch(settings: Settings, epoch: u64) -> NumberAnswer;
+    pub fn altair_get_current_epoch(settings: Settings, state_slot: u64) -> NumberAnswer;
+    pub fn altair_get_previous_epoch(settings: Settings, state_slot: u64) -> NumberAnswer;
+
+    // one validator
+    pub fn altair_is_active_validator(validator: *const u64, length: usize, epoch: u64) -> TruthAnswer;
+    pub fn altair_is_eligible_for_activation_queue(
+        settings: Settings,
+        validator: *const u64,
+        length: usize,
+    ) -> TruthAnswer;
+    pub fn altair_is_eligible_for_activation(finalized_epoch: u64, validator: *const u64, length: usize)
+        -> TruthAnswer;
+    pub fn altair_is_eligible(settings: Settings, state_slot: u64, validator: *const u64, length: usize)
+        -> TruthAnswer;
+    pub fn altair_increase_balance(validator: *mut u64, length: usize, delta: u64) -> u64;
+    pub fn altair_decrease_balance(validator: *mut u64, length: usize, delta: u64) -> u64;
+    pub fn altair_has_flag(flags: u8, flag_index: u64) -> TruthAnswer;
+    pub fn altair_add_flag(flags: u8, flag_index: u64) -> NumberAnswer;
+    pub fn altair_is_unslashed_participating(
+        settings: Settings,
+        state_slot: u64,
+        flag_index: u64,
+        epoch: u64,
+        validator: *const u64,
+        length: usize,
+    ) -> TruthAnswer;
+
+    // block roots
+    pub fn altair_get_block_root_at_slot(
+        settings: Settings,
+        roots: *const u8,
+        roots_length: usize,
+        state_slot: u64,
+        slot: u64,
+    ) -> RootAnswer;
+    pub fn altair_get_block_root(
+        settings: Settings,
+        roots: *const u8,
+        roots_length: usize,
+        state_slot: u64,
+        epoch: u64,
+    ) -> RootAnswer;
+
+    // the registry
+    pub fn altair_get_total_active_balance(
+        settings: Settings,
+        state_slot: u64,
+        registry: *const u64,
+        length: usize,
+    ) -> NumberAnswer;
+    pub fn altair_get_participating_balance(
+        settings: Settings,
+        state_slot: u64,
+        flag_index: u64,
+        epoch: u64,
+        registry: *const u64,
+        length: usize,
+    ) -> NumberAnswer;
+    pub fn altair_get_validator_churn_limit(
+        settings: Settings,
+        state_slot: u64,
+        registry: *const u64,
+        length: usize,
+    ) -> NumberAnswer;
+    pub fn altair_initiate_validator_exit(
+        settings: Settings,
+        state_slot: u64,
+        index: u64,
+        registry: *mut u64,
+        length: usize,
+    ) -> u64;
+
+    // rewards
+    pub fn altair_get_base_reward_per_increment(settings: Settings, total: u64) -> NumberAnswer;
+    pub fn altair_get_base_reward(settings: Settings, total: u64, validator: *const u64, length: usize)
+        -> NumberAnswer;
+    pub fn altair_get_flag_index_deltas(
+        settings: Settings,
+        state_slot: u64,
+        finalized_epoch: u64,
+        flag_index: u64,
+        index: usize,
+        registry: *const u64,
+        length: usize,
+    ) -> DeltasAnswer;
+    pub fn altair_get_inactivity_penalty_deltas(
+        settings: Settings,
+        state_slot: u64,
+        validator: *const u64,
+        length: usize,
+    ) -> DeltasAnswer;
+
+    // finality
+    pub fn altair_get_finality_delay(settings: Settings, state_slot: u64, finalized_epoch: u64) -> NumberAnswer;
+    pub fn altair_is_in_inactivity_leak(settings: Settings, state_slot: u64, finalized_epoch: u64) -> TruthAnswer;
+    pub fn altair_weigh_justification_and_finalization(
+        settings: Settings,
+        roots: *const u8,
+        roots_length: usize,
+        finality: Finality,
+        total: u64,
+        previous: u64,
+        current: u64,
+    ) -> FinalityAnswer;
+}

@@ -1,0 +1,72 @@
+//! A record with vectors of its own.
+use crate::file::{read_file, read_header, write_file, Header, ReadRefused};
+use crate::types::{Finality, Settings};
+use crate::{charged, close, validator, Refusal};
+
+/// All that a close is handed, and hands back.
+#[derive(Clone, Debug, PartialEq, Eq)]
+pub struct Record {
+    pub settings: Settings,
+    pub finality: Finality,
+    /// Ten numbers a validator: [`validator`] names them.
+    pub registry: Vec<u64>,
+    pub slashings: Vec<u64>,
+    /// 32 bytes a root.
+    pub roots: Vec<u8>,
+}
+
+impl Record {
+    /// The record of a file.
+    ///
+    /// ```
+    /// use altair_close::{Record, Refusal};
+    /// assert_eq!(Record::read(&[0; 80]).unwrap_err().refusal, Refusal::File);
+    /// ```
+    pub fn read(file: &[u8]) -> Result<Record, ReadRefused> {
+        // the header's own refusal comes from the read below, with the position
+        let header = read_header(file).unwrap_or(Header { validators: 0, roots: 0, slashings: 0 });
+        let mut registry = vec![0; validator::LENGTH * header.validators];
+        let mut slashings = vec![0; header.slashings];
+        let (settings, finality) = read_file(file, &mut registry, &mut slashings)?;
+        let roots = file[header.roots_part()].to_vec();
+        Ok(Record { settings, finality, registry, slashings, roots })
+    }
+
+    /// The file of the record.
+    pub fn write(&self) -> Result<Vec<u8>, Refusal> {
+        let held = Header {
+            validators: self.registry.len() / validator::LENGTH,
+            roots: self.roots.len() / 32,
+            slashings: self.slashings.len(),
+        };
+        let mut file = vec![0; held.file_length()];
+        write_file(&self.settings, &self.finality, &self.registry, &self.roots, &self.slashings, &mut file)?;
+        Ok(file)
+    }
+
+    /// The closed record; roots stay.
+    pub fn close(&self) -> Result<Record, Refusal> {
+        let mut registry = vec![0; self.registry.len()];
+        let mut slashings = vec![0; self.slashings.len()];
+        let finality = close(
+            &self.settings,
+            &self.finality,
+            &self.registry,
+            &self.slashings,
+            &self.roots,
+            &mut registry,
+            &mut slashings,
+        )?;
+        Ok(Record { settings: self.settings, finality, registry, slashings, roots: self.roots.clone() })
+    }
+
+    /// How many validators were active in the previous epoch.
+    pub fn charged(&self) -> Result<u64, Refusal> {
+        charged(&self.settings, self.finality.slot, &self.registry)
+    }
+
+    /// The validators' numbers, ten by ten.
+    pub fn validators(&self) -> impl Iterator<Item = &[u64]> {
+        self.registry.chunks_exact(validator::LENGTH)
+    }
+}

@@ -1,0 +1,67 @@
+//! Why a call was refused.
+use std::error::Error;
+use std::fmt;
+
+/// The first test that failed, under the number that the library answers.
+#[derive(Clone, Copy, Debug, PartialEq, Eq, Hash)]
+#[non_exhaustive]
+#[repr(u64)]
+pub enum Refusal {
+    /// A length, a vector's size or an index is not the one called for. Nothing was written.
+    Shape = 1,
+    /// A setting is 0 where it divides, or 2^48 or more. Nothing was written.
+    Settings = 2,
+    /// A slot, epoch, bit field or flag of the record is out of range. Nothing was written.
+    Record = 3,
+    /// A block root is wanted that the record does not keep. Closing buffers hold the opening's numbers.
+    Root = 4,
+    /// A sum, product or difference that is evaluated leaves 64 bits. Closing buffers hold the opening's numbers.
+    Overflow = 5,
+    /// A record file's header is not as it must be. Nothing was written.
+    File = 6,
+}
+
+impl Refusal {
+    pub const ALL: [Refusal; 6] =
+        [Refusal::Shape, Refusal::Settings, Refusal::Record, Refusal::Root, Refusal::Overflow, Refusal::File];
+
+    /// ```
+    /// assert_eq!(altair_close::Refusal::Overflow.number(), 5);
+    /// ```
+    pub fn number(self) -> u64 {
+        self as u64
+    }
+
+    /// ```
+    /// use altair_close::Refusal;
+    /// assert_eq!(Refusal::from_number(4), Some(Refusal::Root));
+    /// assert_eq!(Refusal::from_number(0), None);
+    /// ```
+    pub fn from_number(number: u64) -> Option<Refusal> {
+        Refusal::ALL.into_iter().find(|refusal| refusal.number() == number)
+    }
+
+    /// `value` where the library's number is 0. It answers no numbers but these: its contracts name each.
+    pub(crate) fn or<T>(number: u64, value: T) -> Result<T, Refusal> {
+        match number {
+            0 => Ok(value),
+            _ => Err(Refusal::from_number(number).expect("the library answers 0 to 6")),
+        }
+    }
+}
+
+impl fmt::Display for Refusal {
+    fn fmt(&self, f: &mut fmt::Formatter<'_>) -> fmt::Result {
+        let why = match self {
+            Refusal::Shape => "a length, a vector's size or an index is not the one called for",
+            Refusal::Settings => "a setting is 0 where it divides, or 2^48 or more",
+            Refusal::Record => "a slot, epoch, bit field or flag of the record is out of range",
+            Refusal::Root => "a block root is wanted that the record does not keep",
+            Refusal::Overflow => "a sum, product or difference leaves 64 bits",
+            Refusal::File => "a record file's header is not as it must be",
+        };
+        write!(f, "refused {}: {why}", self.number())
+    }
+}
+
+impl Error for Refusal {}

@@ -1,0 +1,185 @@
+//! The eight steps, in the order of the close. Refused with 1, 2 or 3 a step leaves its closing buffer as it was; with 5 the
+//! closing buffer holds the opening's numbers.
+use crate::raw;
+use crate::refusal::Refusal;
+use crate::types::{Finality, Settings};
+
+/// The finality after justification.
+///
+/// ```
+/// use altair_close::*;
+/// let mut registry = validator::new(32_000_000_000);
+/// registry[validator::PREVIOUS_EPOCH_PARTICIPATION] = 7;
+/// let finality = Finality { slot: 127, ..Finality::default() };
+/// let after = process_justification_and_finalization(&Settings::MAINNET, &vec![0; 32 * 8192], &finality, &registry)?;
+/// assert_eq!(after.current_justified_checkpoint.epoch, 2);
+/// # Ok::<(), Refusal>(())
+/// ```
+pub fn process_justification_and_finalization(
+    settings: &Settings,
+    roots: &[u8],
+    finality: &Finality,
+    registry: &[u64],
+) -> Result<Finality, Refusal> {
+    unsafe {
+        raw::altair_process_justification_and_finalization(
+            *settings,
+            roots.as_ptr(),
+            roots.len(),
+            *finality,
+            registry.as_ptr(),
+            registry.len(),
+        )
+    }
+    .result()
+}
+
+/// The registry with the new inactivity scores.
+pub fn process_inactivity_updates(
+    settings: &Settings,
+    state_slot: u64,
+    finalized_epoch: u64,
+    opening: &[u64],
+    closing: &mut [u64],
+) -> Result<(), Refusal> {
+    let number = unsafe {
+        raw::altair_process_inactivity_updates(
+            *settings,
+            state_slot,
+            finalized_epoch,
+            opening.as_ptr(),
+            opening.len(),
+            closing.as_mut_ptr(),
+            closing.len(),
+        )
+    };
+    Refusal::or(number, ())
+}
+
+/// The registry with the new balances.
+pub fn process_rewards_and_penalties(
+    settings: &Settings,
+    state_slot: u64,
+    finalized_epoch: u64,
+    opening: &[u64],
+    closing: &mut [u64],
+) -> Result<(), Refusal> {
+    let number = unsafe {
+        raw::altair_process_rewards_and_penalties(
+            *settings,
+            state_slot,
+            finalized_epoch,
+            opening.as_ptr(),
+            opening.len(),
+            closing.as_mut_ptr(),
+            closing.len(),
+        )
+    };
+    Refusal::or(number, ())
+}
+
+/// The registry after queueing, ejecting and activating.
+pub fn process_registry_updates(
+    settings: &Settings,
+    state_slot: u64,
+    finalized_epoch: u64,
+    opening: &[u64],
+    closing: &mut [u64],
+) -> Result<(), Refusal> {
+    let number = unsafe {
+        raw::altair_process_registry_updates(
+            *settings,
+            state_slot,
+            finalized_epoch,
+            opening.as_ptr(),
+            opening.len(),
+            closing.as_mut_ptr(),
+            closing.len(),
+        )
+    };
+    Refusal::or(number, ())
+}
+
+/// The registry less the slashing penalties.
+pub fn process_slashings(
+    settings: &Settings,
+    state_slot: u64,
+    slashings: &[u64],
+    opening: &[u64],
+    closing: &mut [u64],
+) -> Result<(), Refusal> {
+    let number = unsafe {
+        raw::altair_process_slashings(
+            *settings,
+            state_slot,
+            slashings.as_ptr(),
+            slashings.len(),
+            opening.as_ptr(),
+            opening.len(),
+            closing.as_mut_ptr(),
+            closing.len(),
+        )
+    };
+    Refusal::or(number, ())
+}
+
+/// The registry with the new effective balances.
+///
+/// ```
+/// use altair_close::*;
+/// let mut opening = validator::new(32_000_000_000);
+/// opening[validator::BALANCE] = 31_749_999_999;
+/// let mut closing = [0; 10];
+/// process_effective_balance_updates(&Settings::MAINNET, &opening, &mut closing)?;
+/// assert_eq!(closing[validator::EFFECTIVE_BALANCE], 31_000_000_000);
+/// # Ok::<(), Refusal>(())
+/// ```
+pub fn process_effective_balance_updates(
+    settings: &Settings,
+    opening: &[u64],
+    closing: &mut [u64],
+) -> Result<(), Refusal> {
+    let number = unsafe {
+        raw::altair_process_effective_balance_updates(
+            *settings,
+            opening.as_ptr(),
+            opening.len(),
+            closing.as_mut_ptr(),
+            closing.len(),
+        )
+    };
+    Refusal::or(number, ())
+}
+
+/// The slashings with the next epoch's place 0.
+pub fn process_slashings_reset(
+    settings: &Settings,
+    state_slot: u64,
+    opening: &[u64],
+    closing: &mut [u64],
+) -> Result<(), Refusal> {
+    let number = unsafe {
+        raw::altair_process_slashings_reset(
+            *settings,
+            state_slot,
+            opening.as_ptr(),
+            opening.len(),
+            closing.as_mut_ptr(),
+            closing.len(),
+        )
+    };
+    Refusal::or(number, ())
+}
+
+/// The registry with current flags as previous ones and none current.
+pub fn process_participation_flag_updates(opening: &[u64], closing: &mut [u64]) -> Result<(), Refusal> {
+    let number = unsafe {
+        raw::altair_process_participation_flag_updates(
+            opening.as_ptr(),
+            opening.len(),
+            closing.as_mut_ptr(),
+            closing.len(),
+        )
+    };
+    Refusal::or(number, ())
+}

@@ -1,0 +1,100 @@
+//! What goes in and comes back by value.
+
+/// 2^64 - 1, which means none.
+pub const FAR_FUTURE_EPOCH: u64 = u64::MAX;
+
+/// The nineteen settings of a network.
+#[repr(C)]
+#[derive(Clone, Copy, Debug, PartialEq, Eq)]
+pub struct Settings {
+    pub slots_per_epoch: u64,
+    pub slots_per_historical_root: u64,
+    pub epochs_per_slashings_vector: u64,
+    pub effective_balance_increment: u64,
+    pub max_effective_balance: u64,
+    pub hysteresis_quotient: u64,
+    pub hysteresis_downward_multiplier: u64,
+    pub hysteresis_upward_multiplier: u64,
+    pub base_reward_factor: u64,
+    pub min_epochs_to_inactivity_penalty: u64,
+    pub inactivity_score_bias: u64,
+    pub inactivity_score_recovery_rate: u64,
+    pub inactivity_penalty_quotient_altair: u64,
+    pub proportional_slashing_multiplier_altair: u64,
+    pub max_seed_lookahead: u64,
+    pub min_validator_withdrawability_delay: u64,
+    pub ejection_balance: u64,
+    pub min_per_epoch_churn_limit: u64,
+    pub churn_limit_quotient: u64,
+}
+
+impl Settings {
+    /// Those of mainnet.
+    pub const MAINNET: Settings = Settings {
+        slots_per_epoch: 32,
+        slots_per_historical_root: 8192,
+        epochs_per_slashings_vector: 8192,
+        effective_balance_increment: 1_000_000_000,
+        max_effective_balance: 32_000_000_000,
+        hysteresis_quotient: 4,
+        hysteresis_downward_multiplier: 1,
+        hysteresis_upward_multiplier: 5,
+        base_reward_factor: 64,
+        min_epochs_to_inactivity_penalty: 4,
+        inactivity_score_bias: 4,
+        inactivity_score_recovery_rate: 16,
+        inactivity_penalty_quotient_altair: 50_331_648,
+        proportional_slashing_multiplier_altair: 2,
+        max_seed_lookahead: 4,
+        min_validator_withdrawability_delay: 256,
+        ejection_balance: 16_000_000_000,
+        min_per_epoch_churn_limit: 4,
+        churn_limit_quotient: 65536,
+    };
+}
+
+/// An epoch and the root of its first block.
+#[repr(C)]
+#[derive(Clone, Copy, Debug, Default, PartialEq, Eq)]
+pub struct Checkpoint {
+    pub epoch: u64,
+    pub root: [u8; 32],
+}
+
+/// Slot, bits and the three checkpoints. Bit i of `justification_bits` counts 2^i; bit 0 is the current epoch's.
+#[repr(C)]
+#[derive(Clone, Copy, Debug, Default, PartialEq, Eq)]
+pub struct Finality {
+    pub slot: u64,
+    pub justification_bits: u64,
+    pub previous_justified_checkpoint: Checkpoint,
+    pub current_justified_checkpoint: Checkpoint,
+    pub finalized_checkpoint: Checkpoint,
+}
+
+/// What one validator gains and loses by one rule.
+#[derive(Clone, Copy, Debug, PartialEq, Eq)]
+pub struct Deltas {
+    pub reward: u64,
+    pub penalty: u64,
+}
+
+/// The numbers of a listing's first line.
+#[derive(Clone, Copy, Debug, PartialEq, Eq)]
+pub struct Head {
+    pub epoch: u64,
+    pub justified_epoch: u64,
+    pub finalized_epoch: u64,
+    pub justification_bits: u64,
+    pub charged: u64,
+}
+
+/// The numbers of one validator's line: effective balance and score are those after the close.
+#[derive(Clone, Copy, Debug, PartialEq, Eq)]
+pub struct Line {
+    pub index: u64,
+    pub opening_balance: u64,
+    pub closing_balance: u64,
+    pub effective_balance: u64,
+    pub inactivity_score: u64,
+}

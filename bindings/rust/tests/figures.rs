@@ -1,0 +1,248 @@
+//! Every function, at document 01's figures.
+use altair_close::validator::*;
+use altair_close::*;
+
+const MAINNET: Settings = Settings::MAINNET;
+const ETH: u64 = 1_000_000_000;
+const FAR: u64 = FAR_FUTURE_EPOCH;
+
+/// 32 * 10^9, active from epoch 0, with all flags
+fn hit() -> [u64; LENGTH] {
+    let mut v = validator::new(32 * ETH);
+    (v[PREVIOUS_EPOCH_PARTICIPATION], v[CURRENT_EPOCH_PARTICIPATION]) = (7, 7);
+    v
+}
+
+fn finality(slot: u64) -> Finality {
+    Finality { slot, ..Finality::default() }
+}
+
+#[test]
+fn slots_and_epochs() {
+    assert_eq!(version(), VERSION);
+    assert_eq!(integer_sqrt(160 * ETH), 400_000);
+    assert_eq!(integer_sqrt(u64::MAX), 4_294_967_295);
+    assert_eq!(compute_epoch_at_slot(&MAINNET, 127), Ok(3));
+    assert_eq!(compute_start_slot_at_epoch(&MAINNET, 3), Ok(96));
+    assert_eq!(compute_start_slot_at_epoch(&MAINNET, FAR), Err(Refusal::Overflow));
+    assert_eq!(compute_activation_exit_epoch(&MAINNET, 3), Ok(8));
+    assert_eq!(get_current_epoch(&MAINNET, 127), Ok(3));
+    assert_eq!(get_previous_epoch(&MAINNET, 127), Ok(2));
+    assert_eq!(get_previous_epoch(&MAINNET, 31), Ok(0));
+    assert_eq!(get_current_epoch(&MAINNET, 1 << 48), Err(Refusal::Record));
+    assert_eq!(get_current_epoch(&Settings { slots_per_epoch: 0, ..MAINNET }, 127), Err(Refusal::Settings));
+    assert_eq!(get_current_epoch(&Settings { slots_per_historical_root: 0, ..MAINNET }, 127), Err(Refusal::Shape));
+}
+
+#[test]
+fn one_validator() {
+    let mut v = hit();
+    assert_eq!(is_active_validator(&v, 3), Ok(true));
+    assert_eq!(is_active_validator(&v[1..], 3), Err(Refusal::Shape));
+    assert_eq!(is_eligible(&MAINNET, 127, &v), Ok(true));
+    assert_eq!(is_unslashed_participating(&MAINNET, 127, 1, 2, &v), Ok(true));
+    assert_eq!(is_unslashed_participating(&MAINNET, 127, 1, 1, &v), Err(Refusal::Shape));
+    assert_eq!(get_base_reward(&MAINNET, 160 * ETH, &v), Ok(5_120_000));
+    assert_eq!(get_base_reward(&MAINNET, 0, &v), Err(Refusal::Shape));
+
+    assert_eq!(increase_balance(&mut v, 5), Ok(()));
+    assert_eq!(v[BALANCE], 32 * ETH + 5);
+    let before = v;
+    assert_eq!(increase_balance(&mut v, u64::MAX), Err(Refusal::Overflow));
+    assert_eq!(v, before);
+    assert_eq!(decrease_balance(&mut v, 33 * ETH), Ok(()));
+    assert_eq!(v[BALANCE], 0);
+
+    v[ACTIVATION_EPOCH] = FAR;
+    assert_eq!(is_active_validator(&v, 3), Ok(false));
+    assert_eq!(is_eligible_for_activation(0, &v), Ok(true));
+    assert_eq!(is_eligible_for_activation_queue(&MAINNET, &v), Ok(false));
+    v[ACTIVATION_ELIGIBILITY_EPOCH] = FAR;
+    assert_eq!(is_eligible_for_activation_queue(&MAINNET, &v), Ok(true));
+    v[SLASHED] = 2;
+    assert_eq!(is_eligible_for_activation_queue(&MAINNET, &v), Err(Refusal::Record));
+
+    assert_eq!(has_flag(6, 1), Ok(true));
+    assert_eq!(has_flag(6, 0), Ok(false));
+    assert_eq!(has_flag(6, 8), Err(Refusal::Shape));
+    assert_eq!(add_flag(5, 1), Ok(7));
+
+    let mut v = hit();
+    (v[PREVIOUS_EPOCH_PARTICIPATION], v[INACTIVITY_SCORE]) = (5, 100);
+    assert_eq!(get_inactivity_penalty_deltas(&MAINNET, 127, &v), Ok(Deltas { reward: 0, penalty: 15894 }));
+}
+
+#[test]
+fn block_roots_and_finality() {
+    let mut roots = vec![0; 32 * 8192];
+    roots[..32].fill(9);
+    roots[32 * 64..32 * 65].fill(7);
+    assert_eq!(get_block_root_at_slot(&MAINNET, &roots, 8192, 0), Ok([9; 32]));
+    assert_eq!(get_block_root_at_slot(&MAINNET, &roots, 8193, 0), Err(Refusal::Root));
+    assert_eq!(get_block_root(&MAINNET, &roots, 127, 2), Ok([7; 32]));
+    assert_eq!(get_block_root(&MAINNET, &roots, 127, FAR), Err(Refusal::Overflow));
+
+    // total 3 * 10^9: target 2 * 10^9 justifies, 1999999999 does not
+    let before = finality(127);
+    let after = weigh_justification_and_finalization(&MAINNET, &roots, &before, 3 * ETH, 2 * ETH, 1_999_999_999);
+    let current_justified_checkpoint = Checkpoint { epoch: 2, root: [7; 32] };
+    assert_eq!(after, Ok(Finality { justification_bits: 2, current_justified_checkpoint, ..before }));
+    let short = weigh_justification_and_finalization(&MAINNET, &roots[..32], &before, 3 * ETH, 2 * ETH, 0);
+    assert_eq!(short, Err(Refusal::Shape));
+
+    assert_eq!(get_finality_delay(&MAINNET, 127, 1), Ok(1));
+    assert_eq!(get_finality_delay(&MAINNET, 127, 3), Err(Refusal::Overflow));
+    assert_eq!(is_in_inactivity_leak(&MAINNET, 127, 1), Ok(false));
+    assert_eq!(is_in_inactivity_leak(&MAINNET, 32 * 6, 0), Ok(true));
+}
+
+#[test]
+fn the_registry() {
+    let mut registry = hit().repeat(5);
+    assert_eq!(charged(&MAINNET, 127, &registry), Ok(5));
+    assert_eq!(get_total_active_balance(&MAINNET, 127, &registry), Ok(160 * ETH));
+    assert_eq!(get_total_active_balance(&MAINNET, 127, &[]), Ok(ETH));
+    assert_eq!(get_participating_balance(&MAINNET, 127, 1, 2, &registry), Ok(160 * ETH));
+    assert_eq!(get_validator_churn_limit(&MAINNET, 127, &registry), Ok(4));
+    assert_eq!(get_base_reward_per_increment(&MAINNET, 160 * ETH), Ok(160_000));
+    let target = |index, registry: &[u64]| get_flag_index_deltas(&MAINNET, 127, 1, 1, index, registry);
+    assert_eq!(target(4, &registry), Ok(Deltas { reward: 2_080_000, penalty: 0 }));
+    registry[LENGTH * 4 + PREVIOUS_EPOCH_PARTICIPATION] = 0;
+    assert_eq!(target(0, &registry), Ok(Deltas { reward: 1_664_000, penalty: 0 }));
+    assert_eq!(target(4, &registry), Ok(Deltas { reward: 0, penalty: 2_080_000 }));
+    assert_eq!(target(5, &registry), Err(Refusal::Shape));
+
+    assert_eq!(initiate_validator_exit(&MAINNET, 127, 1, &mut registry), Ok(()));
+    assert_eq!(registry[LENGTH + EXIT_EPOCH..][..2], [8, 264]);
+    assert_eq!(registry[EXIT_EPOCH], FAR);
+    assert_eq!(initiate_validator_exit(&MAINNET, 127, 5, &mut registry), Err(Refusal::Shape));
+}
+
+#[test]
+fn the_steps() {
+    let mut opening = hit().repeat(5);
+    let mut closing = vec![0; 50];
+    let after = process_justification_and_finalization(&MAINNET, &vec![0; 32 * 8192], &finality(127), &opening);
+    assert_eq!(after.map(|f| (f.justification_bits, f.current_justified_checkpoint.epoch)), Ok((3, 3)));
+
+    opening[INACTIVITY_SCORE] = 10;
+    assert_eq!(process_inactivity_updates(&MAINNET, 127, 1, &opening, &mut closing), Ok(()));
+    assert_eq!(closing[INACTIVITY_SCORE], 0);
+    assert_eq!(process_inactivity_updates(&MAINNET, 127, 3, &opening, &mut closing), Err(Refusal::Overflow));
+    assert_eq!(closing, opening);
+
+    assert_eq!(process_rewards_and_penalties(&MAINNET, 127, 1, &opening, &mut closing), Ok(()));
+    assert_eq!(closing[BALANCE], 32 * ETH + 1_120_000 + 2_080_000 + 1_120_000);
+
+    opening[LENGTH + ACTIVATION_EPOCH] = FAR;
+    assert_eq!(process_registry_updates(&MAINNET, 127, 1, &opening, &mut closing), Ok(()));
+    assert_eq!(closing[LENGTH + ACTIVATION_EPOCH], 8);
+    let before = closing.clone();
+    assert_eq!(process_registry_updates(&MAINNET, 127, 1, &opening, &mut closing[LENGTH..]), Err(Refusal::Shape));
+    assert_eq!(closing, before);
+
+    let mut opening = hit().repeat(5);
+    let mut slashings = vec![0; 8192];
+    let mut closing_slashings = vec![1; 8192];
+    slashings[3] = 32 * ETH;
+    opening[SLASHED] = 1;
+    opening[WITHDRAWABLE_EPOCH] = 3 + 8192 / 2;
+    assert_eq!(process_slashings(&MAINNET, 127, &slashings, &opening, &mut closing), Ok(()));
+    assert_eq!((closing[BALANCE], closing[LENGTH + BALANCE]), (20 * ETH, 32 * ETH));
+
+    opening[BALANCE] = 31_749_999_999;
+    opening[LENGTH + BALANCE] = 31_750_000_000;
+    assert_eq!(process_effective_balance_updates(&MAINNET, &opening, &mut closing), Ok(()));
+    assert_eq!((closing[EFFECTIVE_BALANCE], closing[LENGTH + EFFECTIVE_BALANCE]), (31 * ETH, 32 * ETH));
+
+    slashings[4] = 6;
+    assert_eq!(process_slashings_reset(&MAINNET, 127, &slashings, &mut closing_slashings), Ok(()));
+    slashings[4] = 0;
+    assert_eq!(closing_slashings, slashings);
+
+    opening[CURRENT_EPOCH_PARTICIPATION] = 5;
+    assert_eq!(process_participation_flag_updates(&opening, &mut closing), Ok(()));
+    assert_eq!(closing[PREVIOUS_EPOCH_PARTICIPATION..][..2], [5, 0]);
+}
+
+/// document 01's worked record
+fn worked() -> Record {
+    let checkpoint = |epoch| Checkpoint { epoch, root: [0; 32] };
+    let mut registry = hit().repeat(5);
+    registry[LENGTH * 4 + PREVIOUS_EPOCH_PARTICIPATION..][..2].fill(0);
+    Record {
+        settings: Settings {
+            slots_per_epoch: 8,
+            slots_per_historical_root: 64,
+            epochs_per_slashings_vector: 64,
+            ..MAINNET
+        },
+        finality: Finality {
+            slot: 31,
+            justification_bits: 3,
+            previous_justified_checkpoint: checkpoint(1),
+            current_justified_checkpoint: checkpoint(2),
+            finalized_checkpoint: checkpoint(1),
+        },
+        registry,
+        slashings: vec![0; 64],
+        roots: vec![0; 32 * 64],
+    }
+}
+
+#[test]
+fn the_file() {
+    let record = worked();
+    let mut file = record.write().unwrap();
+    let header = Header { validators: 5, roots: 64, slashings: 64 };
+    assert_eq!((read_header(&file), file.len()), (Ok(header), header.file_length()));
+    assert_eq!(Record::read(&file).as_ref(), Ok(&record));
+
+    // the second validator's flags are bad: reading stops there
+    let at = 368 + 80 + 8 * CURRENT_EPOCH_PARTICIPATION;
+    file[at + 1] = 1;
+    assert_eq!(Record::read(&file), Err(ReadRefused { refusal: Refusal::Record, position: at as u64 }));
+    assert_eq!(Record::read(&file[1..]), Err(ReadRefused { refusal: Refusal::File, position: 80 }));
+    assert_eq!(Record::read(&[]), Err(ReadRefused { refusal: Refusal::File, position: 0 }));
+    assert_eq!(Record { registry: vec![0; 9], ..record }.write(), Err(Refusal::Shape));
+}
+
+#[test]
+fn the_close() {
+    let record = worked();
+    let closed = record.close().unwrap();
+    assert_eq!((record.charged(), closed.finality.finalized_checkpoint.epoch), (Ok(5), 2));
+    let balances: Vec<u64> = closed.validators().map(|v| v[BALANCE]).collect();
+    assert_eq!(balances, [32_003_456_000, 32_003_456_000, 32_003_456_000, 32_003_456_000, 31_996_800_000]);
+
+    let head = listing_head(&record.settings, 31, &closed.finality, &record.registry);
+    let (justified_epoch, finalized_epoch, justification_bits) = (3, 2, 7);
+    assert_eq!(head, Ok(Head { epoch: 3, justified_epoch, finalized_epoch, justification_bits, charged: 5 }));
+    let mut last = closed.registry.clone();
+    (last[40 + EFFECTIVE_BALANCE], last[40 + INACTIVITY_SCORE]) = (8, 9);
+    let (opening_balance, closing_balance) = (32 * ETH, 31_996_800_000);
+    let line = Line { index: 4, opening_balance, closing_balance, effective_balance: 8, inactivity_score: 9 };
+    assert_eq!(listing_line(&record.registry, &last, 4), Ok(line));
+    assert_eq!(listing_line(&record.registry, &last, 5), Err(Refusal::Shape));
+
+    // refused with 3 nothing is written, with 5 the opening is put back
+    let mut far = record.clone();
+    far.finality.finalized_checkpoint.epoch = 1 << 48;
+    assert_eq!(far.close(), Err(Refusal::Record));
+    let mut far = record;
+    far.registry[BALANCE] = u64::MAX;
+    let (mut registry, mut slashings) = (vec![1; 50], vec![1; 64]);
+    let answer =
+        close(&far.settings, &far.finality, &far.registry, &far.slashings, &far.roots, &mut registry, &mut slashings);
+    assert_eq!(answer, Err(Refusal::Overflow));
+    assert_eq!((registry, slashings), (far.registry, far.slashings));
+}
+
+#[test]
+fn refusals_have_their_numbers() {
+    for (i, refusal) in Refusal::ALL.into_iter().enumerate() {
+        assert_eq!(refusal.number(), i as u64 + 1);
+        assert_eq!(Refusal::from_number(refusal.number()), Some(refusal));
+        assert!(refusal.to_string().starts_with(&format!("refused {}", i + 1)));
+    }
+}

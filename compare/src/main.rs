@@ -1,0 +1,221 @@
+//! The library's archive against the Rust of ethereum-consensus, in one process, on generated records: the close, each of the eight
+//! steps, every leaf, and reading and writing a file. Every number that comes back or is left in a lent buffer is compared.
+use reference::record;
+mod crowd;
+mod files;
+mod leaves;
+mod library;
+mod steps;
+
+use reference::{
+    calls::{LEAVES, OPERATIONS},
+    compare::{self, Report, Tally},
+    generate_leaves, judge,
+    random::Random,
+    record::{describe, write_file, Record},
+};
+use std::{
+    path::Path,
+    process::ExitCode,
+    sync::{
+        atomic::{AtomicU64, Ordering},
+        Mutex,
+    },
+    time::Instant,
+};
+
+const USAGE: &str = "compare COUNT SEED FOLDER: COUNT records from SEED; a difference is saved in FOLDER";
+
+/// Records that a worker takes at a time.
+const BATCH: u64 = 500;
+
+/// The place of a difference, and all that is to be known about it.
+struct Difference {
+    number: u64,
+    text: String,
+    record: Record,
+}
+
+fn main() -> ExitCode {
+    judge::install_hook();
+    assert!(judge::overflow_is_checked(), "the reference is built without overflow checks");
+    let args: Vec<String> = std::env::args().skip(1).collect();
+    let number = |i: usize| args.get(i).and_then(|a: &String| a.replace(['_', ','], "").parse().ok());
+    let (Some(count), Some(seed), Some(folder)) = (number(0), number(1), args.get(2)) else {
+        eprintln!("{USAGE}");
+        return ExitCode::FAILURE;
+    };
+    match run(count, seed) {
+        None => {
+            println!("no difference between the library and the Rust on {count} records from seed {seed}");
+            ExitCode::SUCCESS
+        }
+        Some(d) => {
+            println!("DIFFERENCE\n{}", d.text);
+            save(Path::new(folder), &d);
+            ExitCode::FAILURE
+        }
+    }
+}
+
+fn save(folder: &Path, d: &Difference) {
+    let (text, file) = (folder.join("difference.txt"), folder.join("difference.record"));
+    let saved = std::fs::write(&text, &d.text).and_then(|()| std::fs::write(&file, write_file(&d.record)));
+    match saved {
+        Ok(()) => println!("saved as {} and, for reference/run --record, {}", text.display(), file.display()),
+        Err(e) => println!("not saved in {}: {e}", folder.display()),
+    }
+}
+
+/// All workers' counts are printed. The difference is that of the smallest number, whatever the workers' order.
+fn run(count: u64, seed: u64) -> Option<Difference> {
+    let start = Instant::now();
+    let (next, told) = (AtomicU64::new(0), AtomicU64::new(0));
+    let first: Mutex<Option<Difference>> = Mutex::new(None);
+    let workers = std::thread::available_parallelism().map_or(1, |n| n.get());
+    let worker = || {
+        let mut counts = Counts::default();
+        // a batch that is begun is ended, so that the smallest number is found
+        while first.lock().expect("a worker panicked").is_none() {
+            let from = next.fetch_add(BATCH, Ordering::Relaxed);
+            for i in from..count.min(from + BATCH) {
+                if let Err((text, record)) = counts.one(seed, i) {
+                    let text = format!("record {i} of seed {seed}: {text}\n{}", describe(&record));
+                    let mut first = first.lock().expect("a worker panicked");
+                    if first.as_ref().is_none_or(|d| i < d.number) {
+                        *first = Some(Difference { number: i, text, record });
+                    }
+                    return counts;
+                }
+            }
+            if from + BATCH >= count {
+                return counts;
+            }
+            progress(from, count, &start, &told);
+        }
+        counts
+    };
+    let counts = std::thread::scope(|scope| {
+        let started: Vec<_> = (0..workers).map(|_| scope.spawn(worker)).collect();
+        started.into_iter().map(|w| w.join().expect("a worker panicked")).reduce(Counts::joined)
+    });
+    let counts = counts.expect("at least one worker");
+    compare::table(&counts.report, seed, count);
+    println!(
+        "{} answers and {} numbers compared in {:.0} seconds by {workers} workers",
+        counts.answers,
+        counts.numbers,
+        start.elapsed().as_secs_f64()
+    );
+    first.into_inner().expect("a worker panicked")
+}
+
+/// A line every five seconds.
+fn progress(from: u64, count: u64, start: &Instant, told: &AtomicU64) {
+    let seconds = start.elapsed().as_secs();
+    let last = told.load(Ordering::Relaxed);
+    let due = seconds >= last + 5;
+    if due && told.compare_exchange(last, seconds, Ordering::Relaxed, Ordering::Relaxed).is_ok() {
+        let done = (from + BATCH).min(count);
+        let speed = done as f64 / start.elapsed().as_secs_f64();
+        println!("{done} of {count} records, {speed:.0} a second, no difference so far");
+    }
+}
+
+struct Counts {
+    report: Report,
+    answers: u64,
+    numbers: u64,
+}
+
+impl Default for Counts {
+    fn default() -> Self {
+        let report = Report { leaves: vec![Tally::default(); LEAVES.len()], ..Report::default() };
+        Counts { report, answers: 0, numbers: 0 }
+    }
+}
+
+/// What was asked and what both sides say, and the record.
+type Found = Result<(), (String, Record)>;
+
+impl Counts {
+    fn joined(mut self, other: Counts) -> Counts {
+        let (a, b) = (&mut self.report, &other.report);
+        let operations = a.operations.iter_mut().zip(&b.operations);
+        let closes = a.closes.iter_mut().zip(&b.closes);
+        let leaves = a.leaves.iter_mut().zip(&b.leaves);
+        operations.chain(closes).chain(leaves).chain([(&mut a.files, &b.files)]).for_each(|(a, b)| a.add(b));
+        self.answers += other.answers;
+        self.numbers += other.numbers;
+        self
+    }
+
+    fn same<T: PartialEq + std::fmt::Debug>(
+        &mut self,
+        asked: impl FnOnce() -> String,
+        rust: T,
+        library: T,
+    ) -> Result<(), String> {
+        self.answers += 1;
+        if rust == library {
+            return Ok(());
+        }
+        Err(format!("{}\nthe Rust:    {rust:?}\nthe library: {library:?}", asked()))
+    }
+
+    fn one(&mut self, seed: u64, i: u64) -> Found {
+        let (kind, mut rng, mut record) = compare::drawn(seed, i);
+        // in the place of one of the queues
+        if i % crowd::ONE_IN == 7 {
+            record = crowd::record(&mut rng);
+        }
+        self.operations(&mut rng, &record, kind)
+            .and_then(|()| self.leaves(&mut rng, &record))
+            .and_then(|()| self.files(&mut rng, &record))
+            .map_err(|text| (text, record))
+    }
+
+    fn operations(&mut self, rng: &mut Random, record: &Record, kind: usize) -> Result<(), String> {
+        let call = steps::call(rng, record);
+        for (i, operation) in OPERATIONS.into_iter().enumerate() {
+            let rust = judge::outcome(&call, operation);
+            self.report.operations[i].count(rust.refusal);
+            if i + 1 == OPERATIONS.len() {
+                self.report.closes[kind].count(rust.refusal);
+            }
+            self.numbers += (18 + rust.registry.len() + rust.slashings.len()) as u64;
+            let asked = || {
+                let buffers = (&call.closing_registry, &call.closing_slashings);
+                format!("{} into {buffers:?}", operation.name())
+            };
+            self.same(asked, rust, steps::outcome(&call, operation))?;
+        }
+        if call.record == *record {
+            Ok(())
+        } else {
+            Err("the opening was written to".to_string())
+        }
+    }
+
+    fn leaves(&mut self, rng: &mut Random, record: &Record) -> Result<(), String> {
+        for (i, &leaf) in LEAVES.iter().enumerate() {
+            let case = generate_leaves::case(rng, leaf, record);
+            let rust = leaves::called_for(&case, judge::answer(&case));
+            self.report.leaves[i].count(rust.answer.refusal);
+            self.numbers += (1 + rust.answer.words.len() + rust.lent.len()) as u64;
+            self.same(|| format!("{case:?}"), rust, leaves::told(&case))?;
+        }
+        Ok(())
+    }
+
+    fn files(&mut self, rng: &mut Random, record: &Record) -> Result<(), String> {
+        let reading = files::reading(rng, record);
+        let read = files::called_for(&reading);
+        self.report.files.count(read.refusal);
+        let asked = || format!("reading the {} bytes {:?}", reading.bytes.len(), reading.bytes);
+        self.same(asked, read, files::told(&reading))?;
+        let length = files::length(rng, record);
+        let asked = || format!("writing into {length} bytes");
+        self.same(asked, files::write_called_for(record, length), files::written(record, length))
+    }
+}

@@ -1,0 +1,65 @@
+//! The library's close and steps on a call of the reference, with its closing buffers in the middle of watched memory.
+use crate::library;
+use reference::{
+    calls::{Call, Operation, Outcome},
+    random::Random,
+    record::Record,
+};
+
+const MARGIN: usize = 32;
+
+/// A lent buffer with numbers on both sides that must stay as they are.
+struct Watched(Vec<u64>);
+
+impl Watched {
+    fn around(middle: &[u64]) -> Self {
+        let edge = (0..MARGIN as u64).map(|i| !i);
+        Watched(edge.clone().chain(middle.iter().copied()).chain(edge).collect())
+    }
+
+    fn lent(&mut self) -> &mut [u64] {
+        let end = self.0.len() - MARGIN;
+        &mut self.0[MARGIN..end]
+    }
+
+    fn after(mut self) -> Vec<u64> {
+        let middle = self.lent().to_vec();
+        assert!(self.0 == Watched::around(&middle).0, "the library wrote outside of a lent buffer");
+        middle
+    }
+}
+
+/// Closing buffers of the opening's lengths, or now and then of another, in which no two numbers are alike.
+pub fn call(rng: &mut Random, record: &Record) -> Call {
+    let mut filled = |n: usize| {
+        let n = if rng.once_in(50) { (n + rng.index(3)).saturating_sub(1) } else { n };
+        let first = rng.next();
+        (0..n as u64).map(|i| first.wrapping_add(i.wrapping_mul(0x9e37_79b9_7f4a_7c15))).collect()
+    };
+    Call {
+        closing_registry: filled(record.registry.len()),
+        closing_slashings: filled(record.slashings.len()),
+        record: record.clone(),
+    }
+}
+
+pub fn outcome(c: &Call, operation: Operation) -> Outcome {
+    let r = &c.record;
+    let (s, f, opening) = (&r.settings, &r.finality, &r.registry);
+    let (slot, finalized) = (f.slot, f.finalized.epoch);
+    let mut registry = Watched::around(&c.closing_registry);
+    let mut slashings = Watched::around(&c.closing_slashings);
+    let closing = registry.lent();
+    let (refusal, finality) = match operation {
+        Operation::Close => library::close(s, f, opening, &r.slashings, &r.roots, closing, slashings.lent()),
+        Operation::Justification => library::justification(s, f, &r.roots, opening),
+        Operation::Inactivity => (library::inactivity(s, slot, finalized, opening, closing), *f),
+        Operation::Rewards => (library::rewards(s, slot, finalized, opening, closing), *f),
+        Operation::Registry => (library::registry(s, slot, finalized, opening, closing), *f),
+        Operation::Slashings => (library::slashings(s, slot, &r.slashings, opening, closing), *f),
+        Operation::EffectiveBalances => (library::effective_balances(s, opening, closing), *f),
+        Operation::SlashingsReset => (library::slashings_reset(s, slot, &r.slashings, slashings.lent()), *f),
+        Operation::ParticipationFlags => (library::participation_flags(opening, closing), *f),
+    };
+    Outcome { refusal, finality, registry: registry.after(), slashings: slashings.after() }
+}

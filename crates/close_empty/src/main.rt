@@ -1,0 +1,5 @@
+// No input.
+
+fn main() {
+    console::run();
+}

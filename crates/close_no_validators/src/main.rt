@@ -1,0 +1,5 @@
+// No validators: both epochs are justified.
+
+fn main() {
+    console::run();
+}

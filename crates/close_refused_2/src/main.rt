@@ -1,0 +1,5 @@
+// No slots in an epoch.
+
+fn main() {
+    console::run();
+}

@@ -1,0 +1,5 @@
+// Flags above 255.
+
+fn main() {
+    console::run();
+}

@@ -1,0 +1,5 @@
+// A reward on top of the largest balance.
+
+fn main() {
+    console::run();
+}

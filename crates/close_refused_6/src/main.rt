@@ -1,0 +1,5 @@
+// The header has another version.
+
+fn main() {
+    console::run();
+}

@@ -1,0 +1,5 @@
+// A record of 65536 bytes, and a byte behind it.
+
+fn main() {
+    console::run();
+}

@@ -1,0 +1,27 @@
+// Standard input and output around the listing of a record file.
+ghost use mathlib.Core.Path.{_≡_};
+ghost use lib.ListN.{length};
+use file_listing::list_file;
+
+// One byte more than a record file may have: input that fills it is too long.
+fn input() -> [u8; 65537]
+    ensures { λ r. ⌜ 65537 ≡ length r ⌝ }
+{
+    [0; 65537]
+}
+
+// As long as the longest listing.
+fn output() -> [u8; 85614]
+    ensures { λ r. ⌜ 85614 ≡ length r ⌝ }
+{
+    [0; 85614]
+}
+
+// Nothing is printed before all of the input is read and listed.
+pub fn run() {
+    let mut bytes = input();
+    let n = io::read_full(0, &mut bytes);
+    let mut text = output();
+    let end = list_file(&bytes[..n], &mut text);
+    io::write_all(1, &text[..end]);
+}

@@ -1,0 +1,3 @@
+-- Decimal numbers, and text put into lent bytes.
+pub mod Decimal
+pub mod Put

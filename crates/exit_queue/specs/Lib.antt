@@ -1,0 +1,4 @@
+-- What contracts of the exit queue cite.
+pub mod Queue
+pub mod Turns
+pub mod Counts

@@ -1,0 +1,158 @@
+// The exit queue: the last epoch that is taken and how many leave at it. The pair is made in one pass over the registry and moved in
+// place at each exit, and answers as a rescan of the registry does.
+ghost use mathlib.Core.Path.{_≡_};
+ghost use Prim.Native.Nat.{_*_, _<_};
+ghost use lib.ListN.{length};
+ghost use Rattle.definitions.specs.Record.{decodeOne, decode};
+ghost use Rattle.definitions.specs.Answers.{Says};
+ghost use Rattle.exit_queue.specs.Queue.{lastAfter, numberAfter, joined, nextEpoch, exitBy};
+ghost use Rattle.exit_queue.specs.Turns.{Exits};
+ghost use Rattle.exit_queue.specs.Counts.{Finds};
+use arithmetic::add64;
+use entries::entry_is_active;
+use exits::write_exit;
+use types::Number;
+
+const FAR_FUTURE_EPOCH: u64 = 18446744073709551615;
+
+pub struct ExitQueue {
+    pub last_epoch: u64,
+    pub number: u64,
+}
+
+fn last_after(last_epoch: u64, epoch: u64) -> u64
+    ensures { λ r. ⌜ r ≡ lastAfter «last_epoch» epoch ⌝ }
+{
+    if epoch == FAR_FUTURE_EPOCH {
+        return last_epoch;
+    }
+    if last_epoch < epoch {
+        return epoch;
+    }
+    last_epoch
+}
+
+fn number_after(last_epoch: u64, number: u64, epoch: u64) -> u64
+    requires { ⌜ number < 18446744073709551615 ⌝ }
+    ensures { λ r. ⌜ r ≡ numberAfter «last_epoch» number epoch ⌝ }
+{
+    if epoch == FAR_FUTURE_EPOCH {
+        return number;
+    }
+    if last_epoch < epoch {
+        return 1;
+    }
+    if epoch == last_epoch {
+        return number + 1;
+    }
+    number
+}
+
+// One more leaves at `epoch`: the pair is moved in place. FAR is no exit, and the pair stays.
+pub fn exit(queue: &mut ExitQueue, epoch: u64)
+    requires { ⌜ now queue .number < 18446744073709551615 ⌝ }
+    ensures { λ _. ⌜ now (queue .exit) ≡ joined (now (queue .entry)) epoch ⌝ }
+{
+    let last = queue.last_epoch;
+    let number = number_after(last, queue.number, epoch);
+    let last_epoch = last_after(last, epoch);
+    queue.last_epoch = last_epoch;
+    queue.number = number;
+}
+
+// By value, for loops.
+pub fn exited(queue: ExitQueue, epoch: u64) -> ExitQueue
+    requires { ⌜ queue .number < 18446744073709551615 ⌝ }
+    ensures { λ r. ⌜ r ≡ joined queue epoch ⌝ }
+{
+    let mut own = queue;
+    exit(&mut own, epoch);
+    own
+}
+
+fn entry_joined(entry: &[u64], queue: ExitQueue) -> ExitQueue
+    requires { ⌜ (length (now entry) ≡ 10) × (queue .number < 18446744073709551615) ⌝ }
+    ensures { λ r. ⌜ r ≡ joined queue (decodeOne (now (entry .entry)) .«exit_epoch») ⌝ }
+{
+    exited(queue, entry[4])
+}
+
+// How many are active at an epoch, and the pair.
+pub struct Counts {
+    pub active: u64,
+    pub queue: ExitQueue,
+}
+
+// One pass for both. `least` is the activation exit epoch of the present epoch: no exit is earlier.
+pub fn count_exits(registry: &[u64], n: usize, epoch: u64, least: u64) -> Counts
+    requires { ⌜ (length (now registry) ≡ 10 * n) × (least < 18446744073709551615) ⌝ }
+    ensures { λ r. ⌜ Finds epoch least (decode (now (registry .entry))) r ⌝ }
+{
+    let mut queue = ExitQueue {
+        last_epoch: least,
+        number: 0,
+    };
+    let mut active: u64 = 0;
+    let mut i: usize = 0;
+    while i < n {
+        let a = 10 * i;
+        let b = a + 10;
+        queue = entry_joined(&registry[a..b], queue);
+        if entry_is_active(&registry[a..b], epoch) {
+            active += 1;
+            i += 1;
+        } else {
+            i += 1;
+        }
+    }
+    Counts {
+        active: active,
+        queue: queue,
+    }
+}
+
+fn next_epoch(queue: ExitQueue, limit: u64) -> Number
+    ensures { λ r. ⌜ Says (nextEpoch limit queue) r ⌝ }
+{
+    if queue.number < limit {
+        return Number::Value(queue.last_epoch);
+    }
+    add64(queue.last_epoch, 1)
+}
+
+// 0 or a refusal's number, and the pair afterwards.
+pub struct Turn {
+    pub refusal: u64,
+    pub queue: ExitQueue,
+}
+
+// One validator's exit, on its ten numbers.
+pub fn exit_entry(entry: &mut [u64], queue: ExitQueue, limit: u64, delay: u64) -> Turn
+    requires { ⌜ (length (now entry) ≡ 10) × (queue .number < 18446744073709551615) ⌝ }
+    ensures { λ r. ⌜ Exits (exitBy limit delay queue) queue (now (entry .entry)) (now (entry .exit)) r ⌝ }
+{
+    if entry[4] != FAR_FUTURE_EPOCH {
+        return Turn {
+            refusal: 0,
+            queue: queue,
+        };
+    }
+    let Number::Value(exit) = next_epoch(queue, limit) else {
+        return Turn {
+            refusal: 5,
+            queue: queue,
+        };
+    };
+    let Number::Value(withdrawable) = add64(exit, delay) else {
+        return Turn {
+            refusal: 5,
+            queue: queue,
+        };
+    };
+    write_exit(entry, exit, withdrawable);
+    let after = exited(queue, exit);
+    Turn {
+        refusal: 0,
+        queue: after,
+    }
+}

@@ -1,0 +1,20 @@
+use mathlib.Core.Path.{ap, _∙_}
+use Rattle.plain.specs.Plain.{plainNumber}
+use borrow.Author.Needs.{needs}
+use Rattle.exports.proofs.altair_helpers.altair_get_base_reward_per_increment.Statement.{
+  statement,
+}
+use Rattle.exports.proofs.altair_helpers.altair_get_base_reward_per_increment.Tie as tie
+
+get-base-reward-per-increment-requires : tie.Need-get-base-reward-per-increment-requires
+get-base-reward-per-increment-requires c κs = search needs
+
+plain-number-requires : tie.Need-plain-number-requires
+plain-number-requires c κs = search needs
+
+returns : tie.Need-returns
+returns c = c .plain-number .ensures ∙ ap plainNumber (c .before .get-base-reward-per-increment .ensures .is)
+
+pub altair-get-base-reward-per-increment-spec : {M : Type 1} → statement M
+altair-get-base-reward-per-increment-spec =
+    tie.close (tie.spec get-base-reward-per-increment-requires plain-number-requires returns)

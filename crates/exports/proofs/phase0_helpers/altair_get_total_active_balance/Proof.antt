@@ -1,0 +1,20 @@
+use mathlib.Core.Path.{ap, _∙_}
+use Rattle.plain.specs.Plain.{plainNumber}
+use borrow.Author.Needs.{needs}
+use Rattle.exports.proofs.phase0_helpers.altair_get_total_active_balance.Statement.{
+  statement,
+}
+use Rattle.exports.proofs.phase0_helpers.altair_get_total_active_balance.Tie as tie
+
+get-total-active-balance-requires : tie.Need-get-total-active-balance-requires
+get-total-active-balance-requires c κs = search needs
+
+plain-number-requires : tie.Need-plain-number-requires
+plain-number-requires c κs = search needs
+
+returns : tie.Need-returns
+returns c = c .plain-number .ensures ∙ ap plainNumber (c .before .get-total-active-balance .ensures .is)
+
+pub altair-get-total-active-balance-spec : {M : Type 1} → statement M
+altair-get-total-active-balance-spec =
+    tie.close (tie.spec get-total-active-balance-requires plain-number-requires returns)

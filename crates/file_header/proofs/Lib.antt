@@ -1,0 +1,2 @@
+-- Laws of the header's ten numbers.
+pub mod Headers

@@ -1,0 +1,80 @@
+use mathlib.Core.Path.{_≡_}
+use Prim.Native.Nat.{_≤_}
+use native.Mathlib.Omega.{arith}
+use borrow.Author.Tests.{eqb-true}
+use borrow.Author.Needs.{needs}
+use lib.ListN.{length, getD}
+use Rattle.definitions.specs.File.{fileLength}
+use Rattle.refusals.proofs.All.{fails, passes}
+use Rattle.file_header.proofs.Headers.{header-short, header-wrong-length, header-wrong, header-right}
+use Rattle.file_header.proofs.good_header.Statement.{statement}
+use Rattle.file_header.proofs.good_header.Tie as tie
+
+returns : tie.Need-returns
+returns c = header-short _ (c .if1 .taken)
+
+slice-aggregate-read-numbers : tie.Need-slice-aggregate-read-numbers
+slice-aggregate-read-numbers c = search needs
+
+read-numbers-requires : tie.Need-read-numbers-requires
+read-numbers-requires c κs = search needs
+
+array-read-validators : tie.Need-array-read-validators
+array-read-validators c = search needs
+
+array-read-roots : tie.Need-array-read-roots
+array-read-roots c = search needs
+
+array-read-slashings : tie.Need-array-read-slashings
+array-read-slashings c = search needs
+
+as-long-requires : tie.Need-as-long-requires
+as-long-requires c κs = search needs
+
+returns-2 : tie.Need-returns-2
+returns-2 c = header-wrong-length (c .before .before .before .before .before .before .before .args .bytes .now) _ (c .before .before .before .read-numbers .ensures) (fails (c .before .as-long .ensures) (c .if2 .taken))
+
+header-of-requires : tie.Need-header-of-requires
+header-of-requires c κs =
+    let found = c .before .before .before .read-numbers .last .1 .1 .0 in
+    let e : length (c .before .before .before .before .before .before .before .args .bytes .now) ≡ fileLength (getD found 2 0) (getD found 3 0) (getD found 4 0) = eqb-true _ _ (passes (c .before .as-long .ensures) (c .if2 .left)) in
+    omega arith
+
+slice-aggregate-same-numbers : tie.Need-slice-aggregate-same-numbers
+slice-aggregate-same-numbers c = search needs
+
+slice-aggregate-same-numbers-2 : tie.Need-slice-aggregate-same-numbers-2
+slice-aggregate-same-numbers-2 c = search needs
+
+same-numbers-requires : tie.Need-same-numbers-requires
+same-numbers-requires c κs = search needs
+
+returns-3 : tie.Need-returns-3
+returns-3 c =
+    let t = c .before .same-numbers .ensures in
+    header-wrong (c .before .before .before .before .before .before .before .before .before .before .before .before .args .bytes .now) _ (c .before .before .before .before .before .before .before .before .read-numbers .ensures) (fails (rw (c .before .before .before .before .header-of .ensures) at t) (c .if3 .taken))
+
+returns-4 : tie.Need-returns-4
+returns-4 c =
+    let t = c .before .same-numbers .ensures in
+    let l : 80 ≤ length (c .before .before .before .before .before .before .before .before .before .before .before .before .args .bytes .now) = omega arith in
+    header-right (c .before .before .before .before .before .before .before .before .before .before .before .before .args .bytes .now) _ (c .before .before .before .before .before .before .before .before .read-numbers .ensures) l (passes (c .before .before .before .before .before .before .as-long .ensures) (c .before .before .before .before .before .if2 .left)) (passes (rw (c .before .before .before .before .header-of .ensures) at t) (c .if3 .left))
+
+pub good-header-spec : {M : Type 1} → statement M
+good-header-spec =
+    tie.close
+    (tie.spec
+    returns
+    slice-aggregate-read-numbers
+    read-numbers-requires
+    array-read-validators
+    array-read-roots
+    array-read-slashings
+    as-long-requires
+    returns-2
+    header-of-requires
+    slice-aggregate-same-numbers
+    slice-aggregate-same-numbers-2
+    same-numbers-requires
+    returns-3
+    returns-4)

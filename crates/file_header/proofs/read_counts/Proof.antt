@@ -1,0 +1,28 @@
+use mathlib.Core.Path.{_≡_, ap, _∙_}
+use Prim.Native.Nat.{ℕ}
+use native.Mathlib.Omega.{arith}
+use borrow.Author.Needs.{needs}
+use Rattle.definitions.specs.File.{numberAt}
+use Rattle.file_header.proofs.read_counts.Statement.{statement}
+use Rattle.file_header.proofs.read_counts.Tie as tie
+
+read-number-requires : tie.Need-read-number-requires
+read-number-requires c κs = search needs
+
+read-number-requires-2 : tie.Need-read-number-requires-2
+read-number-requires-2 c κs = search needs
+
+read-number-requires-3 : tie.Need-read-number-requires-3
+read-number-requires-3 c κs = search needs
+
+returns : tie.Need-returns
+returns c =
+    let bytes = c .before .before .before .before .args .bytes .now in
+    let first = c .before .before .read-number in
+    let second = c .before .read-number2 in
+    let third : second .result .position ≡ 32 = omega arith in
+    (first .ensures .0, second .ensures .0 ∙ ap (λ (k : ℕ). numberAt k bytes) (first .ensures .1), c .read-number3 .ensures .0 ∙ ap (λ (k : ℕ). numberAt k bytes) third)
+
+pub read-counts-spec : {M : Type 1} → statement M
+read-counts-spec =
+    tie.close (tie.spec read-number-requires read-number-requires-2 read-number-requires-3 returns)

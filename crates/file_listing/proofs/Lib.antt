@@ -1,0 +1,2 @@
+-- Laws of listing a file.
+pub mod Enough

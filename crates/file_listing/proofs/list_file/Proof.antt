@@ -1,0 +1,70 @@
+use native.Mathlib.Omega.{arith}
+use borrow.Author.Needs.{needs}
+use Rattle.listing.specs.Lent.{buffers}
+use Rattle.file_listing.proofs.Enough.{Enough, too-short, long-enough}
+use Rattle.file_listing.proofs.list_file.Statement.{statement}
+use Rattle.file_listing.proofs.list_file.Tie as tie
+
+returns : tie.Need-returns
+returns c =
+    let a = c .before .before .before .args in
+    let p = too-short (a .bytes .now) (a .text .now) (c .if1 .taken) in
+    (p .count, (p .text, (p .inside, p .front)))
+
+room-requires : tie.Need-room-requires
+room-requires c κs = search needs
+
+room-requires-2 : tie.Need-room-requires-2
+room-requires-2 c κs = search needs
+
+room-requires-3 : tie.Need-room-requires-3
+room-requires-3 c κs = search needs
+
+room-requires-4 : tie.Need-room-requires-4
+room-requires-4 c κs = search needs
+
+slice-aggregate-listing : tie.Need-slice-aggregate-listing
+slice-aggregate-listing c = search needs
+
+slice-aggregate-listing-2 : tie.Need-slice-aggregate-listing-2
+slice-aggregate-listing-2 c = search needs
+
+slice-aggregate-listing-3 : tie.Need-slice-aggregate-listing-3
+slice-aggregate-listing-3 c = search needs
+
+slice-aggregate-listing-4 : tie.Need-slice-aggregate-listing-4
+slice-aggregate-listing-4 c = search needs
+
+listing-requires : tie.Need-listing-requires
+listing-requires c κs = search needs
+
+same-length : tie.Need-same-length
+same-length c = search needs
+
+returns-2 : tie.Need-returns-2
+returns-2 c =
+    let k = c .before .before .before .before .before .before in
+    let d = c .before .before .before .before .before .before .before .before .before .before .before .before in
+    let i = d .before .before .before .before in
+    let a = i .before .before .before .args in
+    let lent = buffers (d .before .before .before .room .result) (d .before .before .room2 .result) (d .before .room3 .result) (d .room4 .result) (a .text .now) in
+    let enough : Enough lent = record { registry = omega (arith, d .before .before .before .room .ensures); slashings = omega (arith, d .before .before .room2 .ensures); closingRegistry = omega (arith, d .before .room3 .ensures); closingSlashings = omega (arith, d .room4 .ensures); text = i .if1 .left } in
+    let p = long-enough (a .bytes .now) lent _ enough (k .listing .ensures .0) (k .listing .ensures .1) (c .before .text .given) in
+    (p .count, (p .text, (p .inside, p .front)))
+
+pub list-file-spec : {M : Type 1} → statement M
+list-file-spec =
+    tie.close
+    (tie.spec
+    returns
+    room-requires
+    room-requires-2
+    room-requires-3
+    room-requires-4
+    slice-aggregate-listing
+    slice-aggregate-listing-2
+    slice-aggregate-listing-3
+    slice-aggregate-listing-4
+    listing-requires
+    same-length
+    returns-2)

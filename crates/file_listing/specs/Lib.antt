@@ -1,0 +1,2 @@
+-- What the contract of listing a file cites.
+pub mod Printed

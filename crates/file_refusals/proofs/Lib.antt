@@ -1,0 +1,4 @@
+-- Laws of the tests of reading and of writing.
+pub mod Registry
+pub mod ReadTests
+pub mod WriteTests

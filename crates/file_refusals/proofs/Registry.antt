@@ -1,0 +1,182 @@
+-- Where reading stops in the registry: validator by validator, number by number.
+use mathlib.Core.Path.{_≡_, refl, sym, ap, _∙_}
+use mathlib.Core.Bool.{Bool, true, false, cond}
+use mathlib.Core.List.{List, [], _∷_}
+use Prim.Native.Nat.{ℕ, zero, suc, _+_, _*_, _/_, _-_, _^_, _≤_, _<_}
+use native.Mathlib.Omega.{arith}
+use borrow.Author.Tests.{le-leb, lt-leb, eqb-true}
+use lib.Dec.{eqb}
+use lib.ListN.{length, getD, drop}
+use lib.Seq.{drop-drop}
+use Rattle.definitions.specs.Record.{Validator, decodeOne, decodeFirst, decode}
+use Rattle.definitions.specs.Lists.{all}
+use Rattle.definitions.specs.Refusals.{goodValidator, goodRegistry}
+use Rattle.definitions.specs.File.{numbersFromBytes, numberAt, badPlace, stoppedAt}
+use Rattle.laws.proofs.Encode.{length-decode}
+use Rattle.refusals.proofs.All.{both}
+use Rattle.round_trip.specs.Refused.{FirstBad}
+use Rattle.round_trip.proofs.Numbers.{number-at, length-from-bytes}
+use Rattle.round_trip.proofs.Stopped.{stopped-at}
+use Rattle.file_refusals.specs.Tests.{limitAt}
+
+from-drop : (k n j : ℕ) (bytes : List ℕ) → j ≡ k + n → drop k (numbersFromBytes j bytes) ≡ numbersFromBytes n (drop (8 * k) bytes)
+unfolding numbersFromBytes
+from-drop zero n j bytes e = let f : j ≡ n = omega arith in rw f
+from-drop (suc k) n j bytes e =
+    let f : j ≡ suc (k + n) = omega arith in
+    let g : 8 * suc k ≡ 8 + 8 * k = omega arith in
+    rw (f, g) (from-drop k n (k + n) (drop 8 bytes) refl ∙ rw drop-drop)
+
+-- m validators from an offset on
+pub entriesFrom : List ℕ → ℕ → ℕ → List Validator
+entriesFrom bytes m at = decodeFirst m (numbersFromBytes (10 * m) (drop at bytes))
+
+-- the first k numbers of the validator at an offset are allowed
+abbrev pub Allowed : List ℕ → ℕ → ℕ → Type 0
+Allowed bytes at k = (j : ℕ) → j < k → numberAt (at + 8 * j) bytes ≤ limitAt j
+
+module _ (bytes : List ℕ) (at m : ℕ) where
+  -- the validator at the offset
+  first : Validator
+  first = decodeOne (numbersFromBytes (10 * suc m) (drop at bytes))
+
+  entries-more : entriesFrom bytes (suc m) at ≡ first ∷ entriesFrom bytes m (at + 80)
+  unfolding entriesFrom first decodeFirst
+  entries-more =
+      ap (λ (xs : List ℕ). first ∷ decodeFirst m xs)
+      (from-drop 10 (10 * m) (10 * suc m) (drop at bytes) (omega arith) ∙ ap (numbersFromBytes (10 * m)) (drop-drop 80 at bytes))
+
+  number : (k : ℕ) → k < 10 → getD (numbersFromBytes (10 * suc m) (drop at bytes)) k 0 ≡ numberAt (at + 8 * k) bytes
+  number k l = number-at (10 * suc m) k (drop at bytes) (omega arith) ∙ rw drop-drop
+
+  first-good : Allowed bytes at 10 → goodValidator first ≡ true
+  unfolding goodValidator first
+  first-good a =
+      rw (
+        number 1 (omega arith),
+        number 7 (omega arith),
+        number 8 (omega arith),
+        le-leb _ _ (a 1 (omega arith)),
+        le-leb _ _ (a 7 (omega arith)),
+        le-leb _ _ (a 8 (omega arith)),
+      )
+
+  record Bad (k : ℕ) : Type 0 where
+    fails : goodValidator first ≡ false
+    place : badPlace first ≡ k
+
+  -- a number above its limit is at one of the three places that have one
+  bad-slashed : 1 < numberAt (at + 8) bytes → Bad 1
+  unfolding goodValidator badPlace first
+  bad-slashed b =
+      record {
+        fails = rw (number 1 (omega arith), lt-leb _ _ b);
+        place = rw (number 1 (omega arith), lt-leb _ _ b);
+      }
+
+  bad-previous : Allowed bytes at 7 → 255 < numberAt (at + 56) bytes → Bad 7
+  unfolding goodValidator badPlace first
+  bad-previous a b =
+      record {
+        fails = rw (number 1 (omega arith), number 7 (omega arith), le-leb _ _ (a 1 (omega arith)), lt-leb _ _ b);
+        place = rw (number 1 (omega arith), number 7 (omega arith), le-leb _ _ (a 1 (omega arith)), lt-leb _ _ b);
+      }
+
+  bad-current : Allowed bytes at 8 → 255 < numberAt (at + 64) bytes → Bad 8
+  unfolding goodValidator badPlace first
+  bad-current a b =
+      record {
+        fails = rw (number 1 (omega arith), number 7 (omega arith), number 8 (omega arith), le-leb _ _ (a 1 (omega arith)), le-leb _ _ (a 7 (omega arith)), lt-leb _ _ b);
+        place = rw (number 1 (omega arith), number 7 (omega arith), number 8 (omega arith), le-leb _ _ (a 1 (omega arith)), le-leb _ _ (a 7 (omega arith)), lt-leb _ _ b);
+      }
+
+  bad-at : (k : ℕ) → Allowed bytes at k → limitAt k < numberAt (at + 8 * k) bytes → numberAt (at + 8 * k) bytes < 2 ^ 64 → Bad k
+  bad-at k a b f = one (eqb k 1) refl
+    where
+      eight : (t : Bool) → eqb k 8 ≡ t → limitAt k ≡ cond t 255 18446744073709551615 → Bad k
+      eight true e m = let q = eqb-true k 8 e in rw q (bad-current (rw q at a) (rw q at b))
+      eight false e m = absurd (omega arith)
+
+      seven : (t : Bool) → eqb k 7 ≡ t → limitAt k ≡ cond t 255 (cond (eqb k 8) 255 18446744073709551615) → Bad k
+      seven true e m = let q = eqb-true k 7 e in rw q (bad-previous (rw q at a) (rw q at b))
+      seven false e m = eight (eqb k 8) refl m
+
+      one : (t : Bool) → eqb k 1 ≡ t → Bad k
+      one true e = let q = eqb-true k 1 e in rw q (bad-slashed (rw q at b))
+      one false e = seven (eqb k 7) refl (rw e)
+
+-- The loop: the first i of n validators are good
+
+abbrev pub registryIn : List ℕ → ℕ → List Validator
+registryIn bytes n = decode (numbersFromBytes (10 * n) (drop 368 bytes))
+
+pub record Passing (bytes : List ℕ) (n i : ℕ) : Type 0 where
+  pub within : i ≤ n
+  pub left : stoppedAt 368 (registryIn bytes n) ≡ stoppedAt (368 + 80 * i) (entriesFrom bytes (n - i) (368 + 80 * i))
+
+pub passing-none : (bytes : List ℕ) (n : ℕ) → Passing bytes n 0
+unfolding entriesFrom decode
+passing-none bytes n =
+    let e : length (numbersFromBytes (10 * n) (drop 368 bytes)) / 10 ≡ n = omega (arith, length-from-bytes (10 * n) (drop 368 bytes)) in
+    let z : n - 0 ≡ n = omega arith in
+    record { within = omega arith; left = rw (e, z) }
+
+module _ {bytes : List ℕ} {n i : ℕ} (p : Passing bytes n i) where
+  pub passing-all : n ≤ i → 368 + 80 * i ≡ stoppedAt 368 (registryIn bytes n)
+  unfolding entriesFrom decodeFirst stoppedAt
+  passing-all l = let z : n - i ≡ 0 = omega arith in sym (p .left ∙ rw z)
+
+  module _ (l : i < n) where
+    here : stoppedAt 368 (registryIn bytes n) ≡ stoppedAt (368 + 80 * i) (first bytes (368 + 80 * i) (n - (i + 1)) ∷ entriesFrom bytes (n - (i + 1)) (368 + 80 * i + 80))
+    here =
+        let e : n - i ≡ suc (n - (i + 1)) = omega arith in
+        p .left ∙ rw e (ap (stoppedAt (368 + 80 * i)) (entries-more bytes (368 + 80 * i) (n - (i + 1))))
+
+    pub passing-more : Allowed bytes (368 + 80 * i) 10 → Passing bytes n (i + 1)
+    unfolding stoppedAt
+    passing-more a =
+        let e : 368 + 80 * (i + 1) ≡ 368 + 80 * i + 80 = omega arith in
+        record { within = omega arith; left = here ∙ rw (e, first-good bytes (368 + 80 * i) (n - (i + 1)) a) }
+
+    pub passing-stop : (k : ℕ) → Allowed bytes (368 + 80 * i) k → limitAt k < numberAt (368 + 80 * i + 8 * k) bytes → numberAt (368 + 80 * i + 8 * k) bytes < 2 ^ 64 → 368 + 80 * i + 8 * k ≡ stoppedAt 368 (registryIn bytes n)
+    unfolding stoppedAt
+    passing-stop k a b f =
+        let bad = bad-at bytes (368 + 80 * i) (n - (i + 1)) k a b f in
+        sym (here ∙ rw (bad .fails, bad .place))
+
+-- What the place says of the registry
+
+stopped-end : (offset : ℕ) (vs : List Validator) → all goodValidator vs ≡ true → stoppedAt offset vs ≡ offset + 80 * length vs
+unfolding all stoppedAt
+stopped-end offset [] e = omega arith
+stopped-end offset (v ∷ vs) e =
+    let p = both (goodValidator v) (all goodValidator vs) e in
+    rw (p .first) (stopped-end (offset + 80) vs (p .second) ∙ omega arith)
+
+place-below : {v : Validator} {k : ℕ} → FirstBad v k → k < 10
+place-below (FirstBad.bad-slashed p) = omega arith
+place-below (FirstBad.bad-previous p q) = omega arith
+place-below (FirstBad.bad-current p q r) = omega arith
+
+stopped-short : (offset : ℕ) (vs : List Validator) → all goodValidator vs ≡ false → stoppedAt offset vs < offset + 80 * length vs
+stopped-short offset vs e = let s = stopped-at offset vs e in omega (arith, place-below (s .first), s .inside, s .there)
+
+module _ (bytes : List ℕ) (n : ℕ) where
+  count : length (registryIn bytes n) ≡ n
+  count = length-decode n (numbersFromBytes (10 * n) (drop 368 bytes)) (length-from-bytes (10 * n) (drop 368 bytes))
+
+  pub registry-good : stoppedAt 368 (registryIn bytes n) ≡ 368 + 80 * n → goodRegistry (numbersFromBytes (10 * n) (drop 368 bytes)) ≡ true
+  unfolding goodRegistry
+  registry-good e = go (all goodValidator (registryIn bytes n)) refl
+    where
+      go : (t : Bool) → all goodValidator (registryIn bytes n) ≡ t → all goodValidator (registryIn bytes n) ≡ true
+      go true g = g
+      go false g = absurd (omega (arith, stopped-short 368 (registryIn bytes n) g, count))
+
+  pub registry-bad : (stoppedAt 368 (registryIn bytes n) ≡ 368 + 80 * n → ⊥) → goodRegistry (numbersFromBytes (10 * n) (drop 368 bytes)) ≡ false
+  unfolding goodRegistry
+  registry-bad z = go (all goodValidator (registryIn bytes n)) refl
+    where
+      go : (t : Bool) → all goodValidator (registryIn bytes n) ≡ t → all goodValidator (registryIn bytes n) ≡ false
+      go true g = absurd (z (stopped-end 368 (registryIn bytes n) g ∙ omega (arith, count)))
+      go false g = g

@@ -1,0 +1,97 @@
+use mathlib.Core.Path.{_≡_, refl, _∙_}
+use Prim.Native.Nat.{_+_, _*_, _-_, _^_, _≤_, _<_}
+use native.Mathlib.Omega.{arith}
+use borrow.Author.Count.{below-more}
+use borrow.Author.Needs.{needs}
+use Rattle.definitions.specs.File.{numberAt}
+use Rattle.file_refusals.specs.Tests.{limitAt}
+use Rattle.file_refusals.proofs.Registry.{Allowed, Passing, passing-none, passing-more, passing-all, passing-stop}
+use Rattle.file_refusals.proofs.first_bad.Statement.{statement}
+use Rattle.file_refusals.proofs.first_bad.Tie as tie
+
+abbrev Inv-loop : tie.InvT-loop
+Inv-loop bytes validators position₀ i k₀ position k = (position ≡ 368 + 80 * i + 8 * k) × (k ≤ 10) × Allowed bytes (368 + 80 * i) k
+
+abbrev μ-loop : tie.MeasureT-loop
+μ-loop bytes validators position₀ i k₀ position k = 10 - k
+
+abbrev Inv-validators : tie.InvT-validators
+Inv-validators bytes validators position₀ i₀ position i = (position ≡ 368 + 80 * i) × Passing bytes validators i
+
+abbrev μ-validators : tie.MeasureT-validators
+μ-validators bytes validators position₀ i₀ position i = validators - i
+
+validators-holds : tie.Need-validators-holds Inv-loop μ-loop Inv-validators μ-validators
+validators-holds c = (refl, passing-none _ _)
+
+loop-holds : tie.Need-loop-holds Inv-loop μ-loop Inv-validators μ-validators
+loop-holds c = (omega arith, omega arith, λ j l. absurd (omega arith))
+
+read-number-requires : tie.Need-read-number-requires Inv-loop μ-loop Inv-validators μ-validators
+read-number-requires c κs = omega arith
+
+limit-requires : tie.Need-limit-requires Inv-loop μ-loop Inv-validators μ-validators
+limit-requires c κs = search needs
+
+add-k : tie.Need-add-k Inv-loop μ-loop Inv-validators μ-validators
+add-k c = omega arith
+
+loop-less : tie.Need-loop-less Inv-loop μ-loop Inv-validators μ-validators
+loop-less c = omega arith
+
+loop-again : tie.Need-loop-again Inv-loop μ-loop Inv-validators μ-validators
+loop-again c =
+    let a = c .before .before .before .before .before .before .before .before .before .args in
+    let i = c .before .before .before .before .before .before .before .validators .i in
+    let l = c .before .before .before .before .before .loop in
+    let next = c .before .before .before .read-number .ensures in
+    let h : numberAt (368 + 80 * i + 8 * l .k) (a .bytes .now) ≤ limitAt (l .k) = rw (c .before .before .limit .ensures, next .0, l .inv .0) at (c .if1 .left) in
+    (omega arith, omega arith, below-more _ (l .k) (l .inv .2) h)
+
+add-i : tie.Need-add-i Inv-loop μ-loop Inv-validators μ-validators
+add-i c = omega arith
+
+validators-less : tie.Need-validators-less Inv-loop μ-loop Inv-validators μ-validators
+validators-less c = omega arith
+
+validators-again : tie.Need-validators-again Inv-loop μ-loop Inv-validators μ-validators
+validators-again c =
+    let l = c .before .loop in
+    let v = c .before .before .before .validators in
+    let k : l .k ≡ 10 = omega arith in
+    (omega arith, passing-more (v .inv .1) (c .before .before .validators-test .taken) (rw k at (l .inv .2)))
+
+returns : tie.Need-returns Inv-loop μ-loop Inv-validators μ-validators
+returns c = let v = c .before .validators in v .inv .0 ∙ passing-all (v .inv .1) (c .validators-test .left)
+
+returns-2 : tie.Need-returns-2 Inv-loop μ-loop Inv-validators μ-validators
+returns-2 c =
+    let a = c .before .before .before .before .before .before .before .before .before .args in
+    let v = c .before .before .before .before .before .before .before .validators in
+    let l = c .before .before .before .before .before .loop in
+    let next = c .before .before .before .read-number in
+    let over : limitAt (l .k) < numberAt (368 + 80 * v .i + 8 * l .k) (a .bytes .now) = rw (c .before .before .limit .ensures, next .ensures .0, l .inv .0) at (c .if1 .taken) in
+    let r : next .result .number < 2 ^ 64 = omega arith in
+    let fits : numberAt (368 + 80 * v .i + 8 * l .k) (a .bytes .now) < 2 ^ 64 = rw (next .ensures .0, l .inv .0) at r in
+    l .inv .0 ∙ passing-stop (v .inv .1) (c .before .before .before .before .before .before .validators-test .taken) (l .k) (l .inv .2) over fits
+
+pub first-bad-spec : {M : Type 1} → statement M
+first-bad-spec =
+    tie.close
+    (tie.spec
+    Inv-loop
+    μ-loop
+    Inv-validators
+    μ-validators
+    validators-holds
+    loop-holds
+    read-number-requires
+    limit-requires
+    add-k
+    loop-less
+    loop-again
+    add-i
+    validators-less
+    validators-again
+    returns
+    returns-2)

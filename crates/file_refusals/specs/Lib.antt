@@ -1,0 +1,2 @@
+-- The tests of reading and of writing.
+pub mod Tests

@@ -1,0 +1,28 @@
+use mathlib.Core.Path.{ap, _∙_}
+use borrow.Author.Needs.{needs}
+use Rattle.definitions.specs.File.{Contents, ReadOutcome}
+use Rattle.record_file.specs.Answers.{contentsWith}
+use Rattle.file_round_trips.proofs.Types.{typed}
+use Rattle.file_round_trips.proofs.RoundTrips.{read-back}
+use Rattle.file_round_trips.proofs.write_then_roots.Statement.{statement}
+use Rattle.file_round_trips.proofs.write_then_roots.Tie as tie
+
+abbrev contents : tie.Start → Contents
+contents c = contentsWith (c .args .settings) (c .args .finality) (c .args .registry .now) (c .args .roots .now) (c .args .slashings .now)
+
+write-file-requires : tie.Need-write-file-requires
+write-file-requires c κs = search needs
+
+file-roots-requires : tie.Need-file-roots-requires
+file-roots-requires c κs = search needs
+
+returns : tie.Need-returns
+returns c p =
+    let start = c .before .before .before .before .before .before .before .before .before .before .before .before in
+    let a = start .args in
+    let t = typed (contents start) (a .file .now) (p .tests) (start .good .1 .0) (λ i. c .before .before .before .before .before .before .before .before .before .before .before .shared-slice-known .given i .fits) (λ i. c .before .before .before .before .before .before .before .before .before .before .shared-slice-known2 .given i .fits) (λ i. c .before .before .before .before .before .before .before .before .before .shared-slice-known3 .given i .fits) in
+    let same = read-back (contents start) (a .file .now) (a .registry-read .now) (a .slashings-read .now) t (c .before .before .before .before .write-file .ensures .1) p in
+    c .file-roots .ensures ∙ ap (λ (o : ReadOutcome). o .contents .roots) same
+
+pub write-then-roots-spec : {M : Type 1} → statement M
+write-then-roots-spec = tie.close (tie.spec write-file-requires file-roots-requires returns)

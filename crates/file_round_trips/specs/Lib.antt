@@ -1,0 +1,2 @@
+-- Both round trips.
+pub mod RoundTrips

@@ -1,0 +1,3 @@
+-- Why the pass does what the three steps do.
+mod Only
+mod LastSteps

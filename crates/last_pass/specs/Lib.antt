@@ -1,0 +1,2 @@
+-- The three steps that the pass does at once.
+pub mod LastSteps

@@ -1,0 +1,47 @@
+-- What a close gives, by its refusal; of the closing buffers it asks the lengths alone.
+use mathlib.Core.List.{List}
+use mathlib.Core.Path.{_≡_, refl, _∙_}
+use Prim.Native.Nat.{ℕ}
+use lib.ListN.{length}
+use Rattle.definitions.specs.Checked.{Checked, value, refused, bind, codeOf}
+use Rattle.definitions.specs.File.{Contents, nothing}
+use Rattle.definitions.specs.Refusals.{inOrder, settingsShaped, afterTests, closingBuffer}
+use Rattle.definitions.specs.Close.{closeTests, closed, close}
+use Rattle.loops.proofs.Ran.{number-not-zero}
+use Rattle.listing.specs.Listing.{callOf}
+
+same-buffer : {A : Type 0} (contents : A → List ℕ) (m : Checked (Unit {0})) (w : Checked A) (opening xs ys : List ℕ) → codeOf (afterTests m w) ≡ 0 → closingBuffer contents m w opening xs ≡ closingBuffer contents m w opening ys
+unfolding afterTests bind closingBuffer
+same-buffer contents (refused r) w opening xs ys e = absurd (number-not-zero r e)
+same-buffer contents (value u) (refused r) opening xs ys e = absurd (number-not-zero r e)
+same-buffer contents (value u) (value a) opening xs ys e = refl
+
+-- Two closing buffers as long as two others
+
+module _ (c : Contents) (xs ys : List ℕ) (us vs : List ℕ) (l : length xs ≡ length us) (m : length ys ≡ length vs) where
+  same-tests : closeTests (callOf c xs ys) ≡ closeTests (callOf c us vs)
+  unfolding closeTests
+  same-tests = rw (l, m)
+
+  pub same-refusal : close (callOf c xs ys) .refusal ≡ close (callOf c us vs) .refusal
+  unfolding close closed
+  same-refusal = rw same-tests
+
+  pub same-finality : close (callOf c xs ys) .finality ≡ close (callOf c us vs) .finality
+  unfolding close closed
+  same-finality = rw same-tests
+
+  pub same-registry : close (callOf c xs ys) .refusal ≡ 0 → close (callOf c xs ys) .closingRegistry ≡ close (callOf c us vs) .closingRegistry
+  unfolding close closed
+  same-registry e = same-buffer _ (closeTests (callOf c xs ys)) _ (c .registry) xs us e ∙ rw same-tests
+
+-- Nothing was read: the close refuses, and leaves its buffers
+
+module _ (registry slashings xs ys : List ℕ) where
+  pub nothing-registry : close (callOf (nothing registry slashings) xs ys) .closingRegistry ≡ xs
+  unfolding close closeTests inOrder settingsShaped closingBuffer
+  nothing-registry = refl
+
+  pub nothing-slashings : close (callOf (nothing registry slashings) xs ys) .closingSlashings ≡ ys
+  unfolding close closeTests inOrder settingsShaped closingBuffer
+  nothing-slashings = refl

@@ -1,0 +1,3 @@
+-- Laws of a listed close.
+pub mod Accepted
+pub mod Printed

@@ -1,0 +1,69 @@
+use mathlib.Core.Path.{sym, ap, _∙_}
+use native.Mathlib.Omega.{arith}
+use borrow.Author.Needs.{needs}
+use Rattle.definitions.specs.Close.{Call, Outcome}
+use Rattle.close.specs.Called.{called}
+use Rattle.listing_lines.specs.Lines.{closeText}
+use Rattle.listing_close.proofs.Accepted.{accepted}
+use Rattle.listing_close.proofs.Printed.{listed-refused, listed-close}
+use Rattle.listing_close.proofs.list_close.Statement.{statement}
+use Rattle.listing_close.proofs.list_close.Tie as tie
+
+abbrev handed : tie.Start → Call
+handed s = called (s .args .s) (s .args .finality) (s .args .registry .now) (s .args .slashings .now) (s .args .roots .now) (s .args .closing-registry .now) (s .args .closing-slashings .now)
+
+close-requires : tie.Need-close-requires
+close-requires c κs = search needs
+
+put-refused-requires : tie.Need-put-refused-requires
+put-refused-requires c κs = search needs
+
+same-length : tie.Need-same-length
+same-length c = search needs
+
+same-length-2 : tie.Need-same-length-2
+same-length-2 c = search needs
+
+same-length-3 : tie.Need-same-length-3
+same-length-3 c = search needs
+
+returns : tie.Need-returns
+returns c =
+    let p = c .before .before .put-refused .ensures in
+    listed-refused (handed (c .before .before .before .before .before .before .before .before .before .before .before .before .before .before .before .before .before .before .before)) (c .before .before .before .before .before .before .before .before .before .before .close .ensures) (omega (arith, p .1, c .before .before .before .before .before .before .before .before .before .before .before .before .before .before .before .before .before .before .before .pre)) (c .before .before .before .before .if1 .taken) (p .0)
+
+put-close-requires : tie.Need-put-close-requires
+put-close-requires c κs =
+    let a = accepted (handed (c .before .before .before .before .before .before .before .before .before .before .before .before .before .before .before .before .before .before)) (sym (ap (λ (o : Outcome). o .refusal) (c .before .before .before .before .before .before .before .before .before .close .ensures)) ∙ c .before .before .before .if1 .left) in
+    (a .epochs, ((a .shaped, omega (arith, a .alike, c .before .before .before .before .before .before .before .before .closing-registry .given)), c .before .before .before .before .before .before .before .before .before .before .before .before .before .before .before .before .before .before .pre))
+
+same-length-4 : tie.Need-same-length-4
+same-length-4 c = search needs
+
+same-length-5 : tie.Need-same-length-5
+same-length-5 c = search needs
+
+same-length-6 : tie.Need-same-length-6
+same-length-6 c = search needs
+
+returns-2 : tie.Need-returns-2
+unfolding closeText
+returns-2 c =
+    let p = c .before .before .put-close .ensures in
+    listed-close (handed (c .before .before .before .before .before .before .before .before .before .before .before .before .before .before .before .before .before .before .before .before .before)) (c .before .before .before .before .before .before .before .before .before .before .before .before .close .ensures) (p .1) (c .before .before .before .before .before .before .if1 .left) (p .0)
+
+pub list-close-spec : {M : Type 1} → statement M
+list-close-spec =
+    tie.close
+    (tie.spec
+    close-requires
+    put-refused-requires
+    same-length
+    same-length-2
+    same-length-3
+    returns
+    put-close-requires
+    same-length-4
+    same-length-5
+    same-length-6
+    returns-2)

@@ -1,0 +1,2 @@
+-- What the contract of a listed close cites.
+pub mod Listed

@@ -1,0 +1,49 @@
+use native.Mathlib.Omega.{arith}
+use borrow.Author.Needs.{needs}
+use Rattle.decimals.proofs.Put.{put-more}
+use Rattle.listing_lines.proofs.text.put_row.Statement.{statement}
+use Rattle.listing_lines.proofs.text.put_row.Tie as tie
+
+put-labelled-requires : tie.Need-put-labelled-requires
+put-labelled-requires c κs = search needs
+
+put-labelled-requires-2 : tie.Need-put-labelled-requires-2
+put-labelled-requires-2 c κs = search needs
+
+put-labelled-requires-3 : tie.Need-put-labelled-requires-3
+put-labelled-requires-3 c κs = search needs
+
+put-labelled-requires-4 : tie.Need-put-labelled-requires-4
+put-labelled-requires-4 c κs = search needs
+
+put-labelled-requires-5 : tie.Need-put-labelled-requires-5
+put-labelled-requires-5 c κs = search needs
+
+put-end-requires : tie.Need-put-end-requires
+put-end-requires c κs = search needs
+
+same-length : tie.Need-same-length
+same-length c = search needs
+
+returns : tie.Need-returns
+returns c =
+    let p1 = c .before .before .before .before .before .before .before .before .before .before .before .before .before .before .before .before .before .before .before .before .before .before .put-labelled .ensures in
+    let p2 = c .before .before .before .before .before .before .before .before .before .before .before .before .before .before .before .before .before .before .put-labelled2 .ensures in
+    let p3 = c .before .before .before .before .before .before .before .before .before .before .before .before .before .before .put-labelled3 .ensures in
+    let p4 = c .before .before .before .before .before .before .before .before .before .before .put-labelled4 .ensures in
+    let p5 = c .before .before .before .before .before .before .put-labelled5 .ensures in
+    let p6 = c .before .before .put-end .ensures in
+    (put-more (put-more (put-more (put-more (put-more (p1 .0) (p2 .0)) (p3 .0)) (p4 .0)) (p5 .0)) p6, omega (arith, p1 .1, p2 .1, p3 .1, p4 .1, p5 .1, p6 .stopped))
+
+pub put-row-spec : {M : Type 1} → statement M
+put-row-spec =
+    tie.close
+    (tie.spec
+    put-labelled-requires
+    put-labelled-requires-2
+    put-labelled-requires-3
+    put-labelled-requires-4
+    put-labelled-requires-5
+    put-end-requires
+    same-length
+    returns)

@@ -1,0 +1,58 @@
+-- The lines of a listing, as bytes. Document 01, "The listing program".
+use mathlib.Core.Bool.{cond}
+use mathlib.Core.List.{List, [], _∷_, _++_}
+use Prim.Native.Nat.{ℕ, suc}
+use Prim.Native.Char.{code}
+use Prim.Native.String.{String, [] as empty, _∷_ as _then_}
+use lib.Dec.{eqb}
+use Rattle.definitions.specs.Record.{Validator, decode}
+use Rattle.definitions.specs.Document.Phase0.Helpers.{«get_current_epoch»}
+use Rattle.definitions.specs.Close.{Call, Outcome, charged}
+use Rattle.decimals.specs.Decimal.{decimal}
+
+-- the bytes of a text of ASCII characters
+abbrev pub ascii : String → List ℕ
+ascii empty = []
+ascii (c then cs) = code c ∷ ascii cs
+
+-- five numbers, each behind its label, and the end of the line
+abbrev pub row : List ℕ → ℕ → List ℕ → ℕ → List ℕ → ℕ → List ℕ → ℕ → List ℕ → ℕ → List ℕ
+row a k b l c m d n e o =
+    (a ++ decimal k) ++ (b ++ decimal l) ++ (c ++ decimal m) ++ (d ++ decimal n) ++ (e ++ decimal o) ++ ascii "\n"
+
+-- "epoch, current justified epoch, finalized epoch and bits after, and charged"
+abbrev pub headLine : ℕ → ℕ → ℕ → ℕ → ℕ → List ℕ
+headLine epoch justified finalized bits charged =
+    row (ascii "epoch ") epoch (ascii " justified ") justified (ascii " finalized ") finalized (ascii " bits ") bits (ascii " charged ") charged
+
+-- "index, opening balance, closing balance, and effective balance and score after the close"
+abbrev pub validatorLine : ℕ → ℕ → ℕ → ℕ → ℕ → List ℕ
+validatorLine index opening closing effective score =
+    row (ascii "") index (ascii " ") opening (ascii " ") closing (ascii " ") effective (ascii " ") score
+
+-- a line for each validator, from the one numbered `index` on
+unfoldable pub lines : ℕ → List Validator → List Validator → List ℕ
+lines index [] closing = []
+lines index (before ∷ opening) [] = []
+lines index (before ∷ opening) (after ∷ closing) =
+    validatorLine index (before .balance) (after .balance) (after .«effective_balance») (after .«inactivity_score»)
+    ++ lines (suc index) opening closing
+
+-- "`refused` and the number"
+abbrev pub refusedLine : ℕ → List ℕ
+refusedLine number = ascii "refused " ++ decimal number ++ ascii "\n"
+
+abbrev pub orRefused : ℕ → List ℕ → List ℕ
+orRefused refusal text = cond (eqb refusal 0) text (refusedLine refusal)
+
+-- "prints the close": checkpoints and bits after it, and charged of the opening
+unfoldable pub closeText : Call → Outcome → List ℕ
+closeText c out =
+    let s = c .settings in
+    let stateSlot = c .finality .slot in
+    let after = out .finality in
+    headLine («get_current_epoch» s stateSlot) (after .«current_justified_checkpoint» .epoch) (after .«finalized_checkpoint» .epoch) (after .«justification_bits») (charged s stateSlot (decode (c .registry)))
+    ++ lines 0 (decode (c .registry)) (decode (out .closingRegistry))
+
+abbrev pub closePrinted : Call → Outcome → List ℕ
+closePrinted c out = orRefused (out .refusal) (closeText c out)

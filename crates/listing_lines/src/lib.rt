@@ -1,0 +1,82 @@
+// The lines of a listing: what they tell, and their text put into lent bytes.
+ghost use mathlib.Core.Path.{_≡_};
+ghost use Prim.Native.Nat.{_*_, _/_, _<_};
+ghost use lib.ListN.{length};
+ghost use Rattle.listing_lines.specs.Answers.{headNumbers, headOf, lineOf};
+
+pub mod numbers;
+pub mod text;
+
+use leaf_refusals::current_epoch;
+use leaf_refusals::previous_epoch;
+use numbers::Head;
+use numbers::Line;
+use numbers::no_head;
+use numbers::no_line;
+use refusals::good_finality;
+use refusals::registry_shaped;
+use registry_refusals::slot_registry_tests;
+use totals::active_count;
+use types::Finality;
+use types::Settings;
+
+// Of a record that has passed its tests.
+pub fn head_core(s: Settings, state_slot: u64, closing: Finality, opening: &[u64]) -> Head
+    requires { ⌜ 0 < s .«slots_per_epoch» ⌝ }
+    requires { ⌜ length (now opening) ≡ 10 * (length (now opening) / 10) ⌝ }
+    ensures { λ r. ⌜ r ≡ headNumbers s «state_slot» closing (now (opening .entry)) ⌝ }
+{
+    let epoch = current_epoch(s, state_slot);
+    let previous = previous_epoch(s, state_slot);
+    let charged = active_count(previous, opening);
+    let justified = closing.current_justified_checkpoint;
+    let finalized = closing.finalized_checkpoint;
+    Head {
+        refusal: 0,
+        epoch,
+        justified_epoch: justified.epoch,
+        finalized_epoch: finalized.epoch,
+        justification_bits: closing.justification_bits,
+        charged,
+    }
+}
+
+// Of the opening's slot and registry, and of what the close made of its finality.
+pub fn head(s: Settings, state_slot: u64, closing: Finality, opening: &[u64]) -> Head
+    ensures { λ r. ⌜ r ≡ headOf s «state_slot» closing (now (opening .entry)) ⌝ }
+{
+    let refusal = slot_registry_tests(s, state_slot, opening);
+    if refusal != 0 {
+        return no_head(refusal);
+    }
+    if !good_finality(closing) {
+        return no_head(3);
+    }
+    head_core(s, state_slot, closing, opening)
+}
+
+// Of the validator's ten numbers in either registry.
+pub fn line(opening: &[u64], closing: &[u64], index: u64) -> Line
+    ensures { λ r. ⌜ r ≡ lineOf (now (opening .entry)) (now (closing .entry)) index ⌝ }
+{
+    if !registry_shaped(opening) {
+        return no_line();
+    }
+    if closing.len() != opening.len() {
+        return no_line();
+    }
+    if (opening.len() / 10) as u64 <= index {
+        return no_line();
+    }
+    let a = 10 * (index as usize);
+    let balance_at = a + 6;
+    let score_at = a + 9;
+    Line {
+        refusal: 0,
+        index,
+        opening_balance: opening[balance_at],
+        closing_balance: closing[balance_at],
+        effective_balance: closing[a],
+        inactivity_score: closing[score_at],
+    }
+}

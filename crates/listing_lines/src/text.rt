@@ -1,0 +1,116 @@
+// The text of a listing, line by line.
+ghost use mathlib.Core.Path.{_≡_};
+ghost use mathlib.Core.Bool.{true};
+ghost use mathlib.Core.List.{[], _∷_};
+ghost use Prim.Native.Nat.{_+_, _*_, _/_, _≤_};
+ghost use lib.ListN.{length};
+ghost use Rattle.definitions.specs.Record.{decode};
+ghost use Rattle.definitions.specs.Refusals.{registryShaped};
+ghost use Rattle.decimals.specs.Put.{Put};
+ghost use Rattle.listing_lines.specs.Lines.{row, headLine, validatorLine, lines, refusedLine};
+use crate::line;
+use crate::numbers::Head;
+use crate::numbers::Line;
+use decimals::put_labelled;
+
+fn put_end(text: &mut [u8], at: usize) -> usize
+    requires { ⌜ at + 1 ≤ length (now text) ⌝ }
+    ensures { λ r. ⌜ Put (now (text .entry)) at (10 ∷ []) (now (text .exit)) r ⌝ }
+{
+    text[at] = 10;
+    at + 1
+}
+
+// Five numbers, each behind its label.
+fn put_row(
+    text: &mut [u8],
+    at: usize,
+    a: &[u8],
+    k: u64,
+    b: &[u8],
+    l: u64,
+    c: &[u8],
+    m: u64,
+    d: &[u8],
+    n: u64,
+    e: &[u8],
+    o: u64,
+) -> usize
+    requires { ⌜ at + (length (now a) + length (now b) + length (now c) + length (now d) + length (now e)) + 101 ≤ length (now text) ⌝ }
+    ensures { λ r. ⌜ Put (now (text .entry)) at (row (now (a .entry)) k (now (b .entry)) l (now (c .entry)) m (now (d .entry)) n (now (e .entry)) o) (now (text .exit)) r ⌝ }
+    ensures { λ r. ⌜ r ≤ at + (length (now (a .entry)) + length (now (b .entry)) + length (now (c .entry)) + length (now (d .entry)) + length (now (e .entry))) + 101 ⌝ }
+{
+    let first = put_labelled(text, at, a, k);
+    let second = put_labelled(text, first, b, l);
+    let third = put_labelled(text, second, c, m);
+    let fourth = put_labelled(text, third, d, n);
+    let fifth = put_labelled(text, fourth, e, o);
+    put_end(text, fifth)
+}
+
+pub fn put_head(text: &mut [u8], at: usize, h: Head) -> usize
+    requires { ⌜ at + 144 ≤ length (now text) ⌝ }
+    ensures { λ r. ⌜ Put (now (text .entry)) at (headLine (h .epoch) (h .«justified_epoch») (h .«finalized_epoch») (h .«justification_bits») (h .charged)) (now (text .exit)) r ⌝ }
+    ensures { λ r. ⌜ r ≤ at + 144 ⌝ }
+{
+    put_row(
+        text,
+        at,
+        b"epoch ",
+        h.epoch,
+        b" justified ",
+        h.justified_epoch,
+        b" finalized ",
+        h.finalized_epoch,
+        b" bits ",
+        h.justification_bits,
+        b" charged ",
+        h.charged,
+    )
+}
+
+pub fn put_line(text: &mut [u8], at: usize, l: Line) -> usize
+    requires { ⌜ at + 105 ≤ length (now text) ⌝ }
+    ensures { λ r. ⌜ Put (now (text .entry)) at (validatorLine (l .index) (l .«opening_balance») (l .«closing_balance») (l .«effective_balance») (l .«inactivity_score»)) (now (text .exit)) r ⌝ }
+    ensures { λ r. ⌜ r ≤ at + 105 ⌝ }
+{
+    put_row(
+        text,
+        at,
+        b"",
+        l.index,
+        b" ",
+        l.opening_balance,
+        b" ",
+        l.closing_balance,
+        b" ",
+        l.effective_balance,
+        b" ",
+        l.inactivity_score,
+    )
+}
+
+// A line for each validator.
+pub fn put_lines(text: &mut [u8], at: usize, opening: &[u64], closing: &[u64]) -> usize
+    requires { ⌜ (registryShaped (now opening) ≡ true) × (length (now closing) ≡ length (now opening)) ⌝ }
+    requires { ⌜ at + 105 * (length (now opening) / 10) ≤ length (now text) ⌝ }
+    ensures { λ r. ⌜ Put (now (text .entry)) at (lines 0 (decode (now (opening .entry))) (decode (now (closing .entry)))) (now (text .exit)) r ⌝ }
+    ensures { λ r. ⌜ r ≤ length (now (text .entry)) ⌝ }
+{
+    let n = opening.len() / 10;
+    let mut end = at;
+    for i in 0..n {
+        let l = line(opening, closing, i as u64);
+        end = put_line(text, end, l);
+    }
+    end
+}
+
+pub fn put_refused(text: &mut [u8], at: usize, number: u64) -> usize
+    requires { ⌜ at + 29 ≤ length (now text) ⌝ }
+    ensures { λ r. ⌜ Put (now (text .entry)) at (refusedLine number) (now (text .exit)) r ⌝ }
+    ensures { λ r. ⌜ r ≤ at + 29 ⌝ }
+{
+    let end = put_labelled(text, at, b"refused ", number);
+    put_end(text, end)
+}

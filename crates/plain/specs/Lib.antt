@@ -1,0 +1,2 @@
+-- What the plain answers hold.
+pub mod Plain

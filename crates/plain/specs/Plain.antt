@@ -1,0 +1,40 @@
+-- What the plain answers hold, for each case of the enums.
+use mathlib.Core.Bool.{cond}
+use mathlib.Core.List.{List}
+use Prim.Native.Nat.{ℕ}
+use lib.Dec.{eqb}
+use lib.ListN.{length, replicate}
+use Rattle.types.specs.declared.Number.{Number}
+use Rattle.types.specs.declared.Number.the-variants.{Value as NumberValue, Refused as NumberRefused}
+use Rattle.types.specs.declared.Truth.{Truth}
+use Rattle.types.specs.declared.Truth.the-variants.{Value as TruthValue, Refused as TruthRefused}
+use Rattle.types.specs.declared.DeltasAnswer.{DeltasAnswer}
+use Rattle.types.specs.declared.DeltasAnswer.the-variants.{Value as DeltasValue, Refused as DeltasRefused}
+use Rattle.definitions.specs.Checked.{Checked, codeOf, settle}
+use Rattle.plain.specs.declared.PlainNumber.{PlainNumber}
+use Rattle.plain.specs.declared.PlainTruth.{PlainTruth}
+use Rattle.plain.specs.declared.PlainDeltas.{PlainDeltas}
+use Rattle.plain.specs.declared.PlainRoot.{PlainRoot}
+
+unfoldable pub plainNumber : Number → PlainNumber
+plainNumber (NumberValue x) = record { refusal = 0; value = x }
+plainNumber (NumberRefused n) = record { refusal = n; value = 0 }
+
+unfoldable pub plainTruth : Truth → PlainTruth
+plainTruth (TruthValue b) = record { refusal = 0; value = cond b 1 0 }
+plainTruth (TruthRefused n) = record { refusal = n; value = 0 }
+
+unfoldable pub plainDeltas : DeltasAnswer → PlainDeltas
+plainDeltas (DeltasValue d) = record { refusal = 0; reward = d .reward; penalty = d .penalty }
+plainDeltas (DeltasRefused n) = record { refusal = n; reward = 0; penalty = 0 }
+
+abbrev pub noRoot : List ℕ
+noRoot = replicate 32 0
+
+-- a lookup's answer: the root's 32 bytes, or the refusal's number and zeros
+unfoldable pub plainRoot : Checked (List ℕ) → PlainRoot
+plainRoot m = record { refusal = codeOf m; root = settle m noRoot }
+
+-- from the number and the bytes that the lookup's two functions answer
+unfoldable pub rootGiven : ℕ → List ℕ → PlainRoot
+rootGiven refusal bytes = record { refusal = refusal; root = cond (eqb (length bytes) 32) bytes noRoot }

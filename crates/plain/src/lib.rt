@@ -1,0 +1,96 @@
+// The library's answers as plain numbers, for callers that have no enum: 0 and what was asked for, or a refusal's number and zeros.
+ghost use mathlib.Core.Path.{_≡_};
+ghost use lib.ListN.{length};
+ghost use Rattle.plain.specs.Plain.{plainNumber, plainTruth, plainDeltas, rootGiven};
+use types::DeltasAnswer;
+use types::Number;
+use types::Truth;
+
+#[repr(C)]
+pub struct PlainNumber {
+    pub refusal: u64,
+    pub value: u64,
+}
+
+// value is 1 for true and 0 for false
+#[repr(C)]
+pub struct PlainTruth {
+    pub refusal: u64,
+    pub value: u64,
+}
+
+#[repr(C)]
+pub struct PlainDeltas {
+    pub refusal: u64,
+    pub reward: u64,
+    pub penalty: u64,
+}
+
+#[repr(C)]
+pub struct PlainRoot {
+    pub refusal: u64,
+    pub root: [u8; 32],
+}
+
+pub fn plain_number(n: Number) -> PlainNumber
+    ensures { λ r. ⌜ r ≡ plainNumber n ⌝ }
+{
+    match n {
+        Number::Value(value) => PlainNumber { refusal: 0, value },
+        Number::Refused(refusal) => PlainNumber { refusal, value: 0 },
+    }
+}
+
+pub fn plain_truth(t: Truth) -> PlainTruth
+    ensures { λ r. ⌜ r ≡ plainTruth t ⌝ }
+{
+    match t {
+        Truth::Value(holds) => PlainTruth {
+            refusal: 0,
+            value: holds as u64,
+        },
+        Truth::Refused(refusal) => PlainTruth { refusal, value: 0 },
+    }
+}
+
+pub fn plain_deltas(d: DeltasAnswer) -> PlainDeltas
+    ensures { λ r. ⌜ r ≡ plainDeltas d ⌝ }
+{
+    match d {
+        DeltasAnswer::Value(deltas) => PlainDeltas {
+            refusal: 0,
+            reward: deltas.reward,
+            penalty: deltas.penalty,
+        },
+        DeltasAnswer::Refused(refusal) => PlainDeltas {
+            refusal,
+            reward: 0,
+            penalty: 0,
+        },
+    }
+}
+
+fn root_copy(part: &[u8]) -> [u8; 32]
+    requires { ⌜ length (now part) ≡ 32 ⌝ }
+    ensures { λ r. ⌜ r ≡ now (part .entry) ⌝ }
+{
+    let mut root = [0u8; 32];
+    for i in 0..32 {
+        root[i] = part[i];
+    }
+    root
+}
+
+// A lookup's number and the part of the roots that it found, which is empty where it is refused.
+pub fn plain_root(refusal: u64, part: &[u8]) -> PlainRoot
+    ensures { λ r. ⌜ r ≡ rootGiven refusal (now (part .entry)) ⌝ }
+{
+    if part.len() != 32 {
+        return PlainRoot {
+            refusal,
+            root: [0u8; 32],
+        };
+    }
+    let root = root_copy(part);
+    PlainRoot { refusal, root }
+}

@@ -1,0 +1,2 @@
+-- Laws of a number in bytes.
+pub mod Bytes

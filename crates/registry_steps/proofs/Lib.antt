@@ -1,0 +1,3 @@
+-- Laws of the steps by the totals.
+mod Totals
+mod Grouped

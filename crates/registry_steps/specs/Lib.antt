@@ -1,0 +1,2 @@
+-- The steps over the registry, one after the other.
+pub mod RegistrySteps

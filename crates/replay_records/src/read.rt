@@ -1,0 +1,110 @@
+// read_file and file_roots: what they answer is what stands in the file, or zeros and nothing where they refuse.
+use record_file::ReadAnswer;
+use record_vectors::FINALITY;
+use record_vectors::NOTHING;
+use record_vectors::Outcome;
+use record_vectors::POSITION;
+use record_vectors::REFUSAL;
+use record_vectors::ROOTS;
+use record_vectors::Record;
+use record_vectors::SETTINGS;
+use record_vectors::after;
+use record_vectors::all_roots;
+use record_vectors::finality_place;
+use record_vectors::settings_words;
+use types::Finality;
+use types::Settings;
+use vectors::bytes_part;
+use vectors::finality_stands;
+use vectors::word;
+
+fn numbers(s: Settings) -> [u64; 19] {
+    [
+        s.slots_per_epoch,
+        s.slots_per_historical_root,
+        s.epochs_per_slashings_vector,
+        s.effective_balance_increment,
+        s.max_effective_balance,
+        s.hysteresis_quotient,
+        s.hysteresis_downward_multiplier,
+        s.hysteresis_upward_multiplier,
+        s.base_reward_factor,
+        s.min_epochs_to_inactivity_penalty,
+        s.inactivity_score_bias,
+        s.inactivity_score_recovery_rate,
+        s.inactivity_penalty_quotient_altair,
+        s.proportional_slashing_multiplier_altair,
+        s.max_seed_lookahead,
+        s.min_validator_withdrawability_delay,
+        s.ejection_balance,
+        s.min_per_epoch_churn_limit,
+        s.churn_limit_quotient,
+    ]
+}
+
+// The contents that come back are those of the file at a place.
+fn in_contents(
+    s: Settings,
+    f: Finality,
+    roots: &[u8],
+    file: usize,
+    words: &[u64],
+    bytes: &[u8],
+) -> u64 {
+    let found = numbers(s);
+    let stored = settings_words(file, words);
+    if !after(0, stored, &stored[0..0], &found) {
+        return SETTINGS;
+    }
+    if !finality_stands(f, words, bytes, finality_place(file, words)) {
+        return FINALITY;
+    }
+    if !check::same(roots, all_roots(file, words, bytes)) {
+        return ROOTS;
+    }
+    NOTHING
+}
+
+// Those of a file of zeros.
+fn in_zeros(s: Settings, f: Finality, roots: &[u8]) -> u64 {
+    let words = [0u64; 46];
+    let bytes = [0u8; 368];
+    in_contents(s, f, roots, 0, &words, &bytes)
+}
+
+fn in_answer(
+    answer: ReadAnswer,
+    roots: &[u8],
+    o: Outcome,
+    file: usize,
+    words: &[u64],
+    bytes: &[u8],
+) -> u64 {
+    if answer.refusal != o.refusal {
+        return REFUSAL;
+    }
+    if answer.position != word(words, o.given, 0) {
+        return POSITION;
+    }
+    let s = answer.settings;
+    let f = answer.finality;
+    if o.refusal != 0 {
+        return in_zeros(s, f, roots);
+    }
+    in_contents(s, f, roots, file, words, bytes)
+}
+
+// Which part of what comes back differs.
+pub fn read_file(
+    r: Record,
+    o: Outcome,
+    words: &[u64],
+    bytes: &[u8],
+    registry: &mut [u64],
+    slashings: &mut [u64],
+) -> u64 {
+    let file = bytes_part(bytes, r.file, r.file_bytes);
+    let answer = record_file::read_file(file, registry, slashings);
+    let roots = record_file::file_roots(file, &registry[..], &slashings[..]);
+    in_answer(answer, roots, o, r.file, words, bytes)
+}

@@ -1,0 +1,99 @@
+// The eight steps, each alone, and the close, on what is lent of the file's parts.
+use record_vectors::Outcome;
+use record_vectors::Record;
+use record_vectors::finality;
+use record_vectors::finality_place;
+use record_vectors::finalized_epoch;
+use record_vectors::in_finality;
+use record_vectors::registry;
+use record_vectors::roots;
+use record_vectors::settings;
+use record_vectors::slashings;
+use record_vectors::slot;
+use types::Settings;
+
+// Which part of what comes back differs.
+pub fn process_justification_and_finalization(
+    r: Record,
+    o: Outcome,
+    words: &[u64],
+    bytes: &[u8],
+) -> u64 {
+    let file = r.file;
+    let answer = justification::process_justification_and_finalization(
+        settings(file, words),
+        roots(file, words, bytes, r.roots_bytes),
+        finality(file, words, bytes),
+        registry(file, words, r.registry_words),
+    );
+    in_finality(answer, o, words, bytes, finality_place(file, words))
+}
+
+fn on_registry(
+    operation: u64,
+    s: Settings,
+    slot: u64,
+    finalized_epoch: u64,
+    slashings: &[u64],
+    opening: &[u64],
+    closing: &mut [u64],
+) -> u64 {
+    match operation {
+        2 => inactivity::process_inactivity_updates(s, slot, finalized_epoch, opening, closing),
+        3 => rewards_step::process_rewards_and_penalties(
+            s,
+            slot,
+            finalized_epoch,
+            opening,
+            closing,
+        ),
+        4 => registry::process_registry_updates(s, slot, finalized_epoch, opening, closing),
+        5 => slashings::process_slashings(s, slot, slashings, opening, closing),
+        6 => effective_balances::process_effective_balance_updates(s, opening, closing),
+        _ => participation_flags::process_participation_flag_updates(opening, closing),
+    }
+}
+
+// The refusal of a step that is lent the closing registry.
+pub fn registry_step(operation: u64, r: Record, words: &[u64], closing: &mut [u64]) -> u64 {
+    let file = r.file;
+    on_registry(
+        operation,
+        settings(file, words),
+        slot(file, words),
+        finalized_epoch(file, words),
+        slashings(file, words, r.slashings_words),
+        registry(file, words, r.registry_words),
+        closing,
+    )
+}
+
+// The refusal.
+pub fn process_slashings_reset(r: Record, words: &[u64], closing: &mut [u64]) -> u64 {
+    let file = r.file;
+    let opening = slashings(file, words, r.slashings_words);
+    let s = settings(file, words);
+    slashings::process_slashings_reset(s, slot(file, words), opening, closing)
+}
+
+// Which part of what comes back differs.
+pub fn close(
+    r: Record,
+    o: Outcome,
+    words: &[u64],
+    bytes: &[u8],
+    closing_registry: &mut [u64],
+    closing_slashings: &mut [u64],
+) -> u64 {
+    let file = r.file;
+    let answer = close::close(
+        settings(file, words),
+        finality(file, words, bytes),
+        registry(file, words, r.registry_words),
+        slashings(file, words, r.slashings_words),
+        roots(file, words, bytes, r.roots_bytes),
+        closing_registry,
+        closing_slashings,
+    );
+    in_finality(answer, o, words, bytes, finality_place(file, words))
+}
