@@ -34,8 +34,11 @@ pub fn process_justification_and_finalization(
     .result()
 }
 
-/// The registry with the new inactivity scores.
-pub fn process_inactivity_updates(
+type ByFinality = unsafe extern "C" fn(Settings, u64, u64, *const u64, usize, *mut u64, usize) -> u64;
+
+// the three steps over the registry that read the slot and the finalized epoch
+fn by_finality(
+    step: ByFinality,
     settings: &Settings,
     state_slot: u64,
     finalized_epoch: u64,
@@ -43,7 +46,7 @@ pub fn process_inactivity_updates(
     closing: &mut [u64],
 ) -> Result<(), Refusal> {
     let number = unsafe {
-        raw::altair_process_inactivity_updates(
+        step(
             *settings,
             state_slot,
             finalized_epoch,
@@ -54,6 +57,17 @@ pub fn process_inactivity_updates(
         )
     };
     Refusal::or(number, ())
+}
+
+/// The registry with the new inactivity scores.
+pub fn process_inactivity_updates(
+    settings: &Settings,
+    state_slot: u64,
+    finalized_epoch: u64,
+    opening: &[u64],
+    closing: &mut [u64],
+) -> Result<(), Refusal> {
+    by_finality(raw::altair_process_inactivity_updates, settings, state_slot, finalized_epoch, opening, closing)
 }
 
 /// The registry with the new balances.
@@ -64,18 +78,7 @@ pub fn process_rewards_and_penalties(
     opening: &[u64],
     closing: &mut [u64],
 ) -> Result<(), Refusal> {
-    let number = unsafe {
-        raw::altair_process_rewards_and_penalties(
-            *settings,
-            state_slot,
-            finalized_epoch,
-            opening.as_ptr(),
-            opening.len(),
-            closing.as_mut_ptr(),
-            closing.len(),
-        )
-    };
-    Refusal::or(number, ())
+    by_finality(raw::altair_process_rewards_and_penalties, settings, state_slot, finalized_epoch, opening, closing)
 }
 
 /// The registry after queueing, ejecting and activating.
@@ -86,18 +89,7 @@ pub fn process_registry_updates(
     opening: &[u64],
     closing: &mut [u64],
 ) -> Result<(), Refusal> {
-    let number = unsafe {
-        raw::altair_process_registry_updates(
-            *settings,
-            state_slot,
-            finalized_epoch,
-            opening.as_ptr(),
-            opening.len(),
-            closing.as_mut_ptr(),
-            closing.len(),
-        )
-    };
-    Refusal::or(number, ())
+    by_finality(raw::altair_process_registry_updates, settings, state_slot, finalized_epoch, opening, closing)
 }
 
 /// The registry less the slashing penalties.
