@@ -1,5 +1,5 @@
 // Reads a record file from standard input and prints its close, or `refused` and the number.
 
 fn main() {
-    console::run();
+    console::close_from(0);
 }

@@ -1,4 +1,4 @@
-// Standard input and output around the listing of a record file.
+// Input and output around the listing of a record file.
 ghost use mathlib.Core.Path.{_≡_};
 ghost use lib.ListN.{length};
 use file_listing::list_file;
@@ -17,10 +17,10 @@ fn output() -> [u8; 85614]
     [0; 85614]
 }
 
-// Nothing is printed before all of the input is read and listed.
-pub fn run() {
+// Reads a record file from a descriptor. Nothing is printed before all of the input is read and listed.
+pub fn close_from(fd: i32) {
     let mut bytes = input();
-    let n = io::read_full(0, &mut bytes);
+    let n = io::read_full(fd, &mut bytes);
     let mut text = output();
     let end = list_file(&bytes[..n], &mut text);
     io::write_all(1, &text[..end]);

@@ -1,5 +1,0 @@
-// No input.
-
-fn main() {
-    console::run();
-}

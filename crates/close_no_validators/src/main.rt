@@ -1,5 +1,0 @@
-// No validators: both epochs are justified.
-
-fn main() {
-    console::run();
-}

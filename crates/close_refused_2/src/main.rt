@@ -1,5 +1,0 @@
-// No slots in an epoch.
-
-fn main() {
-    console::run();
-}

@@ -1,5 +1,0 @@
-// Flags above 255.
-
-fn main() {
-    console::run();
-}

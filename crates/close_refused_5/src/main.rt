@@ -1,5 +1,0 @@
-// A reward on top of the largest balance.
-
-fn main() {
-    console::run();
-}

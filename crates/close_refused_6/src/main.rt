@@ -1,5 +1,0 @@
-// The header has another version.
-
-fn main() {
-    console::run();
-}

@@ -1,5 +1,0 @@
-// A record of 65536 bytes, and a byte behind it.
-
-fn main() {
-    console::run();
-}
