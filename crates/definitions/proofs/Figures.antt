@@ -1,6 +1,6 @@
 -- The figures of document 01, "Figures to meet", that are marked [P], as one table about the definitions that contracts cite; then
--- three of its other figures, which hold the definitions to what the marked ones leave open.
-use mathlib.Core.Path.{_≡_, refl}
+-- three of its other figures, and four more, which hold the definitions to what the marked ones leave open.
+use mathlib.Core.Path.{_≡_, refl, ap}
 use mathlib.Core.Bool.{Bool, true, false, cond, _&&_, _||_, not}
 use mathlib.Core.List.{List, [], _∷_, map}
 use Prim.Native.Nat.{ℕ, zero, suc, _+_, _-_, _*_, _/_, _%_, _^_, min, max}
@@ -12,7 +12,7 @@ use Rattle.types.specs.declared.Checkpoint.{Checkpoint}
 use Rattle.types.specs.declared.Finality.{Finality}
 use Rattle.definitions.specs.Lists.{filter, sum, range, insert, sorted, maximum}
 use Rattle.definitions.specs.Record.{Validator, «FAR_FUTURE_EPOCH», nobody}
-use Rattle.definitions.specs.Updates.{withBalance}
+use Rattle.definitions.specs.Updates.{withBalance, withParticipation}
 use Rattle.definitions.specs.Checked.{Checked, value, refused, Refusal, noRoot, overflow, bind, add64, sub64, mul64, sum64, mapChecked, foldChecked}
 use Rattle.definitions.specs.Mainnet.{mainnet}
 use Rattle.definitions.specs.Document.Phase0.Helpers.{«integer_squareroot», rootWithin}
@@ -69,6 +69,9 @@ due =
       «inactivity_score» = 0;
     }
 
+abbrev oneDue : List Validator
+oneDue = due ∷ flagged 7 ∷ flagged 7 ∷ flagged 7 ∷ flagged 7 ∷ []
+
 abbrev balances : Checked (List Validator) → List ℕ
 balances (value vs) = map (λ v. v .balance) vs
 balances (refused r) = []
@@ -85,15 +88,65 @@ scores (refused r) = []
 abbrev poor : List Validator
 poor = validator 32_000_000_000 1_000_000 4 0 ∷ flagged 4 ∷ flagged 4 ∷ flagged 4 ∷ flagged 0 ∷ []
 
--- The two wrong alternatives that document 01 names
+-- The two wrong alternatives that document 01 names, from the same totals and deltas as the right ones
 
-abbrev pub nettedFirst : ℕ → List Deltas → ℕ
-nettedFirst balance ds = balance + sum (map (λ d. d .reward) ds) - sum (map (λ d. d .penalty) ds)
+abbrev pub nettedFirst : List Validator → Validator → Checked ℕ
+nettedFirst vs v =
+    let flag : ℕ → Checked Deltas = λ flagIndex. «get_flag_index_deltas» mainnet slot 2 vs flagIndex v in
+    bind (flag 0) (λ source.
+    bind (flag 1) (λ target.
+    bind (flag 2) (λ head.
+    bind («get_inactivity_penalty_deltas» mainnet (mainnet .«inactivity_penalty_quotient_altair») slot v) (λ inactivity.
+    let rewards = source .reward + target .reward + head .reward + inactivity .reward in
+    let penalties = source .penalty + target .penalty + head .penalty + inactivity .penalty in
+    value (v .balance + rewards - penalties)))))
 
-abbrev pub dividedLast : ℕ → ℕ → ℕ → ℕ
-dividedLast effective adjusted total = effective * adjusted / total
+abbrev pub dividedLast : List ℕ → List Validator → Validator → Checked ℕ
+dividedLast slashings vs v =
+    let increment = mainnet .«effective_balance_increment» in
+    bind («get_total_active_balance» mainnet slot vs) (λ total.
+    bind (sum64 slashings) (λ slashed.
+    bind (mul64 slashed (mainnet .«proportional_slashing_multiplier_altair»)) (λ product.
+    value (v .«effective_balance» / increment * min product total * increment / total))))
 
--- no bits, checkpoints of these epochs with roots of zeros
+-- active, with this effective balance and these flags of the previous and of the current epoch
+abbrev voter : ℕ → ℕ → ℕ → Validator
+voter effective previous current = withParticipation previous current (validator effective effective 0 0)
+
+-- five that hit the target of the previous epoch alone
+abbrev previousAlone : List Validator
+previousAlone = replicate 5 (voter 32_000_000_000 2 0)
+
+-- three times the previous epoch's target is 2^64 - 1; the current epoch's target is one Gwei more
+abbrev heavy : List Validator
+heavy = voter 6_148_914_691_236_517_205 2 2 ∷ voter 1 0 2 ∷ []
+
+-- mainnet's settings, but S is 8: in an epoch's last slot no root of an epoch's first slot is left
+abbrev shortHistory : Settings
+shortHistory =
+    record {
+      «slots_per_epoch» = mainnet .«slots_per_epoch»;
+      «slots_per_historical_root» = 8;
+      «epochs_per_slashings_vector» = mainnet .«epochs_per_slashings_vector»;
+      «effective_balance_increment» = mainnet .«effective_balance_increment»;
+      «max_effective_balance» = mainnet .«max_effective_balance»;
+      «hysteresis_quotient» = mainnet .«hysteresis_quotient»;
+      «hysteresis_downward_multiplier» = mainnet .«hysteresis_downward_multiplier»;
+      «hysteresis_upward_multiplier» = mainnet .«hysteresis_upward_multiplier»;
+      «base_reward_factor» = mainnet .«base_reward_factor»;
+      «min_epochs_to_inactivity_penalty» = mainnet .«min_epochs_to_inactivity_penalty»;
+      «inactivity_score_bias» = mainnet .«inactivity_score_bias»;
+      «inactivity_score_recovery_rate» = mainnet .«inactivity_score_recovery_rate»;
+      «inactivity_penalty_quotient_altair» = mainnet .«inactivity_penalty_quotient_altair»;
+      «proportional_slashing_multiplier_altair» = mainnet .«proportional_slashing_multiplier_altair»;
+      «max_seed_lookahead» = mainnet .«max_seed_lookahead»;
+      «min_validator_withdrawability_delay» = mainnet .«min_validator_withdrawability_delay»;
+      «ejection_balance» = mainnet .«ejection_balance»;
+      «min_per_epoch_churn_limit» = mainnet .«min_per_epoch_churn_limit»;
+      «churn_limit_quotient» = mainnet .«churn_limit_quotient»;
+    }
+
+-- these bits, and checkpoints of these epochs with roots of zeros
 abbrev checkpoint : ℕ → Checkpoint
 checkpoint epoch = record { epoch = epoch; root = replicate 32 0 }
 
@@ -125,17 +178,17 @@ pub record Figures : Type 0 where
   pub target-missed : «get_flag_index_deltas» mainnet slot 2 (five 0 2) 1 (flagged 0) ≡ delta 0 2_080_000
   pub head-missed : «get_flag_index_deltas» mainnet slot 2 (five 0 2) 2 (flagged 0) ≡ delta 0 0
   -- no leak, balance 1000000, source and target missed, head hit by four including this one, score 0: 896000 after the rewards step
-  pub rewards-step : getD (balances («process_rewards_and_penalties» mainnet 50_331_648 slot 2 poor)) 0 0 ≡ 896_000
-  pub not-netted : nettedFirst 1_000_000 (record { reward = 0; penalty = 1_120_000 } ∷ record { reward = 0; penalty = 2_080_000 } ∷ record { reward = 896_000; penalty = 0 } ∷ noDeltas ∷ []) ≡ 0
+  pub rewards-step : getD (balances («process_rewards_and_penalties» mainnet (mainnet .«inactivity_penalty_quotient_altair») slot 2 poor)) 0 0 ≡ 896_000
+  pub not-netted : nettedFirst poor (getD poor 0 nobody) ≡ value 0
   -- score 100, target missed: inactivity penalty 15894
-  pub inactivity-penalty : «get_inactivity_penalty_deltas» mainnet 50_331_648 slot (validator 32_000_000_000 32_000_000_000 0 100) ≡ delta 0 15_894
+  pub inactivity-penalty : «get_inactivity_penalty_deltas» mainnet (mainnet .«inactivity_penalty_quotient_altair») slot (validator 32_000_000_000 32_000_000_000 0 100) ≡ delta 0 15_894
   -- score 10, target hit, no leak: 9, then 0
   pub score-moved : movedScore mainnet true 10 ≡ value 9
   pub score-recovered : scores («process_inactivity_updates» mainnet slot 2 (validator 32_000_000_000 32_000_000_000 2 10 ∷ [])) ≡ 0 ∷ []
   -- slashings sum 32×10^9, penalty due: 12×10^9; dividing last gives 12.8×10^9
-  pub slashed : getD (balances («process_slashings» mainnet 2 slot (32_000_000_000 ∷ []) (due ∷ flagged 7 ∷ flagged 7 ∷ flagged 7 ∷ flagged 7 ∷ []))) 0 0 ≡ 20_000_000_000
+  pub slashed : getD (balances («process_slashings» mainnet (mainnet .«proportional_slashing_multiplier_altair») slot (32_000_000_000 ∷ []) oneDue)) 0 0 ≡ 20_000_000_000
   pub slashing-penalty : slashingPenalty mainnet 160_000_000_000 64_000_000_000 due ≡ value 12_000_000_000
-  pub not-divided-last : dividedLast 32_000_000_000 64_000_000_000 160_000_000_000 ≡ 12_800_000_000
+  pub not-divided-last : dividedLast (32_000_000_000 ∷ []) oneDue due ≡ value 12_800_000_000
   -- effective 32×10^9, balance 31750000000: unchanged; 31749999999: 31×10^9
   pub effective-kept : effectives («process_effective_balance_updates» mainnet (validator 32_000_000_000 31_750_000_000 0 0 ∷ [])) ≡ 32_000_000_000 ∷ []
   pub effective-lowered : effectives («process_effective_balance_updates» mainnet (validator 32_000_000_000 31_749_999_999 0 0 ∷ [])) ≡ 31_000_000_000 ∷ []
@@ -152,17 +205,33 @@ pub record Figures : Type 0 where
   -- active 262143: churn 4; 327680: 5
   pub churn-least : (vs : List Validator) → length («get_active_validator_indices» vs («get_current_epoch» mainnet slot)) ≡ 262_143 → «get_validator_churn_limit» mainnet slot vs ≡ 4
   pub churn-more : (vs : List Validator) → length («get_active_validator_indices» vs («get_current_epoch» mainnet slot)) ≡ 327_680 → «get_validator_churn_limit» mainnet slot vs ≡ 5
+  -- there are such lists
+  pub least-active : length («get_active_validator_indices» (replicate 262_143 (flagged 7)) («get_current_epoch» mainnet slot)) ≡ 262_143
+  pub more-active : length («get_active_validator_indices» (replicate 327_680 (flagged 7)) («get_current_epoch» mainnet slot)) ≡ 327_680
   -- not marked: no validators, roots found: both epochs are justified
   pub nobody-justifies : epochs («process_justification_and_finalization» mainnet [] (finality slot 0 0 0 0) []) ≡ 3 ∷ 3 ∷ 0 ∷ []
   -- not marked: closing at the epoch's own first slot with two thirds current: 4
   pub first-slot : «process_justification_and_finalization» mainnet [] (finality 96 0 0 0 0) (five 7 7) ≡ refused noRoot
   -- not marked: the worked example's finality (slots_per_epoch 32 for 8): epoch 3, bits 7, justified 3, finalized 2
   pub example-finality : epochs («process_justification_and_finalization» mainnet [] (finality slot 3 1 2 1) (five 0 7)) ≡ 7 ∷ 3 ∷ 2 ∷ []
+  -- added: bit 3 falls off, and nothing is justified where nobody hits the target
+  pub bit-falls-off : epochs («process_justification_and_finalization» mainnet [] (finality slot 8 0 0 0) (five 0 0)) ≡ 0 ∷ 0 ∷ 0 ∷ []
+  -- added: the second finality test alone passes, and takes the previous justified; the second and the fourth pass, and the fourth overrides
+  pub second-passes : epochs («process_justification_and_finalization» mainnet [] (finality slot 3 1 2 0) previousAlone) ≡ 6 ∷ 2 ∷ 1 ∷ []
+  pub fourth-overrides : epochs («process_justification_and_finalization» mainnet [] (finality slot 3 1 2 0) (five 2 2)) ≡ 7 ∷ 3 ∷ 2 ∷ []
+  -- added, the one order of 4 and 5 that shows: the previous epoch's root is looked up before the current epoch's product
+  pub product-after : «process_justification_and_finalization» mainnet [] (finality slot 0 0 0 0) heavy ≡ refused overflow
+  pub root-before : «process_justification_and_finalization» shortHistory [] (finality slot 0 0 0 0) heavy ≡ refused noRoot
 
 -- 262143 / 65536 is 3, below the least of 4; 327680 / 65536 is 5
 churn-of : {limit : ℕ} (vs : List Validator) {n : ℕ} → length («get_active_validator_indices» vs («get_current_epoch» mainnet slot)) ≡ n → max 4 (n / 65_536) ≡ limit → «get_validator_churn_limit» mainnet slot vs ≡ limit
 unfolding «get_validator_churn_limit»
 churn-of vs e f = rw e f
+
+all-active : (n : ℕ) → length («get_active_validator_indices» (replicate n (flagged 7)) («get_current_epoch» mainnet slot)) ≡ n
+unfolding «get_active_validator_indices» «is_active_validator» «get_current_epoch» «compute_epoch_at_slot» filter
+all-active zero = refl
+all-active (suc n) = ap suc (all-active n)
 
 pub figures : Figures
 unfolding «integer_squareroot» rootWithin «get_total_active_balance» «get_total_balance» sum64 sum filter bind add64 sub64 mul64 mapChecked foldChecked «get_active_validator_indices» «is_active_validator» «get_current_epoch» «get_previous_epoch» «compute_epoch_at_slot» «get_base_reward_per_increment» «get_base_reward» «get_flag_index_deltas» flagTotals flagIndexDeltas hitDeltas missDeltas isEligible isUnslashedParticipating «get_unslashed_participating_indices» «has_flag» «is_in_inactivity_leak» «get_finality_delay» «process_rewards_and_penalties» rewardAndPenalize inactivityPenaltyDeltas «get_inactivity_penalty_deltas» applyDelta «increase_balance» «decrease_balance» movedScore recoveredScore updateInactivityScore «process_inactivity_updates» «process_slashings» slash isSlashingDue slashingPenalty «process_effective_balance_updates» updateEffectiveBalance roundedBalance isJustified «get_block_root_at_slot» document.«get_block_root_at_slot» «get_block_root» «compute_start_slot_at_epoch» «process_justification_and_finalization» «weigh_justification_and_finalization» rootWhere weighed justifiedBits finalizedBy
@@ -195,7 +264,14 @@ figures =
       root-of-now = refl;
       churn-least = λ vs e. churn-of vs e refl;
       churn-more = λ vs e. churn-of vs e refl;
+      least-active = all-active 262_143;
+      more-active = all-active 327_680;
       nobody-justifies = refl;
       first-slot = refl;
       example-finality = refl;
+      bit-falls-off = refl;
+      second-passes = refl;
+      fourth-overrides = refl;
+      product-after = refl;
+      root-before = refl;
     }

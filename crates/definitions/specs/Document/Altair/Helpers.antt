@@ -47,7 +47,8 @@ unfoldable pub «get_base_reward» : Settings → ℕ → Validator → ℕ
 «get_base_reward» s totalActiveBalance v =
     v .«effective_balance» / s .«effective_balance_increment» * «get_base_reward_per_increment» s totalActiveBalance
 
--- the test of get_unslashed_participating_indices; where the epoch is both previous and current, the current flags count
+-- the test of get_unslashed_participating_indices; where the epoch is both previous and current, the current flags count.
+-- Left out: the assertion that it is one of the two. The steps ask for no other, and a leaf asked for another answers 1.
 unfoldable pub isUnslashedParticipating : ℕ → ℕ → ℕ → Validator → Bool
 isUnslashedParticipating currentEpoch flagIndex epoch v =
     let flags = cond (eqb epoch currentEpoch) (v .«current_epoch_participation») (v .«previous_epoch_participation») in
@@ -70,11 +71,12 @@ flagIndexDeltas s stateSlot finalizedEpoch vs flagIndex v =
     let active = «get_total_active_balance» s stateSlot vs / s .«effective_balance_increment» in
     let baseReward = «get_base_reward» s («get_total_active_balance» s stateSlot vs) v in
     let reward = baseReward * weight * participating / (active * «WEIGHT_DENOMINATOR») in
-    let hit = cond («is_in_inactivity_leak» s stateSlot finalizedEpoch) noDeltas (record { reward = reward; penalty = 0 }) in
     let penalty = baseReward * weight / «WEIGHT_DENOMINATOR» in
-    let missed = cond (eqb flagIndex «TIMELY_HEAD_FLAG_INDEX») noDeltas (record { reward = 0; penalty = penalty }) in
-    let participates = isUnslashedParticipating («get_current_epoch» s stateSlot) flagIndex previousEpoch v in
-    cond (isEligible previousEpoch v) (cond participates hit missed) noDeltas
+    cond (isEligible previousEpoch v)
+    (cond (isUnslashedParticipating («get_current_epoch» s stateSlot) flagIndex previousEpoch v)
+    (cond («is_in_inactivity_leak» s stateSlot finalizedEpoch) noDeltas (record { reward = reward; penalty = 0 }))
+    (cond (eqb flagIndex «TIMELY_HEAD_FLAG_INDEX») noDeltas (record { reward = 0; penalty = penalty })))
+    noDeltas
 
 unfoldable pub «get_flag_index_deltas» : Settings → ℕ → ℕ → List Validator → ℕ → List Deltas
 «get_flag_index_deltas» s stateSlot finalizedEpoch vs flagIndex = map (flagIndexDeltas s stateSlot finalizedEpoch vs flagIndex) vs
