@@ -12,9 +12,9 @@ use Rattle.definitions.specs.Answers.{finalityAnswerFor}
 use Rattle.definitions.specs.Rust.Phase0.EpochProcessing.{resetSlashings}
 use Rattle.definitions.specs.Rust.Altair.EpochProcessing.{«process_justification_and_finalization»}
 use Rattle.definitions.specs.Close.{«process_epoch»}
-use Rattle.laws.proofs.Checked.{not-value, value-same}
+use Rattle.laws.proofs.Checked.{number-not-zero, not-value, value-same}
 use Rattle.loops.specs.Ran.{Ran}
-use Rattle.loops.proofs.Ran.{number-not-zero, ran-gave}
+use Rattle.loops.proofs.Ran.{ran-gave}
 use Rattle.refusals.proofs.Answers.{Refused}
 use Rattle.history.proofs.Justification.{justification-moves}
 use Rattle.registry_steps.specs.RegistrySteps.{registrySteps}

@@ -1,4 +1,4 @@
--- A value, or a refusal: the numbers of document 01, "What is returned", and 64-bit arithmetic that refuses.
+-- A value, or a refusal: the numbers of document 01, "What is returned", and of document 02; and 64-bit arithmetic that refuses.
 use mathlib.Core.Bool.{Bool, true, false, cond}
 use mathlib.Core.List.{List, [], _∷_}
 use Prim.Native.Nat.{ℕ, _+_, _-_, _*_, _^_}
@@ -7,6 +7,7 @@ use Rattle.definitions.specs.Lists.{sum}
 
 pub data Refusal : Type 0 where
   badShape badSettings badRecord noRoot overflow badFile : Refusal
+  beforeGenesis noSeconds : Refusal
 
 abbrev pub numberOf : Refusal → ℕ
 numberOf badShape = 1
@@ -15,6 +16,8 @@ numberOf badRecord = 3
 numberOf noRoot = 4
 numberOf overflow = 5
 numberOf badFile = 6
+numberOf beforeGenesis = 14
+numberOf noSeconds = 15
 
 pub data Checked (A : Type 0) : Type 0 where
   value : A → Checked A

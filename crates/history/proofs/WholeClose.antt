@@ -5,17 +5,17 @@ use mathlib.Core.List.{List, [], _∷_, map, head-eq-of-cons-eq, tail-eq-of-cons
 use Prim.Native.Nat.{ℕ, zero, suc, _^_, _<_}
 use native.Mathlib.Nat.{div-le-self}
 use native.Mathlib.Omega.{arith}
-use lib.Dec.{T, leb, eqb, ltb→lt}
+use lib.Dec.{T, leb, eqb, eqb→eq, ltb→lt}
 use lib.ListN.{length, getD, replicate}
 use Rattle.types.specs.declared.Settings.{Settings}
 use Rattle.types.specs.declared.Finality.{Finality}
 use Rattle.definitions.specs.Lists.{all}
 use Rattle.definitions.specs.Record.{BeaconState, encode, decode}
-use Rattle.definitions.specs.Checked.{Checked, value, refused, badShape, badSettings, badRecord, noRoot, overflow, badFile, codeOf, settle}
+use Rattle.definitions.specs.Checked.{Checked, value, refused, numberOf, codeOf, settle}
 use Rattle.definitions.specs.Refusals.{inOrder, isSmall, settingsNumbers, divisors, goodSettings, goodFinality, goodRegistry, afterTests, closingBuffer}
 use Rattle.definitions.specs.Rust.Phase0.Helpers.{«compute_epoch_at_slot», «get_current_epoch», «get_validator_churn_limit»}
 use Rattle.definitions.specs.Close.{«process_epoch», Call, stateOf, closeTests, closed, close}
-use Rattle.laws.proofs.Checked.{not-value, bound}
+use Rattle.laws.proofs.Checked.{number-not-zero, not-value, bound}
 use Rattle.laws.proofs.Encode.{decode-encode}
 use Rattle.history.specs.Demand3.{Close, Demand3}
 use Rattle.history.proofs.Counting.{T-left, T-right}
@@ -63,12 +63,7 @@ tests-passed c p =
 
 given : {A : Type 0} (x : Checked A) → T (eqb (codeOf x) 0) → (a : A) × (x ≡ value a)
 given (value a) t = (a, refl)
-given (refused badShape) t = absurd t
-given (refused badSettings) t = absurd t
-given (refused badRecord) t = absurd t
-given (refused noRoot) t = absurd t
-given (refused overflow) t = absurd t
-given (refused badFile) t = absurd t
+given (refused r) t = absurd (number-not-zero r (eqb→eq (numberOf r) 0 t))
 
 pub record Accepted (c : Call) : Type 0 where
   pub state : BeaconState

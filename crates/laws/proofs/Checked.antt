@@ -7,7 +7,18 @@ use native.Mathlib.Omega.{arith}
 use borrow.Author.Tests.{ltb-true, leb-true}
 use lib.Dec.{ltb, leb}
 use Rattle.definitions.specs.Lists.{sum}
-use Rattle.definitions.specs.Checked.{Refusal, overflow, Checked, value, refused, bind, add64, sub64, mul64, sum64, mapChecked, foldChecked}
+use Rattle.definitions.specs.Checked.{Refusal, badShape, badSettings, badRecord, noRoot, overflow, badFile, beforeGenesis, noSeconds, numberOf, Checked, value, refused, bind, add64, sub64, mul64, sum64, mapChecked, foldChecked}
+
+-- 0 is no refusal's number: the one law that goes through them all
+pub number-not-zero : (r : Refusal) → numberOf r ≡ 0 → ⊥
+number-not-zero badShape e = omega arith
+number-not-zero badSettings e = omega arith
+number-not-zero badRecord e = omega arith
+number-not-zero noRoot e = omega arith
+number-not-zero overflow e = omega arith
+number-not-zero badFile e = omega arith
+number-not-zero beforeGenesis e = omega arith
+number-not-zero noSeconds e = omega arith
 
 pub not-value : {A : Type 0} {r : Refusal} {a : A} → refused r ≡ value a → ⊥
 not-value p = let z : _≡_ {A = ℕ} 0 1 = cc in omega arith

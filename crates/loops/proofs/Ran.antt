@@ -4,21 +4,13 @@ use mathlib.Core.List.{List}
 use Prim.Native.Nat.{ℕ, _*_, _<_}
 use native.Mathlib.Omega.{arith}
 use lib.ListN.{length, getD, set}
-use Rattle.definitions.specs.Checked.{Refusal, badShape, badSettings, badRecord, noRoot, overflow, badFile, numberOf, Checked, value, refused, bind, codeOf, settle}
+use Rattle.definitions.specs.Checked.{Checked, value, refused, bind, codeOf, settle}
 use Rattle.definitions.specs.Record.{Validator, decodeOne, encodeOne, encode, decode, nobody}
 use Rattle.definitions.specs.Refusals.{closingBuffer}
-use Rattle.laws.proofs.Checked.{not-value}
+use Rattle.laws.proofs.Checked.{number-not-zero, not-value}
 use Rattle.laws.proofs.Encode.{decode-encode}
 use Rattle.loops.specs.Ran.{Settles, Ran}
 use Rattle.loops.proofs.Entry.{entryAt, putAt, entry-is, entry-back}
-
-pub number-not-zero : (p : Refusal) → numberOf p ≡ 0 → ⊥
-number-not-zero badShape e = omega arith
-number-not-zero badSettings e = omega arith
-number-not-zero badRecord e = omega arith
-number-not-zero noRoot e = omega arith
-number-not-zero overflow e = omega arith
-number-not-zero badFile e = omega arith
 
 pub code-value : {A : Type 0} (m : Checked A) (a : A) → codeOf m ≡ 0 → m ≡ value (settle m a)
 code-value (value b) a e = refl

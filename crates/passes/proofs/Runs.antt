@@ -4,9 +4,8 @@ use mathlib.Core.List.{List}
 use Prim.Native.Nat.{ℕ}
 use Rattle.definitions.specs.Checked.{Checked, value, refused, bind, codeOf, settle}
 use Rattle.definitions.specs.Record.{Validator, decodeOne, encodeOne}
-use Rattle.laws.proofs.Checked.{not-value}
+use Rattle.laws.proofs.Checked.{number-not-zero, not-value}
 use Rattle.loops.specs.Ran.{Settles}
-use Rattle.loops.proofs.Ran.{number-not-zero}
 use Rattle.passes.specs.Runs.{Runs, both}
 
 pub settles-runs : {f : Validator → Checked Validator} {before after : List ℕ} {r : ℕ} → Settles f before after r → Runs f before after r

@@ -7,21 +7,13 @@ use native.Mathlib.Omega.{arith}
 use Rattle.types.specs.declared.Number.the-variants.{Value as NumberValue, Refused as NumberRefused}
 use Rattle.types.specs.declared.Truth.the-variants.{Value as TruthValue, Refused as TruthRefused}
 use Rattle.definitions.specs.Answers.{numberFor, truthFor}
-use Rattle.definitions.specs.Checked.{Checked, value, refused, Refusal, badShape, badSettings, badRecord, noRoot, overflow, badFile, numberOf, codeOf, bind}
+use Rattle.definitions.specs.Checked.{Checked, value, refused, Refusal, numberOf, codeOf, bind}
 use Rattle.definitions.specs.Refusals.{afterTests, closingBuffer}
-
--- a refusal's number is never 0
-positive : (r : Refusal) → numberOf r ≡ 0 → ⊥
-positive badShape e = omega arith
-positive badSettings e = omega arith
-positive badRecord e = omega arith
-positive noRoot e = omega arith
-positive overflow e = omega arith
-positive badFile e = omega arith
+use Rattle.laws.proofs.Checked.{number-not-zero}
 
 pub passed : (m : Checked (Unit {0})) {x : ℕ} → x ≡ codeOf m → x ≡ 0 → m ≡ value tt
 passed (value u) e z = refl
-passed (refused r) e z = absurd (positive r (sym e ∙ z))
+passed (refused r) e z = absurd (number-not-zero r (sym e ∙ z))
 
 -- the work's answer, where no test refused
 pub after-passed : {A : Type 0} (m : Checked (Unit {0})) (w : Checked A) {x : ℕ} → x ≡ codeOf m → x ≡ 0 → afterTests m w ≡ w
