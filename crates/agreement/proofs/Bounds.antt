@@ -1,5 +1,5 @@
 -- What the tests keep inside 64 bits.
-use mathlib.Core.Path.{_≡_, refl}
+use mathlib.Core.Path.{_≡_, refl, sym, _∙_}
 use mathlib.Core.Bool.{Bool, true, false, cond, _&&_, not, false≢true}
 use mathlib.Core.List.{List, [], _∷_}
 use Prim.Native.Nat.{ℕ, zero, suc, _-_, _*_, _^_, _≤_, _<_}
@@ -12,13 +12,13 @@ use Rattle.types.specs.declared.Settings.{Settings}
 use Rattle.types.specs.declared.Finality.{Finality}
 use Rattle.definitions.specs.Lists.{all}
 use Rattle.definitions.specs.Checked.{value, bind}
-use Rattle.definitions.specs.Refusals.{inOrder, isVectorLength, settingsShaped, goodFinality, goodRegistry, goodSettings, isSmall, settingsNumbers, divisors}
+use Rattle.definitions.specs.Refusals.{inOrder, isVectorLength, settingsShaped, goodFinality, goodRegistry, goodSettings, isSmall, settingsNumbers, divisors, justificationTests, registryTests, slashingsTests, effectiveBalanceTests, slashingsResetTests}
 use Rattle.definitions.specs.Document.Phase0.Helpers as document
 use Rattle.definitions.specs.Document.Phase0.Helpers.{«compute_epoch_at_slot», «get_current_epoch», «get_previous_epoch»}
 use Rattle.definitions.specs.Rust.Phase0.Helpers as rust
 use Rattle.definitions.specs.Close.{Call, closeTests}
 use Rattle.laws.proofs.Checked.{not-value}
-use Rattle.agreement.specs.Bounds.{Passed, ClosePassed, Bounds, Given}
+use Rattle.agreement.specs.Bounds.{Passed, FinalityPassed, TestsPassed, Bounds, Given}
 use Rattle.agreement.proofs.Fits.{add64-fits, mul64-fits}
 
 -- Tests
@@ -105,11 +105,7 @@ given s stateSlot h =
       rootsEnd = λ slot l. add64-fits _ _ (b .rootsEnd slot l);
     }
 
--- From the tests of a close
-
-must : (t : Bool) → (t ≡ false → ⊥) → t ≡ true
-must true f = refl
-must false f = absurd (f refl)
+-- From the tests of the close and of the steps
 
 pub in-order : (a b d : Bool) → inOrder a b d ≡ value tt → (a ≡ true) × (b ≡ true) × (d ≡ true)
 unfolding inOrder
@@ -132,14 +128,40 @@ small-epochs f h =
     let d = both (slot && bits) previous (b .0) in
     (both slot bits (d .0) .0, d .1, b .1, a .1)
 
-pub close-passed : (c : Call) → closeTests c ≡ value tt → ClosePassed c
-unfolding closeTests
-close-passed c h =
-    let tests = in-order _ _ _ h in
-    let small = small-epochs (c .finality) (both (goodFinality (c .finality)) (goodRegistry (c .registry)) (tests .2) .0) in
+-- what a chain of tests that passed says of its first
+first-shaped : {t : Bool} (a : Bool) → t ≡ true → (a ≡ false → t ≡ false) → a ≡ true
+first-shaped true h f = refl
+first-shaped false h f = absurd (false≢true (sym (f refl) ∙ h))
+
+finality-passed : (s : Settings) (f : Finality) (recorded : Bool) {shaped : Bool} → inOrder shaped (goodSettings s) (goodFinality f && recorded) ≡ value tt → (settingsShaped s ≡ false → shaped ≡ false) → FinalityPassed s f
+finality-passed s f recorded {shaped} h first =
+    let tests = in-order shaped (goodSettings s) (goodFinality f && recorded) h in
+    let small = small-epochs f (both (goodFinality f) recorded (tests .2) .0) in
     record {
-      passed = record { shaped = must (settingsShaped (c .settings)) (λ e. false≢true (rw e at (tests .0))); good = tests .1; small = small .0 };
+      passed = record { shaped = first-shaped (settingsShaped s) (tests .0) first; good = tests .1; small = small .0 };
       previousJustified = small .1;
       currentJustified = small .2;
       finalized = small .3;
+    }
+
+slot-passed : (s : Settings) (stateSlot : ℕ) {shaped recorded : Bool} → inOrder shaped (goodSettings s) recorded ≡ value tt → (settingsShaped s ≡ false → shaped ≡ false) → (isSmall stateSlot ≡ false → recorded ≡ false) → Passed s stateSlot
+slot-passed s stateSlot {shaped} {recorded} h first small =
+    let tests = in-order shaped (goodSettings s) recorded h in
+    record { shaped = first-shaped (settingsShaped s) (tests .0) first; good = tests .1; small = first-shaped (isSmall stateSlot) (tests .2) small }
+
+pub close-passed : (c : Call) → closeTests c ≡ value tt → FinalityPassed (c .settings) (c .finality)
+unfolding closeTests
+close-passed c h = finality-passed (c .settings) (c .finality) (goodRegistry (c .registry)) h (λ e. rw e)
+
+pub tests-passed : (s : Settings) → TestsPassed s
+unfolding justificationTests registryTests slashingsTests effectiveBalanceTests slashingsResetTests
+tests-passed s =
+    record {
+      close = λ c e h. rw e at (close-passed c h);
+      justification = λ roots f registry h. finality-passed s f (goodRegistry registry) h (λ e. rw e);
+      registry = λ stateSlot finalizedEpoch opening closing h.
+          (slot-passed s stateSlot h (λ e. rw e) (λ e. rw e), both (isSmall stateSlot) (isSmall finalizedEpoch) (both (isSmall stateSlot && isSmall finalizedEpoch) (goodRegistry opening) (in-order _ _ _ h .2) .0) .1);
+      slashings = λ stateSlot slashings opening closing h. slot-passed s stateSlot h (λ e. rw e) (λ e. rw e);
+      effectiveBalances = λ opening closing h. (first-shaped (settingsShaped s) (in-order _ _ _ h .0) (λ e. rw e), in-order _ _ _ h .1);
+      slashingsReset = λ stateSlot opening closing h. slot-passed s stateSlot h (λ e. rw e) (λ e. e);
     }

@@ -18,11 +18,11 @@ use Rattle.agreement.proofs.Registry.{registry}
 use Rattle.agreement.proofs.Slashings.{slashings}
 use Rattle.agreement.proofs.EffectiveBalances.{effective-balances}
 
-slashings-reset : {P : Refusal → Type 0} (s : Settings) (st : BeaconState) → Agrees P (rust.step s st slashingsResetStep) («process_slashings_reset» s st)
+pub slashings-reset : {P : Refusal → Type 0} (s : Settings) (st : BeaconState) → Agrees P (rust.step s st slashingsResetStep) («process_slashings_reset» s st)
 unfolding rust.step «process_slashings_reset»
 slashings-reset s st = value-agrees
 
-participation-flags : {P : Refusal → Type 0} (s : Settings) (st : BeaconState) → Agrees P (rust.step s st participationFlagsStep) (document.«process_participation_flag_updates» st)
+pub participation-flags : {P : Refusal → Type 0} (s : Settings) (st : BeaconState) → Agrees P (rust.step s st participationFlagsStep) (document.«process_participation_flag_updates» st)
 unfolding rust.step document.«process_participation_flag_updates» rustEpoch.«process_participation_flag_updates»
 participation-flags s st = value-agrees
 

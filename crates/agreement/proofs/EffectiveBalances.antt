@@ -15,7 +15,7 @@ or-agrees : {A : Type 0} (t u : Bool) {m : Checked A} (x y : A) → Agrees Overf
 or-agrees true u x y h = value-agrees
 or-agrees false u x y h = h
 
-effective-balance : (s : Settings) (v : Validator) → Agrees Overflow (rust.updateEffectiveBalance s (s .«effective_balance_increment» / s .«hysteresis_quotient» * s .«hysteresis_downward_multiplier») (s .«effective_balance_increment» / s .«hysteresis_quotient» * s .«hysteresis_upward_multiplier») v) (document.updateEffectiveBalance s v)
+pub effective-balance : (s : Settings) (v : Validator) → Agrees Overflow (rust.updateEffectiveBalance s (s .«effective_balance_increment» / s .«hysteresis_quotient» * s .«hysteresis_downward_multiplier») (s .«effective_balance_increment» / s .«hysteresis_quotient» * s .«hysteresis_upward_multiplier») v) (document.updateEffectiveBalance s v)
 unfolding rust.updateEffectiveBalance document.updateEffectiveBalance
 effective-balance s v =
     let increment = s .«effective_balance_increment» / s .«hysteresis_quotient» in

@@ -37,36 +37,36 @@ accepted c st t w =
 
 -- numbers
 
-low : (n : ℕ) → OneOf n (1 ∷ 2 ∷ 3 ∷ []) → (1 ≤ n) × (n ≤ 3)
+pub low : (n : ℕ) → OneOf n (1 ∷ 2 ∷ 3 ∷ []) → (1 ≤ n) × (n ≤ 3)
 low n (inl e) = omega arith
 low n (inr (inl e)) = omega arith
 low n (inr (inr (inl e))) = omega arith
 low n (inr (inr (inr o))) = absurd o
 
-high : (n : ℕ) → OneOf n (4 ∷ 5 ∷ []) → 4 ≤ n
+pub high : (n : ℕ) → OneOf n (4 ∷ 5 ∷ []) → 4 ≤ n
 high n (inl e) = omega arith
 high n (inr (inl e)) = omega arith
 high n (inr (inr o)) = absurd o
 
-one-left : (n : ℕ) (xs ys : List ℕ) → OneOf n xs → OneOf n (xs ++ ys)
+pub one-left : (n : ℕ) (xs ys : List ℕ) → OneOf n xs → OneOf n (xs ++ ys)
 one-left n [] ys o = absurd o
 one-left n (x ∷ xs) ys (inl e) = inl e
 one-left n (x ∷ xs) ys (inr o) = inr (one-left n xs ys o)
 
-one-right : (n : ℕ) (xs ys : List ℕ) → OneOf n ys → OneOf n (xs ++ ys)
+pub one-right : (n : ℕ) (xs ys : List ℕ) → OneOf n ys → OneOf n (xs ++ ys)
 one-right n [] ys o = o
 one-right n (x ∷ xs) ys o = inr (one-right n xs ys o)
 
 -- the number of a refusal by the tests, and of one after them
 
-tests-number : (a b d : Bool) (r : Refusal) → inOrder a b d ≡ refused r → OneOf (numberOf r) (1 ∷ 2 ∷ 3 ∷ [])
+pub tests-number : (a b d : Bool) (r : Refusal) → inOrder a b d ≡ refused r → OneOf (numberOf r) (1 ∷ 2 ∷ 3 ∷ [])
 unfolding inOrder
 tests-number false b d r p = let e : r ≡ badShape = cc in rw e (inl refl)
 tests-number true false d r p = let e : r ≡ badSettings = cc in rw e (inr (inl refl))
 tests-number true true false r p = let e : r ≡ badRecord = cc in rw e (inr (inr (inl refl)))
 tests-number true true true r p = absurd (not-refused p)
 
-work-number : (r : Refusal) → (r ≡ overflow) ⊎ (r ≡ noRoot) → OneOf (numberOf r) (4 ∷ 5 ∷ [])
+pub work-number : (r : Refusal) → (r ≡ overflow) ⊎ (r ≡ noRoot) → OneOf (numberOf r) (4 ∷ 5 ∷ [])
 work-number r (inl e) = rw e (inr (inl refl))
 work-number r (inr e) = rw e (inl refl)
 

@@ -24,7 +24,7 @@ unfolding zipWith
 zip-maps f g h [] = refl
 zip-maps f g h (x ∷ xs) = ap (λ t. f (g x) (h x) ∷ t) (zip-maps f g h xs)
 
-map-same : {A : Type 0} (xs : List A) → xs ≡ map (λ x. x) xs
+pub map-same : {A : Type 0} (xs : List A) → xs ≡ map (λ x. x) xs
 map-same [] = refl
 map-same (x ∷ xs) = ap (λ t. x ∷ t) (map-same xs)
 
@@ -34,7 +34,7 @@ fold-zip f g [] xs = refl
 fold-zip f g (h ∷ hs) xs =
     ap (λ t. foldl (zipWith f) t (map (λ h. map h xs) hs)) (zip-maps f g h xs) ∙ fold-zip f (λ x. f (g x) (h x)) hs xs
 
-apply-delta : (v : Validator) (d : Deltas) → Agrees Overflow (rust.applyDelta v d) (document.applyDelta v d)
+pub apply-delta : (v : Validator) (d : Deltas) → Agrees Overflow (rust.applyDelta v d) (document.applyDelta v d)
 unfolding rust.applyDelta document.applyDelta
 apply-delta v d = bind-agrees _ (increase-balance v _) value-agrees
 

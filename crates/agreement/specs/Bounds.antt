@@ -2,14 +2,16 @@
 -- once tests 1, 2 and 3 have passed.
 use mathlib.Core.Path.{_≡_}
 use mathlib.Core.Bool.{true}
+use mathlib.Core.List.{List}
 use Prim.Native.Nat.{ℕ, _+_, _*_, _/_, _^_, _≤_, _<_}
 use Rattle.types.specs.declared.Settings.{Settings}
+use Rattle.types.specs.declared.Finality.{Finality}
 use Rattle.definitions.specs.Checked.{value, add64}
-use Rattle.definitions.specs.Refusals.{settingsShaped, goodSettings, isSmall}
+use Rattle.definitions.specs.Refusals.{settingsShaped, goodSettings, isSmall, justificationTests, registryTests, slashingsTests, effectiveBalanceTests, slashingsResetTests}
 use Rattle.definitions.specs.Document.Phase0.Helpers as document
 use Rattle.definitions.specs.Document.Phase0.Helpers.{«get_current_epoch», «get_previous_epoch»}
 use Rattle.definitions.specs.Rust.Phase0.Helpers as rust
-use Rattle.definitions.specs.Close.{Call}
+use Rattle.definitions.specs.Close.{Call, closeTests}
 
 -- the tests of settings and slot
 pub record Passed (s : Settings) (stateSlot : ℕ) : Type 0 where
@@ -17,12 +19,21 @@ pub record Passed (s : Settings) (stateSlot : ℕ) : Type 0 where
   pub good : goodSettings s ≡ true
   pub small : isSmall stateSlot ≡ true
 
--- what the tests of a close say besides
-pub record ClosePassed (c : Call) : Type 0 where
-  pub passed : Passed (c .settings) (c .finality .slot)
-  pub previousJustified : isSmall (c .finality .«previous_justified_checkpoint» .epoch) ≡ true
-  pub currentJustified : isSmall (c .finality .«current_justified_checkpoint» .epoch) ≡ true
-  pub finalized : isSmall (c .finality .«finalized_checkpoint» .epoch) ≡ true
+-- and of the finality part
+pub record FinalityPassed (s : Settings) (f : Finality) : Type 0 where
+  pub passed : Passed s (f .slot)
+  pub previousJustified : isSmall (f .«previous_justified_checkpoint» .epoch) ≡ true
+  pub currentJustified : isSmall (f .«current_justified_checkpoint» .epoch) ≡ true
+  pub finalized : isSmall (f .«finalized_checkpoint» .epoch) ≡ true
+
+-- the tests of the close and of each step that is lent settings ask for this
+pub record TestsPassed (s : Settings) : Type 0 where
+  pub close : (c : Call) → c .settings ≡ s → closeTests c ≡ value tt → FinalityPassed s (c .finality)
+  pub justification : (roots : List ℕ) (f : Finality) (registry : List ℕ) → justificationTests s roots f registry ≡ value tt → FinalityPassed s f
+  pub registry : (stateSlot finalizedEpoch : ℕ) (opening closing : List ℕ) → registryTests s stateSlot finalizedEpoch opening closing ≡ value tt → Passed s stateSlot × (isSmall finalizedEpoch ≡ true)
+  pub slashings : (stateSlot : ℕ) (slashings opening closing : List ℕ) → slashingsTests s stateSlot slashings opening closing ≡ value tt → Passed s stateSlot
+  pub effectiveBalances : (opening closing : List ℕ) → effectiveBalanceTests s opening closing ≡ value tt → (settingsShaped s ≡ true) × (goodSettings s ≡ true)
+  pub slashingsReset : (stateSlot : ℕ) (opening closing : List ℕ) → slashingsResetTests s stateSlot opening closing ≡ value tt → Passed s stateSlot
 
 pub record Bounds (s : Settings) (stateSlot : ℕ) : Type 0 where
   pub nextEpoch : «get_current_epoch» s stateSlot + 1 < 2 ^ 64
