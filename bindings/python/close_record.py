@@ -2,32 +2,29 @@
 """Closes the record file on standard input and prints the close, or `refused` and the number:
 
   tools/record write samples/example.json - | bindings/python/close_record.py
-"""
+
+It exits with 0, with 1 where the record is refused, and with 2 where it could not read, write or find the library."""
+import os
 import sys
 
-import altair
-
-
-def listing(file):
-    opening = altair.read_file(file)
-    closed = altair.close(opening.settings, opening.finality, opening.registry, opening.slashings, opening.roots)
-    head = altair.listing_head(opening.settings, opening.finality.slot, closed.finality, opening.registry)
-    yield (
-        f"epoch {head.epoch} justified {head.justified_epoch} finalized {head.finalized_epoch} "
-        f"bits {head.justification_bits} charged {head.charged}"
-    )
-    for index in range(len(opening.registry) // altair.VALIDATOR_LENGTH):
-        yield " ".join(map(str, altair.listing_line(opening.registry, closed.registry, index)))
+from altair_close import Record, Refused
 
 
 def main():
     try:
-        print("\n".join(listing(sys.stdin.buffer.read())))
-    except altair.Refused as refused:
-        print("refused", refused.number)
+        opening = Record.read(sys.stdin.buffer.read())
+        for line in opening.listing(opening.close()):
+            print(line)
+        sys.stdout.flush()
+    except Refused as refused:
+        print("refused", refused.number, flush=True)
         return 1
     return 0
 
 
 if __name__ == "__main__":
-    sys.exit(main())
+    try:
+        sys.exit(main())
+    except (OSError, ImportError) as error:
+        print(f"close_record: {error}", file=sys.stderr)
+        os._exit(2)  # what could not be written is not tried again

@@ -1,0 +1,29 @@
+"""The Altair epoch close: Ethereum's eight epoch steps on a ledger's record, proved to give what Altair's rules define.
+
+Each function has the name that it has in bindings/c/altair.h, without the prefix altair_. Numbers are ints from 0 to 2^64 - 1. A
+registry, ten numbers a validator, is any C-contiguous buffer of 64-bit unsigned numbers (an array, a memoryview, numpy's arrays,
+also with ten a row) and goes in without a copy; a list or tuple is copied. Roots and files are any buffer of bytes.
+
+What would be written into a lent buffer comes back: a new one, or the one that the keyword `out` names. An argument of the wrong
+kind raises TypeError, one out of range ValueError, with the argument's name, and does not reach C. A refused call raises Refused,
+with the number. Python's standard library alone, CPython 3.8 or later.
+
+    >>> import altair_close
+    >>> altair_close.get_base_reward_per_increment(altair_close.MAINNET, 160 * 10**9)
+    160000
+"""
+from ._close import charged, close, listing_head, listing_line, listing_lines
+from ._helpers import *
+from ._record import Record, read_file, read_header, write_file
+from ._refusals import REFUSALS, Refused
+from ._signatures import VERSION, call as _call
+from ._steps import *
+from ._types import (ACTIVATION_ELIGIBILITY_EPOCH, ACTIVATION_EPOCH, BALANCE, CURRENT_EPOCH_PARTICIPATION, EFFECTIVE_BALANCE,
+                     EXIT_EPOCH, FAR_FUTURE_EPOCH, INACTIVITY_SCORE, MAINNET, MINIMAL, PRESETS, PREVIOUS_EPOCH_PARTICIPATION,
+                     SLASHED, VALIDATOR_LENGTH, WITHDRAWABLE_EPOCH, Checkpoint, Closed, Deltas, Finality, Head, Header, Line,
+                     Settings)
+
+
+def version():
+    """The number of the interface of the library that was opened."""
+    return _call("version")

@@ -1,0 +1,207 @@
+"""The kinds of argument: what each one takes from Python, and the words that C gets for it.
+
+A kind has `words`, the ctypes of what C takes, and `lend(name, value, lent)`, which checks the value and gives those words; the
+buffers among them join the dictionary `lent` under the argument's name. What is wrong is told with the argument's name.
+"""
+import ctypes
+import operator
+import struct
+from array import array
+
+from . import _buffers, _types
+
+U64 = ctypes.c_uint64
+LARGEST = 2**64 - 1
+
+
+def kind_of(value):
+    return f"{type(value).__module__}.{type(value).__name__}".replace("builtins.", "")
+
+
+def told(number):
+    return str(number) if -(2**80) < number < 2**80 else f"one of {number.bit_length()} bits"
+
+
+def number(name, value, largest=LARGEST):
+    """An int, or what stands for one (as numpy's), from 0 to the largest."""
+    if type(value) is not int:
+        try:
+            if isinstance(value, bool):
+                raise TypeError
+            value = operator.index(value)
+        except TypeError:
+            raise TypeError(f"{name}: a whole number is wanted, not {kind_of(value)}") from None
+    if not 0 <= value <= largest:
+        bound = "2^64 - 1" if largest == LARGEST else largest
+        raise ValueError(f"{name}: a number from 0 to {bound} is wanted, not {told(value)}")
+    return value
+
+
+def numbers(name, value):
+    """A list's or tuple's numbers, in an array of their own."""
+    if bool not in set(map(type, value)):
+        try:
+            return array("Q", value)
+        except (TypeError, OverflowError):
+            pass
+    return array("Q", [number(f"{name}[{i}]", item) for i, item in enumerate(value)])
+
+
+def view_of(name, value, wanted):
+    try:
+        view = memoryview(value)
+    except TypeError:
+        raise TypeError(f"{name}: {wanted} is wanted, not {kind_of(value)}") from None
+    except ValueError as error:
+        raise ValueError(f"{name}: {wanted} is wanted: {error}") from None
+    if not view.c_contiguous:
+        raise ValueError(f"{name}: {wanted} is wanted, and this one is not C-contiguous")
+    return view
+
+
+class Number:
+    words = (U64,)
+
+    def __init__(self, largest=LARGEST, word=U64):
+        self.largest, self.words = largest, (word,)
+
+    def lend(self, name, value, lent):
+        return (number(name, value, self.largest),)
+
+
+class Buffer:
+    """A C-contiguous buffer, lent as it stands: a pointer, and how many elements."""
+
+    words = (ctypes.c_void_p, ctypes.c_size_t)
+    format, size, wanted = "", 0, ""
+
+    def __init__(self, row=None, written=None):
+        """row: how many elements a row of a 2-D buffer has. written: how long one is made where None is given, from `lent`."""
+        self.row, self.written = row, written
+
+    def checked(self, name, value, written):
+        view = view_of(name, value, self.wanted)
+        format = view.format.lstrip("@=<")
+        if view.itemsize != self.size or len(format) != 1 or format not in self.format:
+            found = f"format {view.format!r} with {view.itemsize} bytes an element"
+            raise TypeError(f"{name}: {self.wanted} is wanted, not one of {found}")
+        if view.ndim > 1 and (self.row is None or view.ndim > 2 or view.shape[1] != self.row):
+            rows = "has one dimension" if self.row is None else f"with two dimensions has {self.row} elements a row"
+            raise ValueError(f"{name}: one that {rows} is wanted, not one of shape {tuple(view.shape)}")
+        if written and view.readonly:
+            raise TypeError(f"{name}: it is written, and it is read-only")
+        lent = _buffers.Lent(name, value, view, written)
+        if lent.address % self.size:
+            raise ValueError(f"{name}: its numbers do not begin at a multiple of {self.size} bytes in memory")
+        return lent
+
+    def made(self, name, value):
+        return value
+
+    def lend(self, name, value, lent):
+        if self.written:
+            if value is None:
+                value = _buffers.fresh(self.written(lent), self.size)
+            found = self.checked(f"out ({name})", value, True)
+        else:
+            found = self.checked(name, self.made(name, value), False)
+        lent[name] = found
+        return found.address, found.count
+
+
+class Numbers(Buffer):
+    """64-bit numbers: any buffer of them, or a list or tuple, which is copied."""
+
+    format, size, wanted = "QLN", 8, "a C-contiguous buffer of 64-bit unsigned numbers, or a list"
+
+    def made(self, name, value):
+        return numbers(name, value) if isinstance(value, (list, tuple)) else value
+
+
+class Bytes(Buffer):
+    format, size, wanted = "Bc", 1, "a C-contiguous buffer of bytes"
+
+
+class Changed(Numbers):
+    """Numbers that C changes in place: the numbers before, and None or the buffer for those after. C is handed that buffer only
+    where it is the one before; else a copy, so that a refused call has written nothing."""
+
+    def lend(self, name, value, lent):
+        before, out = value
+        before = self.checked(name, self.made(name, before), False)
+        after = None if out is None else self.checked("out", out, True)
+        if after is not None and after.count != before.count:
+            raise ValueError(f"out: as many numbers as {name} has, {before.count}, are wanted, not {after.count}")
+        if after is not None and after.address == before.address:
+            found = after
+        else:
+            found = before.copied()
+            found.target = after
+        lent[name] = found
+        return found.address, found.count
+
+
+def as_long_as(other):
+    """For a buffer that is written: as many elements as another argument has."""
+    return lambda lent: lent[other].count
+
+
+# By value
+
+
+class SettingsWords(ctypes.Structure):
+    _fields_ = [("numbers", U64 * 19)]
+
+
+class FinalityWords(ctypes.Structure):
+    _fields_ = [("numbers", U64 * 17)]
+
+
+_SETTINGS, _FINALITY = struct.Struct("<19Q"), struct.Struct("<QQQ32sQ32sQ32s")
+
+
+class Settings:
+    words = (SettingsWords,)
+
+    def lend(self, name, value, lent):
+        if not isinstance(value, _types.Settings):
+            raise TypeError(f"{name}: Settings are wanted, not {kind_of(value)}")
+        fields = [number(f"{name}.{field}", item) for field, item in zip(value._fields, value)]
+        return (SettingsWords.from_buffer_copy(_SETTINGS.pack(*fields)),)
+
+
+class Finality:
+    words = (FinalityWords,)
+
+    def lend(self, name, value, lent):
+        if not isinstance(value, _types.Finality):
+            raise TypeError(f"{name}: a Finality is wanted, not {kind_of(value)}")
+        parts = [number(f"{name}.{field}", item) for field, item in zip(value._fields[:2], value)]
+        for field, checkpoint in zip(value._fields[2:], value[2:]):
+            parts += self.checkpoint(f"{name}.{field}", checkpoint)
+        return (FinalityWords.from_buffer_copy(_FINALITY.pack(*parts)),)
+
+    def checkpoint(self, name, value):
+        if not isinstance(value, _types.Checkpoint):
+            raise TypeError(f"{name}: a Checkpoint is wanted, not {kind_of(value)}")
+        root = BYTES.checked(f"{name}.root", value.root, False)
+        if root.count != 32:
+            raise ValueError(f"{name}.root: 32 bytes are wanted, not {root.count}")
+        return number(f"{name}.epoch", value.epoch), bytes(root.view)
+
+
+def settings_of(words):
+    return _types.Settings(*words.numbers)
+
+
+def finality_of(words):
+    slot, bits, *rest = _FINALITY.unpack(bytes(words))
+    return _types.Finality(slot, bits, *(_types.Checkpoint(*rest[i : i + 2]) for i in (0, 2, 4)))
+
+
+SETTINGS, FINALITY = Settings(), Finality()
+NUMBER, FLAGS, INDEX = Number(), Number(255, ctypes.c_uint8), Number(word=ctypes.c_size_t)
+REGISTRY, SLASHINGS = Numbers(row=10), Numbers()
+VALIDATOR = REGISTRY  # ten numbers: C counts them
+ROOTS, BYTES = Bytes(row=32), Bytes()
+CHANGED = Changed(row=10)

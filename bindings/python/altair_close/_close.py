@@ -1,0 +1,41 @@
+"""The whole close, and the figures of its listing."""
+from ._signatures import answered, call, function, lend
+from ._types import VALIDATOR_LENGTH
+
+
+def pair(out):
+    if not isinstance(out, (tuple, list)) or len(out) != 2:
+        raise TypeError("out: a pair of buffers is wanted, for the registry and for the slashings")
+    return out
+
+
+def close(settings, finality, registry, slashings, roots, *, out=(None, None)):
+    """The closed record. `out` is a pair of buffers for its registry and slashings, as long as the opening's.
+
+    Refused with 1, 2 or 3 the buffers of `out` keep what they held; with 4 or 5 they hold the opening's numbers.
+    """
+    return call("close", settings, finality, registry, slashings, roots, *pair(out))
+
+
+def charged(settings, state_slot, registry):
+    """How many validators of the opening registry were active in the previous epoch."""
+    return call("charged", settings, state_slot, registry)
+
+
+def listing_head(settings, state_slot, closing, opening):
+    """The numbers of the first line, of the opening's slot and registry and the closing finality."""
+    return call("listing_head", settings, state_slot, closing, opening)
+
+
+def listing_line(opening, closing, index):
+    """The numbers of validator `index`'s line, from the opening and the closing registry."""
+    return call("listing_line", opening, closing, index)
+
+
+def listing_lines(opening, closing):
+    """Every validator's line, in order. The registries are checked and lent once."""
+    lent = {}
+    *words, _ = lend("listing_line", (opening, closing, 0), lent)
+    line = function("listing_line")
+    for index in range(lent["opening"].count // VALIDATOR_LENGTH):
+        yield answered("listing_line", line(*words, index), {})

@@ -1,0 +1,83 @@
+"""A record: its file over lent buffers, and one with buffers of its own."""
+from pathlib import Path
+from typing import Any, NamedTuple
+
+from ._close import charged, close, listing_head, listing_lines, pair
+from ._signatures import call
+from ._types import VALIDATOR_LENGTH, Finality, Settings
+
+
+def read_header(file):
+    """How many validators, roots and slashings a file holds."""
+    return call("read_header", file)
+
+
+def read_file(file, *, out=(None, None)):
+    """The record of a file. `out` is a pair of buffers for its registry and slashings, as long as the header says.
+
+    Refused has the position at which reading stopped; nothing is then written.
+    """
+    settings, finality, registry, slashings = call("read_file", file, *pair(out))
+    header = read_header(file)
+    roots_at = 368 + 80 * header.validators
+    return Record(settings, finality, registry, slashings, bytes(memoryview(file)[roots_at : roots_at + 32 * header.roots]))
+
+
+def write_file(settings, finality, registry, roots, slashings, *, out=None):
+    """The file of a record, in `out`, a buffer of as many bytes as it has, or in a memoryview. Refused, nothing is written."""
+    return call("write_file", settings, finality, registry, roots, slashings, out)
+
+
+class Record(NamedTuple):
+    """All that a close is handed, and hands back: registry and slashings are buffers of 64-bit numbers, roots are bytes.
+
+    >>> from altair_close import MAINNET, Finality, Record
+    >>> settings = MAINNET._replace(slots_per_epoch=8, slots_per_historical_root=64, epochs_per_slashings_vector=64)
+    >>> validator = [32 * 10**9, 0, 0, 0, 2**64 - 1, 2**64 - 1, 32 * 10**9, 0, 0, 0]
+    >>> record = Record(settings, Finality(31), validator * 5, [0] * 64, bytes(32 * 64))
+    >>> record.close().registry[6]
+    31996800000
+    """
+
+    settings: Settings
+    finality: Finality
+    registry: Any
+    slashings: Any
+    roots: Any
+
+    @classmethod
+    def read(cls, file):
+        """The record of a file's bytes."""
+        return read_file(file)
+
+    @classmethod
+    def open(cls, path):
+        """The record of the file at a path."""
+        return read_file(Path(path).read_bytes())
+
+    def write(self):
+        """The bytes of the record's file."""
+        return bytes(write_file(self.settings, self.finality, self.registry, self.roots, self.slashings))
+
+    def save(self, path):
+        """Writes the record's file to a path."""
+        Path(path).write_bytes(self.write())
+
+    def close(self, *, out=(None, None)):
+        """The closed record; roots stay. `out` is as that of the function."""
+        closed = close(self.settings, self.finality, self.registry, self.slashings, self.roots, out=out)
+        return Record(self.settings, *closed, self.roots)
+
+    def charged(self):
+        """How many validators were active in the previous epoch."""
+        return charged(self.settings, self.finality.slot, self.registry)
+
+    def listing(self, closed):
+        """The lines of the listing, as text, of this record and the closed one."""
+        head = listing_head(self.settings, self.finality.slot, closed.finality, self.registry)
+        yield (
+            f"epoch {head.epoch} justified {head.justified_epoch} finalized {head.finalized_epoch} "
+            f"bits {head.justification_bits} charged {head.charged}"
+        )
+        for line in listing_lines(self.registry, closed.registry):
+            yield "%d %d %d %d %d" % line

@@ -1,0 +1,19 @@
+"""Why a call was refused."""
+
+REFUSALS = {
+    1: "a length, a vector's size or an index is not the one called for",
+    2: "a setting is 0 where it divides, or 2^48 or more",
+    3: "a slot, epoch, bit field or flag of the record is out of range",
+    4: "a block root is wanted that the record does not keep",
+    5: "a sum, product or difference that is evaluated leaves 64 bits",
+    6: "a record file's header is not as it must be",
+}
+
+
+class Refused(Exception):
+    """A refused call: its number, and for a file where reading stopped."""
+
+    def __init__(self, number, position=None):
+        where = "" if position is None else f", at byte {position}"
+        super().__init__(f"refused {number}: {REFUSALS.get(number, 'a number that this version does not know')}{where}")
+        self.number, self.position = number, position

@@ -1,0 +1,209 @@
+"""The table of the C functions: one entry for each, in the order of altair.h.
+
+A new function of the library is one entry here and one thin function that calls it:
+
+    1. its entry in SIGNATURES: the answer, then C's arguments by their names, each with its kind (_arguments.py). A pointer and
+       its length are one argument. One that C writes is made by written_registry("opening"), written_slashings(..) or
+       Numbers(written=..): where the caller gives None, a buffer as long as that argument is made.
+    2. a struct that C answers and that is new: a ctypes.Structure here, and what Python gives for it, an Answer.
+    3. the function, in the file of its subject: `return call("name", ..)` with the arguments in C's order; a buffer that is
+       written is the keyword `out`. __init__.py hands every public name of _steps.py and _helpers.py on; others are named in it.
+
+test_signatures.py holds the table to altair.h: the same functions, arguments and answers.
+"""
+import ctypes
+from typing import Any, Callable, NamedTuple
+
+from . import _buffers, _library
+from ._arguments import (BYTES, CHANGED, FINALITY, FLAGS, INDEX, NUMBER, REGISTRY, ROOTS, SETTINGS, SLASHINGS, U64, VALIDATOR,
+                         Bytes, FinalityWords, Numbers, SettingsWords, as_long_as, finality_of, settings_of)
+from ._refusals import Refused
+from ._types import VALIDATOR_LENGTH, Closed, Deltas, Head, Header, Line
+
+VERSION = 1
+
+
+class NumberAnswer(ctypes.Structure):
+    _fields_ = [("refusal", U64), ("value", U64)]
+
+
+class DeltasAnswer(ctypes.Structure):
+    _fields_ = [("refusal", U64), ("reward", U64), ("penalty", U64)]
+
+
+class RootAnswer(ctypes.Structure):
+    _fields_ = [("refusal", U64), ("root", ctypes.c_uint8 * 32)]
+
+
+class FinalityAnswer(ctypes.Structure):
+    _fields_ = [("refusal", U64), ("finality", FinalityWords)]
+
+
+class HeaderAnswer(ctypes.Structure):
+    _fields_ = [("refusal", U64), ("numbers", U64 * 3)]
+
+
+class LineAnswer(ctypes.Structure):
+    _fields_ = [("refusal", U64), ("numbers", U64 * 5)]
+
+
+class ReadAnswer(ctypes.Structure):
+    _fields_ = [("refusal", U64), ("position", U64), ("settings", SettingsWords), ("finality", FinalityWords)]
+
+
+class Answer(NamedTuple):
+    """What C answers, and what Python gives for it and for the buffers that were written."""
+
+    kind: Any
+    given: Callable
+    refusal: Callable = lambda answer: answer.refusal
+
+
+NUMBER_ITSELF = Answer(U64, lambda number: number, lambda number: 0)  # of a function that refuses nothing
+WRITTEN = Answer(U64, lambda number, *written: written[0], lambda number: number)  # what was written comes back
+VALUE = Answer(NumberAnswer, lambda answer: answer.value)
+TRUTH = Answer(NumberAnswer, lambda answer: answer.value == 1)
+DELTAS = Answer(DeltasAnswer, lambda answer: Deltas(answer.reward, answer.penalty))
+ROOT = Answer(RootAnswer, lambda answer: bytes(answer.root))
+FINALITY_AFTER = Answer(FinalityAnswer, lambda answer: finality_of(answer.finality))
+CLOSED = Answer(FinalityAnswer, lambda answer, *written: Closed(finality_of(answer.finality), *written))
+HEAD = Answer(LineAnswer, lambda answer: Head(*answer.numbers))
+LINE = Answer(LineAnswer, lambda answer: Line(*answer.numbers))
+HEADER = Answer(HeaderAnswer, lambda answer: Header(*answer.numbers))
+READ = Answer(ReadAnswer, lambda answer, *written: (settings_of(answer.settings), finality_of(answer.finality), *written))
+
+
+class Signature:
+    def __init__(self, answer, **arguments):
+        self.answer, self.arguments = answer, arguments
+        self.words = [word for kind in arguments.values() for word in kind.words]
+
+
+def written_registry(other):
+    return Numbers(row=VALIDATOR_LENGTH, written=as_long_as(other))
+
+
+def written_slashings(other):
+    return Numbers(written=as_long_as(other))
+
+
+def held(lent):
+    """What the file's header says; nothing where it is refused, and the read then answers that refusal with its position."""
+    try:
+        return call("read_header", lent["file"].value)
+    except Refused:
+        return Header(0, 0, 0)
+
+
+def file_length(lent):
+    return 368 + 8 * lent["registry"].count + lent["roots"].count + 8 * lent["slashings"].count
+
+
+SIGNATURES = {
+    "version": Signature(NUMBER_ITSELF),
+    # the close
+    "close": Signature(CLOSED, settings=SETTINGS, finality=FINALITY, registry=REGISTRY, slashings=SLASHINGS, roots=ROOTS,
+                       closing_registry=written_registry("registry"), closing_slashings=written_slashings("slashings")),
+    "charged": Signature(VALUE, settings=SETTINGS, state_slot=NUMBER, registry=REGISTRY),
+    # the listing of a close
+    "listing_head": Signature(HEAD, settings=SETTINGS, state_slot=NUMBER, closing=FINALITY, opening=REGISTRY),
+    "listing_line": Signature(LINE, opening=REGISTRY, closing=REGISTRY, index=NUMBER),
+    # a record file
+    "read_header": Signature(HEADER, file=BYTES),
+    "read_file": Signature(READ, file=BYTES,
+                           registry=Numbers(row=VALIDATOR_LENGTH, written=lambda lent: VALIDATOR_LENGTH * held(lent).validators),
+                           slashings=Numbers(written=lambda lent: held(lent).slashings)),
+    "write_file": Signature(WRITTEN, settings=SETTINGS, finality=FINALITY, registry=REGISTRY, roots=ROOTS, slashings=SLASHINGS,
+                            file=Bytes(written=file_length)),
+    # the eight steps, in the order of the close
+    "process_justification_and_finalization": Signature(FINALITY_AFTER, settings=SETTINGS, roots=ROOTS, finality=FINALITY,
+                                                        registry=REGISTRY),
+    "process_inactivity_updates": Signature(WRITTEN, settings=SETTINGS, state_slot=NUMBER, finalized_epoch=NUMBER,
+                                            opening=REGISTRY, closing=written_registry("opening")),
+    "process_rewards_and_penalties": Signature(WRITTEN, settings=SETTINGS, state_slot=NUMBER, finalized_epoch=NUMBER,
+                                               opening=REGISTRY, closing=written_registry("opening")),
+    "process_registry_updates": Signature(WRITTEN, settings=SETTINGS, state_slot=NUMBER, finalized_epoch=NUMBER,
+                                          opening=REGISTRY, closing=written_registry("opening")),
+    "process_slashings": Signature(WRITTEN, settings=SETTINGS, state_slot=NUMBER, slashings=SLASHINGS, opening=REGISTRY,
+                                   closing=written_registry("opening")),
+    "process_effective_balance_updates": Signature(WRITTEN, settings=SETTINGS, opening=REGISTRY,
+                                                   closing=written_registry("opening")),
+    "process_slashings_reset": Signature(WRITTEN, settings=SETTINGS, state_slot=NUMBER, opening=SLASHINGS,
+                                         closing=written_slashings("opening")),
+    "process_participation_flag_updates": Signature(WRITTEN, opening=REGISTRY, closing=written_registry("opening")),
+    # slots and epochs
+    "integer_sqrt": Signature(NUMBER_ITSELF, n=NUMBER),
+    "compute_epoch_at_slot": Signature(VALUE, settings=SETTINGS, slot=NUMBER),
+    "compute_start_slot_at_epoch": Signature(VALUE, settings=SETTINGS, epoch=NUMBER),
+    "compute_activation_exit_epoch": Signature(VALUE, settings=SETTINGS, epoch=NUMBER),
+    "get_current_epoch": Signature(VALUE, settings=SETTINGS, state_slot=NUMBER),
+    "get_previous_epoch": Signature(VALUE, settings=SETTINGS, state_slot=NUMBER),
+    # one validator
+    "is_active_validator": Signature(TRUTH, validator=VALIDATOR, epoch=NUMBER),
+    "is_eligible_for_activation_queue": Signature(TRUTH, settings=SETTINGS, validator=VALIDATOR),
+    "is_eligible_for_activation": Signature(TRUTH, finalized_epoch=NUMBER, validator=VALIDATOR),
+    "is_eligible": Signature(TRUTH, settings=SETTINGS, state_slot=NUMBER, validator=VALIDATOR),
+    "increase_balance": Signature(WRITTEN, validator=CHANGED, delta=NUMBER),
+    "decrease_balance": Signature(WRITTEN, validator=CHANGED, delta=NUMBER),
+    "has_flag": Signature(TRUTH, flags=FLAGS, flag_index=NUMBER),
+    "add_flag": Signature(VALUE, flags=FLAGS, flag_index=NUMBER),
+    "is_unslashed_participating": Signature(TRUTH, settings=SETTINGS, state_slot=NUMBER, flag_index=NUMBER, epoch=NUMBER,
+                                            validator=VALIDATOR),
+    # block roots
+    "get_block_root_at_slot": Signature(ROOT, settings=SETTINGS, roots=ROOTS, state_slot=NUMBER, slot=NUMBER),
+    "get_block_root": Signature(ROOT, settings=SETTINGS, roots=ROOTS, state_slot=NUMBER, epoch=NUMBER),
+    # the registry
+    "get_total_active_balance": Signature(VALUE, settings=SETTINGS, state_slot=NUMBER, registry=REGISTRY),
+    "get_participating_balance": Signature(VALUE, settings=SETTINGS, state_slot=NUMBER, flag_index=NUMBER, epoch=NUMBER,
+                                           registry=REGISTRY),
+    "get_validator_churn_limit": Signature(VALUE, settings=SETTINGS, state_slot=NUMBER, registry=REGISTRY),
+    "initiate_validator_exit": Signature(WRITTEN, settings=SETTINGS, state_slot=NUMBER, index=NUMBER, registry=CHANGED),
+    # rewards
+    "get_base_reward_per_increment": Signature(VALUE, settings=SETTINGS, total=NUMBER),
+    "get_base_reward": Signature(VALUE, settings=SETTINGS, total=NUMBER, validator=VALIDATOR),
+    "get_flag_index_deltas": Signature(DELTAS, settings=SETTINGS, state_slot=NUMBER, finalized_epoch=NUMBER, flag_index=NUMBER,
+                                       index=INDEX, registry=REGISTRY),
+    "get_inactivity_penalty_deltas": Signature(DELTAS, settings=SETTINGS, state_slot=NUMBER, validator=VALIDATOR),
+    # finality
+    "get_finality_delay": Signature(VALUE, settings=SETTINGS, state_slot=NUMBER, finalized_epoch=NUMBER),
+    "is_in_inactivity_leak": Signature(TRUTH, settings=SETTINGS, state_slot=NUMBER, finalized_epoch=NUMBER),
+    "weigh_justification_and_finalization": Signature(FINALITY_AFTER, settings=SETTINGS, roots=ROOTS, finality=FINALITY,
+                                                      total=NUMBER, previous=NUMBER, current=NUMBER),
+}
+
+_functions = {}
+
+
+def function(name):
+    """The C function, from the library that is opened at the first call."""
+    if not _functions:
+        _functions.update(_library.opened(SIGNATURES, VERSION))
+    return _functions[name]
+
+
+def lend(name, values, lent):
+    """C's words for the values, in their order; the buffers among them join `lent`."""
+    words = []
+    for (argument, kind), value in zip(SIGNATURES[name].arguments.items(), values):
+        words += kind.lend(argument, value, lent)
+    _buffers.apart(lent.values())
+    return words
+
+
+def answered(name, answer, lent):
+    """What Python gives for C's answer; Refused where its number is not 0."""
+    expected = SIGNATURES[name].answer
+    refusal = expected.refusal(answer)
+    if refusal != 0:
+        raise Refused(refusal, getattr(answer, "position", None))
+    written = [buffer for buffer in lent.values() if buffer.written]
+    for buffer in written:
+        buffer.settle()
+    return expected.given(answer, *(buffer.value for buffer in written))
+
+
+def call(name, *values):
+    """Calls altair_NAME: the values are checked, lent, and what comes back is given."""
+    lent = {}
+    words = lend(name, values, lent)
+    return answered(name, function(name)(*words), lent)

@@ -1,0 +1,99 @@
+"""What goes in and comes back by value."""
+from typing import Any, NamedTuple
+
+FAR_FUTURE_EPOCH = 2**64 - 1
+
+# the places of a validator's ten numbers
+(EFFECTIVE_BALANCE, SLASHED, ACTIVATION_ELIGIBILITY_EPOCH, ACTIVATION_EPOCH, EXIT_EPOCH, WITHDRAWABLE_EPOCH, BALANCE,
+ PREVIOUS_EPOCH_PARTICIPATION, CURRENT_EPOCH_PARTICIPATION, INACTIVITY_SCORE, VALIDATOR_LENGTH) = range(11)
+
+
+class Settings(NamedTuple):
+    """The nineteen settings of a network. MAINNET._replace(slots_per_epoch=8) changes one."""
+
+    slots_per_epoch: int
+    slots_per_historical_root: int
+    epochs_per_slashings_vector: int
+    effective_balance_increment: int
+    max_effective_balance: int
+    hysteresis_quotient: int
+    hysteresis_downward_multiplier: int
+    hysteresis_upward_multiplier: int
+    base_reward_factor: int
+    min_epochs_to_inactivity_penalty: int
+    inactivity_score_bias: int
+    inactivity_score_recovery_rate: int
+    inactivity_penalty_quotient_altair: int
+    proportional_slashing_multiplier_altair: int
+    max_seed_lookahead: int
+    min_validator_withdrawability_delay: int
+    ejection_balance: int
+    min_per_epoch_churn_limit: int
+    churn_limit_quotient: int
+
+
+MAINNET = Settings(32, 8192, 8192, 10**9, 32 * 10**9, 4, 1, 5, 64, 4, 4, 16, 50331648, 2, 4, 256, 16 * 10**9, 4, 65536)
+# as the public text's presets and configuration of that name have them
+MINIMAL = MAINNET._replace(slots_per_epoch=8, slots_per_historical_root=64, epochs_per_slashings_vector=64,
+                           min_per_epoch_churn_limit=2, churn_limit_quotient=32)
+PRESETS = {"mainnet": MAINNET, "minimal": MINIMAL}
+
+
+class Checkpoint(NamedTuple):
+    """An epoch and the root of its first block, any 32 bytes."""
+
+    epoch: int = 0
+    root: bytes = bytes(32)
+
+
+class Finality(NamedTuple):
+    """Bit i of justification_bits counts 2^i; bit 0 is the current epoch's."""
+
+    slot: int
+    justification_bits: int = 0
+    previous_justified_checkpoint: Checkpoint = Checkpoint()
+    current_justified_checkpoint: Checkpoint = Checkpoint()
+    finalized_checkpoint: Checkpoint = Checkpoint()
+
+
+class Deltas(NamedTuple):
+    """What one validator gains and loses by one rule."""
+
+    reward: int
+    penalty: int
+
+
+class Closed(NamedTuple):
+    """A closed record: registry and slashings are the buffers of `out`, or memoryviews of 64-bit numbers."""
+
+    finality: Finality
+    registry: Any
+    slashings: Any
+
+
+class Head(NamedTuple):
+    """The numbers of a listing's first line."""
+
+    epoch: int
+    justified_epoch: int
+    finalized_epoch: int
+    justification_bits: int
+    charged: int
+
+
+class Line(NamedTuple):
+    """The numbers of one validator's line: effective balance and score are those after the close."""
+
+    index: int
+    opening_balance: int
+    closing_balance: int
+    effective_balance: int
+    inactivity_score: int
+
+
+class Header(NamedTuple):
+    """How much a record file holds."""
+
+    validators: int
+    roots: int
+    slashings: int

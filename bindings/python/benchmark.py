@@ -1,0 +1,69 @@
+#!/usr/bin/env python3
+"""What a close costs from Python, beside the C function on the same buffers: bindings/python/benchmark.py [VALIDATORS] [ROUNDS]
+
+The rounds alternate, so that what disturbs one disturbs all; the least of each is compared. It exits with 1 where a call costs
+more than 1.3 times the C close."""
+import sys
+import time
+from array import array
+
+import altair_close
+from altair_close import FAR_FUTURE_EPOCH, MAINNET, Checkpoint, Finality, _signatures
+
+LIMIT = 1.3
+
+
+def record(validators):
+    """Mainnet settings, final two epochs ago, 99 of 100 hit every flag."""
+    hit = [32 * 10**9, 0, 0, 0, FAR_FUTURE_EPOCH, FAR_FUTURE_EPOCH, 32 * 10**9, 7, 7, 0]
+    missed = hit[:7] + [0, 0, 0]
+    registry = array("Q", (hit * 99 + missed) * (validators // 100 + 1))[: 10 * validators]
+    for place in range(validators):
+        registry[10 * place + altair_close.BALANCE] += place * 7919 % 10**9
+    finality = Finality(32 * 200 - 1, 3, Checkpoint(197), Checkpoint(198), Checkpoint(197))
+    return MAINNET, finality, registry, array("Q", bytes(8 * 8192)), bytes(32 * 8192)
+
+
+def least(rounds, calls):
+    """The least time of each call, in milliseconds."""
+    times = {name: [] for name in calls}
+    for _ in range(rounds):
+        for name, call in calls.items():
+            began = time.perf_counter()
+            call()
+            times[name].append(1000 * (time.perf_counter() - began))
+    return {name: min(found) for name, found in times.items()}
+
+
+def calls(opening):
+    settings, finality, registry, slashings, roots = opening
+    out = array("Q", bytes(8 * len(registry))), array("Q", bytes(8 * 8192))
+    words = _signatures.lend("close", (*opening, *out), {})
+    close = _signatures.function("close")
+    rows = memoryview(registry).cast("B").cast("Q", shape=[len(registry) // 10, 10])
+    made = {
+        "the C function": lambda: close(*words),
+        "close, with out": lambda: altair_close.close(*opening, out=out),
+        "close, new buffers": lambda: altair_close.close(*opening),
+        "close, a memoryview of two dimensions": lambda: altair_close.close(settings, finality, rows, slashings, roots, out=out),
+    }
+    try:
+        import numpy
+    except ImportError:
+        return made
+    table = numpy.frombuffer(registry, dtype=numpy.uint64).reshape(-1, 10)
+    room = numpy.zeros_like(table), numpy.zeros(8192, dtype=numpy.uint64)
+    made["close, numpy"] = lambda: altair_close.close(settings, finality, table, slashings, roots, out=room)
+    return made
+
+
+def main(validators=100000, rounds=40):
+    found = least(rounds, calls(record(validators)))
+    alone = found["the C function"]
+    for name, milliseconds in found.items():
+        print(f"{name:40} {milliseconds:8.3f} ms  {milliseconds / alone:5.2f}")
+    return max(found.values()) > LIMIT * alone
+
+
+if __name__ == "__main__":
+    sys.exit(main(*map(int, sys.argv[1:3])))

@@ -1,0 +1,183 @@
+"""Any buffer goes in as it stands, and `out` takes buffers to reuse."""
+import ctypes
+import mmap
+import unittest
+from array import array
+
+import altair_close as altair
+from altair_close import Checkpoint, Finality, MINIMAL, Refused
+from altair_close import _buffers, _signatures
+
+try:
+    import numpy
+except ImportError:
+    numpy = None
+
+FAR = altair.FAR_FUTURE_EPOCH
+VALIDATORS = 7
+NUMBERS = array("Q", [32 * 10**9, 0, 0, 0, FAR, FAR, 32 * 10**9, 7, 7, 0] * VALIDATORS)
+SLASHINGS = array("Q", bytes(8 * 64))
+ROOTS = bytes(32 * 64)
+FINALITY = Finality(31, 3, Checkpoint(1), Checkpoint(2), Checkpoint(1))
+
+
+def in_mmap(data):
+    pages = mmap.mmap(-1, max(len(data), 1))
+    pages[: len(data)] = data
+    return memoryview(pages)[: len(data)]
+
+
+def registries():
+    """The same numbers in every kind of buffer."""
+    data = NUMBERS.tobytes()
+    yield "list", list(NUMBERS)
+    yield "tuple", tuple(NUMBERS)
+    yield "array", NUMBERS
+    yield "array of unsigned long", array("L", NUMBERS)
+    yield "memoryview", memoryview(bytearray(data)).cast("Q")
+    yield "read-only memoryview", memoryview(data).cast("Q")
+    yield "two dimensions", memoryview(bytearray(data)).cast("Q", shape=[VALIDATORS, 10])
+    yield "two dimensions, read-only", memoryview(data).cast("Q", shape=[VALIDATORS, 10])
+    yield "ctypes", (ctypes.c_uint64 * len(NUMBERS)).from_buffer_copy(data)
+    yield "ctypes, two dimensions", (ctypes.c_uint64 * 10 * VALIDATORS).from_buffer_copy(data)
+    yield "mapped memory", in_mmap(data).cast("Q")
+    if numpy:
+        yield "numpy", numpy.frombuffer(bytearray(data), dtype=numpy.uint64)
+        yield "numpy, read-only", numpy.frombuffer(data, dtype="<u8")
+        yield "numpy, two dimensions", numpy.frombuffer(bytearray(data), dtype=numpy.uint64).reshape(VALIDATORS, 10)
+
+
+def bytes_of():
+    yield "bytes", ROOTS
+    yield "bytearray", bytearray(ROOTS)
+    yield "memoryview", memoryview(ROOTS)
+    yield "a root a row", memoryview(bytearray(ROOTS)).cast("B", shape=[64, 32])
+    yield "characters", memoryview(ROOTS).cast("c")
+    yield "ctypes", (ctypes.c_uint8 * len(ROOTS))()
+    yield "mapped memory", in_mmap(ROOTS)
+    if numpy:
+        yield "numpy", numpy.zeros((64, 32), dtype=numpy.uint8)
+
+
+class Buffers(unittest.TestCase):
+    def setUp(self):
+        self.closed = altair.close(MINIMAL, FINALITY, NUMBERS, SLASHINGS, ROOTS)
+
+    def test_every_kind_of_buffer(self):
+        for kind, registry in registries():
+            for roots_kind, roots in bytes_of():
+                with self.subTest(kind, roots=roots_kind):
+                    self.assertEqual(altair.close(MINIMAL, FINALITY, registry, SLASHINGS, roots), self.closed)
+            self.assertEqual(altair.charged(MINIMAL, 31, registry), VALIDATORS)
+
+    def test_buffers_are_not_copied(self):
+        for kind, registry in registries():
+            if kind not in ("list", "tuple"):
+                lent = {}
+                words = _signatures.lend("charged", (MINIMAL, 31, registry), lent)
+                view = memoryview(registry)
+                expected = _buffers.Lent("registry", registry, view, False).address
+                self.assertEqual((words[2], words[3]), (expected, len(NUMBERS)), kind)
+                if not view.readonly:
+                    self.assertEqual(expected, ctypes.addressof(ctypes.c_uint8.from_buffer(registry)), kind)
+
+    def test_out(self):
+        for make in (lambda count: array("Q", bytes(8 * count)), lambda count: (ctypes.c_uint64 * count)(),
+                     lambda count: memoryview(bytearray(8 * count)).cast("Q")):
+            registry, slashings = make(len(NUMBERS)), make(64)
+            closed = altair.close(MINIMAL, FINALITY, NUMBERS, SLASHINGS, ROOTS, out=(registry, slashings))
+            self.assertIs(closed.registry, registry)
+            self.assertIs(closed.slashings, slashings)
+            self.assertEqual((list(registry), list(slashings)), (list(self.closed.registry), list(self.closed.slashings)))
+        rows = memoryview(bytearray(8 * len(NUMBERS))).cast("Q", shape=[VALIDATORS, 10])
+        altair.close(MINIMAL, FINALITY, NUMBERS, SLASHINGS, ROOTS, out=[rows, None])
+        self.assertEqual(rows.tobytes(), self.closed.registry.tobytes())
+
+    def test_a_refused_close_and_its_out(self):
+        out = array("Q", [5]) * len(NUMBERS), array("Q", [6]) * 64
+        with self.assertRaises(Refused) as caught:
+            altair.close(MINIMAL, FINALITY._replace(slot=2**48), NUMBERS, SLASHINGS, ROOTS, out=out)
+        self.assertEqual((caught.exception.number, set(out[0]), set(out[1])), (3, {5}, {6}))
+        rich = array("Q", NUMBERS)
+        rich[6] = FAR
+        with self.assertRaises(Refused) as caught:
+            altair.close(MINIMAL, FINALITY, rich, SLASHINGS, ROOTS, out=out)
+        self.assertEqual((caught.exception.number, out), (5, (rich, SLASHINGS)))
+        with self.assertRaises(Refused) as caught:
+            altair.close(MINIMAL, FINALITY, NUMBERS, SLASHINGS, ROOTS, out=(out[0][1:], None))
+        self.assertEqual(caught.exception.number, 1)
+
+    def test_a_bad_out(self):
+        step = altair.process_participation_flag_updates
+        room = bytearray(8 * len(NUMBERS) + 80)
+        for bad in (NUMBERS.tolist(), 1, "x", bytes(560), memoryview(bytes(560)).cast("Q"), bytearray(560), array("q", [0] * 70)):
+            with self.assertRaisesRegex(TypeError, r"^out \(closing\): "):
+                step(NUMBERS, out=bad)
+        with self.assertRaisesRegex(ValueError, r"^out \(closing\): .*overlaps opening"):
+            step(NUMBERS, out=NUMBERS)
+        numbers = memoryview(room).cast("Q")
+        with self.assertRaisesRegex(ValueError, r"^out \(closing\): .*overlaps opening"):
+            step(numbers[:70], out=numbers[69:79])
+        step(numbers[:40], out=numbers[40:])
+        for bad in (None, NUMBERS, (NUMBERS,), 1, (None, None, None), {}):
+            with self.assertRaisesRegex(TypeError, "^out: "):
+                altair.close(MINIMAL, FINALITY, NUMBERS, SLASHINGS, ROOTS, out=bad)
+        both = array("Q", bytes(8 * 70))
+        with self.assertRaisesRegex(ValueError, "overlaps"):
+            altair.close(MINIMAL, FINALITY, NUMBERS, SLASHINGS, ROOTS, out=(both, memoryview(both)[:64]))
+
+    def test_what_is_changed(self):
+        validator = array("Q", NUMBERS[:10])
+        after = altair.increase_balance(validator, 5)
+        self.assertEqual((validator[6], after[6]), (32 * 10**9, 32 * 10**9 + 5))
+        room = array("Q", bytes(80))
+        self.assertIs(altair.decrease_balance(after, 7, out=room), room)
+        self.assertEqual((after[6], room[6], room[4]), (32 * 10**9 + 5, 32 * 10**9 - 2, FAR))
+        self.assertIs(altair.increase_balance(room, 1, out=room), room)
+        self.assertEqual(room[6], 32 * 10**9 - 1)
+        kept = array("Q", room)
+        for out in (room, array("Q", [9] * 10)):
+            before = array("Q", out)
+            with self.assertRaises(Refused):
+                altair.increase_balance(room, FAR, out=out)
+            self.assertEqual((room, out), (kept, before))
+        for bad in (array("Q", [0] * 9), array("q", [0] * 10), bytes(80)):
+            with self.assertRaisesRegex((TypeError, ValueError), "^out: "):
+                altair.increase_balance(room, 1, out=bad)
+        with self.assertRaisesRegex(TypeError, "^out: "):
+            altair.increase_balance(list(room), 1, out=list(room))
+        left = altair.initiate_validator_exit(MINIMAL, 31, 0, memoryview(NUMBERS.tobytes()).cast("Q", shape=[VALIDATORS, 10]))
+        self.assertEqual((left[4], left[14]), (8, FAR))
+
+    def test_files(self):
+        record = altair.Record(MINIMAL, FINALITY, NUMBERS, SLASHINGS, ROOTS)
+        file = record.write()
+        room = bytearray(len(file))
+        self.assertIs(altair.write_file(MINIMAL, FINALITY, NUMBERS, ROOTS, SLASHINGS, out=room), room)
+        self.assertEqual(room, file)
+        registry, slashings = array("Q", bytes(8 * 70)), array("Q", [1]) * 64
+        read = altair.read_file(memoryview(file), out=(registry, slashings))
+        self.assertIs(read.registry, registry)
+        self.assertEqual(read, record)
+        with self.assertRaisesRegex(ValueError, "overlaps"):
+            altair.read_file(room, out=(memoryview(room)[:560].cast("Q"), None))
+        with self.assertRaises(Refused):
+            altair.write_file(MINIMAL, FINALITY, NUMBERS, ROOTS, SLASHINGS, out=bytearray(len(file) - 1))
+
+    def test_nothing_is_moved_while_it_is_lent(self):
+        registry = array("Q", NUMBERS)
+        lines = altair.listing_lines(registry, self.closed.registry)
+        next(lines)
+        with self.assertRaises(BufferError):
+            registry.append(1)
+        lines.close()
+        registry.append(1)
+
+    def test_empty(self):
+        closed = altair.close(MINIMAL, FINALITY, [], SLASHINGS, ROOTS)
+        self.assertEqual((len(closed.registry), closed.finality.current_justified_checkpoint.epoch), (0, 3))
+        self.assertEqual(altair.charged(MINIMAL, 31, array("Q")), 0)
+
+
+if __name__ == "__main__":
+    unittest.main()
