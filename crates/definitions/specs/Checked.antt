@@ -7,7 +7,7 @@ use Rattle.definitions.specs.Lists.{sum}
 
 pub data Refusal : Type 0 where
   badShape badSettings badRecord noRoot overflow badFile : Refusal
-  beforeGenesis noSeconds : Refusal
+  signedOverflow beforeGenesis noSeconds : Refusal
 
 abbrev pub numberOf : Refusal → ℕ
 numberOf badShape = 1
@@ -16,6 +16,7 @@ numberOf badRecord = 3
 numberOf noRoot = 4
 numberOf overflow = 5
 numberOf badFile = 6
+numberOf signedOverflow = 7
 numberOf beforeGenesis = 14
 numberOf noSeconds = 15
 
