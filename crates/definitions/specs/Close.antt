@@ -1,17 +1,18 @@
 -- The whole close: the eight steps in order, what it is handed, what it hands back and what the buffers hold. And `charged`.
-use mathlib.Core.Bool.{_&&_}
+use mathlib.Core.Bool.{cond, _&&_}
 use mathlib.Core.List.{List, [], _∷_}
 use Prim.Native.Nat.{ℕ}
+use lib.Dec.{eqb}
 use lib.ListN.{length, take}
 use Rattle.types.specs.declared.Settings.{Settings}
 use Rattle.types.specs.declared.Finality.{Finality}
 use Rattle.definitions.specs.Lists.{filter}
-use Rattle.definitions.specs.Record.{Validator, BeaconState, encode, decode}
+use Rattle.definitions.specs.Record.{Validator, BeaconState, «GENESIS_EPOCH», encode, decode}
 use Rattle.definitions.specs.Updates.{withValidators, withSlashings, withFinality}
 use Rattle.definitions.specs.Checked.{Checked, value, refused, bind, foldChecked, codeOf, settle}
 use Rattle.definitions.specs.Refusals.{inOrder, settingsShaped, rootsShaped, slashingsShaped, registryShaped, sameLength, goodSettings, goodFinality, goodRegistry, afterTests, closingBuffer}
-use Rattle.definitions.specs.Rust.Phase0.Helpers.{«is_active_validator», «get_previous_epoch»}
-use Rattle.definitions.specs.Rust.Phase0.EpochProcessing.{«process_registry_updates», «process_effective_balance_updates», resetSlashings}
+use Rattle.definitions.specs.Rust.Phase0.Helpers.{«get_current_epoch», «get_previous_epoch»}
+use Rattle.definitions.specs.Rust.Phase0.EpochProcessing.{isEligible, «process_registry_updates», «process_effective_balance_updates», resetSlashings}
 use Rattle.definitions.specs.Rust.Altair.EpochProcessing.{«process_justification_and_finalization», «process_inactivity_updates», «process_rewards_and_penalties», «process_slashings», «process_participation_flag_updates»}
 
 -- a step that reads or writes the registry, on the state
@@ -106,6 +107,8 @@ close c =
       closingSlashings = closingBuffer (λ st. st .slashings) tests work (c .slashings) (c .closingSlashings);
     }
 
--- "charged, the number of the opening record's validators active in the previous epoch"
+-- 02, R-2: "the number that the repository's eligibility rule picks in the opening", and "At epoch 0 it is 0"
 unfoldable pub charged : Settings → ℕ → List Validator → ℕ
-charged s stateSlot vs = length (filter (λ v. «is_active_validator» v («get_previous_epoch» s stateSlot)) vs)
+charged s stateSlot vs =
+    let eligible = filter (isEligible («get_previous_epoch» s stateSlot)) vs in
+    cond (eqb («get_current_epoch» s stateSlot) «GENESIS_EPOCH») 0 (length eligible)

@@ -4,22 +4,14 @@ use mathlib.Core.List.{List}
 use mathlib.Core.Path.{_≡_, refl, sym, ap}
 use Prim.Native.Nat.{ℕ}
 use native.Mathlib.Omega.{arith}
-use lib.ListN.{length}
 use Rattle.types.specs.declared.Settings.{Settings}
 use Rattle.types.specs.declared.Finality.{Finality}
-use Rattle.definitions.specs.Record.{decode}
-use Rattle.definitions.specs.Document.Phase0.Helpers.{«get_current_epoch», «get_previous_epoch», «get_active_validator_indices»}
-use Rattle.definitions.specs.Close.{charged}
 use Rattle.definitions.specs.Checked.{Checked, value, codeOf}
 use Rattle.definitions.specs.LeafRefusals.{slotRegistryTests}
 use Rattle.definitions.specs.Refusals.{settingsShaped, registryShaped, isSmall, goodSettings, goodFinality, goodRegistry}
 use Rattle.refusals.proofs.Answers.{after-passed, after-refused}
 use Rattle.leaf_refusals.proofs.Order.{refused-before, last-failed, last-passed}
 use Rattle.listing_lines.specs.Answers.{headTests, headNumbers, noHead, headFor, headOf}
-
-pub told : (s : Settings) (stateSlot : ℕ) (closing : Finality) (opening : List ℕ) {epoch previous count : ℕ} → epoch ≡ «get_current_epoch» s stateSlot → previous ≡ «get_previous_epoch» s stateSlot → count ≡ length («get_active_validator_indices» (decode opening) previous) → record { refusal = 0; epoch = epoch; «justified_epoch» = closing .«current_justified_checkpoint» .epoch; «finalized_epoch» = closing .«finalized_checkpoint» .epoch; «justification_bits» = closing .«justification_bits»; charged = count } ≡ headNumbers s stateSlot closing opening
-unfolding charged «get_active_validator_indices»
-told s stateSlot closing opening e p n = rw (e, n, p)
 
 module _ (s : Settings) (stateSlot : ℕ) (closing : Finality) (opening : List ℕ) {x : ℕ} (e : x ≡ codeOf (slotRegistryTests s stateSlot opening)) where
   tests : Checked (Unit {0})

@@ -8,7 +8,6 @@ pub mod numbers;
 pub mod text;
 
 use leaf_refusals::current_epoch;
-use leaf_refusals::previous_epoch;
 use numbers::Head;
 use numbers::Line;
 use numbers::no_head;
@@ -16,7 +15,7 @@ use numbers::no_line;
 use refusals::good_finality;
 use refusals::registry_shaped;
 use registry_refusals::slot_registry_tests;
-use totals::active_count;
+use totals::charged_count;
 use types::Finality;
 use types::Settings;
 
@@ -27,8 +26,7 @@ pub fn head_core(s: Settings, state_slot: u64, closing: Finality, opening: &[u64
     ensures { λ r. ⌜ r ≡ headNumbers s «state_slot» closing (now (opening .entry)) ⌝ }
 {
     let epoch = current_epoch(s, state_slot);
-    let previous = previous_epoch(s, state_slot);
-    let charged = active_count(previous, opening);
+    let charged = charged_count(s, state_slot, opening);
     let justified = closing.current_justified_checkpoint;
     let finalized = closing.finalized_checkpoint;
     Head {

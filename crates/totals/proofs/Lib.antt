@@ -1,3 +1,4 @@
 -- Laws of totals.
+mod Genesis
 pub mod Sums
 pub mod Tested

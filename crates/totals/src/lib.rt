@@ -12,10 +12,12 @@ ghost use Rattle.definitions.specs.Answers.{Says};
 ghost use Rattle.definitions.specs.Refusals.{afterTests};
 ghost use Rattle.definitions.specs.LeafRefusals.{slotRegistryTests, participationTests};
 ghost use Rattle.definitions.specs.Rust.Phase0.Helpers.{«is_active_validator», «get_active_validator_indices», «get_total_balance», «get_total_active_balance», «get_validator_churn_limit»};
+ghost use Rattle.definitions.specs.Rust.Phase0.EpochProcessing.{isEligible};
 ghost use Rattle.definitions.specs.Rust.Altair.Helpers.{isUnslashedParticipating, «get_unslashed_participating_indices»};
 ghost use Rattle.definitions.specs.Close.{charged};
 use arithmetic::max;
 use entries::entry_is_active;
+use entries::entry_is_eligible;
 use entries::entry_is_participating;
 use leaf_refusals::current_epoch;
 use leaf_refusals::previous_epoch;
@@ -194,7 +196,38 @@ pub fn get_validator_churn_limit(s: Settings, state_slot: u64, registry: &[u64])
     Number::Value(limit)
 }
 
-// How many were active in the previous epoch.
+// How many the eligibility rule picks.
+fn eligible_count(previous_epoch: u64, registry: &[u64]) -> u64
+    requires { ⌜ length (now registry) ≡ 10 * (length (now registry) / 10) ⌝ }
+    ensures { λ r. ⌜ r ≡ length (filter (isEligible «previous_epoch») (decode (now (registry .entry)))) ⌝ }
+{
+    let n = registry.len() / 10;
+    let mut count: u64 = 0;
+    for i in 0..n {
+        let a = 10 * i;
+        let b = a + 10;
+        if !entry_is_eligible(previous_epoch, &registry[a..b]) {
+            continue;
+        }
+        count += 1;
+    }
+    count
+}
+
+// How many are charged: nobody at the genesis epoch, where there are no rewards and penalties.
+pub fn charged_count(s: Settings, state_slot: u64, registry: &[u64]) -> u64
+    requires { ⌜ length (now registry) ≡ 10 * (length (now registry) / 10) ⌝ }
+    requires { ⌜ 0 < s .«slots_per_epoch» ⌝ }
+    ensures { λ r. ⌜ r ≡ charged s «state_slot» (decode (now (registry .entry))) ⌝ }
+{
+    let current = current_epoch(s, state_slot);
+    if current == 0 {
+        return 0;
+    }
+    let previous = previous_epoch(s, state_slot);
+    eligible_count(previous, registry)
+}
+
 pub fn charged(s: Settings, state_slot: u64, registry: &[u64]) -> Number
     ensures { λ r. ⌜ Says (afterTests (slotRegistryTests s «state_slot» (now (registry .entry))) (value (charged s «state_slot» (decode (now (registry .entry)))))) r ⌝ }
 {
@@ -202,7 +235,6 @@ pub fn charged(s: Settings, state_slot: u64, registry: &[u64]) -> Number
     if refusal != 0 {
         return Number::Refused(refusal);
     }
-    let epoch = previous_epoch(s, state_slot);
-    let count = active_count(epoch, registry);
+    let count = charged_count(s, state_slot, registry);
     Number::Value(count)
 }

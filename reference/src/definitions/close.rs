@@ -5,8 +5,10 @@ use super::{
         process_rewards_and_penalties, process_slashings,
     },
     checked::{code_of, fold_checked, Checked},
-    phase0_epoch_processing::{process_effective_balance_updates, process_registry_updates, reset_slashings},
-    phase0_helpers::{get_previous_epoch, is_active_validator},
+    phase0_epoch_processing::{
+        is_eligible, process_effective_balance_updates, process_registry_updates, reset_slashings,
+    },
+    phase0_helpers::{get_current_epoch, get_previous_epoch},
     record::{
         decode, encode, finality_from, finality_to, narrow, settings_from, BeaconState, Nat, Settings, Validator,
     },
@@ -140,5 +142,6 @@ pub fn outcome(c: &Call, operation: Operation) -> Outcome {
 }
 
 pub fn charged(s: &Settings, state_slot: Nat, vs: &[Validator]) -> Nat {
-    vs.iter().filter(|v| is_active_validator(v, get_previous_epoch(s, state_slot))).count() as Nat
+    let eligible = vs.iter().filter(|v| is_eligible(get_previous_epoch(s, state_slot), v)).count() as Nat;
+    if get_current_epoch(s, state_slot) == 0 { 0 } else { eligible }
 }

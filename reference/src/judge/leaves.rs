@@ -91,10 +91,9 @@ fn plain(c: &Case, state: &mut State<1, 1>, context: &Context) -> Result<Vec<u64
             vec![altair::get_total_balance(state, &members, context)?]
         }
         Leaf::GetValidatorChurnLimit => vec![phase0::helpers::get_validator_churn_limit(state, context) as u64],
-        Leaf::Charged => {
-            let previous = altair::get_previous_epoch(state, context);
-            vec![altair::get_active_validator_indices(state, previous).len() as u64]
-        }
+        // rewards and penalties are nobody's at the genesis epoch
+        Leaf::Charged if altair::get_current_epoch(state, context) == 0 => vec![0],
+        Leaf::Charged => vec![altair::get_eligible_validator_indices(state, context).count() as u64],
         Leaf::IncreaseBalance => {
             altair::increase_balance(state, 0, n[0]);
             unchanged_but(&c.registry, &registry_of(state), &[of::BALANCE])
