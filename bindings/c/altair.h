@@ -1,20 +1,34 @@
-/* The Altair epoch close: every function of the static library.
+/* The Altair epoch close: every function of libaltair, for x86-64.
  *
- * Link target/staticlib/libexports.a (`rt staticlib exports` makes it), for x86-64:
+ *     cc -o mine mine.c $(pkg-config --cflags --libs altair)        after `make install`
+ *     cc -o mine -I bindings/c mine.c target/altair/libaltair.a     after `make`, in the repository
  *
- *     cc -o close_record bindings/c/close_record.c target/staticlib/libexports.a
+ * Each function is proved to give what its definition says, for every input: nothing traps, nothing is kept between calls, and
+ * nothing but the named buffers is written. Only the last section, "In C", is plain C and tested instead.
  *
- * Each function is proved to give what its definition says, for every input: nothing traps, nothing is kept between calls,
- * and nothing but the named buffers is written. C must see to what no proof can: a pointer points to as many elements as the
- * length behind it says and is not NULL, and a buffer that is written overlaps no other buffer of the call.
+ * What the caller sees to, since no proof can:
+ *   A pointer points to as many elements as the length behind it says. With length 0 it may be NULL.
+ *   A pointer to numbers is aligned to 8 bytes, as uint64_t is. Bytes may stand anywhere.
+ *   A buffer that is written overlaps no other buffer of the call; buffers that are read may overlap. Where one that is written
+ *   does overlap, nothing is promised of the answer or of any buffer. The calls altair_checked_.. refuse that with 1.
+ *   No other thread writes a call's buffers while it runs, nor reads those that it writes.
+ * Calls share nothing and allocate nothing: any number of threads may call at once, each with its buffers.
  *
- * An answer's `refusal` is 0, or the number of the first test that failed:
- *   1  a length, a vector's size or an index is not the one called for
- *   2  a setting is 0 where it divides, or 2^48 or more
- *   3  a slot, epoch, bit field or flag of the record is out of range
- *   4  a block root is wanted that the record does not keep
+ * An answer's `refusal` is 0, or the number of the first test that failed. They are tested in this order, and a call tests only
+ * what it is lent. N is the number of validators, S is slots_per_historical_root, L is epochs_per_slashings_vector.
+ *   6  a record file's header is not as it must be: docs/RECORD_FILE.md
+ *   1  a length, a vector's size or an index is not the one called for:
+ *        a registry of 10 * N numbers, N at most 2^24; one validator of 10 numbers; S and L each 1 to 65536;
+ *        roots of 32 * S bytes; slashings of L numbers; a closing buffer as long as its opening;
+ *        a file to be written of ALTAIR_FILE_LENGTH bytes; a file's N, S and L in these ranges, S and L like its settings;
+ *        a validator's index below N; a flag index of 0 to 2 (0 to 7 for has_flag and add_flag);
+ *        a participation epoch that is the previous or the current one; a total to divide by that is not 0
+ *   2  a setting is 0 where it divides, or 2^48 or more: slots_per_epoch, effective_balance_increment, hysteresis_quotient,
+ *        inactivity_score_bias, inactivity_penalty_quotient_altair and churn_limit_quotient may not be 0
+ *   3  a slot, epoch, bit field or flag of the record is out of range: the state's slot and the checkpoints' epochs are below
+ *        2^48, justification_bits is 0 to 15, slashed 0 or 1, each of the two flags 0 to 255; all else is any 64-bit number
+ *   4  a block root is wanted that the record does not keep: at slot s, where s >= state's slot or state's slot > s + S
  *   5  a sum, product or difference that is evaluated leaves 64 bits
- *   6  a record file's header is not as it must be
  * Where it is not 0, the values beside it are zeros, unless a line below says otherwise.
  */
 #ifndef ALTAIR_H
@@ -30,8 +44,13 @@ extern "C" {
 /* The number of this interface. altair_version() answers the number of the library that was linked. */
 #define ALTAIR_VERSION 1
 
-/* 2^64 - 1, which means none. */
+/* 2^64 - 1, which means none: the activation epoch of one that is not activated, the exit epoch of one that does not leave. */
 #define ALTAIR_FAR_FUTURE_EPOCH UINT64_MAX
+
+/* The limits: the most validators, the largest S and L, and what settings, slots and checkpoint epochs are below. */
+#define ALTAIR_MOST_VALIDATORS (UINT64_C(1) << 24)
+#define ALTAIR_LONGEST_VECTOR UINT64_C(65536)
+#define ALTAIR_NUMBER_LIMIT (UINT64_C(1) << 48)
 
 enum altair_refusal {
     ALTAIR_ACCEPTED = 0,
@@ -81,10 +100,14 @@ typedef struct altair_settings {
     uint64_t churn_limit_quotient;
 } altair_settings;
 
-/* Those of mainnet, in braces. */
+/* Presets in braces: those of mainnet, and the public test preset minimal. altair_preset has them by name. */
 #define ALTAIR_MAINNET                                                                                                 \
     {                                                                                                                  \
         32, 8192, 8192, 1000000000, 32000000000, 4, 1, 5, 64, 4, 4, 16, 50331648, 2, 4, 256, 16000000000, 4, 65536     \
+    }
+#define ALTAIR_MINIMAL                                                                                                 \
+    {                                                                                                                  \
+        8, 64, 64, 1000000000, 32000000000, 4, 1, 5, 64, 4, 4, 16, 50331648, 2, 4, 256, 16000000000, 2, 32             \
     }
 
 typedef struct altair_checkpoint {
@@ -361,8 +384,10 @@ altair_number_answer altair_get_participating_balance(altair_settings settings, 
 altair_number_answer altair_get_validator_churn_limit(altair_settings settings, uint64_t state_slot,
                                                       const uint64_t *registry, size_t registry_length);
 
-/* Answers 0, or 1, 2, 3 or 5.
- * Validator `index` has an exit and a withdrawable epoch, those that it had or new ones; after a refusal all is as before. */
+/* Answers 0, or 1, 2, 3 or 5. A validator whose exit epoch is not FAR keeps it. Else it leaves at current epoch + 1 +
+ * max_seed_lookahead or at the registry's last exit epoch below FAR, whichever is later; one epoch more where as many as the
+ * churn limit leave then. It is withdrawable min_validator_withdrawability_delay later; with delay 0 both can come out as FAR.
+ * Validator `index` has its exit and withdrawable epoch, no other number changes; after a refusal all is as before. */
 uint64_t altair_initiate_validator_exit(altair_settings settings, uint64_t state_slot, uint64_t index,
                                         uint64_t *registry, size_t registry_length);
 
@@ -380,7 +405,7 @@ altair_number_answer altair_get_base_reward(altair_settings settings, uint64_t t
 /* Answers what validator `index` gains and loses by a flag (0 to 2), or 1, 2, 3 or 5.
  * The registry is read. */
 altair_deltas_answer altair_get_flag_index_deltas(altair_settings settings, uint64_t state_slot, uint64_t finalized_epoch,
-                                                  uint64_t flag_index, size_t index, const uint64_t *registry,
+                                                  uint64_t flag_index, uint64_t index, const uint64_t *registry,
                                                   size_t registry_length);
 
 /* Answers what the validator loses by its score, or 1, 2, 3 or 5; reward is 0.
@@ -403,6 +428,57 @@ altair_truth_answer altair_is_in_inactivity_leak(altair_settings settings, uint6
 altair_finality_answer altair_weigh_justification_and_finalization(altair_settings settings, const uint8_t *roots,
                                                                    size_t roots_length, altair_finality finality,
                                                                    uint64_t total, uint64_t previous, uint64_t current);
+
+/* -- In C: not proved, but tested ------------------------------------------------------------------------------------- */
+
+/* Answers a line of words for a refusal's number, also for 0 and for numbers that are none. It is never NULL. */
+const char *altair_refusal_text(uint64_t number);
+
+/* Answers the settings of the preset "mainnet" or "minimal", or NULL. */
+const altair_settings *altair_preset(const char *name);
+
+/* The calls above that write one buffer beside others, refused with 1 before any other test where a buffer that is written
+ * overlaps another, or one that is not empty is NULL, not aligned or beyond the address space. Nothing is then written: the
+ * finality handed in comes back, and of a file zeros. Else each is the function that it is named after. */
+altair_finality_answer altair_checked_close(altair_settings settings, altair_finality finality,
+                                            const uint64_t *registry, size_t registry_length, const uint64_t *slashings,
+                                            size_t slashings_length, const uint8_t *roots, size_t roots_length,
+                                            uint64_t *closing_registry, size_t closing_registry_length,
+                                            uint64_t *closing_slashings, size_t closing_slashings_length);
+
+altair_read_answer altair_checked_read_file(const uint8_t *file, size_t file_length, uint64_t *registry,
+                                            size_t registry_length, uint64_t *slashings, size_t slashings_length);
+
+uint64_t altair_checked_write_file(altair_settings settings, altair_finality finality, const uint64_t *registry,
+                                   size_t registry_length, const uint8_t *roots, size_t roots_length,
+                                   const uint64_t *slashings, size_t slashings_length, uint8_t *file,
+                                   size_t file_length);
+
+uint64_t altair_checked_process_inactivity_updates(altair_settings settings, uint64_t state_slot,
+                                                   uint64_t finalized_epoch, const uint64_t *opening,
+                                                   size_t opening_length, uint64_t *closing, size_t closing_length);
+
+uint64_t altair_checked_process_rewards_and_penalties(altair_settings settings, uint64_t state_slot,
+                                                      uint64_t finalized_epoch, const uint64_t *opening,
+                                                      size_t opening_length, uint64_t *closing, size_t closing_length);
+
+uint64_t altair_checked_process_registry_updates(altair_settings settings, uint64_t state_slot,
+                                                 uint64_t finalized_epoch, const uint64_t *opening,
+                                                 size_t opening_length, uint64_t *closing, size_t closing_length);
+
+uint64_t altair_checked_process_slashings(altair_settings settings, uint64_t state_slot, const uint64_t *slashings,
+                                          size_t slashings_length, const uint64_t *opening, size_t opening_length,
+                                          uint64_t *closing, size_t closing_length);
+
+uint64_t altair_checked_process_effective_balance_updates(altair_settings settings, const uint64_t *opening,
+                                                          size_t opening_length, uint64_t *closing,
+                                                          size_t closing_length);
+
+uint64_t altair_checked_process_slashings_reset(altair_settings settings, uint64_t state_slot, const uint64_t *opening,
+                                                size_t opening_length, uint64_t *closing, size_t closing_length);
+
+uint64_t altair_checked_process_participation_flag_updates(const uint64_t *opening, size_t opening_length,
+                                                           uint64_t *closing, size_t closing_length);
 
 #ifdef __cplusplus
 }

@@ -1,21 +1,26 @@
-/* Closes the record file on standard input and prints the close, or `refused` and the number:
+/* Closes the record file on standard input and prints the close, or `refused` and the number. Exit status: 0 closed, 1 refused,
+ * 2 could not read or write. command/altair-close.c is the program for people; this one shows the calls.
  *
- *     cc -Wall -Wextra -Werror -o close_record bindings/c/close_record.c target/staticlib/libexports.a
+ *     cc -Wall -Wextra -Werror -o close_record bindings/c/close_record.c target/altair/libaltair.a
  *     tools/record write samples/example.json - | ./close_record
  */
 #include "altair.h"
 
 #include <inttypes.h>
+#include <signal.h>
 #include <stdio.h>
 #include <stdlib.h>
+
+static void trouble(const char *what) {
+    fprintf(stderr, "close_record: %s\n", what);
+    exit(2);
+}
 
 /* Room for `count` elements; never NULL, also where count is 0. */
 static void *room(size_t count, size_t size) {
     void *p = calloc(count + 1, size);
-    if (p == NULL) {
-        fputs("close_record: no memory\n", stderr);
-        exit(2);
-    }
+    if (p == NULL)
+        trouble("no memory");
     return p;
 }
 
@@ -27,22 +32,29 @@ static uint8_t *read_all(FILE *in, size_t *length) {
         if (held == size) {
             size *= 2;
             bytes = realloc(bytes, size);
-            if (bytes == NULL) {
-                fputs("close_record: no memory\n", stderr);
-                exit(2);
-            }
+            if (bytes == NULL)
+                trouble("no memory");
         }
     }
+    if (ferror(in))
+        trouble("standard input cannot be read");
     *length = held;
     return bytes;
 }
 
+static void printed(void) {
+    if (fflush(stdout) != 0 || ferror(stdout))
+        trouble("standard output cannot be written");
+}
+
 static int refused(uint64_t number) {
     printf("refused %" PRIu64 "\n", number);
+    printed();
     return 1;
 }
 
 int main(void) {
+    signal(SIGPIPE, SIG_IGN); /* a closed pipe is then an error of writing */
     size_t length;
     uint8_t *file = read_all(stdin, &length);
 
@@ -75,6 +87,7 @@ int main(void) {
         printf("%" PRIu64 " %" PRIu64 " %" PRIu64 " %" PRIu64 " %" PRIu64 "\n", line.index, line.opening_balance,
                line.closing_balance, line.effective_balance, line.inactivity_score);
     }
+    printed();
     free(file), free(registry), free(closing), free(slashings), free(closing_slashings);
     return 0;
 }

@@ -14,15 +14,17 @@ fn main() {
     println!("cargo:rerun-if-env-changed={NAMED}");
     println!("cargo:rerun-if-changed=build.rs");
     let here = PathBuf::from(env::var_os("CARGO_MANIFEST_DIR").expect("cargo sets it"));
+    // in the repository, and beside an installed crate
+    let places = ["../../target/altair/libaltair.a", "../../../lib/libaltair.a"].map(|place| here.join(place));
     let archive = match env::var_os(NAMED) {
         Some(path) => PathBuf::from(path),
-        None => here.join("../../target/staticlib/libexports.a"),
+        None => places.iter().find(|place| place.is_file()).unwrap_or(&places[0]).clone(),
     };
     println!("cargo:rerun-if-changed={}", archive.display());
     if !archive.is_file() {
         fail(&format!(
             "the static library is missing: there is no file {}\n\
-             `rt staticlib exports`, run in the repository, proves and makes it.\n\
+             `make`, run in the repository, proves and makes it.\n\
              {NAMED}=PATH names one that stands elsewhere.",
             archive.display()
         ));

@@ -57,7 +57,7 @@ extern "C" {
         slot: u64,
         finalized: u64,
         flag: u64,
-        index: usize,
+        index: u64,
         registry: In,
         n: usize,
     ) -> Deltas;
@@ -178,7 +178,7 @@ unsafe fn asked(c: &Case, lent: &mut [u64]) -> Answer {
         Leaf::InitiateValidatorExit => wrote(altair_initiate_validator_exit(s(), x[0], x[1], out, n)),
         Leaf::GetBaseRewardPerIncrement => altair_get_base_reward_per_increment(s(), x[0]).into(),
         Leaf::GetBaseReward => altair_get_base_reward(s(), x[0], entry, n).into(),
-        Leaf::GetFlagIndexDeltas => altair_get_flag_index_deltas(s(), x[0], x[1], x[2], x[3] as usize, entry, n).into(),
+        Leaf::GetFlagIndexDeltas => altair_get_flag_index_deltas(s(), x[0], x[1], x[2], x[3], entry, n).into(),
         Leaf::GetInactivityPenaltyDeltas => altair_get_inactivity_penalty_deltas(s(), x[0], entry, n).into(),
         Leaf::WeighJustificationAndFinalization => {
             let f = points(&c.finality);

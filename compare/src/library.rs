@@ -1,4 +1,4 @@
-//! The library by its C interface: the archive that `rt staticlib exports` writes. A slice goes as a pointer and a length.
+//! The library by its C interface: the archive that `make` writes. A slice goes as a pointer and a length.
 use crate::record::{Checkpoint, Finality, Settings};
 
 /// altair_settings

@@ -5,7 +5,7 @@ from pathlib import Path
 
 NAMED = "ALTAIR_LIBRARY"
 BESIDE = Path(__file__).resolve().parent / "libaltair.so"  # where a wheel puts it
-BUILT = Path(__file__).resolve().parents[3] / "target/bindings/libaltair.so"  # where make_library puts it
+BUILT = Path(__file__).resolve().parents[3] / "target/altair/libaltair.so.1"  # where make puts it, in the repository
 
 
 def path():
@@ -17,7 +17,7 @@ def path():
             return place
     raise ImportError(
         f"altair_close: the shared library is missing: there is no file {' and no file '.join(map(str, places))}. "
-        f"bindings/python/make_library makes it; {NAMED}=PATH names one that stands elsewhere."
+        f"`make`, run in the repository, makes it; {NAMED}=PATH names one that stands elsewhere."
     )
 
 

@@ -42,8 +42,6 @@ def in_c(name, kind):
         written = kind.written or isinstance(kind, kinds.Changed)
         return [("" if written else "const ") + element + " *", name, "size_t", name + "_length"]
     types = {kinds.SettingsWords: "altair_settings", kinds.FinalityWords: "altair_finality", ctypes.c_uint8: "uint8_t"}
-    if kind is kinds.INDEX:
-        return ["size_t", name]
     return [types.get(kind.words[0], "uint64_t"), name]
 
 

@@ -1,4 +1,5 @@
-//! Closes the record file on standard input and prints the close, or `refused` and the number:
+//! Closes the record file on standard input and prints the close, or `refused` and the number. Exit status: 0 closed, 1 refused,
+//! 2 could not read or write.
 //!
 //!     tools/record write samples/example.json - | cargo run --example close_record
 use altair_close::{listing_head, listing_line, Record, Refusal};
@@ -23,13 +24,22 @@ fn listing(file: &[u8]) -> Result<String, Refusal> {
     Ok(text)
 }
 
-fn main() -> io::Result<ExitCode> {
+fn run() -> io::Result<u8> {
     let mut file = Vec::new();
     io::stdin().read_to_end(&mut file)?;
     let (text, code) = match listing(&file) {
-        Ok(text) => (text, ExitCode::SUCCESS),
-        Err(refusal) => (format!("refused {}\n", refusal.number()), ExitCode::FAILURE),
+        Ok(text) => (text, 0),
+        Err(refusal) => (format!("refused {}\n", refusal.number()), 1),
     };
     io::stdout().write_all(text.as_bytes())?;
+    io::stdout().flush()?;
     Ok(code)
+}
+
+fn main() -> ExitCode {
+    let code = run().unwrap_or_else(|error| {
+        eprintln!("close_record: {error}");
+        2
+    });
+    ExitCode::from(code)
 }

@@ -220,7 +220,7 @@ pub fn get_flag_index_deltas(
     state_slot: u64,
     finalized_epoch: u64,
     flag_index: u64,
-    index: usize,
+    index: u64,
     registry: &[u64],
 ) -> Result<Deltas, Refusal> {
     unsafe {

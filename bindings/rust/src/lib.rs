@@ -1,6 +1,6 @@
 //! The Altair epoch close: Ethereum's eight epoch steps on a ledger's record, proved to give what Altair's rules define.
 //!
-//! This crate is a safe wrapper of the static library that `rt staticlib exports` makes. Slices go in, a `Result` comes
+//! This crate is a safe wrapper of the static library libaltair.a, which `make` makes. Slices go in, a `Result` comes
 //! out; a refused call says why by its [`Refusal`]. Every function is proved for every input: nothing traps, and nothing
 //! but the `&mut` slices is written. A record file closed:
 //!

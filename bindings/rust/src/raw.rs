@@ -329,7 +329,7 @@ extern "C" {
         state_slot: u64,
         finalized_epoch: u64,
         flag_index: u64,
-        index: usize,
+        index: u64,
         registry: *const u64,
         length: usize,
     ) -> DeltasAnswer;

@@ -57,7 +57,7 @@ impl fmt::Display for Refusal {
             Refusal::Settings => "a setting is 0 where it divides, or 2^48 or more",
             Refusal::Record => "a slot, epoch, bit field or flag of the record is out of range",
             Refusal::Root => "a block root is wanted that the record does not keep",
-            Refusal::Overflow => "a sum, product or difference leaves 64 bits",
+            Refusal::Overflow => "a sum, product or difference that is evaluated leaves 64 bits",
             Refusal::File => "a record file's header is not as it must be",
         };
         write!(f, "refused {}: {why}", self.number())

@@ -51,6 +51,31 @@ impl Settings {
         min_per_epoch_churn_limit: 4,
         churn_limit_quotient: 65536,
     };
+
+    /// Those of the public test preset minimal.
+    pub const MINIMAL: Settings = Settings {
+        slots_per_epoch: 8,
+        slots_per_historical_root: 64,
+        epochs_per_slashings_vector: 64,
+        min_per_epoch_churn_limit: 2,
+        churn_limit_quotient: 32,
+        ..Settings::MAINNET
+    };
+
+    /// The settings of the preset `mainnet` or `minimal`.
+    ///
+    /// ```
+    /// use altair_close::Settings;
+    /// assert_eq!(Settings::preset("minimal"), Some(Settings::MINIMAL));
+    /// assert_eq!(Settings::preset("Mainnet"), None);
+    /// ```
+    pub fn preset(name: &str) -> Option<Settings> {
+        match name {
+            "mainnet" => Some(Settings::MAINNET),
+            "minimal" => Some(Settings::MINIMAL),
+            _ => None,
+        }
+    }
 }
 
 /// An epoch and the root of its first block.

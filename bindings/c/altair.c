@@ -1,0 +1,134 @@
+/* What libaltair has besides the proved functions: words for a refusal, presets by name, and calls that refuse buffers which no
+ * proof can speak of. It is plain C and proved by nobody; tests/fuzz holds it to what altair.h says. */
+#include "altair.h"
+
+#include <string.h>
+
+const char *altair_refusal_text(uint64_t number) {
+    static const char *const words[] = {
+        [0] = "accepted",
+        [1] = "a length, a vector's size or an index is not the one called for",
+        [2] = "a setting is 0 where it divides, or 2^48 or more",
+        [3] = "a slot, epoch, bit field or flag of the record is out of range",
+        [4] = "a block root is wanted that the record does not keep",
+        [5] = "a sum, product or difference that is evaluated leaves 64 bits",
+        [6] = "a record file's header is not as it must be",
+    };
+    const char *found = number < sizeof words / sizeof *words ? words[number] : NULL;
+    return found != NULL ? found : "no refusal has this number";
+}
+
+const altair_settings *altair_preset(const char *name) {
+    static const struct {
+        const char *name;
+        altair_settings settings;
+    } presets[] = {{"mainnet", ALTAIR_MAINNET}, {"minimal", ALTAIR_MINIMAL}};
+    for (size_t i = 0; name != NULL && i < sizeof presets / sizeof *presets; i++)
+        if (strcmp(name, presets[i].name) == 0)
+            return &presets[i].settings;
+    return NULL;
+}
+
+/* -- The checked calls: each lists its buffers, and is the proved function where they are apart ------------------------- */
+
+typedef struct lent {
+    const void *at;
+    size_t length, size;
+    int written;
+} lent;
+
+#define READ(name) {name, name##_length, sizeof *name, 0}
+#define WRITTEN(name) {name, name##_length, sizeof *name, 1}
+#define APART(...) apart((const lent[]){__VA_ARGS__}, sizeof((const lent[]){__VA_ARGS__}) / sizeof(lent))
+
+/* Whether each is NULL with length 0, or aligned and within the address space, and none that is written overlaps another. */
+static int apart(const lent *buffers, size_t count) {
+    for (size_t i = 0; i < count; i++) {
+        const lent a = buffers[i];
+        const uintptr_t start = (uintptr_t)a.at;
+        if (a.length == 0)
+            continue;
+        if (a.at == NULL || start % a.size != 0 || a.length > (UINTPTR_MAX - start) / a.size)
+            return 0;
+        for (size_t j = 0; j < i; j++) {
+            const lent b = buffers[j];
+            const uintptr_t other = (uintptr_t)b.at;
+            const int clear = b.length == 0 || other + b.length * b.size <= start || start + a.length * a.size <= other;
+            if ((a.written || b.written) && !clear)
+                return 0;
+        }
+    }
+    return 1;
+}
+
+altair_finality_answer altair_checked_close(altair_settings settings, altair_finality finality, const uint64_t *registry,
+                                            size_t registry_length, const uint64_t *slashings, size_t slashings_length,
+                                            const uint8_t *roots, size_t roots_length, uint64_t *closing_registry,
+                                            size_t closing_registry_length, uint64_t *closing_slashings,
+                                            size_t closing_slashings_length) {
+    if (!APART(READ(registry), READ(slashings), READ(roots), WRITTEN(closing_registry), WRITTEN(closing_slashings)))
+        return (altair_finality_answer){ALTAIR_BAD_SHAPE, finality};
+    return altair_close(settings, finality, registry, registry_length, slashings, slashings_length, roots, roots_length,
+                        closing_registry, closing_registry_length, closing_slashings, closing_slashings_length);
+}
+
+altair_read_answer altair_checked_read_file(const uint8_t *file, size_t file_length, uint64_t *registry,
+                                            size_t registry_length, uint64_t *slashings, size_t slashings_length) {
+    if (!APART(READ(file), WRITTEN(registry), WRITTEN(slashings)))
+        return (altair_read_answer){.refusal = ALTAIR_BAD_SHAPE};
+    return altair_read_file(file, file_length, registry, registry_length, slashings, slashings_length);
+}
+
+uint64_t altair_checked_write_file(altair_settings settings, altair_finality finality, const uint64_t *registry,
+                                   size_t registry_length, const uint8_t *roots, size_t roots_length,
+                                   const uint64_t *slashings, size_t slashings_length, uint8_t *file,
+                                   size_t file_length) {
+    if (!APART(READ(registry), READ(roots), READ(slashings), WRITTEN(file)))
+        return ALTAIR_BAD_SHAPE;
+    return altair_write_file(settings, finality, registry, registry_length, roots, roots_length, slashings,
+                             slashings_length, file, file_length);
+}
+
+#define CHECKED_BY_FINALITY(step)                                                                                      \
+    uint64_t altair_checked_##step(altair_settings settings, uint64_t state_slot, uint64_t finalized_epoch,            \
+                                   const uint64_t *opening, size_t opening_length, uint64_t *closing,                  \
+                                   size_t closing_length) {                                                            \
+        if (!APART(READ(opening), WRITTEN(closing)))                                                                   \
+            return ALTAIR_BAD_SHAPE;                                                                                   \
+        return altair_##step(settings, state_slot, finalized_epoch, opening, opening_length, closing, closing_length); \
+    }
+
+CHECKED_BY_FINALITY(process_inactivity_updates)
+CHECKED_BY_FINALITY(process_rewards_and_penalties)
+CHECKED_BY_FINALITY(process_registry_updates)
+
+uint64_t altair_checked_process_slashings(altair_settings settings, uint64_t state_slot, const uint64_t *slashings,
+                                          size_t slashings_length, const uint64_t *opening, size_t opening_length,
+                                          uint64_t *closing, size_t closing_length) {
+    if (!APART(READ(slashings), READ(opening), WRITTEN(closing)))
+        return ALTAIR_BAD_SHAPE;
+    return altair_process_slashings(settings, state_slot, slashings, slashings_length, opening, opening_length, closing,
+                                    closing_length);
+}
+
+uint64_t altair_checked_process_effective_balance_updates(altair_settings settings, const uint64_t *opening,
+                                                          size_t opening_length, uint64_t *closing,
+                                                          size_t closing_length) {
+    if (!APART(READ(opening), WRITTEN(closing)))
+        return ALTAIR_BAD_SHAPE;
+    return altair_process_effective_balance_updates(settings, opening, opening_length, closing, closing_length);
+}
+
+uint64_t altair_checked_process_slashings_reset(altair_settings settings, uint64_t state_slot, const uint64_t *opening,
+                                                size_t opening_length, uint64_t *closing, size_t closing_length) {
+    if (!APART(READ(opening), WRITTEN(closing)))
+        return ALTAIR_BAD_SHAPE;
+    return altair_process_slashings_reset(settings, state_slot, opening, opening_length, closing, closing_length);
+}
+
+uint64_t altair_checked_process_participation_flag_updates(const uint64_t *opening, size_t opening_length,
+                                                           uint64_t *closing, size_t closing_length) {
+    if (!APART(READ(opening), WRITTEN(closing)))
+        return ALTAIR_BAD_SHAPE;
+    return altair_process_participation_flag_updates(opening, opening_length, closing, closing_length);
+}

@@ -1,0 +1,343 @@
+/* altair-close: closes a record file of any size and prints the listing. It is thin over libaltair: what is refused,
+ * and every figure, is the library's. docs/RECORD_FILE.md has the file's form. */
+#define _XOPEN_SOURCE 700
+#include "altair.h"
+
+#include <errno.h>
+#include <inttypes.h>
+#include <signal.h>
+#include <stdarg.h>
+#include <stdio.h>
+#include <stdlib.h>
+#include <string.h>
+#include <sys/stat.h>
+#include <unistd.h>
+
+#define NAME "altair-close"
+#define U64 "%" PRIu64
+enum { CLOSED = 0, REFUSED = 1, TROUBLE = 2 };
+
+static const char help[] =
+    "altair-close [--json | --csv] [--out FILE] RECORD\n"
+    "\n"
+    "Closes the epoch of a record file ('-' is standard input) and prints the listing: epoch, justified and finalized "
+    "epoch,\n"
+    "bits and charged; then for each validator its index, opening and closing balance, effective balance and score "
+    "after.\n"
+    "\n"
+    "  --json        the listing as one JSON object\n"
+    "  --csv         the listing as lines of comma separated values, the epoch's figures on each line\n"
+    "  --out FILE    the closed record, written as a record file; it is there whole, or not at all\n"
+    "  --help        this text\n"
+    "  --version     the version\n"
+    "\n"
+    "Exit status: 0 closed; 1 refused, with the number and its words on standard error; 2 could not read or write.\n";
+
+/* the largest file that any record makes; input beyond it has one byte more than is read, and is refused */
+#define LONGEST ALTAIR_FILE_LENGTH(ALTAIR_MOST_VALIDATORS, ALTAIR_LONGEST_VECTOR, ALTAIR_LONGEST_VECTOR)
+
+static _Noreturn void trouble(const char *form, ...) {
+    va_list words;
+    va_start(words, form);
+    fputs(NAME ": ", stderr);
+    vfprintf(stderr, form, words);
+    fputc('\n', stderr);
+    va_end(words);
+    exit(TROUBLE);
+}
+
+static void *room(size_t count, size_t size) {
+    void *p = calloc(count + 1, size);
+    if (p == NULL)
+        trouble("no memory for %zu numbers", count);
+    return p;
+}
+
+/* -- Reading
+ * ----------------------------------------------------------------------------------------------------------- */
+
+typedef struct record {
+    uint8_t *file;
+    size_t length, numbers, slashings_length, roots_length;
+    altair_settings settings;
+    altair_finality finality;
+    uint64_t *registry, *slashings;
+    const uint8_t *roots;
+} record;
+
+static uint64_t number_at(const uint8_t *bytes) {
+    uint64_t n = 0;
+    for (int i = 7; i >= 0; i--)
+        n = n << 8 | bytes[i];
+    return n;
+}
+
+/* The input, but no more than one byte beyond the length that its header names: such a file is refused whatever
+ * follows. */
+static uint8_t *read_all(const char *path, size_t *length) {
+    FILE *in = strcmp(path, "-") == 0 ? stdin : fopen(path, "rb");
+    if (in == NULL)
+        trouble("%s: %s", path, strerror(errno));
+    size_t held = 0, size = 65536, wanted = size;
+    uint8_t *bytes = room(size, 1);
+    for (size_t got; held < wanted && (got = fread(bytes + held, 1, (size < wanted ? size : wanted) - held, in)) > 0;) {
+        held += got;
+        if (held >= 16) {
+            const uint64_t named = number_at(bytes + 8);
+            wanted = (named < LONGEST ? named : LONGEST) + 1;
+            wanted = wanted < 80 ? 80 : wanted;
+        }
+        if (held == size && held < wanted) {
+            size = size < wanted / 2 ? 2 * size : wanted;
+            bytes = realloc(bytes, size);
+            if (bytes == NULL)
+                trouble("%s: no memory for %zu bytes", path, size);
+        }
+    }
+    if (ferror(in))
+        trouble("%s: %s", path, strerror(errno));
+    if (in != stdin)
+        fclose(in);
+    *length = held;
+    return bytes;
+}
+
+static int refused(const char *path, uint64_t number, const char *where) {
+    fprintf(stderr, NAME ": %s: refused " U64 ": %s%s\n", path, number, altair_refusal_text(number), where);
+    return REFUSED;
+}
+
+/* The place in the file at which reading stopped, in words. */
+static const char *place(uint64_t number, uint64_t position) {
+    static const char *const fields[] = {
+        "effective_balance",
+        "slashed",
+        "activation_eligibility_epoch",
+        "activation_epoch",
+        "exit_epoch",
+        "withdrawable_epoch",
+        "balance",
+        "previous_epoch_participation",
+        "current_epoch_participation",
+        "inactivity_score",
+    };
+    static char words[96];
+    if (number == ALTAIR_BAD_FILE)
+        return position == 0 ? " (it is under 80 bytes long)" : " (the header)";
+    if (number == ALTAIR_BAD_SHAPE)
+        return " (the header's sizes, or the settings')";
+    if (number == ALTAIR_BAD_SETTINGS)
+        return " (settings)";
+    if (position == 368)
+        return " (slot, justification_bits or a checkpoint's epoch)";
+    snprintf(words, sizeof words, " (validators[" U64 "].%s, at byte " U64 ")", (position - 368) / 80,
+             fields[(position - 368) % 80 / 8], position);
+    return words;
+}
+
+/* -- Writing
+ * ----------------------------------------------------------------------------------------------------------- */
+
+static void finish(FILE *out, const char *path) {
+    if (ferror(out) || fclose(out) != 0)
+        trouble("%s: %s", path, strerror(errno));
+}
+
+/* How a close is printed: what stands first, a line for each validator, and what stands last. */
+typedef struct form {
+    void (*first)(const altair_head *head, size_t validators);
+    void (*line)(const altair_head *head, const altair_line *line);
+    const char *last;
+} form;
+
+static void listing_first(const altair_head *head, size_t validators) {
+    (void)validators;
+    printf("epoch " U64 " justified " U64 " finalized " U64 " bits " U64 " charged " U64 "\n", head->epoch,
+           head->justified_epoch, head->finalized_epoch, head->justification_bits, head->charged);
+}
+
+static void listing_line(const altair_head *head, const altair_line *line) {
+    (void)head;
+    printf(U64 " " U64 " " U64 " " U64 " " U64 "\n", line->index, line->opening_balance, line->closing_balance,
+           line->effective_balance, line->inactivity_score);
+}
+
+static void json_first(const altair_head *head, size_t validators) {
+    (void)validators;
+    printf("{\"epoch\": " U64 ", \"justified_epoch\": " U64 ", \"finalized_epoch\": " U64
+           ", \"justification_bits\": " U64 ", \"charged\": " U64 ",\n \"validators\": [",
+           head->epoch, head->justified_epoch, head->finalized_epoch, head->justification_bits, head->charged);
+}
+
+static void json_line(const altair_head *head, const altair_line *line) {
+    (void)head;
+    printf("%s\n  {\"index\": " U64 ", \"opening_balance\": " U64 ", \"closing_balance\": " U64
+           ", \"effective_balance\": " U64 ", \"inactivity_score\": " U64 "}",
+           line->index == 0 ? "" : ",", line->index, line->opening_balance, line->closing_balance,
+           line->effective_balance, line->inactivity_score);
+}
+
+static void csv_epoch(const altair_head *head) {
+    printf(U64 "," U64 "," U64 "," U64 "," U64 ",", head->epoch, head->justified_epoch, head->finalized_epoch,
+           head->justification_bits, head->charged);
+}
+
+/* with no validators one line stands for the epoch, and the validator's columns are empty */
+static void csv_first(const altair_head *head, size_t validators) {
+    puts("epoch,justified_epoch,finalized_epoch,justification_bits,charged,index,opening_balance,closing_balance,"
+         "effective_balance,inactivity_score");
+    if (validators == 0) {
+        csv_epoch(head);
+        puts(",,,,");
+    }
+}
+
+static void csv_line(const altair_head *head, const altair_line *line) {
+    csv_epoch(head);
+    printf(U64 "," U64 "," U64 "," U64 "," U64 "\n", line->index, line->opening_balance, line->closing_balance,
+           line->effective_balance, line->inactivity_score);
+}
+
+static const form listing = {listing_first, listing_line, ""};
+static const form json = {json_first, json_line, "]}\n"};
+static const form csv = {csv_first, csv_line, ""};
+
+static void print(const form *as, const altair_head *head, const record *opening, const uint64_t *closing) {
+    const size_t validators = opening->numbers / ALTAIR_VALIDATOR_LENGTH;
+    as->first(head, validators);
+    for (uint64_t i = 0; i < validators && !ferror(stdout); i++) {
+        const altair_line line = altair_listing_line(opening->registry, opening->numbers, closing, opening->numbers, i);
+        as->line(head, &line);
+    }
+    fputs(as->last, stdout);
+    finish(stdout, "standard output");
+}
+
+/* A file is written beside its name and then moved there, so that a failure leaves what stood there; a device is
+ * written to. */
+static void write_record(const char *path, const uint8_t *bytes, size_t length) {
+    struct stat found;
+    if (stat(path, &found) == 0 && !S_ISREG(found.st_mode)) {
+        FILE *out = fopen(path, "wb");
+        if (out == NULL || fwrite(bytes, 1, length, out) != length)
+            trouble("%s: %s", path, strerror(errno));
+        finish(out, path);
+        return;
+    }
+    char *real = realpath(path, NULL); /* a link stays a link */
+    const char *name = real != NULL ? real : path;
+    const size_t space = strlen(name) + sizeof ".XXXXXX";
+    char *beside = room(space, 1);
+    snprintf(beside, space, "%s.XXXXXX", name);
+    const int made = mkstemp(beside);
+    if (made < 0)
+        trouble("%s: %s", path, strerror(errno));
+    const mode_t mask = umask(0);
+    umask(mask);
+    FILE *out = fdopen(made, "wb");
+    int whole = out != NULL && fchmod(made, real != NULL ? found.st_mode & 07777 : 0666 & ~mask) == 0;
+    whole = whole && fwrite(bytes, 1, length, out) == length && fflush(out) == 0 && fsync(made) == 0;
+    whole = whole && fclose(out) == 0 && rename(beside, name) == 0;
+    if (!whole) {
+        const int why = errno;
+        unlink(beside);
+        trouble("%s: %s", path, strerror(why));
+    }
+    free(beside), free(real);
+}
+
+/* -- The command
+ * ------------------------------------------------------------------------------------------------------- */
+
+static int close_record(const char *path, const form *as, const char *target) {
+    record r;
+    r.file = read_all(path, &r.length);
+    const altair_header header = altair_read_header(r.file, r.length);
+    if (header.refusal != 0)
+        return refused(path, header.refusal, place(header.refusal, r.length < 80 ? 0 : 80));
+
+    /* the header's counts are below the file's length */
+    r.numbers = ALTAIR_VALIDATOR_LENGTH * header.validators;
+    r.slashings_length = header.slashings;
+    r.roots = r.file + ALTAIR_ROOTS_AT(header.validators);
+    r.roots_length = 32 * header.roots;
+    r.registry = room(r.numbers, sizeof *r.registry);
+    r.slashings = room(r.slashings_length, sizeof *r.slashings);
+    const altair_read_answer read =
+        altair_read_file(r.file, r.length, r.registry, r.numbers, r.slashings, r.slashings_length);
+    if (read.refusal != 0)
+        return refused(path, read.refusal, place(read.refusal, read.position));
+    r.settings = read.settings;
+    r.finality = read.finality;
+
+    uint64_t *closing = room(r.numbers, sizeof *closing);
+    uint64_t *closing_slashings = room(r.slashings_length, sizeof *closing_slashings);
+    const altair_finality_answer closed =
+        altair_close(r.settings, r.finality, r.registry, r.numbers, r.slashings, r.slashings_length, r.roots,
+                     r.roots_length, closing, r.numbers, closing_slashings, r.slashings_length);
+    if (closed.refusal != 0)
+        return refused(path, closed.refusal, "");
+    const altair_head head = altair_listing_head(r.settings, r.finality.slot, closed.finality, r.registry, r.numbers);
+    if (head.refusal != 0)
+        return refused(path, head.refusal, " (the closed record)");
+
+    if (target != NULL) {
+        uint8_t *file = room(r.length, 1);
+        const uint64_t number =
+            altair_write_file(r.settings, closed.finality, closing, r.numbers, r.roots, r.roots_length,
+                              closing_slashings, r.slashings_length, file, r.length);
+        if (number != 0)
+            return refused(path, number, " (the closed record)");
+        write_record(target, file, r.length);
+        free(file);
+    }
+    print(as, &head, &r, closing);
+    free(r.file), free(r.registry), free(r.slashings), free(closing), free(closing_slashings);
+    return CLOSED;
+}
+
+static _Noreturn void misused(const char *what, const char *word) {
+    fprintf(stderr, NAME ": %s%s%s\n\n%s", what, *word ? ": " : "", word, help);
+    exit(TROUBLE);
+}
+
+int main(int count, char **words) {
+    const char *path = NULL, *target = NULL;
+    const form *as = &listing;
+    int ended = 0;
+    /* a closed pipe and a file beyond its limit are then errors of writing, and exit 2 */
+    signal(SIGPIPE, SIG_IGN);
+    signal(SIGXFSZ, SIG_IGN);
+    for (int i = 1; i < count; i++) {
+        const char *word = words[i];
+        if (ended || word[0] != '-' || strcmp(word, "-") == 0) {
+            if (path != NULL)
+                misused("one record file is wanted, and not also", word);
+            path = word;
+        } else if (strcmp(word, "--") == 0) {
+            ended = 1;
+        } else if (strcmp(word, "--json") == 0 || strcmp(word, "--csv") == 0) {
+            const form *wanted = strcmp(word, "--json") == 0 ? &json : &csv;
+            if (as != &listing && as != wanted)
+                misused("--json or --csv, not both", "");
+            as = wanted;
+        } else if (strcmp(word, "--out") == 0) {
+            if (++i == count)
+                misused("--out wants a file", "");
+            target = words[i];
+        } else if (strcmp(word, "--help") == 0) {
+            fputs(help, stdout);
+            finish(stdout, "standard output");
+            return 0;
+        } else if (strcmp(word, "--version") == 0) {
+            printf(NAME " " VERSION ", interface " U64 "\n", altair_version());
+            finish(stdout, "standard output");
+            return 0;
+        } else {
+            misused("no such option", word);
+        }
+    }
+    if (path == NULL)
+        misused("a record file is wanted", "");
+    return close_record(path, as, target);
+}
