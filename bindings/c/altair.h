@@ -205,8 +205,8 @@ altair_finality_answer altair_close(altair_settings settings, altair_finality fi
                                     size_t closing_registry_length, uint64_t *closing_slashings,
                                     size_t closing_slashings_length);
 
-/* Answers how many validators of the opening registry were active in the previous epoch, or 1, 2 or 3.
- * The registry is read. */
+/* Answers how many validators of the opening registry are charged: active in the previous epoch, or slashed with the previous
+ * epoch + 1 below the withdrawable epoch; nobody at epoch 0. Or 1, 2 or 3. The registry is read. */
 altair_number_answer altair_charged(altair_settings settings, uint64_t state_slot, const uint64_t *registry,
                                     size_t registry_length);
 

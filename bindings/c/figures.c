@@ -146,6 +146,12 @@ static void the_registry(void) {
     uint64_t registry[FIVE];
     fill(registry, 5);
     VALUE(altair_charged(mainnet, 127, registry, FIVE), 5);
+    VALUE(altair_charged(mainnet, 31, registry, FIVE), 0); /* epoch 0 charges nobody */
+    registry[41] = 1, registry[44] = 1, registry[45] = 4;  /* slashed and gone, withdrawable ahead: still charged */
+    VALUE(altair_charged(mainnet, 127, registry, FIVE), 5);
+    registry[45] = 3;
+    VALUE(altair_charged(mainnet, 127, registry, FIVE), 4);
+    fill(registry, 5);
     VALUE(altair_get_total_active_balance(mainnet, 127, registry, FIVE), 160 * ETH);
     VALUE(altair_get_total_active_balance(mainnet, 127, registry, 0), ETH);
     VALUE(altair_get_participating_balance(mainnet, 127, 1, 2, registry, FIVE), 160 * ETH);

@@ -18,7 +18,8 @@ def close(settings, finality, registry, slashings, roots, *, out=(None, None)):
 
 
 def charged(settings, state_slot, registry):
-    """How many validators of the opening registry were active in the previous epoch."""
+    """How many validators of the opening registry are charged: active in the previous epoch, or slashed with the previous
+    epoch + 1 below the withdrawable epoch; nobody at epoch 0."""
     return call("charged", settings, state_slot, registry)
 
 

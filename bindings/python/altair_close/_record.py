@@ -69,7 +69,7 @@ class Record(NamedTuple):
         return Record(self.settings, *closed, self.roots)
 
     def charged(self):
-        """How many validators were active in the previous epoch."""
+        """How many validators are charged."""
         return charged(self.settings, self.finality.slot, self.registry)
 
     def listing(self, closed):

@@ -85,6 +85,12 @@ class Figures(unittest.TestCase):
     def test_the_registry(self):
         registry = HIT * 5
         self.assertEqual(charged(MAINNET, 127, registry), 5)
+        self.assertEqual(charged(MAINNET, 31, registry), 0, "epoch 0 charges nobody")
+        slashed = registry[:]
+        slashed[41], slashed[44], slashed[45] = 1, 1, 4
+        self.assertEqual(charged(MAINNET, 127, slashed), 5, "slashed and gone, withdrawable ahead")
+        slashed[45] = 3
+        self.assertEqual(charged(MAINNET, 127, slashed), 4, "withdrawable next")
         self.assertEqual(get_total_active_balance(MAINNET, 127, registry), 160 * ETH)
         self.assertEqual(get_total_active_balance(MAINNET, 127, []), ETH)
         self.assertEqual(get_participating_balance(MAINNET, 127, 1, 2, registry), 160 * ETH)

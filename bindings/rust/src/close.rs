@@ -50,7 +50,8 @@ pub fn close(
     .result()
 }
 
-/// How many validators of the opening registry were active in the previous epoch.
+/// How many validators of the opening registry are charged: active in the previous epoch, or slashed with the previous
+/// epoch + 1 below the withdrawable epoch; nobody at epoch 0.
 ///
 /// ```
 /// use altair_close::{charged, validator, Settings};

@@ -100,6 +100,12 @@ fn block_roots_and_finality() {
 fn the_registry() {
     let mut registry = hit().repeat(5);
     assert_eq!(charged(&MAINNET, 127, &registry), Ok(5));
+    assert_eq!(charged(&MAINNET, 31, &registry), Ok(0), "epoch 0 charges nobody");
+    let mut slashed = registry.clone();
+    (slashed[41], slashed[44], slashed[45]) = (1, 1, 4);
+    assert_eq!(charged(&MAINNET, 127, &slashed), Ok(5), "slashed and gone, withdrawable ahead");
+    slashed[45] = 3;
+    assert_eq!(charged(&MAINNET, 127, &slashed), Ok(4), "withdrawable next");
     assert_eq!(get_total_active_balance(&MAINNET, 127, &registry), Ok(160 * ETH));
     assert_eq!(get_total_active_balance(&MAINNET, 127, &[]), Ok(ETH));
     assert_eq!(get_participating_balance(&MAINNET, 127, 1, 2, &registry), Ok(160 * ETH));
