@@ -1,0 +1,96 @@
+/* The table of the functions, one line for each. A new function is one line more.
+ *
+ * Buffers: R a registry, V one validator, S slashings, B roots, F a file, P a registry of which only the length is
+ * tested, Q numbers as many as the first buffer's. Behind '>' those that are written: R, S, F; r, v a registry and a
+ * validator changed in place. Numbers that are tested: s the settings, f the finality, t the slot, z the finalized
+ * epoch, i an index, g a flag index of 0 to 2, G one of 0 to 7, e a participation epoch, d a total to divide by. */
+#include "fuzz.h"
+
+#include <string.h>
+
+#define IN(k) c->in[k].at, c->in[k].length
+#define OUT(k) c->out[k].at, c->out[k].length
+
+/*      function, what it answers, buffers, numbers that are tested, refusals after the tests; arguments */
+#define FUNCTIONS(X)                                                                                                   \
+    X(version, ITSELF, uint64_t, "", "", "")                                                                           \
+    X(close, FINALITY, altair_finality_answer, "RSB>RS", "sf", "45", c->s, c->f, IN(0), IN(1), IN(2), OUT(0), OUT(1))  \
+    X(charged, VALUES, altair_number_answer, "R", "st", "", c->s, c->slot, IN(0))                                      \
+    X(listing_head, VALUES, altair_head, "R", "stf", "", c->s, c->slot, c->f, IN(0))                                   \
+    X(listing_line, VALUES, altair_line, "PQ", "i", "", IN(0), IN(1), c->index)                                        \
+    X(read_header, VALUES, altair_header, "F", "", "", IN(0))                                                          \
+    X(read_file, READ, altair_read_answer, "F>RS", "", "", IN(0), OUT(0), OUT(1))                                      \
+    X(write_file, NUMBER, uint64_t, "RBS>F", "sf", "", c->s, c->f, IN(0), IN(1), IN(2), OUT(0))                        \
+    X(process_justification_and_finalization, FINALITY, altair_finality_answer, "BR", "sf", "45", c->s, IN(0), c->f,   \
+      IN(1))                                                                                                           \
+    X(process_inactivity_updates, NUMBER, uint64_t, "R>R", "stz", "5", c->s, c->slot, c->finalized, IN(0), OUT(0))     \
+    X(process_rewards_and_penalties, NUMBER, uint64_t, "R>R", "stz", "5", c->s, c->slot, c->finalized, IN(0), OUT(0))  \
+    X(process_registry_updates, NUMBER, uint64_t, "R>R", "stz", "5", c->s, c->slot, c->finalized, IN(0), OUT(0))       \
+    X(process_slashings, NUMBER, uint64_t, "SR>R", "st", "5", c->s, c->slot, IN(0), IN(1), OUT(0))                     \
+    X(process_effective_balance_updates, NUMBER, uint64_t, "R>R", "s", "5", c->s, IN(0), OUT(0))                       \
+    X(process_slashings_reset, NUMBER, uint64_t, "S>S", "st", "", c->s, c->slot, IN(0), OUT(0))                        \
+    X(process_participation_flag_updates, NUMBER, uint64_t, "R>R", "", "", IN(0), OUT(0))                              \
+    X(integer_sqrt, ITSELF, uint64_t, "", "", "", c->number)                                                           \
+    X(compute_epoch_at_slot, VALUES, altair_number_answer, "", "s", "", c->s, c->number)                               \
+    X(compute_start_slot_at_epoch, VALUES, altair_number_answer, "", "s", "5", c->s, c->number)                        \
+    X(compute_activation_exit_epoch, VALUES, altair_number_answer, "", "s", "5", c->s, c->number)                      \
+    X(get_current_epoch, VALUES, altair_number_answer, "", "st", "", c->s, c->slot)                                    \
+    X(get_previous_epoch, VALUES, altair_number_answer, "", "st", "", c->s, c->slot)                                   \
+    X(is_active_validator, VALUES, altair_truth_answer, "V", "", "", IN(0), c->number)                                 \
+    X(is_eligible_for_activation_queue, VALUES, altair_truth_answer, "V", "s", "", c->s, IN(0))                        \
+    X(is_eligible_for_activation, VALUES, altair_truth_answer, "V", "z", "", c->finalized, IN(0))                      \
+    X(is_eligible, VALUES, altair_truth_answer, "V", "st", "", c->s, c->slot, IN(0))                                   \
+    X(increase_balance, NUMBER, uint64_t, ">v", "", "5", OUT(0), c->number)                                            \
+    X(decrease_balance, NUMBER, uint64_t, ">v", "", "", OUT(0), c->number)                                             \
+    X(has_flag, VALUES, altair_truth_answer, "", "G", "", c->flags, c->flag_index)                                     \
+    X(add_flag, VALUES, altair_number_answer, "", "G", "", c->flags, c->flag_index)                                    \
+    X(is_unslashed_participating, VALUES, altair_truth_answer, "V", "stge", "", c->s, c->slot, c->flag_index,          \
+      c->epoch, IN(0))                                                                                                 \
+    X(get_block_root_at_slot, VALUES, altair_root_answer, "B", "st", "4", c->s, IN(0), c->slot, c->number)             \
+    X(get_block_root, VALUES, altair_root_answer, "B", "st", "45", c->s, IN(0), c->slot, c->epoch)                     \
+    X(get_total_active_balance, VALUES, altair_number_answer, "R", "st", "5", c->s, c->slot, IN(0))                    \
+    X(get_participating_balance, VALUES, altair_number_answer, "R", "stge", "5", c->s, c->slot, c->flag_index,         \
+      c->epoch, IN(0))                                                                                                 \
+    X(get_validator_churn_limit, VALUES, altair_number_answer, "R", "st", "", c->s, c->slot, IN(0))                    \
+    X(initiate_validator_exit, NUMBER, uint64_t, ">r", "sti", "5", c->s, c->slot, c->index, OUT(0))                    \
+    X(get_base_reward_per_increment, VALUES, altair_number_answer, "", "sd", "5", c->s, c->totals[0])                  \
+    X(get_base_reward, VALUES, altair_number_answer, "V", "sd", "5", c->s, c->totals[0], IN(0))                        \
+    X(get_flag_index_deltas, VALUES, altair_deltas_answer, "R", "stzgi", "5", c->s, c->slot, c->finalized,             \
+      c->flag_index, c->index, IN(0))                                                                                  \
+    X(get_inactivity_penalty_deltas, VALUES, altair_deltas_answer, "V", "st", "5", c->s, c->slot, IN(0))               \
+    X(get_finality_delay, VALUES, altair_number_answer, "", "stz", "5", c->s, c->slot, c->finalized)                   \
+    X(is_in_inactivity_leak, VALUES, altair_truth_answer, "", "stz", "5", c->s, c->slot, c->finalized)                 \
+    X(weigh_justification_and_finalization, FINALITY, altair_finality_answer, "B", "sf", "45", c->s, IN(0), c->f,      \
+      c->totals[0], c->totals[1], c->totals[2])                                                                        \
+    /* in C */                                                                                                         \
+    X(checked_close, FINALITY, altair_finality_answer, "RSB>RS", "sf", "45", c->s, c->f, IN(0), IN(1), IN(2), OUT(0),  \
+      OUT(1))                                                                                                          \
+    X(checked_read_file, READ, altair_read_answer, "F>RS", "", "", IN(0), OUT(0), OUT(1))                              \
+    X(checked_write_file, NUMBER, uint64_t, "RBS>F", "sf", "", c->s, c->f, IN(0), IN(1), IN(2), OUT(0))                \
+    X(checked_process_inactivity_updates, NUMBER, uint64_t, "R>R", "stz", "5", c->s, c->slot, c->finalized, IN(0),     \
+      OUT(0))                                                                                                          \
+    X(checked_process_rewards_and_penalties, NUMBER, uint64_t, "R>R", "stz", "5", c->s, c->slot, c->finalized, IN(0),  \
+      OUT(0))                                                                                                          \
+    X(checked_process_registry_updates, NUMBER, uint64_t, "R>R", "stz", "5", c->s, c->slot, c->finalized, IN(0),       \
+      OUT(0))                                                                                                          \
+    X(checked_process_slashings, NUMBER, uint64_t, "SR>R", "st", "5", c->s, c->slot, IN(0), IN(1), OUT(0))             \
+    X(checked_process_effective_balance_updates, NUMBER, uint64_t, "R>R", "s", "5", c->s, IN(0), OUT(0))               \
+    X(checked_process_slashings_reset, NUMBER, uint64_t, "S>S", "st", "", c->s, c->slot, IN(0), OUT(0))                \
+    X(checked_process_participation_flag_updates, NUMBER, uint64_t, "R>R", "", "", IN(0), OUT(0))
+
+#define CALL(name, kind, type, lends, tests, may, ...)                                                                 \
+    static void call_##name(const lent *c, void *answer) {                                                             \
+        (void)c;                                                                                                       \
+        *(type *)answer = altair_##name(__VA_ARGS__);                                                                  \
+    }
+FUNCTIONS(CALL)
+
+#define ROW(name, kind, type, lends, tests, may, ...)                                                                  \
+    {"altair_" #name, kind, sizeof(type), lends, tests, may, call_##name},
+const row rows[] = {FUNCTIONS(ROW)};
+const size_t row_count = sizeof rows / sizeof *rows;
+
+const char *written_letters(const row *row) {
+    const char *bar = strchr(row->lends, '>');
+    return bar == NULL ? "" : bar + 1;
+}

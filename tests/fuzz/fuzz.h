@@ -1,0 +1,103 @@
+/* Calls of libaltair with random numbers, in buffers of exactly the length lent: what the files of this folder share.
+ */
+#ifndef FUZZ_H
+#define FUZZ_H
+
+#include "altair.h"
+
+#include <stdbool.h>
+#include <stddef.h>
+#include <stdint.h>
+
+/* -- random.c: everything that a round does is a function of the seed and the round's number */
+
+void random_start(uint64_t seed, uint64_t round);
+uint64_t random_number(void);
+uint64_t below(uint64_t bound);
+bool one_in(uint64_t count);
+/* a number at a limit, near one, or any */
+uint64_t odd_number(void);
+
+/* -- buffers.c: a slot of memory for each buffer of a call. It ends, or begins, at a page that nobody may touch */
+
+typedef struct buffer {
+    void *at;
+    size_t length, size; /* in elements, and bytes of one */
+} buffer;
+
+enum { SLOTS = 8 };
+void buffers_start(bool on_heap);
+/* a buffer in a slot, with bytes around it that must stay */
+buffer lend(int slot, size_t length, size_t size);
+void protect(int slot, bool writable);
+/* whether the bytes around the buffer are as they were */
+bool kept_within(int slot);
+static inline size_t bytes_of(buffer b) { return b.length * b.size; }
+
+/* -- records.c: a record, mostly a good one */
+
+typedef struct record {
+    altair_settings s;
+    altair_finality f;
+    size_t validators;
+    uint64_t *registry, *slashings;
+    uint8_t *roots;
+    size_t roots_length, slashings_length;
+} record;
+
+record random_record(void);
+void random_validator(const altair_settings *s, uint64_t epoch, uint64_t *validator);
+/* the record's file, written here and not by the library; its length is file_length(r) */
+size_t file_length(const record *r);
+void write_bytes(const record *r, uint8_t *file);
+uint64_t number_at(const uint8_t *bytes);
+
+/* -- calls.c: the table of the functions */
+
+/* What a call is lent: in[] is read, out[] is written. */
+typedef struct lent {
+    altair_settings s;
+    altair_finality f;
+    uint64_t slot, finalized, epoch, number, flag_index, index, totals[3];
+    uint8_t flags;
+    buffer in[3], out[2];
+} lent;
+
+typedef enum answer { ITSELF, NUMBER, VALUES, FINALITY, READ } answer;
+
+typedef struct row {
+    const char *name;
+    answer kind;
+    size_t size;       /* of the answer, in bytes */
+    const char *lends; /* a letter for each buffer: those that are read, '>', those that are written */
+    const char *tests; /* a letter for each number that is tested */
+    const char *may;   /* the refusals that may follow the tests */
+    void (*call)(const lent *c, void *answer);
+} row;
+
+extern const row rows[];
+extern const size_t row_count;
+const char *written_letters(const row *row);
+
+/* -- expected.c: what altair.h says of the tests 6, 1, 2 and 3: the number, or 0 where they pass */
+
+uint64_t expected(const row *row, const lent *c);
+uint64_t expected_position(const lent *c);
+
+/* -- rules.c: what holds between functions, on one record */
+
+void rules_hold(const record *r);
+
+/* -- try.c: one function of the table, held to its line */
+
+void try_row(size_t place, const record *r);
+
+/* -- fuzz.c */
+
+enum { MOST_ROWS = 256 };
+extern uint64_t calls, seen[MOST_ROWS][16]; /* how often a row's function answered a number */
+extern const char *calling;
+_Noreturn void fail(const char *form, ...);
+#define MUST(holds) ((holds) ? (void)0 : fail("%s:%d: not so: %s", __FILE__, __LINE__, #holds))
+
+#endif

@@ -1,0 +1,133 @@
+/* What holds between functions, on a record that passes the tests: the eight steps in their order are the close, a file
+ * leads back to its record and to its bytes, the listing has the record's numbers, and leaves agree with each other. */
+#include "fuzz.h"
+
+#include <stdlib.h>
+#include <string.h>
+
+enum { NUMBERS = 10 * 400, SLASHINGS = 65537 };
+
+static bool same_finality(const altair_finality *a, const altair_finality *b) { return memcmp(a, b, sizeof *a) == 0; }
+
+/* The first refusal of the steps, each lent what the last one left; 0 and what all of them leave. */
+static uint64_t steps(const record *r, altair_finality *finality, uint64_t *registry, uint64_t *slashings) {
+    static uint64_t before[NUMBERS];
+    const size_t numbers = 10 * r->validators;
+    const altair_finality_answer justified =
+        altair_process_justification_and_finalization(r->s, r->roots, r->roots_length, r->f, r->registry, numbers);
+    if (justified.refusal != 0)
+        return justified.refusal;
+    *finality = justified.finality;
+    const uint64_t slot = r->f.slot, finalized = finality->finalized_checkpoint.epoch;
+    uint64_t number;
+    memcpy(registry, r->registry, 8 * numbers);
+#define STEP(call)                                                                                                     \
+    memcpy(before, registry, 8 * numbers);                                                                             \
+    if ((number = (call)) != 0)                                                                                        \
+    return number
+    STEP(altair_process_inactivity_updates(r->s, slot, finalized, before, numbers, registry, numbers));
+    STEP(altair_process_rewards_and_penalties(r->s, slot, finalized, before, numbers, registry, numbers));
+    STEP(altair_process_registry_updates(r->s, slot, finalized, before, numbers, registry, numbers));
+    STEP(altair_process_slashings(r->s, slot, r->slashings, r->slashings_length, before, numbers, registry, numbers));
+    STEP(altair_process_effective_balance_updates(r->s, before, numbers, registry, numbers));
+    number =
+        altair_process_slashings_reset(r->s, slot, r->slashings, r->slashings_length, slashings, r->slashings_length);
+    if (number != 0)
+        return number;
+    STEP(altair_process_participation_flag_updates(before, numbers, registry, numbers));
+    return 0;
+}
+
+static void the_close(const record *r) {
+    static uint64_t registry[NUMBERS], slashings[SLASHINGS], by_steps[NUMBERS], slashings_by_steps[SLASHINGS];
+    const size_t numbers = 10 * r->validators;
+    const altair_finality_answer closed =
+        altair_close(r->s, r->f, r->registry, numbers, r->slashings, r->slashings_length, r->roots, r->roots_length,
+                     registry, numbers, slashings, r->slashings_length);
+    altair_finality finality;
+    MUST(steps(r, &finality, by_steps, slashings_by_steps) == closed.refusal);
+    if (closed.refusal != 0)
+        return;
+    MUST(same_finality(&finality, &closed.finality));
+    MUST(memcmp(registry, by_steps, 8 * numbers) == 0);
+    MUST(memcmp(slashings, slashings_by_steps, 8 * r->slashings_length) == 0);
+
+    const altair_head head = altair_listing_head(r->s, r->f.slot, closed.finality, r->registry, numbers);
+    MUST(head.refusal == 0 && head.epoch == r->f.slot / r->s.slots_per_epoch);
+    MUST(head.justified_epoch == finality.current_justified_checkpoint.epoch);
+    MUST(head.finalized_epoch == finality.finalized_checkpoint.epoch);
+    MUST(head.justification_bits == finality.justification_bits);
+    MUST(head.charged == altair_charged(r->s, r->f.slot, r->registry, numbers).value && head.charged <= r->validators);
+    for (size_t i = 0; i < r->validators; i++) {
+        const altair_line line = altair_listing_line(r->registry, numbers, registry, numbers, i);
+        const uint64_t *before = r->registry + 10 * i, *after = registry + 10 * i;
+        MUST(line.refusal == 0 && line.index == i);
+        MUST(line.opening_balance == before[ALTAIR_BALANCE] && line.closing_balance == after[ALTAIR_BALANCE]);
+        MUST(line.effective_balance == after[ALTAIR_EFFECTIVE_BALANCE]);
+        MUST(line.inactivity_score == after[ALTAIR_INACTIVITY_SCORE]);
+    }
+}
+
+static void the_file(const record *r) {
+    static uint64_t registry[NUMBERS], slashings[SLASHINGS];
+    const size_t length = file_length(r), numbers = 10 * r->validators;
+    uint8_t *here = malloc(length), *file = malloc(length);
+    MUST(here != NULL && file != NULL);
+    write_bytes(r, here);
+    MUST(altair_write_file(r->s, r->f, r->registry, numbers, r->roots, r->roots_length, r->slashings,
+                           r->slashings_length, file, length) == 0);
+    MUST(memcmp(file, here, length) == 0);
+    const altair_header header = altair_read_header(file, length);
+    MUST(header.refusal == 0 && header.validators == r->validators);
+    MUST(32 * header.roots == r->roots_length && header.slashings == r->slashings_length);
+    const altair_read_answer read = altair_read_file(file, length, registry, numbers, slashings, r->slashings_length);
+    MUST(read.refusal == 0 && read.position == length && memcmp(&read.settings, &r->s, sizeof r->s) == 0);
+    MUST(same_finality(&read.finality, &r->f) && memcmp(registry, r->registry, 8 * numbers) == 0);
+    MUST(memcmp(slashings, r->slashings, 8 * r->slashings_length) == 0);
+    MUST(memcmp(file + ALTAIR_ROOTS_AT(r->validators), r->roots, r->roots_length) == 0);
+    free(here), free(file);
+}
+
+static void the_leaves(const record *r) {
+    const uint64_t slot = r->f.slot, epoch = slot / r->s.slots_per_epoch, n = odd_number(),
+                   root = altair_integer_sqrt(n);
+    MUST((unsigned __int128)root * root <= n && (unsigned __int128)(root + 1) * (root + 1) > n);
+    MUST(altair_get_current_epoch(r->s, slot).value == epoch &&
+         altair_compute_epoch_at_slot(r->s, slot).value == epoch);
+    MUST(altair_get_previous_epoch(r->s, slot).value == (epoch == 0 ? 0 : epoch - 1));
+    const altair_number_answer start = altair_compute_start_slot_at_epoch(r->s, epoch);
+    MUST(start.refusal == 0 && altair_compute_epoch_at_slot(r->s, start.value).value == epoch);
+    const altair_root_answer by_epoch = altair_get_block_root(r->s, r->roots, r->roots_length, slot, epoch);
+    const altair_root_answer by_slot =
+        altair_get_block_root_at_slot(r->s, r->roots, r->roots_length, slot, start.value);
+    MUST(memcmp(&by_epoch, &by_slot, sizeof by_slot) == 0);
+    MUST((by_slot.refusal == 4) == (start.value >= slot || slot > start.value + r->s.slots_per_historical_root));
+    if (by_slot.refusal == 0)
+        MUST(memcmp(by_slot.root, r->roots + 32 * (start.value % r->s.slots_per_historical_root), 32) == 0);
+
+    const uint8_t flags = (uint8_t)random_number();
+    const uint64_t flag = below(8), delta = odd_number();
+    const altair_number_answer added = altair_add_flag(flags, flag);
+    MUST(added.value == (flags | 1u << flag) && altair_has_flag((uint8_t)added.value, flag).value == 1);
+    MUST(altair_has_flag(flags, flag).value == (flags >> flag & 1));
+    if (r->validators > 0) {
+        uint64_t v[10];
+        memcpy(v, r->registry, sizeof v);
+        const uint64_t balance = v[ALTAIR_BALANCE];
+        const uint64_t number = altair_increase_balance(v, 10, delta);
+        MUST(number == (balance > UINT64_MAX - delta ? 5 : 0) &&
+             v[ALTAIR_BALANCE] == (number == 0 ? balance + delta : balance));
+        MUST(altair_decrease_balance(v, 10, delta) == 0);
+        const uint64_t held = number == 0 ? balance + delta : balance;
+        MUST(v[ALTAIR_BALANCE] == (held < delta ? 0 : held - delta));
+    }
+}
+
+void rules_hold(const record *r) {
+    /* the tests of settings, finality and registry; roots and slashings have the lengths that the settings call for */
+    if (altair_listing_head(r->s, r->f.slot, r->f, r->registry, 10 * r->validators).refusal != 0)
+        return;
+    the_close(r);
+    the_file(r);
+    the_leaves(r);
+}
