@@ -1,0 +1,121 @@
+"""tools/state on states of the tests' own encoder: both presets and forks, SSZ and JSON, there and back."""
+import random
+import unittest
+
+import encoder
+from tool import Directory, run
+
+KINDS = [(preset, fork) for preset in ("minimal", "mainnet") for fork in ("altair", "bellatrix")]
+LENGTHS = [(0, 0), (1, 1), (37, 5), (0, 3), (3, 0)]
+
+
+def states(seed, mainnet=True):
+    """(preset, fork, state) with every list empty, of one entry and of many."""
+    rng = random.Random(seed)
+    for preset, fork in KINDS:
+        for validators, others in LENGTHS if preset == "minimal" else LENGTHS[:3] if mainnet else []:
+            yield preset, fork, encoder.random_state(rng, preset, fork, validators, others)
+
+
+def closed(rng, state):
+    """The state with everything changed that a close may change."""
+    other = encoder.random_state(rng, "minimal", "altair", len(state["validators"]), 0)
+    changed = {name: other[name] for name in other if name.endswith(("_checkpoint", "_participation"))}
+    changed["slashings"] = [rng.getrandbits(64) if rng.random() < 0.1 else x for x in state["slashings"]]
+    for name in "balances", "inactivity_scores", "justification_bits":
+        changed[name] = other[name]
+    keep = ("pubkey", "withdrawal_credentials")
+    changed["validators"] = [
+        old if rng.random() < 0.3 else {**new, **{name: old[name] for name in keep}}
+        for old, new in zip(state["validators"], other["validators"])
+    ]
+    return {**state, **changed}
+
+
+class Records(unittest.TestCase):
+    def test_ssz_to_record(self):
+        for preset, fork, state in states(1):
+            with self.subTest(preset=preset, fork=fork, validators=len(state["validators"])), Directory() as at:
+                at.write("state", encoder.ssz(state))
+                said = run("record", "--preset", preset, at / "state", at / "made")
+                self.assertEqual(said.code, 0, said.err)
+                self.assertEqual(at.read("made"), encoder.record(state, encoder.SETTINGS[preset]))
+                self.assertEqual("pair of altair" in said.err, fork == "bellatrix")
+
+    def test_json_to_record(self):
+        for preset, fork, state in states(2):
+            layouts = [dict(version=fork), dict(indent=1), dict(version=fork, separators=(",", ":"), sort_keys=True)]
+            for layout in layouts if preset == "minimal" else layouts[:1]:
+                with self.subTest(preset=preset, fork=fork, layout=layout), Directory() as at:
+                    at.write("state", encoder.text(state, **layout))
+                    said = run("record", "--preset", preset, at / "state", at / "made")
+                    self.assertEqual(said.code, 0, said.err)
+                    self.assertEqual(at.read("made"), encoder.record(state, encoder.SETTINGS[preset]))
+
+    def test_the_pair_of_bellatrix(self):
+        state = encoder.random_state(random.Random(3), "minimal", "bellatrix", 2, 1)
+        numbers = list(encoder.SETTINGS["minimal"])
+        numbers[12:14] = encoder.BELLATRIX_PAIR
+        with Directory() as at:
+            at.write("state", encoder.ssz(state))
+            said = run("record", "--preset", "minimal", "--pair", "bellatrix", at / "state", at / "made")
+            self.assertEqual(at.read("made"), encoder.record(state, numbers))
+            self.assertNotIn("pair", said.err)
+
+    def test_the_end_of_an_epoch(self):
+        for slot, ended in (127, True), (126, False), (128, False), (95, True):
+            state = encoder.random_state(random.Random(4), "minimal", "altair", 1, 1)
+            with Directory() as at:
+                at.write("state", encoder.ssz({**state, "slot": slot}))
+                said = run("record", "--preset", "minimal", at / "state", at / "made")
+                self.assertEqual(("has not ended" in said.err, said.code), (not ended, 0))
+
+    def test_ssz_back(self):
+        rng = random.Random(5)
+        for preset, fork, state in states(5):
+            with self.subTest(preset=preset, fork=fork, validators=len(state["validators"])), Directory() as at:
+                after = closed(rng, state)
+                at.write("state", encoder.ssz(state))
+                at.write("closed", encoder.record(after, encoder.SETTINGS[preset]))
+                said = run("back", "--preset", preset, at / "state", at / "closed", at / "made")
+                self.assertEqual((said.code, said.err), (0, ""))
+                self.assertEqual(at.read("made"), encoder.ssz(after))
+
+    def test_json_back(self):
+        rng = random.Random(6)
+        for preset, fork, state in states(6, mainnet=False):
+            for layout in dict(version=fork), dict(indent=3), dict(separators=(" ,", "  : ")):
+                with self.subTest(preset=preset, fork=fork, layout=layout), Directory() as at:
+                    after = closed(rng, state)
+                    at.write("state", b" \n" + encoder.text(state, **layout) + b"\n\n")
+                    at.write("closed", encoder.record(after, encoder.SETTINGS[preset]))
+                    said = run("back", "--preset", preset, at / "state", at / "closed", at / "made")
+                    self.assertEqual((said.code, said.err), (0, ""))
+                    self.assertEqual(at.read("made"), b" \n" + encoder.text(after, **layout) + b"\n\n")
+
+    def test_nothing_changed(self):
+        state = encoder.random_state(random.Random(7), "mainnet", "bellatrix", 9, 2)
+        for form in encoder.ssz(state), encoder.text(state, "bellatrix"):
+            with Directory() as at:
+                at.write("state", form)
+                run("record", at / "state", at / "made")
+                said = run("back", at / "state", at / "made", at / "again")
+                self.assertEqual((said.code, said.err), (0, ""))
+                self.assertEqual(at.read("again"), form)
+
+    def test_a_long_json(self):
+        """Longer than the window, which then moves on inside every list."""
+        state = encoder.random_state(random.Random(8), "minimal", "altair", 6000, 3)
+        after = closed(random.Random(9), state)
+        with Directory() as at:
+            at.write("state", encoder.text(state, "altair"))
+            self.assertGreater((at / "state").stat().st_size, 2 * 2**20)
+            self.assertEqual(run("record", "--preset", "minimal", at / "state", at / "made").code, 0)
+            self.assertEqual(at.read("made"), encoder.record(state, encoder.SETTINGS["minimal"]))
+            at.write("closed", encoder.record(after, encoder.SETTINGS["minimal"]))
+            self.assertEqual(run("back", "--preset", "minimal", at / "state", at / "closed", at / "again").code, 0)
+            self.assertEqual(at.read("again"), encoder.text(after, "altair"))
+
+
+if __name__ == "__main__":
+    unittest.main()

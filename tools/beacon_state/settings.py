@@ -1,0 +1,137 @@
+"""The settings of a network, under the names that nodes use: the two presets, and files.
+
+A file is a node's config.yaml, a preset's file (phase0.yaml, altair.yaml, bellatrix.yaml), or the JSON that a node answers to
+/eth/v1/config/spec. Of YAML only lines `NAME: value` are read. mainnet: phase0/presets/mainnet.rs and document 01; the rest of
+both presets is from knowledge of the published presets and configs, version 1.4.0."""
+import json
+import re
+
+from . import record_file
+from .errors import Bad
+
+MAINNET = {
+    # presets
+    "SLOTS_PER_EPOCH": 32,
+    "SLOTS_PER_HISTORICAL_ROOT": 8192,
+    "EPOCHS_PER_HISTORICAL_VECTOR": 65536,
+    "EPOCHS_PER_SLASHINGS_VECTOR": 8192,
+    "HISTORICAL_ROOTS_LIMIT": 2**24,
+    "VALIDATOR_REGISTRY_LIMIT": 2**40,
+    "EPOCHS_PER_ETH1_VOTING_PERIOD": 64,
+    "SYNC_COMMITTEE_SIZE": 512,
+    "BYTES_PER_LOGS_BLOOM": 256,
+    "MAX_EXTRA_DATA_BYTES": 32,
+    "EFFECTIVE_BALANCE_INCREMENT": 10**9,
+    "MAX_EFFECTIVE_BALANCE": 32 * 10**9,
+    "HYSTERESIS_QUOTIENT": 4,
+    "HYSTERESIS_DOWNWARD_MULTIPLIER": 1,
+    "HYSTERESIS_UPWARD_MULTIPLIER": 5,
+    "BASE_REWARD_FACTOR": 64,
+    "MIN_EPOCHS_TO_INACTIVITY_PENALTY": 4,
+    "MAX_SEED_LOOKAHEAD": 4,
+    "INACTIVITY_PENALTY_QUOTIENT_ALTAIR": 3 * 2**24,
+    "PROPORTIONAL_SLASHING_MULTIPLIER_ALTAIR": 2,
+    "INACTIVITY_PENALTY_QUOTIENT_BELLATRIX": 2**24,
+    "PROPORTIONAL_SLASHING_MULTIPLIER_BELLATRIX": 3,
+    # config.yaml
+    "INACTIVITY_SCORE_BIAS": 4,
+    "INACTIVITY_SCORE_RECOVERY_RATE": 16,
+    "MIN_VALIDATOR_WITHDRAWABILITY_DELAY": 256,
+    "EJECTION_BALANCE": 16 * 10**9,
+    "MIN_PER_EPOCH_CHURN_LIMIT": 4,
+    "CHURN_LIMIT_QUOTIENT": 65536,
+}
+MINIMAL = {
+    **MAINNET,
+    "SLOTS_PER_EPOCH": 8,
+    "SLOTS_PER_HISTORICAL_ROOT": 64,
+    "EPOCHS_PER_HISTORICAL_VECTOR": 64,
+    "EPOCHS_PER_SLASHINGS_VECTOR": 64,
+    "EPOCHS_PER_ETH1_VOTING_PERIOD": 4,
+    "SYNC_COMMITTEE_SIZE": 32,
+    "MIN_PER_EPOCH_CHURN_LIMIT": 2,
+    "CHURN_LIMIT_QUOTIENT": 32,
+}
+PRESETS = {"mainnet": MAINNET, "minimal": MINIMAL}
+# what stands in config.yaml and in no preset: never taken from a preset where a file is given
+CONFIG = list(MAINNET)[-6:]
+# lengths of vectors, and how long one may be here
+VECTORS = ["SLOTS_PER_HISTORICAL_ROOT", "EPOCHS_PER_HISTORICAL_VECTOR", "EPOCHS_PER_SLASHINGS_VECTOR", "SYNC_COMMITTEE_SIZE", "BYTES_PER_LOGS_BLOOM"]
+LONGEST = 2**24
+PAIR = ("INACTIVITY_PENALTY_QUOTIENT", "PROPORTIONAL_SLASHING_MULTIPLIER")
+
+LINE = re.compile(r"""\s*(?P<name>[A-Za-z0-9_]+)\s*:(?:\s+|$)(?P<value>'[^']*'|"[^"]*"|[^#]*?)\s*(?:#.*)?$""")
+
+
+def of_record(settings, pair="altair"):
+    """The nineteen numbers of a record, with the two of a fork in the places of Altair's."""
+    values = dict(settings)
+    for name in PAIR:
+        values[f"{name}_ALTAIR"] = settings[f"{name}_{pair.upper()}"]
+    return tuple(values[name.upper()] for name in record_file.SETTINGS)
+
+
+def from_files(files):
+    """The settings of one or more files, given as (name, bytes). What no file names is PRESET_BASE's."""
+    values = {}
+    for file, data in files:
+        for name, (value, where) in _named(file, data).items():
+            if values.setdefault(name, (value, where))[0] != value:
+                raise Bad(f"{where}: {name} is {value}, and {values[name][0]} at {values[name][1]}")
+    settings = {}
+    if "PRESET_BASE" in values:
+        base, where = values["PRESET_BASE"]
+        if base not in PRESETS:
+            raise Bad(f"{where}: PRESET_BASE is {base!r}, and {' and '.join(PRESETS)} are known")
+        settings = {name: value for name, value in PRESETS[base].items() if name not in CONFIG}
+    for name in MAINNET:
+        if name in values:
+            settings[name] = _number(name, *values[name])
+    missing = [name for name in MAINNET if name not in settings]
+    if missing:
+        raise Bad(f"{', '.join(file for file, _ in files)}: {', '.join(missing)} missing")
+    for name in VECTORS:
+        if not 1 <= settings[name] <= LONGEST:
+            raise Bad(f"{values[name][1]}: {name} is {settings[name]}, and 1 to 2^24 is wanted")
+    return settings
+
+
+def _number(name, value, where):
+    if not re.fullmatch("[0-9]{1,20}", value) or int(value) >= 2**64:
+        raise Bad(f"{where}: {name} is {value[:40]!r}, and a number from 0 to 2^64 - 1 is wanted")
+    return int(value)
+
+
+def _named(file, data):
+    """name -> (value, place) of a file's settings; values are texts."""
+    try:
+        text = data.decode("utf-8")
+    except UnicodeDecodeError as error:
+        raise Bad(f"{file}, byte {error.start}: not UTF-8") from None
+    named = {}
+    for name, value, where in _json(file, text) if text.lstrip().startswith("{") else _yaml(file, text):
+        if name in named:
+            raise Bad(f"{where}: {name} is named twice")
+        named[name] = (value, where)
+    return named
+
+
+def _json(file, text):
+    try:
+        pairs = json.loads(text, object_pairs_hook=tuple, parse_int=str)
+    except (ValueError, RecursionError) as error:
+        raise Bad(f"{file}: not JSON: {error}") from None
+    inner = dict(pairs).get("data")
+    for name, value in inner if isinstance(inner, tuple) else pairs:
+        if isinstance(value, str):
+            yield name, value, file
+
+
+def _yaml(file, text):
+    for k, line in enumerate(text.splitlines(), 1):
+        found = LINE.match(line)
+        if found and not line.startswith((" ", "\t")):
+            value = found["value"]
+            yield found["name"], value[1:-1] if value[:1] in ("'", '"') else value, f"{file}, line {k}"
+        elif found is None and line.strip() and not line.lstrip().startswith(("#", "---", "-", "...")):
+            raise Bad(f"{file}, line {k}: not a line NAME: value: {line.strip()[:40]!r}")

@@ -1,0 +1,171 @@
+"""A state as the Beacon API prints it in JSON: read to a record, and written again with a closed record's numbers.
+
+Fields may stand in any order. Written again, each value that has changed is replaced where it stands; every other byte stays."""
+import re
+import sys
+from array import array
+from operator import itemgetter
+
+from .containers import FORKS, Validator, beacon_state
+from .errors import Bad
+from .json_values import Wrong, parser, shown, test_count
+from .record_file import CHECKPOINTS, VALIDATOR, Record
+from .ssz import List, Vector
+from .state_ssz import PER_VALIDATOR, equal_counts
+from .window import Window
+
+OF_VALIDATOR = VALIDATOR[:6]
+six_numbers = itemgetter(*(list(Validator.fields).index(name) for name in OF_VALIDATOR))
+# the lists that hold one of a validator's ten numbers each, with its place
+PLACES = {name: 6 + k for k, name in enumerate(PER_VALIDATOR[1:])}
+
+
+def walk(window, settings, visit):
+    """Hands each value of a state to visit(field, index, value), index None where the field is no list; answers the fork."""
+    kind = beacon_state(FORKS[-1], settings)
+    places, counts, around = {}, {}, {}
+
+    def field(name):
+        window.field = name
+        window.mark()
+        if name in places:
+            raise window.bad("the field stands there twice", "", window.at)
+        places[name], of = window.place(), kind.fields[name]
+        try:
+            if isinstance(of, (Vector, List)):
+                entries(name, of)
+            else:
+                visit(name, None, parser(of)(window.value()))
+        except Wrong as wrong:
+            raise window.bad(wrong.what, wrong.path) from None
+
+    def entries(name, of):
+        parse, counts[name] = parser(of.of), 0
+        for index in window.members("[]"):
+            window.index = index
+            visit(name, index, parse(window.value()))
+            counts[name] = index + 1
+        window.index, window.begin = None, places[name] - window.base
+        test_count(of, counts[name])
+
+    def members(inner):
+        for _ in window.members("{}"):
+            window.field = ""
+            name = window.value()
+            if not isinstance(name, str):
+                raise window.bad(f"a name is wanted, not {shown(name)}")
+            at = window.base + window.begin
+            window.expect(":")
+            if name in kind.fields:
+                field(name)
+            elif inner:
+                raise unknown(name, at)
+            else:
+                window.field = name
+                around[name] = at, members(True) if name == "data" else window.value()
+
+    members(False)
+    window.end()
+    for name, (at, _) in around.items():
+        if "data" not in around:
+            raise unknown(name, at)
+    fork = fork_of(places, around)
+    missing = [name for name in beacon_state(fork, settings).fields if name not in places]
+    if missing:
+        raise Bad(f"no state of {fork}: {', '.join(missing)} missing")
+    equal_counts({name: counts[name] for name in PER_VALIDATOR}, places)
+    return fork
+
+
+def unknown(name, at):
+    return Bad("no field of this name is known in " + " or ".join(FORKS), shown(name), at)
+
+
+def fork_of(places, around):
+    fork = "bellatrix" if "latest_execution_payload_header" in places else "altair"
+    at, version = around.get("version", (0, fork))
+    if version != fork:
+        raise Bad(f"{shown(version)}, and the fields are those of {fork}", "version", at)
+    return fork
+
+
+def read(source, settings, numbers_of_record):
+    """The fork and the record of a JSON text, with these nineteen numbers."""
+    six, roots, values = array("Q"), [], {}
+    numbers = {name: array("Q") for name in (*PLACES, "slashings")}
+
+    def visit(name, index, value):
+        if name == "validators":
+            six.extend(six_numbers(value))
+        elif name in numbers:
+            numbers[name].append(value)
+        elif name == "block_roots":
+            roots.append(value)
+        elif index is None:
+            values[name] = value
+
+    fork = walk(Window(source.read), settings, visit)
+    registry = array("Q", bytes(80 * len(numbers["balances"])))
+    for place in range(6):
+        registry[place::10] = six[place::6]
+    for name, place in PLACES.items():
+        registry[place::10] = numbers[name]
+    checkpoints = b"".join(epoch.to_bytes(8, "little") + root for epoch, root in map(values.get, CHECKPOINTS))
+    bits, slashings = values["justification_bits"][0], little(numbers["slashings"])
+    return fork, Record(numbers_of_record, values["slot"], bits, checkpoints, little(registry), b"".join(roots), slashings)
+
+
+def little(numbers):
+    """The little-endian bytes of an array of numbers, and back."""
+    if sys.byteorder == "big":
+        numbers.byteswap()
+    return numbers.tobytes()
+
+
+def numbers_of(data):
+    numbers = array("Q")
+    numbers.frombytes(data)
+    if sys.byteorder == "big":
+        numbers.byteswap()
+    return numbers
+
+
+def put(source, settings, opening, closed, sink):
+    """Hands the text on to the sink with a closed record's numbers in it; opening is the text's own, and closes(closed, opening)."""
+    old, new = numbers_of(opening.registry), numbers_of(closed.registry)
+    slashings = numbers_of(closed.slashings)
+    window = Window(source.read, sink)
+
+    def visit(name, index, value):
+        if name in PLACES:
+            number = new[10 * index + PLACES[name]]
+            if number != value:
+                window.replace(f'"{number}"')
+        elif name == "validators":
+            at = 10 * index
+            if new[at : at + 6] != old[at : at + 6]:
+                numbers = dict(zip(OF_VALIDATOR, new[at : at + 6]))
+                slashed = numbers.pop("slashed")
+                texts = {field: f'"{number}"' for field, number in numbers.items()}
+                window.replace(replaced(window.raw(), {**texts, "slashed": "true" if slashed else "false"}))
+        elif name == "slashings" and slashings[index] != value:
+            window.replace(f'"{slashings[index]}"')
+        elif name == "justification_bits" and value[0] != closed.justification_bits:
+            window.replace(f'"0x{closed.justification_bits:02x}"')
+        elif name in CHECKPOINTS:
+            at = 40 * CHECKPOINTS.index(name)
+            epoch, root = int.from_bytes(closed.checkpoints[at : at + 8], "little"), closed.checkpoints[at + 8 : at + 40]
+            if [epoch, root] != value:
+                texts = {"epoch": f'"{epoch}"'} if epoch != value[0] else {}
+                window.replace(replaced(window.raw(), {**texts, **({"root": f'"0x{root.hex()}"'} if root != value[1] else {})}))
+
+    walk(window, settings, visit)
+
+
+def replaced(text, values):
+    """An object's text with some of its values replaced; they hold no quotes, brackets or names of fields."""
+    for name, value in values.items():
+        text, count = re.subn(rf'("{name}"\s*:\s*)("[^"]*"|true|false)', lambda found: found[1] + value, text)
+        if count != 1:
+            raise Wrong(f"the name {name} is not spelt in plain letters", "." + name)
+    return text
