@@ -40,11 +40,11 @@ class Commands(unittest.TestCase):
             self.assertEqual(self.said(0, "", "back", *MINIMAL, "-", self.at / "closed", "-", input=form).out, form)
         self.assertEqual(self.said(0, "", "back", *MINIMAL, self.at / "state", "-", "-", input=RECORD).out, encoder.ssz(STATE))
         self.said(1, "standard input: genesis_time, byte 0", "record", "-", "-", input=b"")
-        self.said(1, "cannot both be", "back", "-", "-", "-", input=b"")
+        self.said(2, "cannot both be", "back", "-", "-", "-", input=b"")
 
     def test_what_is_there_stays(self):
         self.at.write("made", b"old")
-        self.said(1, "made is there already; --force", "record", *MINIMAL, self.at / "state", self.at / "made")
+        self.said(2, "made is there already; --force", "record", *MINIMAL, self.at / "state", self.at / "made")
         self.assertEqual(self.at.read("made"), b"old")
         os.chmod(self.at / "made", 0o640)
         self.said(0, "", "record", *MINIMAL, "--force", self.at / "state", self.at / "made")
@@ -56,26 +56,26 @@ class Commands(unittest.TestCase):
         self.assertEqual(self.at.names(), ["made", "state"])
         # a name that stands for another file keeps doing so
         os.symlink("made", self.at / "link")
-        self.said(1, "made is there already", "record", *MINIMAL, self.at / "state", self.at / "link")
+        self.said(2, "made is there already", "record", *MINIMAL, self.at / "state", self.at / "link")
         self.said(0, "", "record", *MINIMAL, "--force", self.at / "state", self.at / "link")
         self.assertTrue((self.at / "link").is_symlink())
 
     def test_names_that_cannot_be(self):
-        self.said(1, "nowhere: No such file", "record", self.at / "nowhere", "-")
-        self.said(1, "Is a directory", "record", self.at.path, "-")
-        self.said(1, "Is a directory", "record", *MINIMAL, self.at / "state", self.at.path)
-        self.said(1, "No such file", "record", *MINIMAL, self.at / "state", self.at / "nowhere/made")
-        self.said(1, "nowhere: No such file", "record", "--settings", self.at / "nowhere", self.at / "state", "-")
-        self.said(1, "exclude each other", "record", "--settings", "x", *MINIMAL, self.at / "state", "-")
+        self.said(2, "nowhere: No such file", "record", self.at / "nowhere", "-")
+        self.said(2, "Is a directory", "record", self.at.path, "-")
+        self.said(2, "Is a directory", "record", *MINIMAL, self.at / "state", self.at.path)
+        self.said(2, "No such file", "record", *MINIMAL, self.at / "state", self.at / "nowhere/made")
+        self.said(2, "nowhere: No such file", "record", "--settings", self.at / "nowhere", self.at / "state", "-")
+        self.said(2, "exclude each other", "record", "--settings", "x", *MINIMAL, self.at / "state", "-")
         self.assertEqual(self.at.names(), ["state"])
 
     @unittest.skipUnless(os.path.exists("/dev/full"), "no /dev/full here")
     def test_a_full_disk(self):
-        self.said(1, "the disk is full", "record", *MINIMAL, self.at / "state", "/dev/full")
+        self.said(2, "the disk is full", "record", *MINIMAL, self.at / "state", "/dev/full")
         with open("/dev/full", "wb") as full:
             words = [ROOT / "tools/state", "record", *MINIMAL, self.at / "state", "-"]
             done = subprocess.run(words, stdout=full, stderr=subprocess.PIPE)
-        self.assertEqual((done.returncode, done.stderr.count(b"\n")), (1, 2), done.stderr)
+        self.assertEqual((done.returncode, done.stderr.count(b"\n")), (2, 2), done.stderr)
         self.assertIn(b"the disk is full", done.stderr)
 
     def test_a_closed_pipe(self):
@@ -84,7 +84,7 @@ class Commands(unittest.TestCase):
         words = [ROOT / "tools/state", "record", *MINIMAL, self.at / "state", "-"]
         done = subprocess.run(words, stdout=writing, stderr=subprocess.PIPE)
         os.close(writing)
-        self.assertEqual(done.returncode, 1)
+        self.assertEqual(done.returncode, 2)
         self.assertTrue(done.stderr.endswith(b"state: the output was closed before all of it was written\n"), done.stderr)
 
 

@@ -7,7 +7,7 @@ from pathlib import Path
 
 from . import record_file, settings as settings_of, state_json
 from .containers import FORKS
-from .errors import Bad
+from .errors import Bad, Stopped
 from .files import source, target, whole
 from .state_ssz import State, closes
 
@@ -23,7 +23,7 @@ Accept: application/octet-stream) or JSON; which of the two, and which fork, is 
 The close is the eight steps of document 01. A state that took a close back is not yet the network's next one: the steps
 that are left out (eth1, randao, historical roots, sync committees) have not run on it.
 
-Exit: 0 done; 1 refused, nothing written; 2 a wrong command line."""
+Exit status: 0 done; 1 the state or the record is refused; 2 a wrong command line, or it could not read or write."""
 
 
 def arguments():
@@ -59,7 +59,7 @@ def settings_for(given):
     if not given.settings:
         return settings_of.PRESETS[given.preset or "mainnet"]
     if given.preset:
-        raise Bad("--preset and --settings exclude each other; PRESET_BASE in the file names the preset")
+        raise Stopped("--preset and --settings exclude each other; PRESET_BASE in the file names the preset")
     return settings_of.from_files([(name, Path(name).read_bytes()) for name in given.settings])
 
 
@@ -98,7 +98,7 @@ def to_record(given, settings):
 
 def back(given, settings):
     if given.state == given.closed == "-":
-        raise Bad("STATE and CLOSED cannot both be standard input")
+        raise Stopped("STATE and CLOSED cannot both be standard input")
     with source(given.state) as file:
         with naming(given.state):
             state, _, opening = opened(file, settings, settings_of.of_record(settings))
@@ -134,16 +134,20 @@ def main(words):
         (to_record if given.verb == "record" else back)(given, settings_for(given))
         return 0
     except Bad as bad:
-        text = str(bad)
+        return said(1, bad)
+    except Stopped as stopped:
+        return said(2, stopped)
     except BrokenPipeError:
-        text = "the output was closed before all of it was written"
+        return said(2, "the output was closed before all of it was written")
     except OSError as error:
-        text = f"{error.filename or 'output'}: {error.strerror or error}"
-        if error.errno == errno.ENOSPC:
-            text = "the disk is full"
+        full = error.errno == errno.ENOSPC
+        return said(2, "the disk is full" if full else f"{error.filename or 'output'}: {error.strerror or error}")
     except MemoryError:
-        text = "not enough memory"
+        return said(2, "not enough memory")
     except KeyboardInterrupt:
-        text = "stopped"
+        return said(2, "stopped")
+
+
+def said(code, text):
     print(f"state: {text}", file=sys.stderr)
-    return 1
+    return code

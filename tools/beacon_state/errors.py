@@ -11,6 +11,10 @@ class Bad(Exception):
         super().__init__(f"{', '.join(place)}: {what}" if place else what)
 
 
+class Stopped(Exception):
+    """A command that cannot be carried out, whatever its input holds."""
+
+
 def counted(count, what):
     """5 entries, 1 entry."""
     plural = what[:-1] + "ies" if what.endswith("y") else what + "s"

@@ -5,7 +5,7 @@ import sys
 import tempfile
 from contextlib import contextmanager
 
-from .errors import Bad
+from .errors import Stopped
 
 
 @contextmanager
@@ -26,7 +26,7 @@ def whole(file):
     """All bytes of a source, to be written in; without a second copy of them on the way."""
     data = bytearray(os.fstat(file.fileno()).st_size)
     if file.readinto(data) != len(data) or file.read(1):
-        raise Bad("the file changed while it was read")
+        raise Stopped("the file changed while it was read")
     return data
 
 
@@ -35,7 +35,7 @@ def target(name, force):
     """A function that writes bytes. What was written stands under the name once all of it is there."""
     if name == "-":
         if sys.stdout.isatty():
-            raise Bad("standard output is a terminal, and what is written is no text for one")
+            raise Stopped("standard output is a terminal, and what is written is no text for one")
         yield write_all(1)
         return
     name = os.path.realpath(name)
@@ -79,7 +79,7 @@ def settle(made, name, force):
 
 
 def already(name):
-    return Bad(f"{name} is there already; --force replaces it")
+    return Stopped(f"{name} is there already; --force replaces it")
 
 
 def mask():

@@ -89,7 +89,9 @@ def from_files(files):
             settings[name] = _number(name, *values[name])
     missing = [name for name in MAINNET if name not in settings]
     if missing:
-        raise Bad(f"{', '.join(file for file, _ in files)}: {', '.join(missing)} missing")
+        without = "" if "PRESET_BASE" in values else "no PRESET_BASE, and "
+        more = f" and {len(missing) - 6} more" if len(missing) > 6 else ""
+        raise Bad(f"{', '.join(file for file, _ in files)}: {without}{', '.join(missing[:6])}{more} missing")
     for name in VECTORS:
         if not 1 <= settings[name] <= LONGEST:
             raise Bad(f"{values[name][1]}: {name} is {settings[name]}, and 1 to 2^24 is wanted")
