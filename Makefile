@@ -68,9 +68,9 @@ stage: all
 	$(fill) packaging/altair.pc >$(stage)/lib/pkgconfig/altair.pc
 	$(fill) packaging/altair-config.cmake >$(stage)/lib/cmake/altair/altair-config.cmake
 	$(fill) packaging/altair-config-version.cmake >$(stage)/lib/cmake/altair/altair-config-version.cmake
-	install -m 644 -t $(stage)/share/doc/altair CHANGELOG.md LICENSE.md NOTICE docs/RECORD_FILE.md
-	cp -R bindings/rust/Cargo.toml bindings/rust/Cargo.lock bindings/rust/build.rs bindings/rust/src bindings/rust/examples \
-	    $(stage)/share/altair/rust
+	install -m 644 -t $(stage)/share/doc/altair CHANGELOG.md LICENSE.md NOTICE docs/RECORD_FILE.md docs/POOLS.md
+	cp -R bindings/rust/Cargo.lock bindings/rust/build.rs bindings/rust/src bindings/rust/examples $(stage)/share/altair/rust
+	sed 's#\.\./\.\./LICENSE#../../doc/altair/LICENSE#' bindings/rust/Cargo.toml >$(stage)/share/altair/rust/Cargo.toml
 	chmod -R u=rwX,go=rX $(stage)
 	cd $(stage) && find . ! -type d | LC_ALL=C sort | xargs sha256sum >$(CURDIR)/target/stage/sums
 	mv target/stage/sums $(stage)/$(manifest)
