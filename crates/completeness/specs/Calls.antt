@@ -1,0 +1,83 @@
+-- Demand 2 of every exported call, and document 01's table of "What is returned" by number, in the terms that the contracts cite: the
+-- close (definitions, Close.antt), the seven steps with a closing buffer (buffers, Closes.antt), and justification.
+use mathlib.Core.Path.{_≡_}
+use mathlib.Core.List.{List, [], _∷_}
+use mathlib.Core.Logic.{_⊎_}
+use Prim.Native.Nat.{ℕ}
+use Rattle.types.specs.declared.Settings.{Settings}
+use Rattle.types.specs.declared.FinalityAnswer.{FinalityAnswer}
+use Rattle.definitions.specs.Record.{BeaconState, encode, decode}
+use Rattle.definitions.specs.Checked.{Checked, value, codeOf, settle}
+use Rattle.definitions.specs.Answers.{finalityAnswerFor}
+use Rattle.definitions.specs.Refusals.{afterTests, closingBuffer, justificationTests, registryTests, slashingsTests, effectiveBalanceTests, slashingsResetTests, rotationTests}
+use Rattle.definitions.specs.Document.Altair.EpochProcessing as Document
+use Rattle.definitions.specs.Rust.Phase0.EpochProcessing.{«process_registry_updates», «process_effective_balance_updates», resetSlashings}
+use Rattle.definitions.specs.Rust.Altair.EpochProcessing.{«process_justification_and_finalization», «process_inactivity_updates», «process_rewards_and_penalties», «process_slashings», «process_participation_flag_updates»}
+use Rattle.definitions.specs.Close.{finalizedEpochOf, Step, justificationStep, inactivityStep, rewardsStep, registryStep, slashingsStep, effectiveBalancesStep, slashingsResetStep, participationFlagsStep, Call, stateOf, closeTests, close, Outcome}
+use Rattle.agreement.specs.Agreement.{documentStep}
+use Rattle.agreement.specs.Restored.{OneOf}
+use Rattle.buffers.specs.Closes.{Closes}
+use Rattle.completeness.specs.DocumentIn64Bits as In64Bits
+use Rattle.completeness.specs.Complete.{StepParts, CloseParts}
+
+abbrev pub registryOf : BeaconState → List ℕ
+registryOf st = encode (st .validators)
+
+abbrev pub slashingsOf : BeaconState → List ℕ
+slashingsOf st = st .slashings
+
+-- The close. Its table by number is agreement, Restored.antt.
+
+-- what a close answers whose eight steps are `work`
+abbrev pub outcomeOf : Call → Checked BeaconState → Outcome
+outcomeOf c work =
+    record {
+      refusal = codeOf (afterTests (closeTests c) work);
+      finality = settle (afterTests (closeTests c) work) (stateOf c) .finality;
+      closingRegistry = closingBuffer registryOf (closeTests c) work (c .registry) (c .closingRegistry);
+      closingSlashings = closingBuffer slashingsOf (closeTests c) work (c .slashings) (c .closingSlashings);
+    }
+
+-- the document's process_epoch of the record handed in
+pub record DocumentClosed (c : Call) : Type 0 where
+  pub finality : close c .finality ≡ Document.«process_epoch» (c .settings) (stateOf c) .finality
+  pub registry : close c .closingRegistry ≡ registryOf (Document.«process_epoch» (c .settings) (stateOf c))
+  pub slashings : close c .closingSlashings ≡ slashingsOf (Document.«process_epoch» (c .settings) (stateOf c))
+
+pub record CloseCall (c : Call) : Type 0 where
+  pub accepted : close c .refusal ≡ 0 → DocumentClosed c
+  -- it answers as the document in 64 bits would, or a row parts the two
+  pub complete : (close c ≡ outcomeOf c (In64Bits.«process_epoch» (c .settings) (stateOf c))) ⊎ ((closeTests c ≡ value tt) × CloseParts (c .settings) (stateOf c))
+
+-- The steps
+
+-- what the closing buffer holds `after` by the number r that is answered; `document` is what the document's step puts there
+pub record ByNumber (numbers document opening closing after : List ℕ) (r : ℕ) : Type 0 where
+  pub number : OneOf r numbers
+  pub accepted : r ≡ 0 → after ≡ document
+  pub untouched : OneOf r (1 ∷ 2 ∷ 3 ∷ []) → after ≡ closing
+  pub restored : OneOf r (4 ∷ 5 ∷ []) → after ≡ opening
+
+pub record StepCall (s : Settings) (st : BeaconState) (k : Step) (contents : BeaconState → List ℕ) (numbers : List ℕ) (tests : Checked (Unit {0})) (opening closing after : List ℕ) (r : ℕ) : Type 0 where
+  pub byNumber : ByNumber numbers (contents (documentStep s st k)) opening closing after r
+  -- it answers as the document in 64 bits would, or a row parts the two
+  pub complete : Closes contents tests (In64Bits.step s st k) opening closing after r ⊎ ((tests ≡ value tt) × StepParts s st k)
+
+-- `st` is any state that has what the call is lent
+pub record StepCalls (s : Settings) (st : BeaconState) (opening closing after : List ℕ) (r : ℕ) : Type 0 where
+  pub inactivity : decode opening ≡ st .validators → let tests = registryTests s (st .finality .slot) (finalizedEpochOf st) opening closing in Closes encode tests («process_inactivity_updates» s (st .finality .slot) (finalizedEpochOf st) (decode opening)) opening closing after r → StepCall s st inactivityStep registryOf (0 ∷ 1 ∷ 2 ∷ 3 ∷ 5 ∷ []) tests opening closing after r
+  pub rewards : decode opening ≡ st .validators → let tests = registryTests s (st .finality .slot) (finalizedEpochOf st) opening closing in Closes encode tests («process_rewards_and_penalties» s (s .«inactivity_penalty_quotient_altair») (st .finality .slot) (finalizedEpochOf st) (decode opening)) opening closing after r → StepCall s st rewardsStep registryOf (0 ∷ 1 ∷ 2 ∷ 3 ∷ 5 ∷ []) tests opening closing after r
+  pub registry : decode opening ≡ st .validators → let tests = registryTests s (st .finality .slot) (finalizedEpochOf st) opening closing in Closes encode tests («process_registry_updates» s (st .finality .slot) (finalizedEpochOf st) (decode opening)) opening closing after r → StepCall s st registryStep registryOf (0 ∷ 1 ∷ 2 ∷ 3 ∷ 5 ∷ []) tests opening closing after r
+  pub slashings : decode opening ≡ st .validators → let tests = slashingsTests s (st .finality .slot) (st .slashings) opening closing in Closes encode tests («process_slashings» s (s .«proportional_slashing_multiplier_altair») (st .finality .slot) (st .slashings) (decode opening)) opening closing after r → StepCall s st slashingsStep registryOf (0 ∷ 1 ∷ 2 ∷ 3 ∷ 5 ∷ []) tests opening closing after r
+  pub effectiveBalances : decode opening ≡ st .validators → let tests = effectiveBalanceTests s opening closing in Closes encode tests («process_effective_balance_updates» s (decode opening)) opening closing after r → StepCall s st effectiveBalancesStep registryOf (0 ∷ 1 ∷ 2 ∷ 3 ∷ 5 ∷ []) tests opening closing after r
+  pub slashingsReset : let tests = slashingsResetTests s (st .finality .slot) (st .slashings) closing in Closes (λ xs. xs) tests (value (resetSlashings s (st .finality .slot) (st .slashings))) (st .slashings) closing after r → StepCall s st slashingsResetStep slashingsOf (0 ∷ 1 ∷ 2 ∷ 3 ∷ []) tests (st .slashings) closing after r
+  pub participationFlags : decode opening ≡ st .validators → let tests = rotationTests opening closing in Closes encode tests (value («process_participation_flag_updates» (decode opening))) opening closing after r → StepCall s st participationFlagsStep registryOf (0 ∷ 1 ∷ 3 ∷ []) tests opening closing after r
+
+-- Justification has no buffer; its operations stand where the document has them
+pub record JustificationCall (s : Settings) (st : BeaconState) (answer : FinalityAnswer) : Type 0 where
+  pub number : OneOf (answer .refusal) (0 ∷ 1 ∷ 2 ∷ 3 ∷ 4 ∷ 5 ∷ [])
+  pub accepted : answer .refusal ≡ 0 → answer .finality ≡ documentStep s st justificationStep .finality
+  pub refused : OneOf (answer .refusal) (1 ∷ 2 ∷ 3 ∷ 4 ∷ 5 ∷ []) → answer .finality ≡ st .finality
+
+abbrev pub JustificationCalls : Type 0
+JustificationCalls = (s : Settings) (st : BeaconState) (registry : List ℕ) (answer : FinalityAnswer) → decode registry ≡ st .validators → answer ≡ finalityAnswerFor (afterTests (justificationTests s (st .«block_roots») (st .finality) registry) («process_justification_and_finalization» s (st .«block_roots») (st .finality) (decode registry))) (st .finality) → JustificationCall s st answer

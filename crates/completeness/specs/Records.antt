@@ -1,0 +1,90 @@
+-- The smallest records of docs/DIFFERENCES.md: each row is met by one that passes the tests, as a step and, for two of them, in a close.
+use mathlib.Core.Path.{_≡_}
+use mathlib.Core.List.{List, [], _∷_}
+use Prim.Native.Nat.{ℕ, _-_, _^_}
+use lib.ListN.{replicate}
+use Rattle.types.specs.declared.Settings.{Settings}
+use Rattle.types.specs.declared.Checkpoint.{Checkpoint}
+use Rattle.definitions.specs.Record.{«FAR_FUTURE_EPOCH»}
+use Rattle.definitions.specs.Checked.{value, refused, overflow}
+use Rattle.definitions.specs.Close as Rust
+use Rattle.definitions.specs.Close.{inactivityStep, rewardsStep, registryStep, effectiveBalancesStep, Call, stateOf, closeTests}
+use Rattle.completeness.specs.DocumentIn64Bits as In64Bits
+use Rattle.completeness.specs.Complete.{StepParts, CloseParts}
+
+-- 1 for the divisors and the two lengths, and 0 for the rest, but for these three
+abbrev pub least : ℕ → ℕ → ℕ → Settings
+least increment downward lookahead =
+    record {
+      «slots_per_epoch» = 1;
+      «slots_per_historical_root» = 1;
+      «epochs_per_slashings_vector» = 1;
+      «effective_balance_increment» = increment;
+      «max_effective_balance» = 0;
+      «hysteresis_quotient» = 1;
+      «hysteresis_downward_multiplier» = downward;
+      «hysteresis_upward_multiplier» = 0;
+      «base_reward_factor» = 0;
+      «min_epochs_to_inactivity_penalty» = 0;
+      «inactivity_score_bias» = 1;
+      «inactivity_score_recovery_rate» = 0;
+      «inactivity_penalty_quotient_altair» = 1;
+      «proportional_slashing_multiplier_altair» = 0;
+      «max_seed_lookahead» = lookahead;
+      «min_validator_withdrawability_delay» = 0;
+      «ejection_balance» = 0;
+      «min_per_epoch_churn_limit» = 0;
+      «churn_limit_quotient» = 1;
+    }
+
+-- this registry, slot, and finalized epoch
+abbrev pub callOf : Settings → List ℕ → ℕ → ℕ → Call
+callOf s registry slot finalized =
+    let checkpoint : ℕ → Checkpoint = λ epoch. record { epoch = epoch; root = replicate 32 0 } in
+    record {
+      settings = s;
+      finality = record {
+        slot = slot;
+        «justification_bits» = 0;
+        «previous_justified_checkpoint» = checkpoint 0;
+        «current_justified_checkpoint» = checkpoint 0;
+        «finalized_checkpoint» = checkpoint finalized;
+      };
+      registry = registry;
+      slashings = 0 ∷ [];
+      roots = replicate 32 0;
+      closingRegistry = registry;
+      closingSlashings = 0 ∷ [];
+    }
+
+-- no validators in epoch 1, which is finalized
+abbrev pub ahead : Call
+ahead = callOf (least 1 0 0) [] 1 1
+
+-- the same with a validator, active, that hit no flag
+abbrev pub missed : Call
+missed = callOf (least 1 0 0) (1 ∷ 0 ∷ 0 ∷ 0 ∷ «FAR_FUTURE_EPOCH» ∷ «FAR_FUTURE_EPOCH» ∷ 1 ∷ 0 ∷ 0 ∷ 0 ∷ []) 1 1
+
+-- no validators, and the downward threshold is 2^94
+abbrev pub wide : Call
+wide = callOf (least (2 ^ 47) (2 ^ 47) 0) [] 0 0
+
+-- no settings that test 2 passes: the activation epoch is 2^64
+abbrev pub untested : Call
+untested = callOf (least 1 0 (2 ^ 64 - 1)) [] 0 0
+
+-- the first three pass the tests and part: a step of each and, but for rewards, the whole close
+pub record Records : Type 0 where
+  pub aheadTests : closeTests ahead ≡ value tt
+  pub inactivity : StepParts (ahead .settings) (stateOf ahead) inactivityStep
+  pub rewards : StepParts (ahead .settings) (stateOf ahead) rewardsStep
+  pub aheadClose : CloseParts (ahead .settings) (stateOf ahead)
+  pub missedTests : closeTests missed ≡ value tt
+  pub missedRewards : StepParts (missed .settings) (stateOf missed) rewardsStep
+  pub missedClose : (Rust.«process_epoch» (missed .settings) (stateOf missed) ≡ refused overflow) × (In64Bits.«process_epoch» (missed .settings) (stateOf missed) ≡ refused overflow)
+  pub wideTests : closeTests wide ≡ value tt
+  pub effectiveBalances : StepParts (wide .settings) (stateOf wide) effectiveBalancesStep
+  pub wideClose : CloseParts (wide .settings) (stateOf wide)
+  -- why the steps are said of what passes the tests: without them registry would part, too
+  pub untestedRust : Rust.step (untested .settings) (stateOf untested) registryStep ≡ refused overflow
+  pub untestedDocument : In64Bits.step (untested .settings) (stateOf untested) registryStep ≡ value (stateOf untested)
