@@ -68,6 +68,7 @@ stage: all
 	$(fill) packaging/altair.pc >$(stage)/lib/pkgconfig/altair.pc
 	$(fill) packaging/altair-config.cmake >$(stage)/lib/cmake/altair/altair-config.cmake
 	$(fill) packaging/altair-config-version.cmake >$(stage)/lib/cmake/altair/altair-config-version.cmake
+	$(fill) packaging/README.md >$(stage)/share/doc/altair/README.md
 	install -m 644 -t $(stage)/share/doc/altair CHANGELOG.md LICENSE.md NOTICE docs/RECORD_FILE.md docs/POOLS.md
 	cp -R bindings/rust/Cargo.lock bindings/rust/build.rs bindings/rust/src bindings/rust/examples $(stage)/share/altair/rust
 	sed 's#\.\./\.\./LICENSE#../../doc/altair/LICENSE#' bindings/rust/Cargo.toml >$(stage)/share/altair/rust/Cargo.toml

@@ -1,8 +1,8 @@
 /* Closes the record file on standard input and prints the close, or `refused` and the number. Exit status: 0 closed, 1 refused,
  * 2 could not read or write. command/altair-close.c is the program for people; this one shows the calls.
  *
- *     cc -Wall -Wextra -Werror -o close_record bindings/c/close_record.c target/altair/libaltair.a
- *     tools/record write samples/example.json - | ./close_record
+ *     cc -Wall -Wextra -Werror -o target/close_record bindings/c/close_record.c target/altair/libaltair.a
+ *     tools/record write samples/example.json - | target/close_record
  */
 #include "altair.h"
 

@@ -1,6 +1,6 @@
 /* Calls every function of altair.h once or more and compares with document 01's figures. Prints how many agreed.
  *
- *     cc -Wall -Wextra -Werror -o figures bindings/c/figures.c target/altair/libaltair.a && ./figures
+ *     cc -Wall -Wextra -Werror -o target/figures bindings/c/figures.c target/altair/libaltair.a && target/figures
  */
 #include "altair.h"
 
