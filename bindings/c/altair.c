@@ -5,7 +5,7 @@
 #include <string.h>
 
 const char *altair_refusal_text(uint64_t number) {
-    static const char *const words[] = {
+    static const char words[][80] = {
         [0] = "accepted",
         [1] = "a length, a vector's size or an index is not the one called for",
         [2] = "a setting is 0 where it divides, or 2^48 or more",
@@ -14,13 +14,13 @@ const char *altair_refusal_text(uint64_t number) {
         [5] = "a sum, product or difference that is evaluated leaves 64 bits",
         [6] = "a record file's header is not as it must be",
     };
-    const char *found = number < sizeof words / sizeof *words ? words[number] : NULL;
-    return found != NULL ? found : "no refusal has this number";
+    const int known = number < sizeof words / sizeof *words && words[number][0] != '\0';
+    return known ? words[number] : "no refusal has this number";
 }
 
 const altair_settings *altair_preset(const char *name) {
     static const struct {
-        const char *name;
+        char name[8];
         altair_settings settings;
     } presets[] = {{"mainnet", ALTAIR_MAINNET}, {"minimal", ALTAIR_MINIMAL}};
     for (size_t i = 0; name != NULL && i < sizeof presets / sizeof *presets; i++)
