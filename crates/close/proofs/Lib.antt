@@ -4,4 +4,5 @@ pub mod Steps
 pub mod Justified
 pub mod Worked
 pub mod Outcome
+pub mod Contract
 pub mod Demand3

@@ -1,4 +1,3 @@
 -- What the contracts of the close cite.
 pub mod Called
 pub mod Worked
-pub mod Returned

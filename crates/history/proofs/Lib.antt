@@ -4,6 +4,7 @@ pub mod Counting
 pub mod Order
 pub mod Shape
 pub mod OneClose
+pub mod Induction
 pub mod Premises
 pub mod EveryList
 pub mod Queue
@@ -14,5 +15,10 @@ pub mod EightSteps
 pub mod WholeClose
 pub mod Computing
 pub mod Follow
+pub mod Small
+pub mod Parts
+pub mod Needed
+pub mod NoChurn
 pub mod Example
-pub mod Necessity
+pub mod Freedoms
+pub mod Refuses

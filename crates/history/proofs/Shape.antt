@@ -1,17 +1,14 @@
--- What the claim over lists of closes has to know about one accepted close: its interface. A close of another fork, with other settings,
--- or followed by exit orders joins the claim by having it.
+-- What the claim over lists of events has to know about one accepted event: its interface. Whatever kind of close has it joins the claim.
 use mathlib.Core.Path.{_≡_}
-use mathlib.Core.Bool.{Bool, cond, _&&_}
+use mathlib.Core.Bool.{cond, _&&_}
 use mathlib.Core.List.{List, [], _∷_}
 use Prim.Native.Nat.{ℕ, _+_, _-_, _≤_, _<_}
-use lib.Dec.{T, ltb, eqb}
+use lib.Dec.{T, ltb}
 use lib.ListN.{length}
 use Rattle.types.specs.declared.Checkpoint.{Checkpoint}
 use Rattle.types.specs.declared.Finality.{Finality}
-use Rattle.definitions.specs.Record.{Validator, BeaconState, «FAR_FUTURE_EPOCH», decode}
-use Rattle.definitions.specs.Updates.{withFinality, withValidators, withSlashings}
-use Rattle.definitions.specs.Close.{stateOf}
-use Rattle.history.specs.Demand3.{Close, epoch}
+use Rattle.definitions.specs.Record.{Validator, «FAR_FUTURE_EPOCH»}
+use Rattle.history.specs.Events.{Event, accepts}
 use Rattle.history.proofs.Waiting.{eligibilityAt, activationAt, waits, ahead}
 
 -- the current justified checkpoint of a close of epoch e: kept, or of the previous or the present epoch
@@ -51,35 +48,19 @@ pub record Registered (e to churn finalizedEpoch : ℕ) (opening queue closing :
   pub eligibility : (i : ℕ) → i < length opening → eligibilityAt closing i ≡ eligibilityAt queue i
   pub activation : (i : ℕ) → i < length opening → activationAt closing i ≡ cond (waits finalizedEpoch queue i && ltb (ahead finalizedEpoch queue i) churn) to (activationAt queue i)
 
--- a close of epoch e that was handed o and returned c, with a churn limit of m at least
-pub record CloseShape (m e lookahead : ℕ) (o c : BeaconState) : Type 0 where
+-- an accepted event, with a churn limit of m at least
+pub record EventShape (m : ℕ) (e : Event) : Type 0 where
   pub churn : ℕ
   pub enough : m ≤ churn
-  pub fits : e + 1 + lookahead < «FAR_FUTURE_EPOCH»
-  pub checkpoints : Moved e (o .finality) (c .finality)
+  pub fits : e .epoch + 1 + e .lookahead < «FAR_FUTURE_EPOCH»
+  pub checkpoints : Moved (e .epoch) (e .opening .finality) (e .returned .finality)
   pub queue : List Validator
-  pub registry : Registered e (e + 1 + lookahead) churn (c .finality .«finalized_checkpoint» .epoch) (o .validators) queue (c .validators)
+  pub registry : Registered (e .epoch) (e .epoch + 1 + e .lookahead) churn (e .returned .finality .«finalized_checkpoint» .epoch) (e .opening .validators) queue (e .returned .validators)
 
--- what a close of the list was handed, whether it is accepted, and what it returned
+-- an event has the interface where it is accepted
+abbrev pub Shaped : Event → Type 0
+Shaped e = T (accepts e) → EventShape (e .churn) e
 
-abbrev pub opening : Close → BeaconState
-opening c = stateOf (c .call)
-
-abbrev pub lookahead : Close → ℕ
-lookahead c = c .call .settings .«max_seed_lookahead»
-
-abbrev pub accepts : Close → Bool
-accepts c = eqb (c .outcome .refusal) 0
-
-abbrev pub returned : Close → BeaconState
-returned c =
-    let out = c .outcome in
-    withFinality (out .finality) (withValidators (decode (out .closingRegistry)) (withSlashings (out .closingSlashings) (opening c)))
-
--- a close has the interface where it is accepted
-abbrev pub Shaped : ℕ → Close → Type 0
-Shaped m c = T (accepts c) → CloseShape m (epoch c) (lookahead c) (opening c) (returned c)
-
-abbrev pub EachShaped : ℕ → List Close → Type 0
-EachShaped m [] = Unit {0}
-EachShaped m (c ∷ cs) = Shaped m c × EachShaped m cs
+abbrev pub EachShaped : List Event → Type 0
+EachShaped [] = Unit {0}
+EachShaped (e ∷ es) = Shaped e × EachShaped es

@@ -1,7 +1,7 @@
 -- An accepted close has the interface, so that demand 3 holds of the whole close.
 use mathlib.Core.Path.{_≡_, refl, sym, ap, _∙_, subst, subst₂}
-use mathlib.Core.Bool.{Bool, true, false, _&&_}
-use mathlib.Core.List.{List, [], _∷_, map, head-eq-of-cons-eq, tail-eq-of-cons-eq}
+use mathlib.Core.Bool.{Bool, true, false, cond, _&&_}
+use mathlib.Core.List.{List, [], _∷_, map, map-map, head-eq-of-cons-eq, tail-eq-of-cons-eq}
 use Prim.Native.Nat.{ℕ, zero, suc, _^_, _<_}
 use native.Mathlib.Nat.{div-le-self}
 use native.Mathlib.Omega.{arith}
@@ -9,7 +9,7 @@ use lib.Dec.{T, leb, eqb, eqb→eq, ltb→lt}
 use lib.ListN.{length, getD, replicate}
 use Rattle.types.specs.declared.Settings.{Settings}
 use Rattle.types.specs.declared.Finality.{Finality}
-use Rattle.definitions.specs.Lists.{all}
+use Rattle.definitions.specs.Lists.{all, filter}
 use Rattle.definitions.specs.Record.{BeaconState, encode, decode}
 use Rattle.definitions.specs.Checked.{Checked, value, refused, numberOf, codeOf, settle}
 use Rattle.definitions.specs.Refusals.{inOrder, isSmall, settingsNumbers, divisors, goodSettings, goodFinality, goodRegistry, afterTests, closingBuffer}
@@ -17,9 +17,11 @@ use Rattle.definitions.specs.Rust.Phase0.Helpers.{«compute_epoch_at_slot», «
 use Rattle.definitions.specs.Close.{«process_epoch», Call, stateOf, closeTests, closed, close}
 use Rattle.laws.proofs.Checked.{number-not-zero, not-value, bound}
 use Rattle.laws.proofs.Encode.{decode-encode}
-use Rattle.history.specs.Demand3.{Close, Demand3}
+use Rattle.history.specs.Events.{accepts, accepted, Least, Premises, Claim}
+use Rattle.history.specs.Demand3.{Close, event, closeOf, Demand3}
 use Rattle.history.proofs.Counting.{T-left, T-right}
-use Rattle.history.proofs.Shape.{accepts, opening, returned, Shaped, EachShaped}
+use Rattle.history.proofs.Shape.{Shaped, EachShaped}
+use Rattle.history.proofs.Premises.{AtMost, least}
 use Rattle.history.proofs.Registry.{churn-enough}
 use Rattle.history.proofs.EightSteps.{Eight, eight}
 use Rattle.history.proofs.EveryList.{claim}
@@ -94,23 +96,19 @@ pub accepted-close : (c : Call) → T (eqb (close c .refusal) 0) → Accepted c
 unfolding close
 accepted-close c t = accepted-as c (given (closed c) t .1)
 
--- The interface, and demand 3
-
--- a call and its outcome by the definition
-abbrev pub closeOf : Call → Close
-closeOf c = record { call = c; outcome = close c }
+-- The interface
 
 -- the eight steps took the opening to the record returned
-pub closed-eight : (c : Call) → T (accepts (closeOf c)) → Eight (c .settings) (c .finality) (decode (c .registry)) (returned (closeOf c) .finality) (returned (closeOf c) .validators)
+pub closed-eight : (c : Call) → T (eqb (close c .refusal) 0) → Eight (c .settings) (c .finality) (decode (c .registry)) (close c .finality) (decode (close c .closingRegistry))
 closed-eight c t =
     subst₂ (Eight (c .settings) (c .finality) (decode (c .registry))) (sym (a .finality)) (sym (ap decode (a .registry) ∙ decode-encode (a .state .validators))) (eight (c .settings) (stateOf c) (a .worked))
   where
     a : Accepted c
     a = accepted-close c t
 
-pub close-shaped : (c : Call) → Shaped (c .settings .«min_per_epoch_churn_limit») (closeOf c)
+pub close-shaped : (c : Bool × Call) → Shaped (event (closeOf c))
 unfolding «get_current_epoch» «compute_epoch_at_slot»
-close-shaped c t =
+close-shaped (w, c) t =
     record {
       churn = «get_validator_churn_limit» (c .settings) (c .finality .slot) (x .queue);
       enough = churn-enough (c .settings) (c .finality .slot) (x .queue);
@@ -123,13 +121,31 @@ close-shaped c t =
     a : Accepted c
     a = accepted-close c t
 
-    x : Eight (c .settings) (c .finality) (decode (c .registry)) (returned (closeOf c) .finality) (returned (closeOf c) .validators)
+    x : Eight (c .settings) (c .finality) (decode (c .registry)) (close c .finality) (decode (close c .closingRegistry))
     x = closed-eight c t
 
-each-shaped : (s : Settings) (calls : List Call) → map (λ c. c .settings) calls ≡ replicate (length calls) s → EachShaped (s .«min_per_epoch_churn_limit») (map closeOf calls)
-each-shaped s [] e = tt
-each-shaped s (c ∷ calls) e = (subst (λ (z : Settings). Shaped (z .«min_per_epoch_churn_limit») (closeOf c)) (head-eq-of-cons-eq e) (close-shaped c), each-shaped s calls (tail-eq-of-cons-eq e))
-
 -- Demand 3
+
+each-close : (calls : List (Bool × Call)) → EachShaped (map (λ c. event (closeOf c)) calls)
+each-close [] = tt
+each-close (c ∷ calls) = (close-shaped c, each-close calls)
+
+-- of closes whose settings may differ: for each m that is at most the smallest churn limit of every accepted one
+pub of-closes : (m : ℕ) (start : BeaconState) (calls : List (Bool × Call)) → let events = map event (map closeOf calls) in Least m events → Premises start events → Claim m start events
+of-closes m start calls l p = claim m start (map event (map closeOf calls)) (subst EachShaped (sym (map-map event closeOf calls)) (each-close calls)) l p
+
+-- the smallest churn limit of settings that stay
+stays-least : (s : Settings) (closes : List Close) → map (λ c. c .call .settings) closes ≡ replicate (length closes) s → AtMost (s .«min_per_epoch_churn_limit») (accepted (map event closes))
+unfolding filter
+stays-least s [] e = tt
+stays-least s (c ∷ closes) e = go (accepts (event c)) (stays-least s closes (tail-eq-of-cons-eq e))
+  where
+    m : ℕ
+    m = s .«min_per_epoch_churn_limit»
+
+    go : (b : Bool) → AtMost m (accepted (map event closes)) → AtMost m (cond b (event c ∷ accepted (map event closes)) (accepted (map event closes)))
+    go true h = (omega (arith, ap (λ (s : Settings). s .«min_per_epoch_churn_limit») (head-eq-of-cons-eq e)), h)
+    go false h = h
+
 pub demand3 : Demand3
-demand3 s w start calls e p = claim (s .«min_per_epoch_churn_limit») w start (map closeOf calls) (each-shaped s calls e) p
+demand3 s start calls p = of-closes (s .«min_per_epoch_churn_limit») start calls (least (s .«min_per_epoch_churn_limit») _ (p .churn) (stays-least s (map closeOf calls) (p .stay))) (p .list)

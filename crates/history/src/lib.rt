@@ -1,1 +1,1 @@
-// Laws alone: demand 3, one theorem over every list of closes. See specs/Demand3.antt.
+// Laws alone: demand 3. The statement: specs/Events.antt, specs/Demand3.antt.
