@@ -90,8 +90,8 @@ def words(*numbers):
     return struct.pack(f"<{len(numbers)}Q", *numbers)
 
 
-def ssz(s):
-    """The SSZ bytes: the fixed part with its offsets, then the lists."""
+def ssz(s, times=1):
+    """The SSZ bytes: the fixed part with its offsets, then the lists, those with an entry a validator so many times over."""
     eth1 = lambda e: e["deposit_root"] + words(e["deposit_count"]) + e["block_hash"]
     checkpoint = lambda c: words(c["epoch"]) + c["root"]
     sync = lambda c: b"".join(c["pubkeys"]) + c["aggregate_pubkey"]
@@ -108,6 +108,7 @@ def ssz(s):
         bytes(s["current_epoch_participation"]),
         words(*s["inactivity_scores"]),
     ]
+    tail[2:] = [part * times for part in tail[2:]]
     payload = s.get("latest_execution_payload_header")
     if payload:
         p = payload
@@ -158,7 +159,7 @@ def text(s, version=None, **layout):
 
 
 def record(s, settings):
-    """The record file: document 01, 'Record file'."""
+    """The record file, as document 01 lays it out."""
     n, roots, slashings = len(s["validators"]), len(s["block_roots"]), len(s["slashings"])
     at = 368 + 80 * n
     parts = [words(1, at + 32 * roots + 8 * slashings, n, roots, slashings, 80, 232, 368, at, at + 32 * roots), words(*settings)]

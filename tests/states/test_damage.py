@@ -49,7 +49,7 @@ class Damaged(unittest.TestCase):
         for name, at in OFFSETS.items():
             right = struct.unpack_from("<I", data, at)[0]
             for wrong in 0, FIXED - 1, len(data) + 1, 2**32 - 1:
-                self.refused(self.patched(data, at, struct.pack("<I", wrong)), name if wrong != 0 or at == 4272 else "", f"byte {at}")
+                self.refused(self.patched(data, at, struct.pack("<I", wrong)), f"{name}, byte {at}: ")
             # one further: this list and the one before it are no longer whole, or not as many as the validators
             self.refused(self.patched(data, at, struct.pack("<I", right + 1)), "byte")
 
@@ -88,7 +88,8 @@ class Damaged(unittest.TestCase):
         self.refused(data[: begin + 500], "latest_execution_payload_header.block_hash", f"byte {begin + 500}")
 
     def test_another_preset_or_fork(self):
-        self.refused(encoder.ssz(encoder.random_state(random.Random(1), "mainnet", "altair", 1, 1)), "historical_roots, byte 4272", "preset?")
+        mainnet = encoder.random_state(random.Random(1), "mainnet", "altair", 1, 1)
+        self.refused(encoder.ssz(mainnet), "historical_roots, byte 4272", "preset?")
         self.refused(encoder.text(minimal(), "phase0"), "version", "phase0")
         self.refused(encoder.text(minimal(), "bellatrix"), "version")
         self.refused(encoder.text({**minimal(), "next_withdrawal_index": 5}), "'next_withdrawal_index', byte ")
@@ -114,7 +115,7 @@ class Damaged(unittest.TestCase):
             ("justification_bits", b"\1\1", "justification_bits, byte "),
             ("finalized_checkpoint", {"epoch": 1}, "finalized_checkpoint, byte "),
             ("finalized_checkpoint", {"epoch": 1, "root": bytes(33)}, "finalized_checkpoint.root, byte "),
-            ("current_sync_committee", {"pubkeys": [bytes(48)] * 31, "aggregate_pubkey": bytes(48)}, "current_sync_committee.pubkeys, byte "),
+            ("current_sync_committee", {"pubkeys": [], "aggregate_pubkey": bytes(48)}, "current_sync_committee.pubkeys, byte "),
         ]:
             with self.subTest(name=name, value=value):
                 self.refused(encoder.text({**state, name: value}, "altair"), said)

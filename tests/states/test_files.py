@@ -78,6 +78,19 @@ class Commands(unittest.TestCase):
         self.assertEqual((done.returncode, done.stderr.count(b"\n")), (2, 2), done.stderr)
         self.assertIn(b"the disk is full", done.stderr)
 
+    def test_no_standard_streams(self):
+        """Closed ones, as some schedulers leave them."""
+        for words, code, said in [
+            ("record --preset minimal - made <&-", 2, b"no standard input"),
+            ("record --preset minimal state - >&-", 2, b"no standard output"),
+            ("record --preset minimal state made 2>&-", 0, b""),
+            ("record --preset minimal --force state made 2</dev/null", 0, b""),
+        ]:
+            done = subprocess.run(["sh", "-c", f"'{ROOT}/tools/state' {words}"], cwd=self.at.path, capture_output=True)
+            self.assertEqual((done.returncode, done.stdout), (code, b""), done.stderr)
+            self.assertIn(said, done.stderr)
+        self.assertEqual(self.at.read("made"), RECORD)
+
     def test_a_closed_pipe(self):
         reading, writing = os.pipe()
         os.close(reading)

@@ -73,7 +73,8 @@ class Blocks(unittest.TestCase):
         block = b"\x0c" + literal(b"abcd") + copy1(4, 8)
         stream = STREAM + summed(0, block, b"abcd" * 3) + summed(1, b"plain", b"plain") + summed(1, b"", b"")
         self.good(stream, b"abcd" * 3 + b"plain")
-        self.good(stream + STREAM + chunk(0xFE, b"pad") + chunk(0x80, b"skip") + chunk(0xFD, b"") + stream, (b"abcd" * 3 + b"plain") * 2)
+        passed_over = STREAM + chunk(0xFE, b"pad") + chunk(0x80, b"skip") + chunk(0xFD, b"")
+        self.good(stream + passed_over + stream, (b"abcd" * 3 + b"plain") * 2)
         self.good(STREAM + summed(1, b"x" * 65536, b"x" * 65536), b"x" * 65536)
 
     def test_bad_streams(self):

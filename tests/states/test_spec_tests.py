@@ -1,4 +1,5 @@
 """tests/spec_tests on a tree of the published layout that is written here, with posts worked out by hand."""
+import os
 import random
 import re
 import subprocess
@@ -25,8 +26,8 @@ class Tree:
             (path / file.replace("_", ".")).write_bytes(data)
 
 
-def spec_tests(*words):
-    done = subprocess.run([ROOT / "tests/spec_tests", *words], capture_output=True)
+def spec_tests(*words, **options):
+    done = subprocess.run([ROOT / "tests/spec_tests", *words], capture_output=True, **options)
     return Said(done.returncode, done.stderr.decode(), done.stdout.decode())
 
 
@@ -65,7 +66,7 @@ class SpecTests(unittest.TestCase):
             "slashings": ("balances", None, "balances[4]: "),
             "effective_balance_updates": ("validators", None, "validators[0]: 0x"),
             "slashings_reset": ("slashings", None, "slashings[63]: 64 here, 65 published"),
-            "participation_flag_updates": ("current_epoch_participation", [0, 0, 0, 0, 1], "current_epoch_participation[4]: 0 here, 1"),
+            "participation_flag_updates": ("current_epoch_participation", [0] * 4 + [1], "current_epoch_participation[4]: 0 here"),
         }
         for step, pre, post in worked.cases("minimal", "altair"):
             name, value, _ = fields[step]
@@ -128,15 +129,21 @@ class SpecTests(unittest.TestCase):
         said = spec_tests(self.at.path)
         self.assertEqual((said.code, said.err), (1, ""))
         self.assertIn("0 run, 0 equal, 0 different, 6 unreadable", said.out)
-        for part in "cut: pre.ssz_snappy: byte ", "short: pre.ssz_snappy: inactivity_scores", "bad_post: post.ssz_snappy: byte 0":
-            self.assertIn(part, said.out)
-        for part in "no_pre: there is no pre", "other_fork: pre.ssz_snappy: historical_roots", "bad_config: config.yaml: no PRESET_BASE":
+        for part in (
+            "cut: pre.ssz_snappy: byte ",
+            "short: pre.ssz_snappy: inactivity_scores",
+            "bad_post: post.ssz_snappy: byte 0",
+            "no_pre: there is no pre",
+            "other_fork: pre.ssz_snappy: historical_roots",
+            "bad_config: config.yaml: no PRESET_BASE",
+        ):
             self.assertIn(part, said.out)
 
     def test_settings(self):
         """A case's own config.yaml, and a preset's config on the command line, in place of the built in one."""
-        config = "PRESET_BASE: 'minimal'\nINACTIVITY_SCORE_BIAS: 4\nINACTIVITY_SCORE_RECOVERY_RATE: %d\nEJECTION_BALANCE: 16000000000\n"
-        config += "MIN_VALIDATOR_WITHDRAWABILITY_DELAY: 256\nMIN_PER_EPOCH_CHURN_LIMIT: 2\nCHURN_LIMIT_QUOTIENT: 32\n"
+        config = "PRESET_BASE: 'minimal'\nINACTIVITY_SCORE_BIAS: 4\nINACTIVITY_SCORE_RECOVERY_RATE: %d\n"
+        config += "EJECTION_BALANCE: 16000000000\nMIN_VALIDATOR_WITHDRAWABILITY_DELAY: 256\n"
+        config += "MIN_PER_EPOCH_CHURN_LIMIT: 2\nCHURN_LIMIT_QUOTIENT: 32\n"
         _, (step, pre, post), *_ = worked.cases("minimal", "altair")
         slower = worked.set_(post, inactivity_scores=[8, 98, 0, 13, 103])
         self.tree.case("minimal", "altair", step, "worked", pre, post)
@@ -157,6 +164,19 @@ class SpecTests(unittest.TestCase):
             self.assertIn("no case of the eight steps", said.err)
         self.assertEqual(spec_tests().code, 2)
         self.assertEqual(spec_tests("--help").code, 0)
+
+    def test_no_library_and_a_closed_pipe(self):
+        _, pre, post = next(worked.cases("minimal", "altair"))
+        self.tree.case("minimal", "altair", "justification_and_finalization", "worked", pre, post)
+        said = spec_tests(self.at.path, env={**os.environ, "ALTAIR_LIBRARY": "nowhere"})
+        self.assertEqual((said.code, said.out, said.err.count("\n")), (2, "", 1), said.err)
+        self.assertIn("the shared library is missing", said.err)
+        reading, writing = os.pipe()
+        os.close(reading)
+        done = subprocess.run([ROOT / "tests/spec_tests", self.at.path], stdout=writing, stderr=subprocess.PIPE)
+        os.close(writing)
+        self.assertEqual(done.returncode, 2)
+        self.assertEqual(done.stderr, b"spec_tests: the output was closed before all of it was written\n")
 
     def test_no_validators(self):
         """Nobody weighs one increment, so that both epochs are justified."""

@@ -1,4 +1,5 @@
 """tools/state on states of the tests' own encoder: both presets and forks, SSZ and JSON, there and back."""
+import json
 import random
 import unittest
 
@@ -102,6 +103,15 @@ class Records(unittest.TestCase):
                 said = run("back", at / "state", at / "made", at / "again")
                 self.assertEqual((said.code, said.err), (0, ""))
                 self.assertEqual(at.read("again"), form)
+
+    def test_json_names_spelt_with_escapes(self):
+        state = encoder.random_state(random.Random(12), "minimal", "altair", 2, 1)
+        after = closed(random.Random(13), state)
+        with Directory() as at:
+            at.write("state", encoder.text(state).replace(b'"exit_epoch"', b'"\\u0065xit_epoch"'))
+            at.write("closed", encoder.record(after, encoder.SETTINGS["minimal"]))
+            self.assertEqual(run("back", "--preset", "minimal", at / "state", at / "closed", at / "made").code, 0)
+            self.assertEqual(json.loads(at.read("made")), json.loads(encoder.text(after)))
 
     def test_a_long_json(self):
         """Longer than the window, which then moves on inside every list."""

@@ -93,4 +93,5 @@ def cases(preset, fork):
     yield "slashings_reset", pre, set_(pre, slashings=[1, 2, 3, 4, 0] + list(range(6, slashings + 1)))
 
     pre = set_(base, previous_epoch_participation=[1, 2, 3, 4, 255], current_epoch_participation=[0, 7, 255, 1, 2])
-    yield "participation_flag_updates", pre, set_(pre, previous_epoch_participation=[0, 7, 255, 1, 2], current_epoch_participation=0)
+    post = set_(pre, previous_epoch_participation=[0, 7, 255, 1, 2], current_epoch_participation=0)
+    yield "participation_flag_updates", pre, post

@@ -17,8 +17,8 @@ HELP = """Record files from beacon states, and back.
   tools/state back STATE CLOSED NEW_STATE    the state with a closed record's numbers in it, every other byte as it was
 
 STATE is an Altair or Bellatrix BeaconState as a node serves it under /eth/v2/debug/beacon/states: SSZ (with the header
-Accept: application/octet-stream) or JSON; which of the two, and which fork, is seen from the bytes. NEW_STATE has the form of STATE.
-'-' is standard input or output. What is no state is refused with the field and the byte at fault.
+Accept: application/octet-stream) or JSON; which of the two, and which fork, is seen from the bytes. NEW_STATE has the form
+of STATE. '-' is standard input or output. What is no state is refused with the field and the byte at fault.
 
 The close is the eight steps of document 01. A state that took a close back is not yet the network's next one: the steps
 that are left out (eth1, randao, historical roots, sync committees) have not run on it.
@@ -35,7 +35,8 @@ def arguments():
         "--settings",
         action="append",
         metavar="FILE",
-        help="the network's own settings: the node's config.yaml, preset files, or the JSON of /eth/v1/config/spec; may be given again",
+        help="the network's own settings: the node's config.yaml, preset files, or the JSON of /eth/v1/config/spec; "
+        "may be given again",
     )
     common.add_argument("--force", action="store_true", help="replace a file that is there already")
     record = verbs.add_parser("record", parents=[common], help="the record file of a state")
@@ -124,7 +125,7 @@ def naming(name):
 
 
 def note(text):
-    print(f"state: note: {text}", file=sys.stderr)
+    said(0, f"note: {text}")
 
 
 def main(words):
@@ -149,5 +150,10 @@ def main(words):
 
 
 def said(code, text):
-    print(f"state: {text}", file=sys.stderr)
+    try:
+        if sys.stderr:
+            print(f"state: {text}", file=sys.stderr, flush=True)
+    except OSError:
+        # nobody is there to be told: what was to be done is done all the same
+        sys.stderr = None
     return code

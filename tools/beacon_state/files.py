@@ -11,6 +11,8 @@ from .errors import Stopped
 @contextmanager
 def source(name):
     """A file to read bytes from, at its beginning, that can be read again."""
+    if name == "-" and not sys.stdin:
+        raise Stopped("there is no standard input")
     with sys.stdin.buffer if name == "-" else open(name, "rb") as opened:
         if opened.seekable() and opened.tell() == 0:
             yield opened
@@ -34,6 +36,8 @@ def whole(file):
 def target(name, force):
     """A function that writes bytes. What was written stands under the name once all of it is there."""
     if name == "-":
+        if not sys.stdout:
+            raise Stopped("there is no standard output")
         if sys.stdout.isatty():
             raise Stopped("standard output is a terminal, and what is written is no text for one")
         yield write_all(1)

@@ -47,9 +47,8 @@ class ByteList:
 class Vector:
     def __init__(self, of, count):
         self.of, self.count, self.size = of, count, of.size * count
-        self.bounded = tuple(
-            (i * of.size + at, largest, f"[{i}]{name}") for i in range(count if of.bounded else 0) for at, largest, name in of.bounded
-        )
+        bounded = [(i, *place) for i in range(count if of.bounded else 0) for place in of.bounded]
+        self.bounded = tuple((i * of.size + at, largest, f"[{i}]{name}") for i, at, largest, name in bounded)
 
 
 class List:

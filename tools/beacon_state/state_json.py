@@ -1,6 +1,7 @@
 """A state as the Beacon API prints it in JSON: read to a record, and written again with a closed record's numbers.
 
 Fields may stand in any order. Written again, each value that has changed is replaced where it stands; every other byte stays."""
+import json
 import re
 import sys
 from array import array
@@ -131,41 +132,40 @@ def numbers_of(data):
 
 
 def put(source, settings, opening, closed, sink):
-    """Hands the text on to the sink with a closed record's numbers in it; opening is the text's own, and closes(closed, opening)."""
+    """Hands the text on to the sink with a closed record's numbers in it; opening is the text's own, and closed is its close."""
     old, new = numbers_of(opening.registry), numbers_of(closed.registry)
     slashings = numbers_of(closed.slashings)
     window = Window(source.read, sink)
 
     def visit(name, index, value):
-        if name in PLACES:
-            number = new[10 * index + PLACES[name]]
-            if number != value:
-                window.replace(f'"{number}"')
-        elif name == "validators":
+        if name == "validators":
             at = 10 * index
             if new[at : at + 6] != old[at : at + 6]:
-                numbers = dict(zip(OF_VALIDATOR, new[at : at + 6]))
-                slashed = numbers.pop("slashed")
-                texts = {field: f'"{number}"' for field, number in numbers.items()}
-                window.replace(replaced(window.raw(), {**texts, "slashed": "true" if slashed else "false"}))
-        elif name == "slashings" and slashings[index] != value:
-            window.replace(f'"{slashings[index]}"')
+                fields = {field: str(number) for field, number in zip(OF_VALIDATOR, new[at : at + 6])}
+                window.replace(replaced(window.raw(), {**fields, "slashed": fields["slashed"] == "1"}))
+        elif name in PLACES or name == "slashings":
+            number = slashings[index] if name == "slashings" else new[10 * index + PLACES[name]]
+            if number != value:
+                window.replace(f'"{number}"')
         elif name == "justification_bits" and value[0] != closed.justification_bits:
             window.replace(f'"0x{closed.justification_bits:02x}"')
         elif name in CHECKPOINTS:
             at = 40 * CHECKPOINTS.index(name)
             epoch, root = int.from_bytes(closed.checkpoints[at : at + 8], "little"), closed.checkpoints[at + 8 : at + 40]
-            if [epoch, root] != value:
-                texts = {"epoch": f'"{epoch}"'} if epoch != value[0] else {}
-                window.replace(replaced(window.raw(), {**texts, **({"root": f'"0x{root.hex()}"'} if root != value[1] else {})}))
+            fields = {"epoch": str(epoch)} if epoch != value[0] else {}
+            if root != value[1]:
+                fields["root"] = "0x" + root.hex()
+            if fields:
+                window.replace(replaced(window.raw(), fields))
 
     walk(window, settings, visit)
 
 
-def replaced(text, values):
-    """An object's text with some of its values replaced; they hold no quotes, brackets or names of fields."""
-    for name, value in values.items():
-        text, count = re.subn(rf'("{name}"\s*:\s*)("[^"]*"|true|false)', lambda found: found[1] + value, text)
+def replaced(text, fields):
+    """An object's text with some of its values replaced: where they stand, if the names are spelt plainly."""
+    made = text
+    for name, value in fields.items():
+        made, count = re.subn(rf'("{name}"\s*:\s*)("[^"]*"|true|false)', lambda found: found[1] + json.dumps(value), made)
         if count != 1:
-            raise Wrong(f"the name {name} is not spelt in plain letters", "." + name)
-    return text
+            return json.dumps({**json.loads(text), **fields})
+    return made
