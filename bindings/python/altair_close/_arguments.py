@@ -200,7 +200,7 @@ def finality_of(words):
 
 
 SETTINGS, FINALITY = Settings(), Finality()
-NUMBER, FLAGS, INDEX = Number(), Number(255, ctypes.c_uint8), Number(word=ctypes.c_size_t)
+NUMBER, FLAGS = Number(), Number(255, ctypes.c_uint8)
 REGISTRY, SLASHINGS = Numbers(row=10), Numbers()
 VALIDATOR = REGISTRY  # ten numbers: C counts them
 ROOTS, BYTES = Bytes(row=32), Bytes()

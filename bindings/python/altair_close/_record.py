@@ -2,9 +2,11 @@
 from pathlib import Path
 from typing import Any, NamedTuple
 
+from . import _layout
 from ._close import charged, close, listing_head, listing_lines, pair
+from ._refusals import Refused
 from ._signatures import call
-from ._types import VALIDATOR_LENGTH, Finality, Settings
+from ._types import Finality, Settings
 
 
 def read_header(file):
@@ -15,12 +17,17 @@ def read_header(file):
 def read_file(file, *, out=(None, None)):
     """The record of a file. `out` is a pair of buffers for its registry and slashings, as long as the header says.
 
-    Refused has the position at which reading stopped; nothing is then written.
+    Refused has the position at which reading stopped and the field at fault; nothing is then written.
     """
-    settings, finality, registry, slashings = call("read_file", file, *pair(out))
-    header = read_header(file)
-    roots_at = 368 + 80 * header.validators
-    return Record(settings, finality, registry, slashings, bytes(memoryview(file)[roots_at : roots_at + 32 * header.roots]))
+    try:
+        settings, finality, registry, slashings = call("read_file", file, *pair(out))
+    except Refused as refused:
+        fault = _layout.fault(file)
+        same = fault and (fault.refusal, fault.position) == (refused.number, refused.position)
+        raise Refused(refused.number, refused.position, fault.field if same else None) from None
+    validators, roots, _ = read_header(file)
+    part = slice(_layout.roots_at(validators), _layout.slashings_at(validators, roots))
+    return Record(settings, finality, registry, slashings, bytes(memoryview(file)[part]))
 
 
 def write_file(settings, finality, registry, roots, slashings, *, out=None):

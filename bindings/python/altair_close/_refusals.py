@@ -11,9 +11,10 @@ REFUSALS = {
 
 
 class Refused(Exception):
-    """A refused call: its number, and for a file where reading stopped."""
+    """A refused call: its number; for a file also where reading stopped, and the field that is at fault where one is."""
 
-    def __init__(self, number, position=None):
+    def __init__(self, number, position=None, field=None):
         where = "" if position is None else f", at byte {position}"
-        super().__init__(f"refused {number}: {REFUSALS.get(number, 'a number that this version does not know')}{where}")
-        self.number, self.position = number, position
+        what = "" if field is None else f": {field}"
+        super().__init__(f"refused {number}: {REFUSALS.get(number, 'a number that this version does not know')}{where}{what}")
+        self.number, self.position, self.field = number, position, field

@@ -14,8 +14,8 @@ test_signatures.py holds the table to altair.h: the same functions, arguments an
 import ctypes
 from typing import Any, Callable, NamedTuple
 
-from . import _buffers, _library
-from ._arguments import (BYTES, CHANGED, FINALITY, FLAGS, INDEX, NUMBER, REGISTRY, ROOTS, SETTINGS, SLASHINGS, U64, VALIDATOR,
+from . import _buffers, _layout, _library
+from ._arguments import (BYTES, CHANGED, FINALITY, FLAGS, NUMBER, REGISTRY, ROOTS, SETTINGS, SLASHINGS, U64, VALIDATOR,
                          Bytes, FinalityWords, Numbers, SettingsWords, as_long_as, finality_of, settings_of)
 from ._refusals import Refused
 from ._types import VALIDATOR_LENGTH, Closed, Deltas, Head, Header, Line
@@ -96,7 +96,8 @@ def held(lent):
 
 
 def file_length(lent):
-    return 368 + 8 * lent["registry"].count + lent["roots"].count + 8 * lent["slashings"].count
+    """Of one that the counts fit; C refuses others under 1."""
+    return _layout.file_length(lent["registry"].count // VALIDATOR_LENGTH, lent["roots"].count // 32, lent["slashings"].count)
 
 
 SIGNATURES = {
@@ -162,7 +163,7 @@ SIGNATURES = {
     "get_base_reward_per_increment": Signature(VALUE, settings=SETTINGS, total=NUMBER),
     "get_base_reward": Signature(VALUE, settings=SETTINGS, total=NUMBER, validator=VALIDATOR),
     "get_flag_index_deltas": Signature(DELTAS, settings=SETTINGS, state_slot=NUMBER, finalized_epoch=NUMBER, flag_index=NUMBER,
-                                       index=INDEX, registry=REGISTRY),
+                                       index=NUMBER, registry=REGISTRY),
     "get_inactivity_penalty_deltas": Signature(DELTAS, settings=SETTINGS, state_slot=NUMBER, validator=VALIDATOR),
     # finality
     "get_finality_delay": Signature(VALUE, settings=SETTINGS, state_slot=NUMBER, finalized_epoch=NUMBER),

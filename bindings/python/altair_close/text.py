@@ -1,0 +1,183 @@
+"""A record as a readable text, JSON, and its file: `write` makes the file of a text, `show` the text of a file.
+
+The text has the keys settings, slot, justification_bits, previous_justified_checkpoint, current_justified_checkpoint,
+finalized_checkpoint, validators, block_roots and slashings. Numbers are 0 to 2^64 - 1, "far" stands for 2^64 - 1, roots are 64
+hexadecimal digits. `block_roots` and `slashings` may be left out, or hold fewer than the settings ask for: the rest is zeros."""
+import json
+import re
+import struct
+
+from . import _layout
+from ._layout import CHECKPOINTS, VALIDATOR
+from ._types import FAR_FUTURE_EPOCH, VALIDATOR_LENGTH, Settings
+
+NAMES = ("settings", "slot", "justification_bits", *CHECKPOINTS, "validators", "block_roots", "slashings")
+ROOT = re.compile("(?:0x)?([0-9a-fA-F]{64})")
+
+
+class Bad(Exception):
+    """A text or a file that is not a record, with the place and what is wrong there."""
+
+
+class _Digits(str):
+    """A number that is not one from 0 to 2^64 - 1, as it is written."""
+
+
+class _Object(dict):
+    """An object of the text, and the first key that stands in it twice."""
+
+    def __init__(self, pairs):
+        super().__init__(pairs)
+        seen = set()
+        self.twice = next((key for key, _ in pairs if key in seen or seen.add(key)), None)
+
+
+def _number(digits):
+    return int(digits) if len(digits) <= 20 and int(digits) in range(2**64) and digits != "-0" else _Digits(digits)
+
+
+def _told(value):
+    if isinstance(value, _Digits):
+        return value if len(value) <= 40 else f"{value[:20]}.. of {len(value)} digits"
+    if isinstance(value, str):
+        return json.dumps(value if len(value) <= 80 else value[:40] + "..")
+    names = {dict: "an object", list: "a list", bool: "true or false", type(None): "null"}
+    return next((name for kind, name in names.items() if isinstance(value, kind)), str(value))
+
+
+def _parsed(text):
+    try:
+        return json.loads(text, object_pairs_hook=_Object, parse_int=_number, parse_float=_Digits, parse_constant=_Digits)
+    except ValueError as error:
+        raise Bad(f"not JSON: {error}") from None
+    except RecursionError:
+        raise Bad("lists or objects stand in one another too deeply") from None
+
+
+def _number_of(value, where):
+    if value == "far" and not isinstance(value, _Digits):
+        return FAR_FUTURE_EPOCH
+    if isinstance(value, bool) or not isinstance(value, int):
+        raise Bad(f'{where}: a number from 0 to 2^64 - 1, or "far", is wanted, not {_told(value)}')
+    return value
+
+
+def _root(value, where):
+    digits = ROOT.fullmatch(value) if isinstance(value, str) else None
+    if digits is None:
+        raise Bad(f"{where}: 64 hexadecimal digits are wanted, not {_told(value)}")
+    return bytes.fromhex(digits[1])
+
+
+def _fields(value, names, where, may_miss=()):
+    """The values of an object that has exactly these keys, in their order; a list for one that may be missing and is."""
+    if not isinstance(value, _Object):
+        raise Bad(f"{where}: an object with the keys {', '.join(names)} is wanted, not {_told(value)}")
+    if value.twice is not None:
+        raise Bad(f"{where}: the key {_told(value.twice)} stands there twice")
+    for name in value:
+        if name not in names:
+            raise Bad(f"{where}: no key {_told(name)} is known here; known are {', '.join(names)}")
+    for name in names:
+        if name not in value and name not in may_miss:
+            raise Bad(f'{where}: the key "{name}" is missing')
+    return [value.get(name, []) for name in names]
+
+
+def _list(value, item, most, where):
+    """The items of a list, each read by `item`."""
+    if not isinstance(value, list):
+        raise Bad(f"{where}: a list is wanted, not {_told(value)}")
+    if len(value) > most:
+        raise Bad(f"{where}: at most {most} are taken, not {len(value)}")
+    return [item(each, f"{where}[{i}]") for i, each in enumerate(value)]
+
+
+def _settings(value):
+    fields = _fields(value, Settings._fields, "settings")
+    settings = Settings(*(_number_of(each, f"settings.{name}") for name, each in zip(Settings._fields, fields)))
+    for name in ("slots_per_historical_root", "epochs_per_slashings_vector"):
+        # more would make no file that the library reads, and a long one
+        if getattr(settings, name) > _layout.LONGEST_VECTOR:
+            raise Bad(f"settings.{name}: 1 to {_layout.LONGEST_VECTOR} is wanted, not {getattr(settings, name)}")
+    return settings
+
+
+def _checkpoint(value, where):
+    epoch, root = _fields(value, ("epoch", "root"), where)
+    return struct.pack("<Q", _number_of(epoch, f"{where}.epoch")) + _root(root, f"{where}.root")
+
+
+def _validator(value, where):
+    fields = _fields(value, VALIDATOR, where)
+    return struct.pack("<10Q", *(_number_of(each, f"{where}.{name}") for name, each in zip(VALIDATOR, fields)))
+
+
+def write(text, *, unchecked=False):
+    """The bytes of the record file of a text. Bad where it is none, or, unless unchecked, one that the library refuses."""
+    values = dict(zip(NAMES, _fields(_parsed(text), NAMES, "the record", may_miss=("block_roots", "slashings"))))
+    settings = _settings(values["settings"])
+    roots, slashings = settings.slots_per_historical_root, settings.epochs_per_slashings_vector
+    finality = [struct.pack("<Q", _number_of(values[name], name)) for name in ("slot", "justification_bits")]
+    finality += [_checkpoint(values[name], name) for name in CHECKPOINTS]
+    registry = _list(values["validators"], _validator, _layout.MOST_VALIDATORS, "validators")
+    block_roots = b"".join(_list(values["block_roots"], _root, roots, "block_roots"))
+    slashed = _list(values["slashings"], _number_of, slashings, "slashings")
+    header = struct.pack("<10Q", *_layout.header(len(registry), roots, slashings))
+    file = b"".join([
+        header, struct.pack("<19Q", *settings), *finality, *registry, block_roots.ljust(32 * roots, b"\0"),
+        struct.pack(f"<{len(slashed)}Q", *slashed).ljust(8 * slashings, b"\0"),
+    ])
+    found = None if unchecked else _layout.fault(file)
+    if found:
+        raise Bad(f"{found.field}: {found.why}: the library refuses this record under {found.refusal}")
+    return file
+
+
+def _items(key, texts):
+    """The lines of a list's texts under its key."""
+    yield f',\n  "{key}": ['
+    between, end = "\n    ", "]"
+    for text in texts:
+        yield between + text.replace("\n", "\n    ")
+        between, end = ",\n    ", "\n  ]"
+    yield end
+
+
+def _shown(number):
+    return '"far"' if number == FAR_FUTURE_EPOCH else str(number)
+
+
+def _without_zeros(values, zero):
+    """How many there are up to the last that is not zero."""
+    return next((count for count in range(len(values), 0, -1) if values[count - 1] != zero), 0)
+
+
+def show(file):
+    """The text of a record file, in parts. Bad where its header is none; other faults are shown as they stand."""
+    found = _layout.fault(file)
+    if found and found.refusal == 6:
+        raise Bad(f"{found.field}: {found.why}")
+    return _text(file)
+
+
+def _text(file):
+    validators, roots, slashings = _layout.numbers(file, 16, 3)
+    slot, bits = _layout.numbers(file, _layout.FINALITY_AT, 2)
+    settings = dict(zip(Settings._fields, _layout.numbers(file, _layout.SETTINGS_AT, 19)))
+    head = {"settings": settings, "slot": slot, "justification_bits": bits}
+    for name, at in _layout.CHECKPOINTS_AT.items():
+        epoch = _layout.numbers(file, at, 1)[0]
+        head[name] = {"epoch": "far" if epoch == FAR_FUTURE_EPOCH else epoch, "root": bytes(file[at + 8 : at + 40]).hex()}
+    yield json.dumps(head, indent=2)[:-2]
+
+    lines = "{\n" + ",\n".join(f'  "{name}": %s' for name in VALIDATOR) + "\n}"
+    entries = (_layout.numbers(file, _layout.VALIDATORS_AT + 80 * i, VALIDATOR_LENGTH) for i in range(validators))
+    yield from _items("validators", (lines % tuple(map(_shown, entry)) for entry in entries))
+    at = _layout.roots_at(validators)
+    block_roots = [bytes(file[at + 32 * i : at + 32 * i + 32]) for i in range(roots)]
+    shown = _without_zeros(block_roots, bytes(32))
+    yield from _items("block_roots", (f'"{root.hex()}"' for root in block_roots[:shown]))
+    numbers = _layout.numbers(file, _layout.slashings_at(validators, roots), slashings)
+    yield from _items("slashings", map(_shown, numbers[: _without_zeros(numbers, 0)]))
+    yield "\n}\n"
