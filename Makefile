@@ -3,6 +3,7 @@
 #   make                              target/altair: libaltair.a, libaltair.so.1, altair-close
 #   make install PREFIX=/usr/local    and below DESTDIR, where that is given; `make uninstall` takes the same words
 #   make release                      target/release: an archive to hand on and its sha256 sum, the same bytes each time
+#   make wheel                        target/release: the Python wheel, which carries the shared library
 #   make test                         tests/run
 #
 # The proved functions are the archive that `rt staticlib exports` writes; PROVED=FILE names one that was made elsewhere.
@@ -22,7 +23,7 @@ PROVED ?= target/staticlib/libexports.a
 compile := $(CC) -std=c11 -Wall -Wextra -fPIC -ffile-prefix-map=$(CURDIR)=. $(CFLAGS) -I bindings/c
 link := $(CC) $(LDFLAGS) -Wl,--build-id=none
 
-.PHONY: all install uninstall stage release test clean
+.PHONY: all install uninstall stage release wheel test clean
 all: $(out)/libaltair.a $(out)/$(shared) $(out)/altair-close
 
 ifeq ($(origin PROVED),file)
@@ -89,6 +90,9 @@ release: stage
 	    >target/release/$(release).tar.gz.new
 	mv -f target/release/$(release).tar.gz.new target/release/$(release).tar.gz
 	cd target/release && sha256sum $(release).tar.gz | tee $(release).tar.gz.sha256
+
+wheel: all
+	python3 -B bindings/python/build_wheel.py target/release
 
 test:
 	tests/run
