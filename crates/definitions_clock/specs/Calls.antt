@@ -23,9 +23,12 @@ notBeforeGenesis c second = cond (ltb second (c .«genesis_time»)) (refused bef
 unfoldable pub secondTests : Clock → ℕ → Checked (Unit {0})
 secondTests c second = afterTests (clockTests c) (notBeforeGenesis c second)
 
+abbrev pub is64 : ℕ → Bool
+is64 n = ltb n (2 ^ 64)
+
 -- 5: the answer alone is tested, and no number on the way to it
 unfoldable pub fits64 : ℕ → Checked ℕ
-fits64 answer = cond (ltb answer (2 ^ 64)) (value answer) (refused overflow)
+fits64 answer = cond (is64 answer) (value answer) (refused overflow)
 
 -- A slot or epoch of a second is at most the second: it always fits
 

@@ -1,0 +1,3 @@
+-- Laws of the clock's code.
+pub mod Steps
+pub mod Passed
