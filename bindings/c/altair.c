@@ -13,6 +13,8 @@ const char *altair_refusal_text(uint64_t number) {
         [4] = "a block root is wanted that the record does not keep",
         [5] = "a sum, product or difference that is evaluated leaves 64 bits",
         [6] = "a record file's header is not as it must be",
+        [14] = "a second is before genesis",
+        [15] = "seconds_per_slot is 0",
     };
     const int known = number < sizeof words / sizeof *words && words[number][0] != '\0';
     return known ? words[number] : "no refusal has this number";

@@ -16,6 +16,7 @@
  *
  * An answer's `refusal` is 0, or the number of the first test that failed. They are tested in this order, and a call tests only
  * what it is lent. N is the number of validators, S is slots_per_historical_root, L is epochs_per_slashings_vector.
+ *   15  seconds_per_slot is 0
  *   6  a record file's header is not as it must be: docs/RECORD_FILE.md
  *   1  a length, a vector's size or an index is not the one called for:
  *        a registry of 10 * N numbers, N at most 2^24; one validator of 10 numbers; S and L each 1 to 65536;
@@ -25,6 +26,7 @@
  *        a participation epoch that is the previous or the current one; a total to divide by that is not 0
  *   2  a setting is 0 where it divides, or 2^48 or more: slots_per_epoch, effective_balance_increment, hysteresis_quotient,
  *        inactivity_score_bias, inactivity_penalty_quotient_altair and churn_limit_quotient may not be 0
+ *   14  a second is before genesis
  *   3  a slot, epoch, bit field or flag of the record is out of range: the state's slot and the checkpoints' epochs are below
  *        2^48, justification_bits is 0 to 15, slashed 0 or 1, each of the two flags 0 to 255; all else is any 64-bit number
  *   4  a block root is wanted that the record does not keep: at slot s, where s >= state's slot or state's slot > s + S
@@ -59,7 +61,9 @@ enum altair_refusal {
     ALTAIR_BAD_RECORD = 3,
     ALTAIR_NO_ROOT = 4,
     ALTAIR_OVERFLOW = 5,
-    ALTAIR_BAD_FILE = 6
+    ALTAIR_BAD_FILE = 6,
+    ALTAIR_BEFORE_GENESIS = 14,
+    ALTAIR_NO_SECONDS = 15
 };
 
 /* A validator is ten numbers of the registry; validator i has those from ALTAIR_VALIDATOR_LENGTH * i on. */
@@ -109,6 +113,17 @@ typedef struct altair_settings {
     {                                                                                                                  \
         8, 64, 64, 1000000000, 32000000000, 4, 1, 5, 64, 4, 4, 16, 50331648, 2, 4, 256, 16000000000, 2, 32             \
     }
+
+/* A network's clock. Seconds are those of Unix time; genesis_time is the first second of slot 0. */
+typedef struct altair_clock {
+    uint64_t genesis_time;
+    uint64_t seconds_per_slot;
+    uint64_t slots_per_epoch;
+} altair_clock;
+
+/* Mainnet's clock, in braces. */
+#define ALTAIR_MAINNET_CLOCK                                                                                           \
+    { 1606824023, 12, 32 }
 
 typedef struct altair_checkpoint {
     uint64_t epoch;
@@ -311,6 +326,39 @@ altair_number_answer altair_get_current_epoch(altair_settings settings, uint64_t
 /* Answers the epoch before the state's, 0 at epoch 0; or 1, 2 or 3.
  * There are no buffers. */
 altair_number_answer altair_get_previous_epoch(altair_settings settings, uint64_t state_slot);
+
+/* -- Opening hours: slots and epochs by the wall clock ------------------------------------------------------------------ */
+
+/* Each is given any 64-bit numbers and tests 15, then 2 (slots_per_epoch alone), then 14. The second of a slot or epoch is 5 where
+ * it is above 2^64 - 1, and only there. From a slot or epoch to its seconds and back is that slot or epoch. */
+
+/* Answers the slot of the second, or 15, 2 or 14.
+ * There are no buffers. */
+altair_number_answer altair_slot_at_time(altair_clock clock, uint64_t second);
+
+/* Answers the epoch of the second, or 15, 2 or 14.
+ * There are no buffers. */
+altair_number_answer altair_epoch_at_time(altair_clock clock, uint64_t second);
+
+/* Answers whether the second is in the closing window, the last slot of its epoch; or 15, 2 or 14.
+ * There are no buffers. */
+altair_truth_answer altair_is_in_closing_window(altair_clock clock, uint64_t second);
+
+/* Answers the first second of the slot, or 15, 2 or 5.
+ * There are no buffers. */
+altair_number_answer altair_first_second_of_slot(altair_clock clock, uint64_t slot);
+
+/* Answers the last second of the slot, or 15, 2 or 5.
+ * There are no buffers. */
+altair_number_answer altair_last_second_of_slot(altair_clock clock, uint64_t slot);
+
+/* Answers the first second of the epoch, or 15, 2 or 5.
+ * There are no buffers. */
+altair_number_answer altair_first_second_of_epoch(altair_clock clock, uint64_t epoch);
+
+/* Answers the last second of the epoch, or 15, 2 or 5.
+ * There are no buffers. */
+altair_number_answer altair_last_second_of_epoch(altair_clock clock, uint64_t epoch);
 
 /* -- One validator: `validator` has ten numbers ------------------------------------------------------------------------ */
 

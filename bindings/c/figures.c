@@ -72,6 +72,33 @@ static void slots_and_epochs(void) {
     REFUSED(altair_get_current_epoch(bad, 127), 1);
 }
 
+static void opening_hours(void) {
+    const altair_clock clock = ALTAIR_MAINNET_CLOCK, ends = {0, 1, 1}, late = {1, 1, 1};
+    altair_clock bad = {9, 0, 0};
+    VALUE(altair_slot_at_time(clock, 1606824023), 0);
+    VALUE(altair_slot_at_time(clock, 1606824035), 1);
+    REFUSED(altair_slot_at_time(clock, 1606824022), 14);
+    VALUE(altair_epoch_at_time(clock, 1635332566), 74240);
+    VALUE(altair_is_in_closing_window(clock, 1635332554), 0);
+    VALUE(altair_is_in_closing_window(clock, 1635332555), 1);
+    VALUE(altair_is_in_closing_window(clock, 1635332567), 0);
+    VALUE(altair_first_second_of_slot(clock, 2375680), 1635332183);
+    VALUE(altair_last_second_of_slot(clock, 2375680), 1635332194);
+    VALUE(altair_first_second_of_epoch(clock, 74240), 1635332183);
+    VALUE(altair_last_second_of_epoch(clock, 74240), 1635332566);
+    VALUE(altair_last_second_of_slot(ends, UINT64_MAX), UINT64_MAX);
+    VALUE(altair_last_second_of_epoch(ends, UINT64_MAX), UINT64_MAX);
+    REFUSED(altair_last_second_of_slot(late, UINT64_MAX), 5);
+    REFUSED(altair_first_second_of_epoch(late, UINT64_MAX), 5);
+    REFUSED(altair_epoch_at_time(bad, 8), 15);
+    bad.seconds_per_slot = 1;
+    REFUSED(altair_is_in_closing_window(bad, 8), 2);
+    bad.slots_per_epoch = UINT64_C(1) << 48;
+    REFUSED(altair_first_second_of_slot(bad, 8), 2);
+    bad.slots_per_epoch--;
+    REFUSED(altair_slot_at_time(bad, 8), 14);
+}
+
 static void one_validator(void) {
     uint64_t v[ENTRY], before[ENTRY];
     fill(v, 1);
@@ -283,6 +310,7 @@ static void the_file(void) {
 
 int main(void) {
     slots_and_epochs();
+    opening_hours();
     one_validator();
     block_roots();
     the_registry();

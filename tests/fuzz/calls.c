@@ -3,7 +3,8 @@
  * Buffers: R a registry, V one validator, S slashings, B roots, F a file, P a registry of which only the length is
  * tested, Q numbers as many as the first buffer's. Behind '>' those that are written: R, S, F; r, v a registry and a
  * validator changed in place. Numbers that are tested: s the settings, f the finality, t the slot, z the finalized
- * epoch, i an index, g a flag index of 0 to 2, G one of 0 to 7, e a participation epoch, d a total to divide by. */
+ * epoch, i an index, g a flag index of 0 to 2, G one of 0 to 7, e a participation epoch, d a total to divide by, c the
+ * clock, w a second, which is c->number. */
 #include "fuzz.h"
 
 #include <string.h>
@@ -36,6 +37,13 @@
     X(compute_activation_exit_epoch, VALUES, altair_number_answer, "", "s", "5", c->s, c->number)                      \
     X(get_current_epoch, VALUES, altair_number_answer, "", "st", "", c->s, c->slot)                                    \
     X(get_previous_epoch, VALUES, altair_number_answer, "", "st", "", c->s, c->slot)                                   \
+    X(slot_at_time, VALUES, altair_number_answer, "", "cw", "", c->clock, c->number)                                   \
+    X(epoch_at_time, VALUES, altair_number_answer, "", "cw", "", c->clock, c->number)                                  \
+    X(is_in_closing_window, VALUES, altair_truth_answer, "", "cw", "", c->clock, c->number)                            \
+    X(first_second_of_slot, VALUES, altair_number_answer, "", "c", "5", c->clock, c->number)                           \
+    X(last_second_of_slot, VALUES, altair_number_answer, "", "c", "5", c->clock, c->number)                            \
+    X(first_second_of_epoch, VALUES, altair_number_answer, "", "c", "5", c->clock, c->number)                          \
+    X(last_second_of_epoch, VALUES, altair_number_answer, "", "c", "5", c->clock, c->number)                           \
     X(is_active_validator, VALUES, altair_truth_answer, "V", "", "", IN(0), c->number)                                 \
     X(is_eligible_for_activation_queue, VALUES, altair_truth_answer, "V", "s", "", c->s, IN(0))                        \
     X(is_eligible_for_activation, VALUES, altair_truth_answer, "V", "z", "", c->finalized, IN(0))                      \

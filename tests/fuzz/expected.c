@@ -1,4 +1,4 @@
-/* What altair.h says of the tests: the first that fails, in the order 6, 1, 2, 3. */
+/* What altair.h says of the tests: the first that fails, in the order 15, 6, 1, 2, 14, 3. */
 #include "fuzz.h"
 
 #include <string.h>
@@ -121,6 +121,8 @@ static bool participation_epoch(const lent *c) {
 
 uint64_t expected(const row *row, const lent *c) {
     uint64_t position;
+    if (tests(row, 'c') && c->clock.seconds_per_slot == 0)
+        return 15;
     if (row->lends[0] == 'F')
         return row->kind == READ ? file_tests(c, &position) : good_header(c->in[0]) ? 0 : 6;
     const char *read = row->lends, *written = written_letters(row);
@@ -149,6 +151,10 @@ uint64_t expected(const row *row, const lent *c) {
         return 1;
     if (tests(row, 's') && !good_settings(&c->s))
         return 2;
+    if (tests(row, 'c') && (c->clock.slots_per_epoch == 0 || !is_small(c->clock.slots_per_epoch)))
+        return 2;
+    if (tests(row, 'w') && c->number < c->clock.genesis_time)
+        return 14;
     if ((tests(row, 't') && !is_small(c->slot)) || (tests(row, 'z') && !is_small(c->finalized)) ||
         (tests(row, 'f') && !good_finality(&c->f)) || (whole && first_bad(registry.at, validators) != 10 * validators))
         return 3;

@@ -50,19 +50,18 @@ static int unseen(void) {
     for (size_t i = 0; i < row_count; i++) {
         const row *row = &rows[i];
         const bool file = row->lends[0] == 'F', reads_file = row->kind == READ;
-        char numbers[16] = "0";
-        strcat(numbers, row->may);
-        if (file ? reads_file : row->lends[0] != '\0' || strpbrk(row->tests, "sigGed") != NULL)
-            strcat(numbers, "1");
-        if (reads_file || strchr(row->tests, 's') != NULL)
-            strcat(numbers, "2");
-        if (reads_file || (!file && (strpbrk(row->lends, "RVrv") != NULL || strpbrk(row->tests, "tzf") != NULL)))
-            strcat(numbers, "3");
-        if (file)
-            strcat(numbers, "6");
-        for (const char *n = numbers; *n != '\0'; n++)
-            if (seen[i][*n - '0'] == 0) {
-                printf("fuzz: %s never answered %c\n", row->name, *n);
+        bool named[16] = {true};
+        for (const char *n = row->may; *n != '\0'; n++)
+            named[*n - '0'] = true;
+        named[1] = file ? reads_file : row->lends[0] != '\0' || strpbrk(row->tests, "sigGed") != NULL;
+        named[2] = reads_file || strpbrk(row->tests, "sc") != NULL;
+        named[3] = reads_file || (!file && (strpbrk(row->lends, "RVrv") != NULL || strpbrk(row->tests, "tzf") != NULL));
+        named[6] = file;
+        named[14] = strchr(row->tests, 'w') != NULL;
+        named[15] = strchr(row->tests, 'c') != NULL;
+        for (int n = 0; n < 16; n++)
+            if (named[n] && seen[i][n] == 0) {
+                printf("fuzz: %s never answered %d\n", row->name, n);
                 missing++;
             }
     }

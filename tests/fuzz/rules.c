@@ -88,6 +88,30 @@ static void the_file(const record *r) {
     free(here), free(file);
 }
 
+/* a slot or epoch to its seconds and back, wherever they are answered; neighbours; and the closing window */
+static void the_clock(void) {
+    const uint64_t genesis = odd_number(), seconds = 1 + below(1 << below(20)), slots = 1 + below(1 << below(20));
+    const uint64_t n = one_in(2) ? odd_number() : below(1 << 20);
+    const altair_clock clock = {genesis, seconds, slots};
+    const altair_number_answer first = altair_first_second_of_slot(clock, n);
+    const altair_number_answer last = altair_last_second_of_slot(clock, n);
+    const altair_number_answer opens = altair_first_second_of_epoch(clock, n);
+    const altair_number_answer shuts = altair_last_second_of_epoch(clock, n);
+    MUST(first.refusal != 0 || altair_slot_at_time(clock, first.value).value == n);
+    MUST(opens.refusal != 0 || altair_epoch_at_time(clock, opens.value).value == n);
+    if (last.refusal == 0) {
+        MUST(altair_slot_at_time(clock, last.value).value == n && last.value - first.value == seconds - 1);
+        MUST(last.value == UINT64_MAX || altair_slot_at_time(clock, last.value + 1).value == n + 1);
+    }
+    if (shuts.refusal == 0) {
+        MUST(altair_epoch_at_time(clock, shuts.value).value == n);
+        MUST(shuts.value == UINT64_MAX || altair_epoch_at_time(clock, shuts.value + 1).value == n + 1);
+        MUST(altair_is_in_closing_window(clock, shuts.value).value == 1);
+        MUST(altair_is_in_closing_window(clock, shuts.value - (seconds - 1)).value == 1);
+        MUST(slots == 1 || altair_is_in_closing_window(clock, shuts.value - seconds).value == 0);
+    }
+}
+
 static void the_leaves(const record *r) {
     const uint64_t slot = r->f.slot, epoch = slot / r->s.slots_per_epoch, n = odd_number(),
                    root = altair_integer_sqrt(n);
@@ -124,6 +148,7 @@ static void the_leaves(const record *r) {
 }
 
 void rules_hold(const record *r) {
+    the_clock();
     /* the tests of settings, finality and registry; roots and slashings have the lengths that the settings call for */
     if (altair_listing_head(r->s, r->f.slot, r->f, r->registry, 10 * r->validators).refusal != 0)
         return;

@@ -91,6 +91,13 @@ static void random_numbers(const record *r, lent *c) {
     c->flag_index = one_in(8) ? odd_number() : below(3);
     c->index = one_in(8) ? odd_number() : below(r->validators + 1);
     c->flags = (uint8_t)random_number();
+    c->clock = (altair_clock)ALTAIR_MAINNET_CLOCK;
+    if (one_in(2))
+        c->clock.genesis_time = one_in(2) ? 0 : odd_number();
+    if (one_in(2))
+        c->clock.seconds_per_slot = odd_number();
+    if (one_in(2))
+        c->clock.slots_per_epoch = odd_number();
     for (int i = 0; i < 3; i++)
         c->totals[i] = one_in(8) ? odd_number() : below(100) * 1000000000;
 }

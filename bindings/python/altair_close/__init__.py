@@ -19,9 +19,9 @@ from ._refusals import REFUSALS, Refused
 from ._signatures import VERSION, call as _call
 from ._steps import *
 from ._types import (ACTIVATION_ELIGIBILITY_EPOCH, ACTIVATION_EPOCH, BALANCE, CURRENT_EPOCH_PARTICIPATION, EFFECTIVE_BALANCE,
-                     EXIT_EPOCH, FAR_FUTURE_EPOCH, INACTIVITY_SCORE, MAINNET, MINIMAL, PRESETS, PREVIOUS_EPOCH_PARTICIPATION,
-                     SLASHED, VALIDATOR_LENGTH, WITHDRAWABLE_EPOCH, Checkpoint, Closed, Deltas, Finality, Head, Header, Line,
-                     Settings)
+                     EXIT_EPOCH, FAR_FUTURE_EPOCH, INACTIVITY_SCORE, MAINNET, MAINNET_CLOCK, MINIMAL, PRESETS,
+                     PREVIOUS_EPOCH_PARTICIPATION, SLASHED, VALIDATOR_LENGTH, WITHDRAWABLE_EPOCH, Checkpoint, Clock, Closed,
+                     Deltas, Finality, Head, Header, Line, Settings)
 
 
 def version():

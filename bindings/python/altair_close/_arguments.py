@@ -153,11 +153,15 @@ class SettingsWords(ctypes.Structure):
     _fields_ = [("numbers", U64 * 19)]
 
 
+class ClockWords(ctypes.Structure):
+    _fields_ = [("numbers", U64 * 3)]
+
+
 class FinalityWords(ctypes.Structure):
     _fields_ = [("numbers", U64 * 17)]
 
 
-_SETTINGS, _FINALITY = struct.Struct("<19Q"), struct.Struct("<QQQ32sQ32sQ32s")
+_SETTINGS, _CLOCK, _FINALITY = struct.Struct("<19Q"), struct.Struct("<3Q"), struct.Struct("<QQQ32sQ32sQ32s")
 
 
 class Settings:
@@ -168,6 +172,16 @@ class Settings:
             raise TypeError(f"{name}: Settings are wanted, not {kind_of(value)}")
         fields = [number(f"{name}.{field}", item) for field, item in zip(value._fields, value)]
         return (SettingsWords.from_buffer_copy(_SETTINGS.pack(*fields)),)
+
+
+class Clock:
+    words = (ClockWords,)
+
+    def lend(self, name, value, lent):
+        if not isinstance(value, _types.Clock):
+            raise TypeError(f"{name}: a Clock is wanted, not {kind_of(value)}")
+        fields = [number(f"{name}.{field}", item) for field, item in zip(value._fields, value)]
+        return (ClockWords.from_buffer_copy(_CLOCK.pack(*fields)),)
 
 
 class Finality:
@@ -199,7 +213,7 @@ def finality_of(words):
     return _types.Finality(slot, bits, *(_types.Checkpoint(*rest[i : i + 2]) for i in (0, 2, 4)))
 
 
-SETTINGS, FINALITY = Settings(), Finality()
+SETTINGS, CLOCK, FINALITY = Settings(), Clock(), Finality()
 NUMBER, FLAGS = Number(), Number(255, ctypes.c_uint8)
 REGISTRY, SLASHINGS = Numbers(row=10), Numbers()
 VALIDATOR = REGISTRY  # ten numbers: C counts them

@@ -38,6 +38,44 @@ def get_previous_epoch(settings, state_slot):
     return _call("get_previous_epoch", settings, state_slot)
 
 
+# Opening hours: slots and epochs by the wall clock. From a slot or epoch to its seconds and back is that slot or epoch.
+
+
+def slot_at_time(clock, second):
+    """The slot of the second."""
+    return _call("slot_at_time", clock, second)
+
+
+def epoch_at_time(clock, second):
+    """The epoch of the second."""
+    return _call("epoch_at_time", clock, second)
+
+
+def is_in_closing_window(clock, second):
+    """Whether the second is in the closing window, the last slot of its epoch."""
+    return _call("is_in_closing_window", clock, second)
+
+
+def first_second_of_slot(clock, slot):
+    """The first second of the slot."""
+    return _call("first_second_of_slot", clock, slot)
+
+
+def last_second_of_slot(clock, slot):
+    """The last second of the slot."""
+    return _call("last_second_of_slot", clock, slot)
+
+
+def first_second_of_epoch(clock, epoch):
+    """The first second of the epoch."""
+    return _call("first_second_of_epoch", clock, epoch)
+
+
+def last_second_of_epoch(clock, epoch):
+    """The last second of the epoch."""
+    return _call("last_second_of_epoch", clock, epoch)
+
+
 # One validator: ten numbers
 
 

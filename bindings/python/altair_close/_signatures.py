@@ -15,7 +15,7 @@ import ctypes
 from typing import Any, Callable, NamedTuple
 
 from . import _buffers, _layout, _library
-from ._arguments import (BYTES, CHANGED, FINALITY, FLAGS, NUMBER, REGISTRY, ROOTS, SETTINGS, SLASHINGS, U64, VALIDATOR,
+from ._arguments import (BYTES, CHANGED, CLOCK, FINALITY, FLAGS, NUMBER, REGISTRY, ROOTS, SETTINGS, SLASHINGS, U64, VALIDATOR,
                          Bytes, FinalityWords, Numbers, SettingsWords, as_long_as, finality_of, settings_of)
 from ._refusals import Refused
 from ._types import VALIDATOR_LENGTH, Closed, Deltas, Head, Header, Line
@@ -139,6 +139,14 @@ SIGNATURES = {
     "compute_activation_exit_epoch": Signature(VALUE, settings=SETTINGS, epoch=NUMBER),
     "get_current_epoch": Signature(VALUE, settings=SETTINGS, state_slot=NUMBER),
     "get_previous_epoch": Signature(VALUE, settings=SETTINGS, state_slot=NUMBER),
+    # opening hours
+    "slot_at_time": Signature(VALUE, clock=CLOCK, second=NUMBER),
+    "epoch_at_time": Signature(VALUE, clock=CLOCK, second=NUMBER),
+    "is_in_closing_window": Signature(TRUTH, clock=CLOCK, second=NUMBER),
+    "first_second_of_slot": Signature(VALUE, clock=CLOCK, slot=NUMBER),
+    "last_second_of_slot": Signature(VALUE, clock=CLOCK, slot=NUMBER),
+    "first_second_of_epoch": Signature(VALUE, clock=CLOCK, epoch=NUMBER),
+    "last_second_of_epoch": Signature(VALUE, clock=CLOCK, epoch=NUMBER),
     # one validator
     "is_active_validator": Signature(TRUTH, validator=VALIDATOR, epoch=NUMBER),
     "is_eligible_for_activation_queue": Signature(TRUTH, settings=SETTINGS, validator=VALIDATOR),

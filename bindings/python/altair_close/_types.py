@@ -39,6 +39,17 @@ MINIMAL = MAINNET._replace(slots_per_epoch=8, slots_per_historical_root=64, epoc
 PRESETS = {"mainnet": MAINNET, "minimal": MINIMAL}
 
 
+class Clock(NamedTuple):
+    """A network's clock. Seconds are those of Unix time; genesis_time is the first second of slot 0."""
+
+    genesis_time: int
+    seconds_per_slot: int
+    slots_per_epoch: int
+
+
+MAINNET_CLOCK = Clock(1606824023, 12, 32)
+
+
 class Checkpoint(NamedTuple):
     """An epoch and the root of its first block, any 32 bytes."""
 

@@ -39,6 +39,22 @@ class Figures(unittest.TestCase):
         self.refused(2, get_current_epoch, MAINNET._replace(slots_per_epoch=0), 127)
         self.refused(1, get_current_epoch, MAINNET._replace(slots_per_historical_root=0), 127)
 
+    def test_opening_hours(self):
+        clock, ends = MAINNET_CLOCK, Clock(0, 1, 1)
+        self.assertEqual(slot_at_time(clock, 1606824023), 0)
+        self.refused(14, slot_at_time, clock, 1606824022)
+        self.assertEqual(epoch_at_time(clock, 1635332566), 74240)
+        self.assertEqual([is_in_closing_window(clock, 1635332554 + i) for i in (0, 1, 12, 13)], [False, True, True, False])
+        self.assertEqual(first_second_of_slot(clock, 2375680), 1635332183)
+        self.assertEqual(last_second_of_slot(clock, 2375680), 1635332194)
+        self.assertEqual(first_second_of_epoch(clock, 74240), 1635332183)
+        self.assertEqual(last_second_of_epoch(clock, 74240), 1635332566)
+        self.assertEqual(last_second_of_slot(ends, 2**64 - 1), 2**64 - 1)
+        self.refused(5, last_second_of_slot, ends._replace(genesis_time=1), 2**64 - 1)
+        self.refused(15, slot_at_time, Clock(9, 0, 0), 8)
+        self.refused(2, slot_at_time, Clock(9, 1, 2**48), 8)
+        self.refused(14, slot_at_time, Clock(9, 1, 1), 8)
+
     def test_one_validator(self):
         self.assertTrue(is_active_validator(HIT, 3))
         self.refused(1, is_active_validator, HIT[1:], 3)

@@ -41,7 +41,8 @@ def in_c(name, kind):
         element = "uint8_t" if kind.size == 1 else "uint64_t"
         written = kind.written or isinstance(kind, kinds.Changed)
         return [("" if written else "const ") + element + " *", name, "size_t", name + "_length"]
-    types = {kinds.SettingsWords: "altair_settings", kinds.FinalityWords: "altair_finality", ctypes.c_uint8: "uint8_t"}
+    types = {kinds.SettingsWords: "altair_settings", kinds.ClockWords: "altair_clock",
+             kinds.FinalityWords: "altair_finality", ctypes.c_uint8: "uint8_t"}
     return [types.get(kind.words[0], "uint64_t"), name]
 
 
@@ -69,6 +70,7 @@ class Table(unittest.TestCase):
         structs = dict(re.findall(r"typedef struct (\w+) \{(.*?)\}", text(), flags=re.S))
         names = {name: tuple(re.findall(r"(\w+)(?:\[\d+\])?;", fields)) for name, fields in structs.items()}
         self.assertEqual(names["altair_settings"], altair_close.Settings._fields)
+        self.assertEqual(names["altair_clock"], altair_close.Clock._fields)
         self.assertEqual(names["altair_finality"], altair_close.Finality._fields)
         self.assertEqual(names["altair_checkpoint"], altair_close.Checkpoint._fields)
         for struct, given in (("head", altair_close.Head), ("line", altair_close.Line), ("header", altair_close.Header)):
@@ -79,6 +81,8 @@ class Table(unittest.TestCase):
             preset = re.search(rf"#define ALTAIR_{name.upper()}\b[\s\\]*\{{([^}}]*)\}}", header)
             if preset:
                 self.assertEqual(tuple(map(int, re.findall(r"\d+", preset[1]))), settings, name)
+        clock = re.search(r"#define ALTAIR_MAINNET_CLOCK[\s\\]*\{([^}]*)\}", header)
+        self.assertEqual(tuple(map(int, re.findall(r"\d+", clock[1]))), altair_close.MAINNET_CLOCK)
         places = re.search(r"enum altair_validator \{(.*?)\}", header, flags=re.S)[1]
         for place, name in enumerate(re.findall(r"ALTAIR_(\w+)", places)):
             self.assertEqual(getattr(altair_close, name), place, name)

@@ -23,6 +23,7 @@
 mod close;
 mod file;
 mod helpers;
+mod opening_hours;
 mod raw;
 mod record;
 mod refusal;

@@ -1,6 +1,6 @@
 //! The library's functions as bindings/c/altair.h declares them: a slice is a pointer and a length in elements.
 use crate::refusal::Refusal;
-use crate::types::{Checkpoint, Deltas, Finality, Head, Line, Settings};
+use crate::types::{Checkpoint, Clock, Deltas, Finality, Head, Line, Settings};
 
 #[repr(C)]
 pub struct FinalityAnswer {
@@ -115,6 +115,7 @@ impl LineAnswer {
 
 // the sizes that the header has
 const _: () = assert!(size_of::<Settings>() == 152 && size_of::<Checkpoint>() == 40 && size_of::<Finality>() == 136);
+const _: () = assert!(size_of::<Clock>() == 24);
 
 extern "C" {
     pub fn altair_version() -> u64;
@@ -250,6 +251,15 @@ extern "C" {
     pub fn altair_compute_activation_exit_epoch(settings: Settings, epoch: u64) -> NumberAnswer;
     pub fn altair_get_current_epoch(settings: Settings, state_slot: u64) -> NumberAnswer;
     pub fn altair_get_previous_epoch(settings: Settings, state_slot: u64) -> NumberAnswer;
+
+    // opening hours
+    pub fn altair_slot_at_time(clock: Clock, second: u64) -> NumberAnswer;
+    pub fn altair_epoch_at_time(clock: Clock, second: u64) -> NumberAnswer;
+    pub fn altair_is_in_closing_window(clock: Clock, second: u64) -> TruthAnswer;
+    pub fn altair_first_second_of_slot(clock: Clock, slot: u64) -> NumberAnswer;
+    pub fn altair_last_second_of_slot(clock: Clock, slot: u64) -> NumberAnswer;
+    pub fn altair_first_second_of_epoch(clock: Clock, epoch: u64) -> NumberAnswer;
+    pub fn altair_last_second_of_epoch(clock: Clock, epoch: u64) -> NumberAnswer;
 
     // one validator
     pub fn altair_is_active_validator(validator: *const u64, length: usize, epoch: u64) -> TruthAnswer;

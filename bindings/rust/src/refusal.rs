@@ -19,11 +19,23 @@ pub enum Refusal {
     Overflow = 5,
     /// A record file's header is not as it must be. Nothing was written.
     File = 6,
+    /// A second is before genesis. There was nothing to write.
+    BeforeGenesis = 14,
+    /// seconds_per_slot is 0. There was nothing to write.
+    NoSeconds = 15,
 }
 
 impl Refusal {
-    pub const ALL: [Refusal; 6] =
-        [Refusal::Shape, Refusal::Settings, Refusal::Record, Refusal::Root, Refusal::Overflow, Refusal::File];
+    pub const ALL: [Refusal; 8] = [
+        Refusal::Shape,
+        Refusal::Settings,
+        Refusal::Record,
+        Refusal::Root,
+        Refusal::Overflow,
+        Refusal::File,
+        Refusal::BeforeGenesis,
+        Refusal::NoSeconds,
+    ];
 
     /// ```
     /// assert_eq!(altair_close::Refusal::Overflow.number(), 5);
@@ -45,7 +57,7 @@ impl Refusal {
     pub(crate) fn or<T>(number: u64, value: T) -> Result<T, Refusal> {
         match number {
             0 => Ok(value),
-            _ => Err(Refusal::from_number(number).expect("the library answers 0 to 6")),
+            _ => Err(Refusal::from_number(number).expect("the library answers 0 or a number of Refusal::ALL")),
         }
     }
 }
@@ -59,6 +71,8 @@ impl fmt::Display for Refusal {
             Refusal::Root => "a block root is wanted that the record does not keep",
             Refusal::Overflow => "a sum, product or difference that is evaluated leaves 64 bits",
             Refusal::File => "a record file's header is not as it must be",
+            Refusal::BeforeGenesis => "a second is before genesis",
+            Refusal::NoSeconds => "seconds_per_slot is 0",
         };
         write!(f, "refused {}: {why}", self.number())
     }

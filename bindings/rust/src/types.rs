@@ -78,6 +78,20 @@ impl Settings {
     }
 }
 
+/// A network's clock. Seconds are those of Unix time; `genesis_time` is the first second of slot 0.
+#[repr(C)]
+#[derive(Clone, Copy, Debug, PartialEq, Eq)]
+pub struct Clock {
+    pub genesis_time: u64,
+    pub seconds_per_slot: u64,
+    pub slots_per_epoch: u64,
+}
+
+impl Clock {
+    /// Mainnet's.
+    pub const MAINNET: Clock = Clock { genesis_time: 1_606_824_023, seconds_per_slot: 12, slots_per_epoch: 32 };
+}
+
 /// An epoch and the root of its first block.
 #[repr(C)]
 #[derive(Clone, Copy, Debug, Default, PartialEq, Eq)]

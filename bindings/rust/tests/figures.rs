@@ -35,6 +35,23 @@ fn slots_and_epochs() {
 }
 
 #[test]
+fn opening_hours() {
+    let (clock, ends) = (Clock::MAINNET, Clock { genesis_time: 0, seconds_per_slot: 1, slots_per_epoch: 1 });
+    assert_eq!(clock.slot_at_time(1_606_824_023), Ok(0));
+    assert_eq!(clock.slot_at_time(1_606_824_022), Err(Refusal::BeforeGenesis));
+    assert_eq!(clock.epoch_at_time(1_635_332_566), Ok(74240));
+    assert_eq!([1_635_332_554, 1_635_332_555].map(|t| clock.is_in_closing_window(t)), [Ok(false), Ok(true)]);
+    assert_eq!(clock.first_second_of_slot(2_375_680), Ok(1_635_332_183));
+    assert_eq!(clock.last_second_of_slot(2_375_680), Ok(1_635_332_194));
+    assert_eq!(clock.first_second_of_epoch(74240), Ok(1_635_332_183));
+    assert_eq!(clock.last_second_of_epoch(74240), Ok(1_635_332_566));
+    assert_eq!(ends.last_second_of_slot(u64::MAX), Ok(u64::MAX));
+    assert_eq!(Clock { genesis_time: 1, ..ends }.last_second_of_slot(u64::MAX), Err(Refusal::Overflow));
+    assert_eq!(Clock { seconds_per_slot: 0, slots_per_epoch: 0, ..clock }.slot_at_time(0), Err(Refusal::NoSeconds));
+    assert_eq!(Clock { slots_per_epoch: 1 << 48, ..clock }.slot_at_time(0), Err(Refusal::Settings));
+}
+
+#[test]
 fn one_validator() {
     let mut v = hit();
     assert_eq!(is_active_validator(&v, 3), Ok(true));
@@ -246,9 +263,12 @@ fn the_close() {
 
 #[test]
 fn refusals_have_their_numbers() {
-    for (i, refusal) in Refusal::ALL.into_iter().enumerate() {
-        assert_eq!(refusal.number(), i as u64 + 1);
+    let numbers = Refusal::ALL.map(Refusal::number);
+    assert!(numbers.windows(2).all(|pair| pair[0] < pair[1]), "{numbers:?}");
+    assert_eq!(numbers[..6], [1, 2, 3, 4, 5, 6]);
+    assert_eq!((Refusal::BeforeGenesis.number(), Refusal::NoSeconds.number()), (14, 15));
+    for refusal in Refusal::ALL {
         assert_eq!(Refusal::from_number(refusal.number()), Some(refusal));
-        assert!(refusal.to_string().starts_with(&format!("refused {}", i + 1)));
+        assert!(refusal.to_string().starts_with(&format!("refused {}: ", refusal.number())));
     }
 }

@@ -8,6 +8,7 @@ mod altair_helpers;
 mod epoch_processing;
 mod files;
 mod listing;
+mod opening_hours;
 mod phase0_helpers;
 mod steps;
 mod whole;
