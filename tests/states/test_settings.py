@@ -6,6 +6,10 @@ import unittest
 import encoder
 from tool import Directory, run
 
+import altair_close
+from beacon_state import record_file
+from beacon_state.settings import PRESETS, of_record
+
 NAMES = """SLOTS_PER_EPOCH SLOTS_PER_HISTORICAL_ROOT EPOCHS_PER_SLASHINGS_VECTOR EFFECTIVE_BALANCE_INCREMENT MAX_EFFECTIVE_BALANCE
 HYSTERESIS_QUOTIENT HYSTERESIS_DOWNWARD_MULTIPLIER HYSTERESIS_UPWARD_MULTIPLIER BASE_REWARD_FACTOR
 MIN_EPOCHS_TO_INACTIVITY_PENALTY INACTIVITY_SCORE_BIAS INACTIVITY_SCORE_RECOVERY_RATE INACTIVITY_PENALTY_QUOTIENT_ALTAIR
@@ -68,16 +72,23 @@ class Settings(unittest.TestCase):
         everything = {**numbers, **SIZES}
         answer = json.dumps({"data": {**{name: str(v) for name, v in everything.items()}, "DOMAIN": "0x00", "LIST": [1]}})
         yaml = "".join(f"{name}: {value}\n" for name, value in everything.items())
-        for file in answer, json.dumps(everything), yaml:
+        # with every name given, the preset may be one that is not known
+        for file in answer, json.dumps(everything), yaml, yaml + "PRESET_BASE: other\n":
             self.assertEqual(self.made(file.encode())[1], tuple(numbers.values()))
         numbers.update(INACTIVITY_PENALTY_QUOTIENT_ALTAIR=101, PROPORTIONAL_SLASHING_MULTIPLIER_ALTAIR=102)
         self.assertEqual(self.made(yaml.encode(), words=("--pair", "bellatrix"))[1], tuple(numbers.values()))
 
+    def test_the_presets_are_those_of_the_python_package(self):
+        for name, numbers in altair_close.PRESETS.items():
+            self.assertEqual(of_record(PRESETS[name]), tuple(numbers))
+            self.assertEqual(tuple(numbers), encoder.SETTINGS[name])
+        self.assertEqual(record_file.SETTINGS, list(altair_close.Settings._fields))
+
     def test_what_is_refused(self):
         for files, said in [
             ([CONFIG.replace(b"EJECTION_BALANCE", b"EJECTION_BALANCES")], "EJECTION_BALANCE missing"),
-            ([CONFIG.replace(b"'minimal'", b"'other'")], "file0, line 2: PRESET_BASE is 'other'"),
-            ([CONFIG.replace(b"PRESET_BASE", b"PRESET")], "missing"),
+            ([CONFIG.replace(b"'minimal'", b"'other'")], "and 16 more missing; the preset 'other' is not known here"),
+            ([CONFIG.replace(b"PRESET_BASE", b"PRESET")], "and 16 more missing; there is no PRESET_BASE"),
             ([CONFIG, b"SLOTS_PER_EPOCH: 8\nSLOTS_PER_EPOCH: 8\n"], "file1, line 2: SLOTS_PER_EPOCH is named twice"),
             ([CONFIG, PRESET, b"SLOTS_PER_EPOCH: 9"], "file2, line 1: SLOTS_PER_EPOCH is 9, and 8 at"),
             ([CONFIG, b"SLOTS_PER_EPOCH: 0x08"], "file1, line 1: SLOTS_PER_EPOCH is '0x08', and a number"),

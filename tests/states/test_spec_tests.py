@@ -135,7 +135,7 @@ class SpecTests(unittest.TestCase):
             "bad_post: post.ssz_snappy: byte 0",
             "no_pre: there is no pre",
             "other_fork: pre.ssz_snappy: historical_roots",
-            "bad_config: config.yaml: no PRESET_BASE",
+            "bad_config: config.yaml: SLOTS_PER_EPOCH, ",
         ):
             self.assertIn(part, said.out)
 

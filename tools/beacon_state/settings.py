@@ -73,30 +73,34 @@ def of_record(settings, pair="altair"):
 
 
 def from_files(files):
-    """The settings of one or more files, given as (name, bytes). What no file names is PRESET_BASE's."""
+    """The settings of one or more files, given as (name, bytes). What no file names is PRESET_BASE's, where that is known."""
     values = {}
     for file, data in files:
         for name, (value, where) in _named(file, data).items():
             if values.setdefault(name, (value, where))[0] != value:
                 raise Bad(f"{where}: {name} is {value}, and {values[name][0]} at {values[name][1]}")
-    settings = {}
-    if "PRESET_BASE" in values:
-        base, where = values["PRESET_BASE"]
-        if base not in PRESETS:
-            raise Bad(f"{where}: PRESET_BASE is {base!r}, and {' and '.join(PRESETS)} are known")
-        settings = {name: value for name, value in PRESETS[base].items() if name not in CONFIG}
+    base = values.get("PRESET_BASE", ("", ""))[0]
+    settings = {name: value for name, value in PRESETS.get(base, {}).items() if name not in CONFIG}
     for name in MAINNET:
         if name in values:
             settings[name] = _number(name, *values[name])
     missing = [name for name in MAINNET if name not in settings]
     if missing:
-        without = "" if "PRESET_BASE" in values else "no PRESET_BASE, and "
-        more = f" and {len(missing) - 6} more" if len(missing) > 6 else ""
-        raise Bad(f"{', '.join(file for file, _ in files)}: {without}{', '.join(missing[:6])}{more} missing")
+        raise Bad(f"{', '.join(file for file, _ in files)}: {_named_some(missing)} missing{_of_base(base)}")
     for name in VECTORS:
         if not 1 <= settings[name] <= LONGEST:
             raise Bad(f"{values[name][1]}: {name} is {settings[name]}, and 1 to 2^24 is wanted")
     return settings
+
+
+def _named_some(names, most=6):
+    return ", ".join(names[:most]) + (f" and {len(names) - most} more" if len(names) > most else "")
+
+
+def _of_base(base):
+    if base in PRESETS:
+        return ""
+    return f"; the preset {base!r} is not known here" if base else "; there is no PRESET_BASE"
 
 
 def _number(name, value, where):

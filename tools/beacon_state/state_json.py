@@ -21,70 +21,74 @@ six_numbers = itemgetter(*(list(Validator.fields).index(name) for name in OF_VAL
 PLACES = {name: 6 + k for k, name in enumerate(PER_VALIDATOR[1:])}
 
 
-def walk(window, settings, visit):
-    """Hands each value of a state to visit(field, index, value), index None where the field is no list; answers the fork."""
-    kind = beacon_state(FORKS[-1], settings)
-    places, counts, around = {}, {}, {}
+class Walk:
+    """Hands each value of a state to visit(field, index, value), index None where the field is no list; `fork` is what it was."""
 
-    def field(name):
-        window.field = name
-        window.mark()
-        if name in places:
-            raise window.bad("the field stands there twice", "", window.at)
-        places[name], of = window.place(), kind.fields[name]
-        try:
-            if isinstance(of, (Vector, List)):
-                entries(name, of)
+    def __init__(self, window, settings, visit):
+        self.window, self.visit = window, visit
+        self.fields = beacon_state(FORKS[-1], settings).fields
+        self.places, self.counts, self.beside = {}, {}, {}
+        self.members(inside=False)
+        window.end()
+        if "data" not in self.beside:
+            for name, at, _ in self.beside.values():
+                raise unknown(name, at)
+        self.fork = fork_of(self.places, self.beside)
+        missing = [name for name in beacon_state(self.fork, settings).fields if name not in self.places]
+        if missing:
+            raise Bad(f"no state of {self.fork}: {', '.join(missing)} missing")
+        equal_counts({name: self.counts[name] for name in PER_VALIDATOR}, self.places)
+
+    def members(self, inside):
+        """The fields of the state, or of the object that a node puts around it."""
+        window = self.window
+        for _ in window.members("{}"):
+            window.field = ""
+            name, at = window.value(), window.base + window.begin
+            if not isinstance(name, str):
+                raise window.bad(f"a name is wanted, not {shown(name)}")
+            window.expect(":")
+            window.field = name
+            if name in self.fields:
+                self.member(name, self.fields[name])
+            elif inside:
+                raise unknown(name, at)
             else:
-                visit(name, None, parser(of)(window.value()))
+                value = self.members(inside=True) if name == "data" else window.value()
+                self.beside.setdefault(name if name in ("data", "version") else "other", (name, at, value))
+
+    def member(self, name, kind):
+        window = self.window
+        window.mark()
+        if name in self.places:
+            raise window.bad("the field stands there twice", "", window.at)
+        self.places[name] = window.place()
+        try:
+            if isinstance(kind, (Vector, List)):
+                self.entries(name, kind)
+            else:
+                self.visit(name, None, parser(kind)(window.value()))
         except Wrong as wrong:
             raise window.bad(wrong.what, wrong.path) from None
 
-    def entries(name, of):
-        parse, counts[name] = parser(of.of), 0
-        for index in window.members("[]"):
-            window.index = index
-            visit(name, index, parse(window.value()))
-            counts[name] = index + 1
-        window.index, window.begin = None, places[name] - window.base
-        test_count(of, counts[name])
-
-    def members(inner):
-        for _ in window.members("{}"):
-            window.field = ""
-            name = window.value()
-            if not isinstance(name, str):
-                raise window.bad(f"a name is wanted, not {shown(name)}")
-            at = window.base + window.begin
-            window.expect(":")
-            if name in kind.fields:
-                field(name)
-            elif inner:
-                raise unknown(name, at)
-            else:
-                window.field = name
-                around[name] = at, members(True) if name == "data" else window.value()
-
-    members(False)
-    window.end()
-    for name, (at, _) in around.items():
-        if "data" not in around:
-            raise unknown(name, at)
-    fork = fork_of(places, around)
-    missing = [name for name in beacon_state(fork, settings).fields if name not in places]
-    if missing:
-        raise Bad(f"no state of {fork}: {', '.join(missing)} missing")
-    equal_counts({name: counts[name] for name in PER_VALIDATOR}, places)
-    return fork
+    def entries(self, name, kind):
+        window, visit, parse, count = self.window, self.visit, parser(kind.of), 0
+        for _ in window.members("[]"):
+            window.index = count
+            visit(name, count, parse(window.value()))
+            count += 1
+        self.counts[name] = count
+        window.index, window.begin = None, self.places[name] - window.base
+        test_count(kind, count)
 
 
 def unknown(name, at):
     return Bad("no field of this name is known in " + " or ".join(FORKS), shown(name), at)
 
 
-def fork_of(places, around):
+def fork_of(places, beside):
     fork = "bellatrix" if "latest_execution_payload_header" in places else "altair"
-    at, version = around.get("version", (0, fork))
+    _, at, version = beside.get("version", ("", 0, fork))
     if version != fork:
         raise Bad(f"{shown(version)}, and the fields are those of {fork}", "version", at)
     return fork
@@ -105,7 +109,7 @@ def read(source, settings, numbers_of_record):
         elif index is None:
             values[name] = value
 
-    fork = walk(Window(source.read), settings, visit)
+    fork = Walk(Window(source.read), settings, visit).fork
     registry = array("Q", bytes(80 * len(numbers["balances"])))
     for place in range(6):
         registry[place::10] = six[place::6]
@@ -158,7 +162,7 @@ def put(source, settings, opening, closed, sink):
             if fields:
                 window.replace(replaced(window.raw(), fields))
 
-    walk(window, settings, visit)
+    Walk(window, settings, visit)
 
 
 def replaced(text, fields):

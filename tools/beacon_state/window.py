@@ -112,15 +112,13 @@ class Window:
             self.passed.clear()
 
     def members(self, brackets):
-        """Once for each entry of a list or object that follows, with its number; the caller reads it."""
+        """Once for each entry of a list or object that follows; the caller reads it."""
         self.expect(brackets[0])
         if self.mark() == brackets[1]:
             self.at += 1
             return
-        count = 0
         while True:
-            yield count
-            count += 1
+            yield
             if self.text[self.at : self.at + 1] == ",":
                 self.at += 1
             elif self.expect("," + brackets[1]) == brackets[1]:
