@@ -9,7 +9,7 @@ from . import record_file, settings as settings_of, state_json
 from .containers import FORKS
 from .errors import Bad, Stopped
 from .files import source, target, whole
-from .state_ssz import State, closes
+from .state_ssz import State
 
 HELP = """Record files from beacon states, and back.
 
@@ -105,7 +105,7 @@ def back(given, settings):
             state, _, opening = opened(file, settings, settings_of.of_record(settings))
         with naming(given.closed), source(given.closed) as closed_file:
             closed = record_file.read(closed_file.read())
-            closes(closed, opening)
+            record_file.closes(closed, opening)
         with target(given.made, given.force) as write:
             if state:
                 state.put(closed)

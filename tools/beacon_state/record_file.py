@@ -1,19 +1,12 @@
-"""A record file, as document 01 lays it out: header, settings, finality, validators, roots, slashings."""
+"""A record file and its parts. Where they stand, and what their largest numbers are, the Python package says."""
 import struct
 from typing import NamedTuple
 
-from .errors import Bad
+from altair_close._layout import (CHECKPOINTS, FINALITY_AT, LARGEST, MOST_BITS, MOST_VALIDATORS, SETTINGS_AT, VALIDATOR,
+                                  VALIDATORS_AT, header)
 
-SETTINGS = """slots_per_epoch slots_per_historical_root epochs_per_slashings_vector effective_balance_increment
-max_effective_balance hysteresis_quotient hysteresis_downward_multiplier hysteresis_upward_multiplier base_reward_factor
-min_epochs_to_inactivity_penalty inactivity_score_bias inactivity_score_recovery_rate inactivity_penalty_quotient_altair
-proportional_slashing_multiplier_altair max_seed_lookahead min_validator_withdrawability_delay ejection_balance
-min_per_epoch_churn_limit churn_limit_quotient""".split()
-VALIDATOR = """effective_balance slashed activation_eligibility_epoch activation_epoch exit_epoch withdrawable_epoch balance
-previous_epoch_participation current_epoch_participation inactivity_score""".split()
-CHECKPOINTS = ("previous_justified_checkpoint", "current_justified_checkpoint", "finalized_checkpoint")
-MOST_VALIDATORS = 2**24
-HEADER, FINALITY, REGISTRY = 80, 232, 368
+from .errors import Bad, counted
+
 ENTRY = 8 * len(VALIDATOR)
 
 
@@ -33,13 +26,6 @@ class Record(NamedTuple):
         return len(self.registry) // ENTRY
 
 
-def header(n, s, l):
-    """The ten numbers of the header of n validators, s roots and l slashings."""
-    at_roots = REGISTRY + ENTRY * n
-    at_slashings = at_roots + 32 * s
-    return [1, at_slashings + 8 * l, n, s, l, HEADER, FINALITY, REGISTRY, at_roots, at_slashings]
-
-
 def pieces(record):
     """The bytes of a record's file, in order."""
     n, s, l = record.validators, len(record.block_roots) // 32, len(record.slashings) // 8
@@ -49,23 +35,38 @@ def pieces(record):
 
 def read(file):
     """The record of a file. Every number of it is taken as it stands: what its ranges are, the library says."""
-    if len(file) < HEADER:
-        raise Bad(f"{len(file)} bytes, and a record file has at least {HEADER}", offset=len(file))
+    if len(file) < SETTINGS_AT:
+        raise Bad(f"{len(file)} bytes, and a record file has at least {SETTINGS_AT}", offset=len(file))
     numbers = struct.unpack_from("<10Q", file)
     wanted = header(*numbers[2:5])
     for k, (number, right) in enumerate(zip(numbers, wanted)):
         if number != right:
-            raise Bad(f"{number}, and {right} is wanted in a record file of version 1", "header", 8 * k)
+            raise Bad(f"{number}, and {right} is wanted", "header", 8 * k)
     if len(file) != wanted[1]:
         raise Bad(f"the file has {len(file)} bytes, and its header says {wanted[1]}", "header", 8)
-    settings = struct.unpack_from("<19Q", file, HEADER)
-    slot, bits = struct.unpack_from("<2Q", file, FINALITY)
-    return Record(
-        settings,
-        slot,
-        bits,
-        bytes(file[FINALITY + 16 : REGISTRY]),
-        bytes(file[REGISTRY : wanted[8]]),
-        bytes(file[wanted[8] : wanted[9]]),
-        bytes(file[wanted[9] :]),
-    )
+    settings, (slot, bits) = struct.unpack_from("<19Q", file, SETTINGS_AT), struct.unpack_from("<2Q", file, FINALITY_AT)
+    cuts = [FINALITY_AT + 16, VALIDATORS_AT, wanted[8], wanted[9], wanted[1]]
+    return Record(settings, slot, bits, *(bytes(file[begin:end]) for begin, end in zip(cuts, cuts[1:])))
+
+
+def closes(record, opening):
+    """Refuses a record that is not the close of an opening, or does not fit a state."""
+    counts = [(len(r.registry) // ENTRY, len(r.block_roots) // 32, len(r.slashings) // 8) for r in (record, opening)]
+    for k, (name, there, wanted) in enumerate(zip(("validator", "block root", "slashing"), *counts)):
+        if there != wanted:
+            raise Bad(f"{counted(there, name)}, and the state has {wanted}", "header", 16 + 8 * k)
+    if record.slot != opening.slot:
+        raise Bad(f"{record.slot}, and the state's is {opening.slot}; a close leaves it", "slot", FINALITY_AT)
+    if record.block_roots != opening.block_roots:
+        i = next(k for k, (a, b) in enumerate(zip(record.block_roots, opening.block_roots)) if a != b) // 32
+        at = header(*counts[0])[8] + 32 * i
+        raise Bad("not the state's; a close leaves them", f"block_roots[{i}]", at)
+    if record.justification_bits > MOST_BITS:
+        raise Bad(f"{record.justification_bits}, and at most {MOST_BITS} is allowed", "justification_bits", FINALITY_AT + 8)
+    for place, largest in LARGEST.items():
+        low, *high = (record.registry[8 * place + k :: ENTRY] for k in range(8))
+        if (low and max(low) > largest) or any(map(any, high)):
+            i = next(i for i in range(record.validators) if low[i] > largest or any(part[i] for part in high))
+            at = ENTRY * i + 8 * place
+            number = int.from_bytes(record.registry[at : at + 8], "little")
+            raise Bad(f"{number}, and at most {largest} is allowed", f"validators[{i}].{VALIDATOR[place]}", VALIDATORS_AT + at)

@@ -1,60 +1,35 @@
 """The settings of a network, under the names that nodes use: the two presets, and files.
 
 A file is a node's config.yaml, a preset's file (phase0.yaml, altair.yaml, bellatrix.yaml), or the JSON that a node answers to
-/eth/v1/config/spec. Of YAML only lines `NAME: value` are read. mainnet: phase0/presets/mainnet.rs and document 01; the rest of
-both presets is from knowledge of the published presets and configs, version 1.4.0."""
+/eth/v1/config/spec. Of YAML only lines `NAME: value` are read. Mainnet's sizes are those of phase0/presets/mainnet.rs; the sync
+committee's, Bellatrix's and minimal's are from knowledge of the published presets, version 1.4.0."""
 import json
 import re
 
-from . import record_file
+import altair_close
+
 from .errors import Bad
 
-MAINNET = {
-    # presets
-    "SLOTS_PER_EPOCH": 32,
-    "SLOTS_PER_HISTORICAL_ROOT": 8192,
+# what the state's layout and Bellatrix ask for besides the nineteen numbers of the Python package
+BESIDES = {
     "EPOCHS_PER_HISTORICAL_VECTOR": 65536,
-    "EPOCHS_PER_SLASHINGS_VECTOR": 8192,
     "HISTORICAL_ROOTS_LIMIT": 2**24,
     "VALIDATOR_REGISTRY_LIMIT": 2**40,
     "EPOCHS_PER_ETH1_VOTING_PERIOD": 64,
     "SYNC_COMMITTEE_SIZE": 512,
     "BYTES_PER_LOGS_BLOOM": 256,
     "MAX_EXTRA_DATA_BYTES": 32,
-    "EFFECTIVE_BALANCE_INCREMENT": 10**9,
-    "MAX_EFFECTIVE_BALANCE": 32 * 10**9,
-    "HYSTERESIS_QUOTIENT": 4,
-    "HYSTERESIS_DOWNWARD_MULTIPLIER": 1,
-    "HYSTERESIS_UPWARD_MULTIPLIER": 5,
-    "BASE_REWARD_FACTOR": 64,
-    "MIN_EPOCHS_TO_INACTIVITY_PENALTY": 4,
-    "MAX_SEED_LOOKAHEAD": 4,
-    "INACTIVITY_PENALTY_QUOTIENT_ALTAIR": 3 * 2**24,
-    "PROPORTIONAL_SLASHING_MULTIPLIER_ALTAIR": 2,
     "INACTIVITY_PENALTY_QUOTIENT_BELLATRIX": 2**24,
     "PROPORTIONAL_SLASHING_MULTIPLIER_BELLATRIX": 3,
-    # config.yaml
-    "INACTIVITY_SCORE_BIAS": 4,
-    "INACTIVITY_SCORE_RECOVERY_RATE": 16,
-    "MIN_VALIDATOR_WITHDRAWABILITY_DELAY": 256,
-    "EJECTION_BALANCE": 16 * 10**9,
-    "MIN_PER_EPOCH_CHURN_LIMIT": 4,
-    "CHURN_LIMIT_QUOTIENT": 65536,
 }
-MINIMAL = {
-    **MAINNET,
-    "SLOTS_PER_EPOCH": 8,
-    "SLOTS_PER_HISTORICAL_ROOT": 64,
-    "EPOCHS_PER_HISTORICAL_VECTOR": 64,
-    "EPOCHS_PER_SLASHINGS_VECTOR": 64,
-    "EPOCHS_PER_ETH1_VOTING_PERIOD": 4,
-    "SYNC_COMMITTEE_SIZE": 32,
-    "MIN_PER_EPOCH_CHURN_LIMIT": 2,
-    "CHURN_LIMIT_QUOTIENT": 32,
-}
+OF_MINIMAL = {"EPOCHS_PER_HISTORICAL_VECTOR": 64, "EPOCHS_PER_ETH1_VOTING_PERIOD": 4, "SYNC_COMMITTEE_SIZE": 32}
+NUMBERS = tuple(name.upper() for name in altair_close.Settings._fields)
+MAINNET = {**dict(zip(NUMBERS, altair_close.MAINNET)), **BESIDES}
+MINIMAL = {**dict(zip(NUMBERS, altair_close.MINIMAL)), **BESIDES, **OF_MINIMAL}
 PRESETS = {"mainnet": MAINNET, "minimal": MINIMAL}
 # what stands in config.yaml and in no preset: never taken from a preset where a file is given
-CONFIG = list(MAINNET)[-6:]
+CONFIG = """INACTIVITY_SCORE_BIAS INACTIVITY_SCORE_RECOVERY_RATE MIN_VALIDATOR_WITHDRAWABILITY_DELAY EJECTION_BALANCE
+MIN_PER_EPOCH_CHURN_LIMIT CHURN_LIMIT_QUOTIENT""".split()
 # lengths of vectors, and how long one may be here
 VECTORS = """SLOTS_PER_HISTORICAL_ROOT EPOCHS_PER_HISTORICAL_VECTOR EPOCHS_PER_SLASHINGS_VECTOR SYNC_COMMITTEE_SIZE
 BYTES_PER_LOGS_BLOOM""".split()
@@ -69,7 +44,7 @@ def of_record(settings, pair="altair"):
     values = dict(settings)
     for name in PAIR:
         values[f"{name}_ALTAIR"] = settings[f"{name}_{pair.upper()}"]
-    return tuple(values[name.upper()] for name in record_file.SETTINGS)
+    return tuple(values[name] for name in NUMBERS)
 
 
 def from_files(files):

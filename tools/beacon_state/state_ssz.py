@@ -2,14 +2,13 @@
 
 No number is made on the way: every number of both forms is little-endian, so that a column of n numbers is moved as one strided
 slice for each of its bytes."""
-from . import record_file
 from .containers import FORKS, Validator, beacon_state
 from .errors import Bad, counted
-from .record_file import CHECKPOINTS, ENTRY, Record
+from .record_file import CHECKPOINTS, ENTRY, MOST_VALIDATORS, VALIDATOR, Record
 from .ssz import OFFSET, check, split
 
 # a validator's ten numbers: the state's list, and the field of its entry
-COLUMNS = [("validators", name) for name in record_file.VALIDATOR[:6]] + [
+COLUMNS = [("validators", name) for name in VALIDATOR[:6]] + [
     ("balances", ""),
     ("previous_epoch_participation", ""),
     ("current_epoch_participation", ""),
@@ -94,29 +93,5 @@ def equal_counts(counts, places):
     for name, count in counts.items():
         if count != counts["validators"]:
             raise Bad(f"{counted(count, 'entry')}, and there are {counted(counts['validators'], 'validator')}", name, places[name])
-    if counts["validators"] > record_file.MOST_VALIDATORS:
+    if counts["validators"] > MOST_VALIDATORS:
         raise Bad(f"{counts['validators']} entries, and a record has at most 2^24", "validators", places["validators"])
-
-
-def closes(record, opening):
-    """Refuses a record that is not the close of an opening, or does not fit a state."""
-    counts = [(len(r.registry) // ENTRY, len(r.block_roots) // 32, len(r.slashings) // 8) for r in (record, opening)]
-    for k, (name, there, wanted) in enumerate(zip(("validator", "block root", "slashing"), *counts)):
-        if there != wanted:
-            raise Bad(f"{counted(there, name)}, and the state has {wanted}", "header", 16 + 8 * k)
-    if record.slot != opening.slot:
-        raise Bad(f"{record.slot}, and the state's is {opening.slot}; a close leaves it", "slot", record_file.FINALITY)
-    if record.block_roots != opening.block_roots:
-        i = next(i for i in range(counts[0][1]) if record.block_roots[32 * i :][:32] != opening.block_roots[32 * i :][:32])
-        at = record_file.header(*counts[0])[8] + 32 * i
-        raise Bad("not the state's; a close leaves them", f"block_roots[{i}]", at)
-    if record.justification_bits > 15:
-        raise Bad(f"{record.justification_bits}, and at most 15 is allowed", "justification_bits", record_file.FINALITY + 8)
-    for place, largest in (1, 1), (7, 255), (8, 255):
-        low, *high = (record.registry[8 * place + k :: ENTRY] for k in range(8))
-        if (low and max(low) > largest) or any(map(any, high)):
-            i = next(i for i in range(record.validators) if low[i] > largest or any(part[i] for part in high))
-            at = ENTRY * i + 8 * place
-            number = int.from_bytes(record.registry[at : at + 8], "little")
-            field = f"validators[{i}].{record_file.VALIDATOR[place]}"
-            raise Bad(f"{number}, and at most {largest} is allowed", field, record_file.REGISTRY + at)
