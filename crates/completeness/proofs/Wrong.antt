@@ -1,15 +1,21 @@
--- A wrong statement, shut out: that on 3 the closing buffers hold the opening, as on 4 and 5.
+-- Two wrong statements, shut out: that on 3 the closing buffers hold the opening, as on 4 and 5; and that the activation queue goes by
+-- the validators' numbers alone.
 use mathlib.Core.Path.{_≡_, refl, ap}
-use mathlib.Core.List.{List, [], _∷_}
+use mathlib.Core.Bool.{Bool, cond, _&&_}
+use mathlib.Core.List.{List, [], _∷_, map}
 use mathlib.Core.Logic.{inl}
 use Prim.Native.Nat.{ℕ}
 use native.Mathlib.Omega.{arith}
-use lib.ListN.{getD, replicate}
+use lib.Dec.{ltb}
+use lib.ListN.{length, getD, replicate}
 use Rattle.types.specs.declared.Checkpoint.{Checkpoint}
-use Rattle.definitions.specs.Lists.{all}
-use Rattle.definitions.specs.Record.{decode, decodeFirst}
+use Rattle.definitions.specs.Lists.{all, filter, range, insert, sorted}
+use Rattle.definitions.specs.Record.{Validator, «FAR_FUTURE_EPOCH», decodeOne, decode, decodeFirst, nobody}
+use Rattle.definitions.specs.Updates.{withActivation}
 use Rattle.definitions.specs.Checked.{bind}
 use Rattle.definitions.specs.Refusals.{inOrder, settingsShaped, registryShaped, goodSettings, goodFinality, goodRegistry, afterTests, closingBuffer}
+use Rattle.definitions.specs.Document.Phase0.Helpers.{«is_eligible_for_activation»}
+use Rattle.definitions.specs.Document.Phase0.EpochProcessing.{activationQueue, dequeued}
 use Rattle.definitions.specs.Close.{Call, closeTests, closed, close}
 use Rattle.agreement.specs.Restored.{OneOf, Opening}
 use Rattle.completeness.specs.Records.{least, callOf}
@@ -37,3 +43,21 @@ badBits =
 pub not-restored-on-three : ((c : Call) → OneOf (close c .refusal) (3 ∷ 4 ∷ 5 ∷ []) → Opening c) → ⊥
 unfolding close closed closeTests afterTests closingBuffer bind inOrder settingsShaped registryShaped goodSettings goodFinality goodRegistry decode decodeFirst all
 not-restored-on-three h = let e : _≡_ {A = ℕ} 1 0 = ap (λ xs. getD xs 0 0) (h badBits (inl refl) .slashings) in omega arith
+
+-- those with fewer than `limit` eligible ones of smaller numbers
+abbrev activatedByNumber : ℕ → ℕ → ℕ → List Validator → List Validator
+activatedByNumber epoch limit finalizedEpoch vs =
+    let eligible : ℕ → Bool = λ i. «is_eligible_for_activation» finalizedEpoch (getD vs i nobody) in
+    let ahead : ℕ → ℕ = λ i. length (filter (λ j. eligible j && ltb j i) (range 0 (length vs))) in
+    map (λ i. let v = getD vs i nobody in cond (eligible i && ltb (ahead i) limit) (withActivation epoch v) v) (range 0 (length vs))
+
+-- eligible since this epoch, and waiting
+abbrev waiting : ℕ → Validator
+waiting epoch = decodeOne (32_000_000_000 ∷ 0 ∷ epoch ∷ «FAR_FUTURE_EPOCH» ∷ «FAR_FUTURE_EPOCH» ∷ «FAR_FUTURE_EPOCH» ∷ 32_000_000_000 ∷ 0 ∷ 0 ∷ 0 ∷ [])
+
+-- the second has waited longer, and is the one that is activated
+pub not-by-number : ((epoch limit finalizedEpoch : ℕ) (vs : List Validator) → activatedByNumber epoch limit finalizedEpoch vs ≡ dequeued epoch limit finalizedEpoch vs) → ⊥
+unfolding dequeued activationQueue «is_eligible_for_activation» filter range sorted insert
+not-by-number h =
+    let e : _≡_ {A = ℕ} 9 «FAR_FUTURE_EPOCH» = ap (λ vs. getD vs 0 nobody .«activation_epoch») (h 9 1 2 (waiting 2 ∷ waiting 1 ∷ [])) in
+    omega arith
