@@ -1,6 +1,6 @@
 -- Demand 2 and the table of refusals of the exported calls.
 use mathlib.Core.Path.{_≡_, refl, sym, ap, _∙_}
-use mathlib.Core.Bool.{Bool, true, false}
+use mathlib.Core.Bool.{Bool, true, false, cond}
 use mathlib.Core.List.{List, [], _∷_}
 use mathlib.Core.Logic.{_⊎_, inl, inr, ⊎-elim}
 use Prim.Native.Nat.{ℕ}
@@ -10,21 +10,22 @@ use Rattle.types.specs.declared.Finality.{Finality}
 use Rattle.types.specs.declared.FinalityAnswer.{FinalityAnswer}
 use Rattle.definitions.specs.Record.{Validator, BeaconState, encode, decode}
 use Rattle.definitions.specs.Updates.{withValidators, withSlashings, withFinality}
-use Rattle.definitions.specs.Checked.{Refusal, badShape, badRecord, noRoot, overflow, Checked, value, refused, bind, numberOf, codeOf, settle}
+use Rattle.definitions.specs.Checked.{Refusal, badShape, badRecord, badFile, overflow, Checked, value, refused, bind, numberOf, codeOf, settle}
 use Rattle.definitions.specs.Answers.{finalityAnswerFor}
 use Rattle.definitions.specs.Refusals.{inOrder, afterTests, closingBuffer, justificationTests, registryTests, slashingsTests, effectiveBalanceTests, slashingsResetTests, rotationTests}
 use Rattle.definitions.specs.Document.Altair.EpochProcessing as document
 use Rattle.definitions.specs.Rust.Phase0.EpochProcessing.{resetSlashings}
 use Rattle.definitions.specs.Rust.Altair.EpochProcessing as rust
 use Rattle.definitions.specs.Close.{onValidators, finalizedEpochOf, Step, justificationStep, inactivityStep, rewardsStep, registryStep, slashingsStep, effectiveBalancesStep, slashingsResetStep, participationFlagsStep, step, «process_epoch», Call, stateOf, closeTests, closed, close, Outcome}
+use Rattle.definitions.specs.File.{Contents, contentsOf, goodHeader, writeTests, readTests, readFile, read}
 use Rattle.agreement.specs.Agreement.{documentStep}
 use Rattle.agreement.specs.Bounds.{Passed}
 use Rattle.agreement.specs.Restored.{OneOf}
 use Rattle.buffers.specs.Closes.{Closes}
 use Rattle.completeness.specs.DocumentIn64Bits as in64
-use Rattle.completeness.specs.Complete.{StepParts, CloseParts}
-use Rattle.completeness.specs.Calls.{registryOf, slashingsOf, outcomeOf, DocumentClosed, CloseCall, ByNumber, StepCall, StepCalls, JustificationCall, JustificationCalls}
-use Rattle.laws.proofs.Checked.{bound, not-value}
+use Rattle.completeness.specs.Complete.{CloseParts}
+use Rattle.completeness.specs.Calls.{registryOf, slashingsOf, outcomeOf, DocumentClosed, CloseCall, ByNumber, StepCall, StepCalls, JustificationCall, JustificationCalls, FileCalls}
+use Rattle.laws.proofs.Checked.{bound}
 use Rattle.agreement.proofs.Agrees.{Agrees, Overflow, not-refused}
 use Rattle.agreement.proofs.Bounds.{close-passed, tests-passed}
 use Rattle.agreement.proofs.Justification.{justification}
@@ -241,3 +242,28 @@ pub justification-calls : JustificationCalls
 unfolding justificationTests
 justification-calls s st registry answer e h =
     answered s st (justificationTests s (st .«block_roots») (st .finality) registry) _ (tests-number _ _ _) (justification-refused s st) (justification-gave s st) answer (rw e at h)
+
+-- Files
+
+read-number : (header a b d : Bool) (c : Contents) → OneOf (codeOf (bind (cond header (inOrder a b d) (refused badFile)) (λ _. value c))) (0 ∷ 1 ∷ 2 ∷ 3 ∷ 6 ∷ [])
+unfolding inOrder bind
+read-number false a b d c = inr (inr (inr (inr (inl refl))))
+read-number true false b d c = inr (inl refl)
+read-number true true false d c = inr (inr (inl refl))
+read-number true true true false c = inr (inr (inr (inl refl)))
+read-number true true true true c = inl refl
+
+write-number : (a b d : Bool) → OneOf (codeOf (inOrder a b d)) (0 ∷ 1 ∷ 2 ∷ 3 ∷ [])
+unfolding inOrder
+write-number false b d = inr (inl refl)
+write-number true false d = inr (inr (inl refl))
+write-number true true false = inr (inr (inr (inl refl)))
+write-number true true true = inl refl
+
+pub file-calls : FileCalls
+unfolding read readFile readTests writeTests
+file-calls =
+    record {
+      reads = λ bytes registry slashings. read-number (goodHeader bytes) _ _ _ (contentsOf bytes);
+      writes = λ c file. write-number _ _ _;
+    }

@@ -21,7 +21,7 @@ use Rattle.definitions.specs.Rust.Altair.EpochProcessing as byValidator
 use Rattle.completeness.specs.ListByList as byLists
 use Rattle.completeness.specs.ListByList.{traverse, zipChecked, SameByLists, LeavesOfOne}
 use Rattle.laws.proofs.Checked.{bound, value-same}
-use Rattle.agreement.proofs.Agrees.{Agrees, Overflow, value-agrees, bind-agrees, cond-agrees, map-agrees, fold-agrees}
+use Rattle.agreement.proofs.Agrees.{Agrees, Overflow, bind-agrees, map-agrees, fold-agrees}
 use Rattle.agreement.proofs.Deltas.{totalsOf, flag-totals, flag-deltas, inactivity-deltas}
 use Rattle.agreement.proofs.Rewards.{map-same, apply-delta}
 use Rattle.completeness.proofs.Laws.{traverse-agrees}

@@ -1,13 +1,12 @@
 -- The smallest records of docs/DIFFERENCES.md, by computing.
-use mathlib.Core.Path.{_≡_, refl}
-use mathlib.Core.List.{List, [], _∷_, zipWith}
+use mathlib.Core.Path.{refl}
+use mathlib.Core.List.{List, [], zipWith}
 use mathlib.Core.Logic.{inl}
-use Prim.Native.Nat.{ℕ, _-_, _^_}
+use Prim.Native.Nat.{ℕ}
 use native.Mathlib.Omega.{arith}
-use lib.ListN.{replicate}
 use Rattle.definitions.specs.Lists.{all, filter, sum, range, sorted}
 use Rattle.definitions.specs.Record.{decode, decodeFirst}
-use Rattle.definitions.specs.Checked.{value, refused, overflow, bind, add64, sub64, mul64, sum64, mapChecked, foldChecked}
+use Rattle.definitions.specs.Checked.{bind, add64, sub64, mul64, sum64, mapChecked, foldChecked}
 use Rattle.definitions.specs.Refusals.{inOrder, settingsShaped, registryShaped, goodSettings, goodFinality, goodRegistry, goodValidator}
 use Rattle.definitions.specs.Document.Phase0.Helpers as documentHelpers
 use Rattle.definitions.specs.Document.Phase0.Helpers.{«integer_squareroot», rootWithin, «is_active_validator», «decrease_balance», «compute_epoch_at_slot», «get_current_epoch», «get_previous_epoch», «get_active_validator_indices», «get_validator_churn_limit»}
@@ -26,7 +25,6 @@ use Rattle.completeness.specs.ListByList as byLists
 use Rattle.completeness.specs.DocumentIn64Bits as in64
 use Rattle.completeness.specs.ListByList.{traverse, zipChecked}
 use Rattle.completeness.specs.Rows.{FinalizedAhead, nobodyEligible, nobodyHits, noValidators, atInactivity, atEffectiveBalances}
-use Rattle.completeness.specs.Complete.{StepParts, CloseParts}
 use Rattle.completeness.specs.Records.{least, callOf, ahead, missed, Records}
 
 is-ahead : (registry : List ℕ) → let c = callOf (least 1 0 0) registry 1 1 in FinalizedAhead (c .settings) (stateOf c)

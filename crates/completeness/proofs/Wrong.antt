@@ -18,7 +18,7 @@ use Rattle.definitions.specs.Document.Phase0.Helpers.{«is_eligible_for_activat
 use Rattle.definitions.specs.Document.Phase0.EpochProcessing.{activationQueue, dequeued}
 use Rattle.definitions.specs.Close.{Call, closeTests, closed, close}
 use Rattle.agreement.specs.Restored.{OneOf, Opening}
-use Rattle.completeness.specs.Records.{least, callOf}
+use Rattle.completeness.specs.Records.{least}
 
 -- 16 is no number of four bits, and the closing slashings hold 1 where the opening has 0
 abbrev badBits : Call

@@ -1,5 +1,5 @@
 -- Demand 2 of every exported call, and document 01's table of "What is returned" by number, in the terms that the contracts cite: the
--- close (definitions, Close.antt), the seven steps with a closing buffer (buffers, Closes.antt), and justification.
+-- close (definitions, Close.antt), the seven steps with a closing buffer (buffers, Closes.antt), justification, and files.
 use mathlib.Core.Path.{_≡_}
 use mathlib.Core.List.{List, [], _∷_}
 use mathlib.Core.Logic.{_⊎_}
@@ -14,6 +14,7 @@ use Rattle.definitions.specs.Document.Altair.EpochProcessing as Document
 use Rattle.definitions.specs.Rust.Phase0.EpochProcessing.{«process_registry_updates», «process_effective_balance_updates», resetSlashings}
 use Rattle.definitions.specs.Rust.Altair.EpochProcessing.{«process_justification_and_finalization», «process_inactivity_updates», «process_rewards_and_penalties», «process_slashings», «process_participation_flag_updates»}
 use Rattle.definitions.specs.Close.{finalizedEpochOf, Step, justificationStep, inactivityStep, rewardsStep, registryStep, slashingsStep, effectiveBalancesStep, slashingsResetStep, participationFlagsStep, Call, stateOf, closeTests, close, Outcome}
+use Rattle.definitions.specs.File.{Contents, writeTests, read}
 use Rattle.agreement.specs.Agreement.{documentStep}
 use Rattle.agreement.specs.Restored.{OneOf}
 use Rattle.buffers.specs.Closes.{Closes}
@@ -81,3 +82,8 @@ pub record JustificationCall (s : Settings) (st : BeaconState) (answer : Finalit
 
 abbrev pub JustificationCalls : Type 0
 JustificationCalls = (s : Settings) (st : BeaconState) (registry : List ℕ) (answer : FinalityAnswer) → decode registry ≡ st .validators → answer ≡ finalityAnswerFor (afterTests (justificationTests s (st .«block_roots») (st .finality) registry) («process_justification_and_finalization» s (st .«block_roots») (st .finality) (decode registry))) (st .finality) → JustificationCall s st answer
+
+-- Files: the numbers. What is left on a refusal is round_trip, Refused.antt.
+pub record FileCalls : Type 0 where
+  pub reads : (bytes registry slashings : List ℕ) → OneOf (read bytes registry slashings .refusal) (0 ∷ 1 ∷ 2 ∷ 3 ∷ 6 ∷ [])
+  pub writes : (c : Contents) (file : List ℕ) → OneOf (codeOf (writeTests c file)) (0 ∷ 1 ∷ 2 ∷ 3 ∷ [])
