@@ -308,6 +308,20 @@ static void the_file(void) {
     SAME(header.refusal, 6), SAME(header.validators, 0);
 }
 
+/* the functions that are plain C */
+static void in_c(void) {
+    uint64_t five[FIVE + 1];
+    fill(five, 5);
+    five[FIVE] = 99;
+    SAME(altair_preset("mainnet")->churn_limit_quotient, 65536), SAME(altair_preset("minimal")->slots_per_epoch, 8);
+    SAME(altair_preset("Mainnet") == NULL, 1), SAME(altair_preset(NULL) == NULL, 1);
+    SAME(strcmp(altair_refusal_text(0), "accepted"), 0), SAME(strstr(altair_refusal_text(5), "leaves 64 bits") != NULL, 1);
+    SAME(altair_refusal_text(UINT64_MAX) == altair_refusal_text(1000), 1);
+    /* a step from a registry into itself, one number on: refused, and nothing is written */
+    SAME(altair_checked_process_participation_flag_updates(five, FIVE, five + 1, FIVE), 1), SAME(five[FIVE], 99);
+    SAME(altair_checked_process_participation_flag_updates(NULL, 0, NULL, 0), 0);
+}
+
 int main(void) {
     slots_and_epochs();
     opening_hours();
@@ -316,6 +330,7 @@ int main(void) {
     the_registry();
     the_steps();
     the_file();
+    in_c();
     printf("%d figures agreed, %d did not\n", agreed, parted);
     return parted != 0;
 }
