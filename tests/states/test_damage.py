@@ -34,7 +34,7 @@ class Damaged(unittest.TestCase):
         """The state is refused in one line that has these parts, and nothing is written."""
         with Directory() as at:
             at.write("state", data)
-            said = run("record", "--preset", "minimal", at / "state", at / "made")
+            said = run("record", "--preset", "minimal", "--pair", "altair", at / "state", at / "made")
             self.assertEqual((said.code, at.names()), (1, ["state"]), said.err)
             self.assertEqual(said.err.count("\n"), 1, said.err)
             for part in parts:
@@ -163,7 +163,7 @@ class Damaged(unittest.TestCase):
                 data = data[:cut] + rng.randbytes(rng.choice([0, 1, 4, 50])) + data[cut + rng.choice([0, 1, 7]) :]
             with self.subTest(k=k), Directory() as at:
                 at.write("state", data)
-                said = run("record", "--preset", "minimal", at / "state", at / "made")
+                said = run("record", "--preset", "minimal", "--pair", "altair", at / "state", at / "made")
                 if said.code == 0:
                     taken += 1
                     self.assertEqual(run("back", "--preset", "minimal", at / "state", at / "made", at / "again").code, 0)

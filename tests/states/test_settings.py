@@ -36,9 +36,9 @@ SIZES.update(INACTIVITY_PENALTY_QUOTIENT_BELLATRIX=101, PROPORTIONAL_SLASHING_MU
 
 
 class Settings(unittest.TestCase):
-    def made(self, *files, words=(), others=1):
+    def made(self, *files, words=(), others=1, fork="altair"):
         """What is said, and the record's nineteen numbers; None where it is refused."""
-        state = encoder.random_state(random.Random(1), "minimal", "altair", 2, others)
+        state = encoder.random_state(random.Random(1), "minimal", fork, 2, others)
         with Directory() as at:
             at.write("state", encoder.ssz(state))
             for k, file in enumerate(files):
@@ -74,7 +74,8 @@ class Settings(unittest.TestCase):
         for file in answer, json.dumps(everything), yaml, yaml + "PRESET_BASE: other\n":
             self.assertEqual(self.made(file.encode())[1], tuple(numbers.values()))
         numbers.update(INACTIVITY_PENALTY_QUOTIENT_ALTAIR=101, PROPORTIONAL_SLASHING_MULTIPLIER_ALTAIR=102)
-        self.assertEqual(self.made(yaml.encode(), words=("--pair", "bellatrix"))[1], tuple(numbers.values()))
+        made = self.made(yaml.encode(), words=("--pair", "bellatrix"), fork="bellatrix")
+        self.assertEqual(made[1], tuple(numbers.values()))
 
     def test_the_presets(self):
         for name, numbers in encoder.SETTINGS.items():

@@ -38,10 +38,9 @@ class Records(unittest.TestCase):
         for preset, fork, state in states(1):
             with self.subTest(preset=preset, fork=fork, validators=len(state["validators"])), Directory() as at:
                 at.write("state", encoder.ssz(state))
-                said = run("record", "--preset", preset, at / "state", at / "made")
+                said = run("record", "--preset", preset, "--pair", "altair", at / "state", at / "made")
                 self.assertEqual(said.code, 0, said.err)
                 self.assertEqual(at.read("made"), encoder.record(state, encoder.SETTINGS[preset]))
-                self.assertEqual("pair of altair" in said.err, fork == "bellatrix")
 
     def test_json_to_record(self):
         for preset, fork, state in states(2):
@@ -49,19 +48,25 @@ class Records(unittest.TestCase):
             for layout in layouts if preset == "minimal" else layouts[:1]:
                 with self.subTest(preset=preset, fork=fork, layout=layout), Directory() as at:
                     at.write("state", encoder.text(state, **layout))
-                    said = run("record", "--preset", preset, at / "state", at / "made")
+                    said = run("record", "--preset", preset, "--pair", "altair", at / "state", at / "made")
                     self.assertEqual(said.code, 0, said.err)
                     self.assertEqual(at.read("made"), encoder.record(state, encoder.SETTINGS[preset]))
 
-    def test_the_pair_of_bellatrix(self):
-        state = encoder.random_state(random.Random(3), "minimal", "bellatrix", 2, 1)
+    def test_the_pair(self):
+        """A Bellatrix state is never taken for an Altair one in silence, nor the other way."""
+        altair, bellatrix = (encoder.random_state(random.Random(3), "minimal", fork, 2, 1) for fork in ("altair", "bellatrix"))
         numbers = list(encoder.SETTINGS["minimal"])
         numbers[12:14] = encoder.BELLATRIX_PAIR
         with Directory() as at:
-            at.write("state", encoder.ssz(state))
-            said = run("record", "--preset", "minimal", "--pair", "bellatrix", at / "state", at / "made")
-            self.assertEqual(at.read("made"), encoder.record(state, numbers))
-            self.assertNotIn("pair", said.err)
+            at.write("state", encoder.ssz(bellatrix))
+            said = run("record", "--preset", "minimal", at / "state", at / "made")
+            self.assertEqual((said.code, at.names()), (2, ["state"]))
+            self.assertIn("say --pair bellatrix or --pair altair", said.err)
+            self.assertEqual(run("record", "--preset", "minimal", "--pair", "bellatrix", at / "state", at / "made").code, 0)
+            self.assertEqual(at.read("made"), encoder.record(bellatrix, numbers))
+            at.write("state", encoder.ssz(altair))
+            said = run("record", "--preset", "minimal", "--pair", "bellatrix", "--force", at / "state", at / "made")
+            self.assertEqual((said.code, said.err), (2, "state: a state of Altair, and --pair bellatrix\n"))
 
     def test_the_end_of_an_epoch(self):
         for slot, ended in (127, True), (126, False), (128, False), (95, True):
@@ -99,7 +104,7 @@ class Records(unittest.TestCase):
         for form in encoder.ssz(state), encoder.text(state, "bellatrix"):
             with Directory() as at:
                 at.write("state", form)
-                run("record", at / "state", at / "made")
+                run("record", "--pair", "bellatrix", at / "state", at / "made")
                 said = run("back", at / "state", at / "made", at / "again")
                 self.assertEqual((said.code, said.err), (0, ""))
                 self.assertEqual(at.read("again"), form)

@@ -43,9 +43,8 @@ def arguments():
     record.add_argument(
         "--pair",
         choices=FORKS,
-        default="altair",
-        help="whose inactivity penalty quotient and slashing multiplier go into the record (altair); a Bellatrix state closed by a "
-        "program that knows Altair alone wants bellatrix",
+        help="must be said of a Bellatrix state, since a record names no fork: whose inactivity penalty quotient and slashing "
+        "multiplier go into it. bellatrix for a program that closes as Altair; altair for a call that is told the fork and the pair",
     )
     record.add_argument("state", metavar="STATE")
     record.add_argument("made", metavar="RECORD")
@@ -81,13 +80,11 @@ def opened(file, settings, numbers):
 
 def to_record(given, settings):
     with naming(given.state), source(given.state) as file:
-        _, fork, record = opened(file, settings, settings_of.of_record(settings, given.pair))
-    if fork != given.pair:
-        quotient, multiplier = (settings[f"{part}_{fork.upper()}"] for part in settings_of.PAIR)
-        note(
-            f"a state of {fork}, and the record has the pair of {given.pair}: close it as {fork}, "
-            f"with {quotient} and {multiplier}, or give --pair {fork}"
-        )
+        _, fork, record = opened(file, settings, settings_of.of_record(settings, given.pair or FORKS[0]))
+    if fork == "bellatrix" and not given.pair:
+        raise Stopped("a state of Bellatrix, and a record names no fork: say --pair bellatrix or --pair altair (see --help)")
+    if fork == "altair" and given.pair == "bellatrix":
+        raise Stopped("a state of Altair, and --pair bellatrix")
     slots = settings["SLOTS_PER_EPOCH"]
     if slots and (record.slot + 1) % slots:
         epoch = record.slot // slots

@@ -2,7 +2,6 @@
 import http.server
 import os
 import re
-import shutil
 import subprocess
 import threading
 import unittest
@@ -42,7 +41,6 @@ class Node(http.server.BaseHTTPRequestHandler):
         pass
 
 
-@unittest.skipUnless(shutil.which("curl"), "curl is missing")
 class Readme(unittest.TestCase):
     def setUp(self):
         self.at = Directory().__enter__()
