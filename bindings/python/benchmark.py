@@ -25,14 +25,17 @@ def record(validators):
 
 
 def least(rounds, calls):
-    """The least time of each call, in milliseconds."""
-    times = {name: [] for name in calls}
-    for _ in range(rounds):
+    """The least time of each call in milliseconds, the C function's first. Where a round was disturbed, up to ten times as many
+    follow: a call that costs more stays above the limit."""
+    times = dict.fromkeys(calls, float("inf"))
+    for round_ in range(10 * rounds):
         for name, call in calls.items():
             began = time.perf_counter()
             call()
-            times[name].append(1000 * (time.perf_counter() - began))
-    return {name: min(found) for name, found in times.items()}
+            times[name] = min(times[name], 1000 * (time.perf_counter() - began))
+        if round_ + 1 >= rounds and max(times.values()) <= LIMIT * next(iter(times.values())):
+            break
+    return times
 
 
 def calls(opening):

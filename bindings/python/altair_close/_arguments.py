@@ -39,10 +39,10 @@ def number(name, value, largest=LARGEST):
 
 def numbers(name, value):
     """A list's or tuple's numbers, in an array of their own."""
-    if bool not in set(map(type, value)):
+    if set(map(type, value)) <= {int}:
         try:
             return array("Q", value)
-        except (TypeError, OverflowError):
+        except OverflowError:
             pass
     return array("Q", [number(f"{name}[{i}]", item) for i, item in enumerate(value)])
 
@@ -168,9 +168,9 @@ class Settings:
     words = (SettingsWords,)
 
     def lend(self, name, value, lent):
-        if not isinstance(value, _types.Settings):
+        if not isinstance(value, _types.Settings) or len(value) != len(_types.Settings._fields):
             raise TypeError(f"{name}: Settings are wanted, not {kind_of(value)}")
-        fields = [number(f"{name}.{field}", item) for field, item in zip(value._fields, value)]
+        fields = [number(f"{name}.{field}", item) for field, item in zip(_types.Settings._fields, value)]
         return (SettingsWords.from_buffer_copy(_SETTINGS.pack(*fields)),)
 
 
@@ -188,15 +188,16 @@ class Finality:
     words = (FinalityWords,)
 
     def lend(self, name, value, lent):
-        if not isinstance(value, _types.Finality):
+        fields = _types.Finality._fields
+        if not isinstance(value, _types.Finality) or len(value) != len(fields):
             raise TypeError(f"{name}: a Finality is wanted, not {kind_of(value)}")
-        parts = [number(f"{name}.{field}", item) for field, item in zip(value._fields[:2], value)]
-        for field, checkpoint in zip(value._fields[2:], value[2:]):
+        parts = [number(f"{name}.{field}", item) for field, item in zip(fields[:2], value)]
+        for field, checkpoint in zip(fields[2:], value[2:]):
             parts += self.checkpoint(f"{name}.{field}", checkpoint)
         return (FinalityWords.from_buffer_copy(_FINALITY.pack(*parts)),)
 
     def checkpoint(self, name, value):
-        if not isinstance(value, _types.Checkpoint):
+        if not isinstance(value, _types.Checkpoint) or len(value) != 2:
             raise TypeError(f"{name}: a Checkpoint is wanted, not {kind_of(value)}")
         root = BYTES.checked(f"{name}.root", value.root, False)
         if root.count != 32:

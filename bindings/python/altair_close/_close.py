@@ -1,5 +1,6 @@
 """The whole close, and the figures of its listing."""
-from ._signatures import answered, call, function, lend
+from ._refusals import Refused
+from ._signatures import LINE, call, function, lend
 from ._types import VALIDATOR_LENGTH
 
 
@@ -37,6 +38,9 @@ def listing_lines(opening, closing):
     """Every validator's line, in order. The registries are checked and lent once."""
     lent = {}
     *words, _ = lend("listing_line", (opening, closing, 0), lent)
-    line = function("listing_line")
+    line, given = function("listing_line"), LINE.given
     for index in range(lent["opening"].count // VALIDATOR_LENGTH):
-        yield answered("listing_line", line(*words, index), {})
+        answer = line(*words, index)
+        if answer.refusal != 0:
+            raise Refused(answer.refusal)
+        yield given(answer)

@@ -7,7 +7,9 @@
 '-' is standard input or output. The text is JSON; samples/example.json is one, and altair_close/text.py says what it holds. What
 is no record is refused with the field that is at fault; --unchecked also writes records that the library refuses.
 Exit status: 0; 1 where text or file is no record that the library takes; 2 where it could not be read or written."""
+import contextlib
 import os
+import shutil
 import sys
 
 from . import _layout, text
@@ -36,14 +38,25 @@ def read(source):
 
 
 def put(target, parts):
+    """Writes the parts. A file has all of them or is as it was."""
+    path = os.path.realpath(target)
     if target == "-":
-        for part in parts:
-            stream("stdout").write(part)
+        stream("stdout").writelines(parts)
         stream("stdout").flush()
+    elif os.path.exists(path) and not os.path.isfile(path):
+        with open(path, "wb") as file:  # a pipe or a device
+            file.writelines(parts)
     else:
-        with open(target, "wb") as file:
-            for part in parts:
-                file.write(part)
+        made = f"{path}.{os.getpid()}.new"
+        try:
+            with open(made, "xb") as file:
+                file.writelines(parts)
+            if os.path.exists(path):
+                shutil.copymode(path, made)
+            os.replace(made, path)
+        finally:
+            with contextlib.suppress(OSError):
+                os.unlink(made)
 
 
 def write(source, target, unchecked):

@@ -20,3 +20,6 @@ class Refused(Exception):
         what = "" if field is None else f": {field}"
         super().__init__(f"refused {number}: {REFUSALS.get(number, 'a number that this version does not know')}{where}{what}")
         self.number, self.position, self.field = number, position, field
+
+    def __reduce__(self):
+        return Refused, (self.number, self.position, self.field)

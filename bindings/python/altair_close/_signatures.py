@@ -67,9 +67,9 @@ DELTAS = Answer(DeltasAnswer, lambda answer: Deltas(answer.reward, answer.penalt
 ROOT = Answer(RootAnswer, lambda answer: bytes(answer.root))
 FINALITY_AFTER = Answer(FinalityAnswer, lambda answer: finality_of(answer.finality))
 CLOSED = Answer(FinalityAnswer, lambda answer, *written: Closed(finality_of(answer.finality), *written))
-HEAD = Answer(LineAnswer, lambda answer: Head(*answer.numbers))
-LINE = Answer(LineAnswer, lambda answer: Line(*answer.numbers))
-HEADER = Answer(HeaderAnswer, lambda answer: Header(*answer.numbers))
+HEAD = Answer(LineAnswer, lambda answer: Head(*answer.numbers[:]))
+LINE = Answer(LineAnswer, lambda answer: Line(*answer.numbers[:]))
+HEADER = Answer(HeaderAnswer, lambda answer: Header(*answer.numbers[:]))
 READ = Answer(ReadAnswer, lambda answer, *written: (settings_of(answer.settings), finality_of(answer.finality), *written))
 
 
@@ -199,8 +199,10 @@ def lend(name, values, lent):
     return words
 
 
-def answered(name, answer, lent):
-    """What Python gives for C's answer; Refused where its number is not 0."""
+def call(name, *values):
+    """Calls altair_NAME: the values are checked and lent, and what C answers is given, or Refused where its number is not 0."""
+    lent = {}
+    answer = function(name)(*lend(name, values, lent))
     expected = SIGNATURES[name].answer
     refusal = expected.refusal(answer)
     if refusal != 0:
@@ -209,10 +211,3 @@ def answered(name, answer, lent):
     for buffer in written:
         buffer.settle()
     return expected.given(answer, *(buffer.value for buffer in written))
-
-
-def call(name, *values):
-    """Calls altair_NAME: the values are checked, lent, and what comes back is given."""
-    lent = {}
-    words = lend(name, values, lent)
-    return answered(name, function(name)(*words), lent)

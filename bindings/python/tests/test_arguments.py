@@ -1,6 +1,7 @@
 """No argument of a wrong kind reaches C: each raises TypeError or ValueError with the argument's name."""
 import unittest
 from array import array
+from decimal import Decimal
 
 import altair_close as altair
 from altair_close import Checkpoint, Finality, MAINNET, Refused, _arguments as kinds, _signatures
@@ -105,6 +106,13 @@ class Arguments(unittest.TestCase):
             for root in (None, "0" * 32, 32, [0] * 32, bytes(33), b""):
                 self.wrongly(f"closing.{field}.root", head, Finality(1)._replace(**{field: Checkpoint(1, root)}))
 
+    def test_named_tuples_of_another_length(self):
+        head = altair.listing_head
+        self.wrongly("settings", head, tuple.__new__(altair.Settings, MAINNET[:18]), 0, Finality(1), VALIDATOR)
+        self.wrongly("closing", head, MAINNET, 0, tuple.__new__(Finality, (1, 2)), VALIDATOR)
+        checkpoint = tuple.__new__(Checkpoint, (1,))
+        self.wrongly("closing.finalized_checkpoint", head, MAINNET, 0, Finality(1, finalized_checkpoint=checkpoint), VALIDATOR)
+
     def test_the_item_is_named(self):
         registry = list(VALIDATOR)
         registry[6] = -1
@@ -116,6 +124,8 @@ class Arguments(unittest.TestCase):
                 return 127
 
         self.assertEqual(altair.get_current_epoch(MAINNET, Index()), 3)
+        self.assertEqual(altair.process_slashings_reset(altair.MINIMAL, Index(), [Index()] * 64)[1], 127)
+        self.wrongly("validator", altair.is_active_validator, [Decimal("1.5")] * 10, 0)
 
 
 if __name__ == "__main__":

@@ -159,7 +159,11 @@ class Command(unittest.TestCase):
                 found, out, error = self.run_(*words)
                 self.assertEqual((found, out), (status, b""), words)
                 self.assertTrue(error.startswith("record: ") and error.count("\n") == 1, error)
+            limited = f"ulimit -f 1; {sys.executable} {ROOT}/tools/record write {good} {kept}"  # 1024 bytes: a full disk
+            done = subprocess.run(["bash", "-c", limited], capture_output=True)
+            self.assertEqual((done.returncode, done.stderr[:8]), (2, b"record: "))
             self.assertEqual(kept.read_bytes(), b"kept")
+            self.assertEqual(sorted(os.listdir(folder)), ["good.json", "kept", "latin"])
             for words in (f"write {good} - >&-", f"write {good} - >/dev/full", "write - - <&-", "--help >&-",
                           f"write {good} - | true", f"write {kept} - 2>&-", f"write {kept} - 2>/dev/full"):
                 line = f"{sys.executable} {ROOT}/tools/record {words}"
