@@ -149,39 +149,27 @@ def as_long_as(other):
 # By value
 
 
-class SettingsWords(ctypes.Structure):
-    _fields_ = [("numbers", U64 * 19)]
+class Fields:
+    """A named tuple of numbers: a struct of as many 64-bit numbers."""
 
+    def __init__(self, given):
+        self.given = given
+        fields = [("numbers", U64 * len(given._fields))]
+        self.words = (type(given.__name__ + "Words", (ctypes.Structure,), {"_fields_": fields}),)
 
-class ClockWords(ctypes.Structure):
-    _fields_ = [("numbers", U64 * 3)]
+    def lend(self, name, value, lent):
+        fields = self.given._fields
+        if not isinstance(value, self.given) or len(value) != len(fields):
+            raise TypeError(f"{name}: {self.given.__name__} is wanted, not {kind_of(value)}")
+        numbers = [number(f"{name}.{field}", item) for field, item in zip(fields, value)]
+        return (self.words[0].from_buffer_copy(struct.pack(f"<{len(fields)}Q", *numbers)),)
 
 
 class FinalityWords(ctypes.Structure):
     _fields_ = [("numbers", U64 * 17)]
 
 
-_SETTINGS, _CLOCK, _FINALITY = struct.Struct("<19Q"), struct.Struct("<3Q"), struct.Struct("<QQQ32sQ32sQ32s")
-
-
-class Settings:
-    words = (SettingsWords,)
-
-    def lend(self, name, value, lent):
-        if not isinstance(value, _types.Settings) or len(value) != len(_types.Settings._fields):
-            raise TypeError(f"{name}: Settings are wanted, not {kind_of(value)}")
-        fields = [number(f"{name}.{field}", item) for field, item in zip(_types.Settings._fields, value)]
-        return (SettingsWords.from_buffer_copy(_SETTINGS.pack(*fields)),)
-
-
-class Clock:
-    words = (ClockWords,)
-
-    def lend(self, name, value, lent):
-        if not isinstance(value, _types.Clock):
-            raise TypeError(f"{name}: a Clock is wanted, not {kind_of(value)}")
-        fields = [number(f"{name}.{field}", item) for field, item in zip(value._fields, value)]
-        return (ClockWords.from_buffer_copy(_CLOCK.pack(*fields)),)
+_FINALITY = struct.Struct("<QQQ32sQ32sQ32s")
 
 
 class Finality:
@@ -190,7 +178,7 @@ class Finality:
     def lend(self, name, value, lent):
         fields = _types.Finality._fields
         if not isinstance(value, _types.Finality) or len(value) != len(fields):
-            raise TypeError(f"{name}: a Finality is wanted, not {kind_of(value)}")
+            raise TypeError(f"{name}: Finality is wanted, not {kind_of(value)}")
         parts = [number(f"{name}.{field}", item) for field, item in zip(fields[:2], value)]
         for field, checkpoint in zip(fields[2:], value[2:]):
             parts += self.checkpoint(f"{name}.{field}", checkpoint)
@@ -198,15 +186,11 @@ class Finality:
 
     def checkpoint(self, name, value):
         if not isinstance(value, _types.Checkpoint) or len(value) != 2:
-            raise TypeError(f"{name}: a Checkpoint is wanted, not {kind_of(value)}")
+            raise TypeError(f"{name}: Checkpoint is wanted, not {kind_of(value)}")
         root = BYTES.checked(f"{name}.root", value.root, False)
         if root.count != 32:
             raise ValueError(f"{name}.root: 32 bytes are wanted, not {root.count}")
         return number(f"{name}.epoch", value.epoch), bytes(root.view)
-
-
-def settings_of(words):
-    return _types.Settings(*words.numbers)
 
 
 def finality_of(words):
@@ -214,7 +198,7 @@ def finality_of(words):
     return _types.Finality(slot, bits, *(_types.Checkpoint(*rest[i : i + 2]) for i in (0, 2, 4)))
 
 
-SETTINGS, CLOCK, FINALITY = Settings(), Clock(), Finality()
+SETTINGS, CLOCK, FINALITY = Fields(_types.Settings), Fields(_types.Clock), Finality()
 NUMBER, FLAGS = Number(), Number(255, ctypes.c_uint8)
 REGISTRY, SLASHINGS = Numbers(row=10), Numbers()
 VALIDATOR = REGISTRY  # ten numbers: C counts them

@@ -5,7 +5,8 @@ A new function of the library is one entry here and one thin function that calls
     1. its entry in SIGNATURES: the answer, then C's arguments by their names, each with its kind (_arguments.py). A pointer and
        its length are one argument. One that C writes is made by written_registry("opening"), written_slashings(..) or
        Numbers(written=..): where the caller gives None, a buffer as long as that argument is made.
-    2. a struct that C answers and that is new: a ctypes.Structure here, and what Python gives for it, an Answer.
+    2. a struct of numbers that C takes and that is new: a named tuple in _types.py, and Fields(..) of it in _arguments.py. One that
+       C answers: a ctypes.Structure here, and what Python gives for it, an Answer.
     3. the function, in the file of its subject: `return call("name", ..)` with the arguments in C's order; a buffer that is
        written is the keyword `out`. __init__.py hands every public name of _steps.py and _helpers.py on; others are named in it.
 
@@ -16,9 +17,9 @@ from typing import Any, Callable, NamedTuple
 
 from . import _buffers, _layout, _library
 from ._arguments import (BYTES, CHANGED, CLOCK, FINALITY, FLAGS, NUMBER, REGISTRY, ROOTS, SETTINGS, SLASHINGS, U64, VALIDATOR,
-                         Bytes, FinalityWords, Numbers, SettingsWords, as_long_as, finality_of, settings_of)
+                         Bytes, FinalityWords, Numbers, as_long_as, finality_of)
 from ._refusals import Refused
-from ._types import VALIDATOR_LENGTH, Closed, Deltas, Head, Header, Line
+from ._types import VALIDATOR_LENGTH, Closed, Deltas, Head, Header, Line, Settings
 
 VERSION = 1
 
@@ -48,7 +49,7 @@ class LineAnswer(ctypes.Structure):
 
 
 class ReadAnswer(ctypes.Structure):
-    _fields_ = [("refusal", U64), ("position", U64), ("settings", SettingsWords), ("finality", FinalityWords)]
+    _fields_ = [("refusal", U64), ("position", U64), ("settings", SETTINGS.words[0]), ("finality", FinalityWords)]
 
 
 class Answer(NamedTuple):
@@ -70,7 +71,7 @@ CLOSED = Answer(FinalityAnswer, lambda answer, *written: Closed(finality_of(answ
 HEAD = Answer(LineAnswer, lambda answer: Head(*answer.numbers[:]))
 LINE = Answer(LineAnswer, lambda answer: Line(*answer.numbers[:]))
 HEADER = Answer(HeaderAnswer, lambda answer: Header(*answer.numbers[:]))
-READ = Answer(ReadAnswer, lambda answer, *written: (settings_of(answer.settings), finality_of(answer.finality), *written))
+READ = Answer(ReadAnswer, lambda answer, *written: (Settings(*answer.settings.numbers), finality_of(answer.finality), *written))
 
 
 class Signature:

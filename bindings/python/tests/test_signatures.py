@@ -41,9 +41,17 @@ def in_c(name, kind):
         element = "uint8_t" if kind.size == 1 else "uint64_t"
         written = kind.written or isinstance(kind, kinds.Changed)
         return [("" if written else "const ") + element + " *", name, "size_t", name + "_length"]
-    types = {kinds.SettingsWords: "altair_settings", kinds.ClockWords: "altair_clock",
-             kinds.FinalityWords: "altair_finality", ctypes.c_uint8: "uint8_t"}
-    return [types.get(kind.words[0], "uint64_t"), name]
+    if isinstance(kind, kinds.Fields):
+        return ["altair_" + kind.given.__name__.lower(), name]
+    return [{kinds.FinalityWords: "altair_finality", ctypes.c_uint8: "uint8_t"}.get(kind.words[0], "uint64_t"), name]
+
+
+def size(kind, structs):
+    """The bytes of a type of the header."""
+    if kind not in structs:
+        return {"uint8_t": 1, "uint64_t": 8}[kind]
+    parts = re.findall(r"(\w+) \w+(?:\[(\d+)\])?;", structs[kind])
+    return sum(size(part, structs) * int(count or 1) for part, count in parts)
 
 
 class Table(unittest.TestCase):
@@ -66,7 +74,7 @@ class Table(unittest.TestCase):
             self.assertEqual("out" in parameters, writes, name)
             self.assertTrue(getattr(altair_close, name).__doc__, name)
 
-    def test_structs_and_constants_are_the_headers(self):
+    def test_structs_are_the_headers(self):
         structs = dict(re.findall(r"typedef struct (\w+) \{(.*?)\}", text(), flags=re.S))
         names = {name: tuple(re.findall(r"(\w+)(?:\[\d+\])?;", fields)) for name, fields in structs.items()}
         self.assertEqual(names["altair_settings"], altair_close.Settings._fields)
@@ -75,12 +83,15 @@ class Table(unittest.TestCase):
         self.assertEqual(names["altair_checkpoint"], altair_close.Checkpoint._fields)
         for struct, given in (("head", altair_close.Head), ("line", altair_close.Line), ("header", altair_close.Header)):
             self.assertEqual(names["altair_" + struct], ("refusal", *given._fields))
+        for struct, (kind,) in ANSWERS.items():
+            self.assertEqual(ctypes.sizeof(kind), size(struct, structs), struct)
+
+    def test_constants_are_the_headers(self):
         header = HEADER.read_text()
         self.assertEqual(int(re.search(r"#define ALTAIR_VERSION (\d+)", header)[1]), altair_close.VERSION)
         for name, settings in altair_close.PRESETS.items():
             preset = re.search(rf"#define ALTAIR_{name.upper()}\b[\s\\]*\{{([^}}]*)\}}", header)
-            if preset:
-                self.assertEqual(tuple(map(int, re.findall(r"\d+", preset[1]))), settings, name)
+            self.assertEqual(tuple(map(int, re.findall(r"\d+", preset[1]))), settings, name)
         clock = re.search(r"#define ALTAIR_MAINNET_CLOCK[\s\\]*\{([^}]*)\}", header)
         self.assertEqual(tuple(map(int, re.findall(r"\d+", clock[1]))), altair_close.MAINNET_CLOCK)
         places = re.search(r"enum altair_validator \{(.*?)\}", header, flags=re.S)[1]
