@@ -1,2 +1,3 @@
--- Laws of numbers that the tests on an entry need.
+-- Laws that the tests on an entry need.
 pub mod Numbers
+pub mod Flags

@@ -1,6 +1,8 @@
 // A validator's own: what its ten numbers say. `entry_..` is for loops, which have tested the record already.
 ghost use mathlib.Core.Path.{_≡_};
+ghost use mathlib.Core.Bool.{cond, _&&_, not};
 ghost use Prim.Native.Nat.{_≤_};
+ghost use lib.Dec.{leb, ltb, eqb};
 ghost use lib.ListN.{length};
 ghost use Rattle.definitions.specs.Record.{decodeOne};
 ghost use Rattle.definitions.specs.Checked.{value};
@@ -21,14 +23,21 @@ use types::Number;
 use types::Settings;
 use types::Truth;
 
+// On numbers, for the survey too: its compiled loop has then no branch that depends on the validator.
+pub fn is_active(activation_epoch: u64, exit_epoch: u64, epoch: u64) -> bool
+    ensures { λ r. ⌜ r ≡ (leb «activation_epoch» epoch && ltb epoch «exit_epoch») ⌝ }
+{
+    if epoch < activation_epoch {
+        return false;
+    }
+    epoch < exit_epoch
+}
+
 pub fn entry_is_active(entry: &[u64], epoch: u64) -> bool
     requires { ⌜ length (now entry) ≡ 10 ⌝ }
     ensures { λ r. ⌜ r ≡ «is_active_validator» (decodeOne (now (entry .entry))) epoch ⌝ }
 {
-    if epoch < entry[3] {
-        return false;
-    }
-    epoch < entry[4]
+    is_active(entry[3], entry[4], epoch)
 }
 
 pub fn is_active_validator(entry: &[u64], epoch: u64) -> Truth
@@ -42,14 +51,24 @@ pub fn is_active_validator(entry: &[u64], epoch: u64) -> Truth
     Truth::Value(active)
 }
 
+pub fn becomes_eligible(
+    max_effective_balance: u64,
+    effective_balance: u64,
+    eligibility_epoch: u64,
+) -> bool
+    ensures { λ r. ⌜ r ≡ (eqb «eligibility_epoch» 18446744073709551615 && eqb «effective_balance» «max_effective_balance») ⌝ }
+{
+    if eligibility_epoch != 18446744073709551615 {
+        return false;
+    }
+    effective_balance == max_effective_balance
+}
+
 pub fn entry_is_eligible_for_activation_queue(s: Settings, entry: &[u64]) -> bool
     requires { ⌜ length (now entry) ≡ 10 ⌝ }
     ensures { λ r. ⌜ r ≡ «is_eligible_for_activation_queue» s (decodeOne (now (entry .entry))) ⌝ }
 {
-    if entry[2] != 18446744073709551615 {
-        return false;
-    }
-    entry[0] == s.max_effective_balance
+    becomes_eligible(s.max_effective_balance, entry[0], entry[2])
 }
 
 pub fn is_eligible_for_activation_queue(s: Settings, entry: &[u64]) -> Truth
@@ -146,7 +165,30 @@ pub fn add_flag(flags: u8, flag_index: u64) -> Number
     Number::Value(after)
 }
 
-// The test of get_unslashed_participating_indices; where the epoch is both previous and current, the current flags count.
+// The flags that count for an epoch, the present or the previous one: at the genesis epoch, which is both, the current ones.
+pub fn flags_at(current_epoch: u64, epoch: u64, current: u64, previous: u64) -> u64
+    ensures { λ r. ⌜ r ≡ cond (eqb epoch «current_epoch») current previous ⌝ }
+{
+    if epoch == current_epoch {
+        return current;
+    }
+    previous
+}
+
+pub fn participates(active: bool, slashed: u64, flags: u64, flag_index: u64) -> bool
+    requires { ⌜ «flag_index» ≤ 7 ⌝ }
+    ensures { λ r. ⌜ r ≡ (active && «has_flag» flags «flag_index» && not (eqb slashed 1)) ⌝ }
+{
+    if !active {
+        return false;
+    }
+    if slashed == 1 {
+        return false;
+    }
+    flag_is_set(flags, flag_index)
+}
+
+// The test of get_unslashed_participating_indices.
 pub fn entry_is_participating(
     current_epoch: u64,
     flag_index: u64,
@@ -157,16 +199,9 @@ pub fn entry_is_participating(
     requires { ⌜ «flag_index» ≤ 7 ⌝ }
     ensures { λ r. ⌜ r ≡ isUnslashedParticipating «current_epoch» «flag_index» epoch (decodeOne (now (entry .entry))) ⌝ }
 {
-    if !entry_is_active(entry, epoch) {
-        return false;
-    }
-    if entry[1] == 1 {
-        return false;
-    }
-    if epoch == current_epoch {
-        return flag_is_set(entry[8], flag_index);
-    }
-    flag_is_set(entry[7], flag_index)
+    let active = entry_is_active(entry, epoch);
+    let flags = flags_at(current_epoch, epoch, entry[8], entry[7]);
+    participates(active, entry[1], flags, flag_index)
 }
 
 pub fn is_unslashed_participating(

@@ -13,7 +13,7 @@ use Rattle.definitions.specs.Document.Phase0.Helpers.{exitEpochs, exitQueueChur
 use Rattle.loops.proofs.Filtered.{filter-last, filter-le}
 use Rattle.exits.proofs.Counts.{count-kept, none-later}
 use Rattle.exit_queue.specs.declared.ExitQueue.{ExitQueue}
-use Rattle.exit_queue.specs.Queue.{Tracks, lastAfter, numberAfter, joined, moved}
+use Rattle.exit_queue.specs.Queue.{Tracks, lastAfter, numberAfter, joined, startPair, moved}
 use Rattle.exit_queue.proofs.Latest.{latest, latest-last, latest-set, latest-kept, count-set}
 
 last-real : (m x : ℕ) → (m ≡ «FAR_FUTURE_EPOCH» → ⊥) → lastAfter m x ≡ «FAR_FUTURE_EPOCH» → ⊥
@@ -85,3 +85,27 @@ module _ {least : ℕ} {vs : List Validator} {q : ExitQueue} (t : Tracks least v
 pub tracks-none : (least : ℕ) → least < «FAR_FUTURE_EPOCH» → Tracks least [] (record { «last_epoch» = least; number = 0 })
 unfolding maximum filter
 tracks-none least l = record { last = refl; number = refl; real = λ e. omega arith }
+
+maximum-from : (least : ℕ) (xs : List ℕ) → maximum least xs ≡ max least (maximum 0 xs)
+unfolding maximum
+maximum-from least [] = omega arith
+maximum-from least (x ∷ xs) = omega (arith, maximum-from least xs)
+
+-- from the record's pair
+pub tracks-start : {least : ℕ} {vs : List Validator} {q : ExitQueue} → least < «FAR_FUTURE_EPOCH» → Tracks 0 vs q → Tracks least vs (startPair least q)
+unfolding startPair
+tracks-start {least} {vs} {q} l t = go (ltb (q .«last_epoch») least) refl
+  where
+    go : (b : Bool) → ltb (q .«last_epoch») least ≡ b → Tracks least vs (cond b (record { «last_epoch» = least; number = 0 }) q)
+    go true e =
+        record {
+          last = omega (arith, ltb-true (q .«last_epoch») least e, t .last, maximum-from least (exitEpochs vs));
+          number = sym (none-later 0 least vs (omega (arith, ltb-true (q .«last_epoch») least e, t .last)) (λ f. omega arith));
+          real = λ f. omega arith;
+        }
+    go false e =
+        record {
+          last = omega (arith, ltb-false (q .«last_epoch») least e, t .last, maximum-from least (exitEpochs vs));
+          number = t .number;
+          real = t .real;
+        }

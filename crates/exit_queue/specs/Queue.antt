@@ -31,6 +31,10 @@ abbrev pub joined : ExitQueue → ℕ → ExitQueue
 joined q epoch =
     record { «last_epoch» = lastAfter (q .«last_epoch») epoch; number = numberAfter (q .«last_epoch») (q .number) epoch }
 
+-- The pair that exits of the present epoch go by, from the record's, which is `Tracks 0`: the largest exit epoch below FAR, or 0, and how many have exactly it
+unfoldable pub startPair : ℕ → ExitQueue → ExitQueue
+startPair least q = cond (ltb (q .«last_epoch») least) (record { «last_epoch» = least; number = 0 }) q
+
 -- One validator's exit by the pair
 
 -- the last epoch, or the one after it where that one is full

@@ -5,7 +5,7 @@ ghost use Prim.Native.Nat.{_*_, _<_};
 ghost use lib.ListN.{length};
 ghost use Rattle.definitions.specs.Record.{decodeOne, decode};
 ghost use Rattle.definitions.specs.Answers.{Says};
-ghost use Rattle.exit_queue.specs.Queue.{lastAfter, numberAfter, joined, nextEpoch, exitBy};
+ghost use Rattle.exit_queue.specs.Queue.{lastAfter, numberAfter, joined, startPair, nextEpoch, exitBy};
 ghost use Rattle.exit_queue.specs.Turns.{Exits};
 ghost use Rattle.exit_queue.specs.Counts.{Finds};
 use arithmetic::add64;
@@ -20,7 +20,7 @@ pub struct ExitQueue {
     pub number: u64,
 }
 
-fn last_after(last_epoch: u64, epoch: u64) -> u64
+pub fn last_after(last_epoch: u64, epoch: u64) -> u64
     ensures { λ r. ⌜ r ≡ lastAfter «last_epoch» epoch ⌝ }
 {
     if epoch == FAR_FUTURE_EPOCH {
@@ -32,7 +32,7 @@ fn last_after(last_epoch: u64, epoch: u64) -> u64
     last_epoch
 }
 
-fn number_after(last_epoch: u64, number: u64, epoch: u64) -> u64
+pub fn number_after(last_epoch: u64, number: u64, epoch: u64) -> u64
     requires { ⌜ number < 18446744073709551615 ⌝ }
     ensures { λ r. ⌜ r ≡ numberAfter «last_epoch» number epoch ⌝ }
 {
@@ -109,6 +109,19 @@ pub fn count_exits(registry: &[u64], n: usize, epoch: u64, least: u64) -> Counts
         active: active,
         queue: queue,
     }
+}
+
+// `least` is the activation exit epoch of the present epoch: no exit is earlier.
+pub fn start_pair(queue: ExitQueue, least: u64) -> ExitQueue
+    ensures { λ r. ⌜ r ≡ startPair least queue ⌝ }
+{
+    if queue.last_epoch < least {
+        return ExitQueue {
+            last_epoch: least,
+            number: 0,
+        };
+    }
+    queue
 }
 
 fn next_epoch(queue: ExitQueue, limit: u64) -> Number

@@ -11,7 +11,7 @@ use Rattle.definitions.specs.Record.{Validator, «FAR_FUTURE_EPOCH», nobody}
 use Rattle.definitions.specs.Updates.{withActivation}
 use Rattle.definitions.specs.Document.Phase0.Helpers.{«is_eligible_for_activation»}
 use Rattle.queue.specs.Queue.{ahead, mapBelow, activatedAt, activated}
-use Rattle.queue.specs.Cut.{queuedBefore, queuedAt, count, admitOne, admittedAt, admitted, Cuts, Reaches}
+use Rattle.queue.specs.Cut.{queuedBefore, queuedAt, count, admitOne, admittedAt, admitted, Cuts, Reaches, CutAt}
 use Rattle.queue.proofs.Filter.{count-mono, first-more, first-le}
 use Rattle.queue.proofs.Counts.{and-left, before-queued, at-queued, grows, next, ahead-is}
 
@@ -114,6 +114,9 @@ reaches-at limit f vs bound quota reach over = record { cuts = cuts limit f vs b
         (λ s.
         rw (le-ltb (since vs i) bound (omega arith), ne-eqb (since vs i) bound (λ e. omega arith))
         (le-ltb (ahead f vs i) limit (omega (arith, over (omega (arith, since-final f vs i l w)), ahead-is f vs i, grows f (bound + 1) (since vs i) vs (omega arith)))))
+
+pub cut-cuts : {limit f bound quota : ℕ} {vs : List Validator} → CutAt limit f vs bound quota → Cuts limit f vs bound quota
+cut-cuts {limit} {f} {bound} {quota} {vs} c = reaches-at limit f vs bound quota (c .reach) (c .enough) .cuts
 
 -- no more are queued than the limit
 pub cuts-all : (limit f : ℕ) (vs : List Validator) → count («is_eligible_for_activation» f) vs ≤ limit → Cuts limit f vs f limit

@@ -1,14 +1,16 @@
 -- Activation by a cut: all that are queued since before the epoch `bound`, and the first `quota` that are queued since it.
 use mathlib.Core.Path.{_≡_}
 use mathlib.Core.Bool.{Bool, cond, _&&_, _||_}
-use mathlib.Core.List.{List}
-use Prim.Native.Nat.{ℕ, _+_, _-_}
+use mathlib.Core.List.{List, map}
+use Prim.Native.Nat.{ℕ, _+_, _-_, _≤_, _<_}
 use lib.Dec.{ltb, eqb}
 use lib.ListN.{length, take}
+use Rattle.types.specs.declared.Settings.{Settings}
 use Rattle.definitions.specs.Lists.{filter}
 use Rattle.definitions.specs.Record.{Validator}
 use Rattle.definitions.specs.Updates.{withActivation}
 use Rattle.definitions.specs.Document.Phase0.Helpers.{«is_eligible_for_activation»}
+use Rattle.definitions.specs.Document.Phase0.EpochProcessing.{queueEligible}
 use Rattle.queue.specs.Queue.{mapBelow, activated}
 
 abbrev pub count : {A : Type 0} → (A → Bool) → List A → ℕ
@@ -41,3 +43,12 @@ pub record Cuts (limit finalizedEpoch : ℕ) (vs : List Validator) (bound quota 
 pub record Reaches (limit finalizedEpoch : ℕ) (vs : List Validator) (bound quota : ℕ) : Type 0 where
   pub cuts : Cuts limit finalizedEpoch vs bound quota
   pub reach : count (queuedBefore finalizedEpoch bound) vs + quota ≡ limit
+
+-- the same by counts alone: the limit is reached at the bound's own epoch, or all are queued since the bound or before
+pub record CutAt (limit finalizedEpoch : ℕ) (vs : List Validator) (bound quota : ℕ) : Type 0 where
+  pub reach : count (queuedBefore finalizedEpoch bound) vs + quota ≡ limit
+  pub enough : bound < finalizedEpoch → limit ≤ count (queuedBefore finalizedEpoch (bound + 1)) vs
+
+-- the registry as the queue is read: those that become eligible in this close have their epoch already
+abbrev pub eligibleNow : Settings → ℕ → List Validator → List Validator
+eligibleNow s epoch vs = map (queueEligible s epoch) vs

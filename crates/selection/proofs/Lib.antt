@@ -1,3 +1,5 @@
 -- The laws of the loops.
 pub mod Kept
 pub mod Keeping
+pub mod Picking
+pub mod Waiting

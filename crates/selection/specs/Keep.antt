@@ -1,9 +1,9 @@
 -- A slice that keeps as many of the smallest numbers seen as it has places.
 use mathlib.Core.Path.{_≡_}
-use mathlib.Core.Bool.{Bool, cond}
+use mathlib.Core.Bool.{Bool, cond, _&&_}
 use mathlib.Core.List.{List}
 use Prim.Native.Nat.{ℕ, _+_, _≤_, _<_, min}
-use lib.Dec.{ltb}
+use lib.Dec.{ltb, eqb}
 use lib.ListN.{length, getD}
 use Rattle.definitions.specs.Record.{Validator, «FAR_FUTURE_EPOCH»}
 use Rattle.definitions.specs.Document.Phase0.Helpers.{«is_eligible_for_activation»}
@@ -31,3 +31,25 @@ pub record Blank (ks : List ℕ) : Type 0 where
 -- the epoch since which one is queued
 unfoldable pub queuedSince : ℕ → Validator → ℕ
 queuedSince finalizedEpoch v = cond («is_eligible_for_activation» finalizedEpoch v) (v .«activation_eligibility_epoch») «FAR_FUTURE_EPOCH»
+
+-- Waiting: no activation epoch yet. The epoch since which one waits once this close has written the eligibility epochs, and FAR for another
+unfoldable pub waitingSince : ℕ → ℕ → Validator → ℕ
+waitingSince maxEffectiveBalance epoch v =
+    let becomes = eqb (v .«activation_eligibility_epoch») «FAR_FUTURE_EPOCH» && eqb (v .«effective_balance») maxEffectiveBalance in
+    cond (eqb (v .«activation_epoch») «FAR_FUTURE_EPOCH») (cond becomes (epoch + 1) (v .«activation_eligibility_epoch»)) «FAR_FUTURE_EPOCH»
+
+-- since before an epoch, whether that is finalized or not
+unfoldable pub waitingBefore : ℕ → Validator → Bool
+waitingBefore bound v = eqb (v .«activation_epoch») «FAR_FUTURE_EPOCH» && ltb (v .«activation_eligibility_epoch») bound
+
+-- ks has the `size` smallest epochs since which one of vs waits, told by how many are under any bound
+pub record Smallest (size : ℕ) (vs : List Validator) (ks : List ℕ) : Type 0 where
+  pub long : length ks ≡ size
+  pub lowest : (bound : ℕ) → bound ≤ «FAR_FUTURE_EPOCH» → count (under bound) ks ≡ min size (count (waitingBefore bound) vs)
+
+-- the cut of the numbers ks, of which those up to the finalized epoch count
+pub record CutOf (limit finalizedEpoch : ℕ) (ks : List ℕ) (bound quota : ℕ) : Type 0 where
+  pub past : bound ≤ finalizedEpoch + 1
+  pub below : count (under bound) ks < limit
+  pub reach : count (under bound) ks + quota ≡ limit
+  pub enough : bound ≤ finalizedEpoch → limit ≤ count (under (bound + 1)) ks

@@ -1,10 +1,11 @@
 // The activation queue for a limit from 1 to 64, in one pass: the smallest eligibility epochs seen are kept, as many as the limit.
 ghost use mathlib.Core.Path.{_≡_};
-ghost use Prim.Native.Nat.{_*_, _<_, _≤_};
+ghost use Prim.Native.Nat.{_+_, _*_, _<_, _≤_, min};
 ghost use lib.ListN.{length};
 ghost use Rattle.definitions.specs.Record.{decodeOne, decode};
 ghost use Rattle.queue.specs.Cut.{count, Reaches};
-ghost use Rattle.selection.specs.Keep.{under, Highest, Kept, Blank, queuedSince};
+ghost use Rattle.selection.specs.Keep.{under, Highest, Kept, Blank, queuedSince, waitingSince, CutOf};
+use entries::becomes_eligible;
 
 const FAR_FUTURE_EPOCH: u64 = 18446744073709551615;
 
@@ -15,7 +16,7 @@ pub struct Cut {
 }
 
 // The place of the largest.
-fn highest(kept: &[u64]) -> usize
+pub fn highest(kept: &[u64]) -> usize
     requires { ⌜ 0 < length (now kept) ⌝ }
     ensures { λ r. ⌜ Highest (now (kept .entry)) r ⌝ }
 {
@@ -33,7 +34,7 @@ fn highest(kept: &[u64]) -> usize
 }
 
 // x in the place p of the largest, if it is smaller; the new place of the largest.
-fn keep(kept: &mut [u64], p: usize, x: u64) -> usize
+pub fn keep(kept: &mut [u64], p: usize, x: u64) -> usize
     requires { ⌜ Highest (now kept) p ⌝ }
     ensures { λ r. ⌜ Kept (now (kept .entry)) x (now (kept .exit)) r ⌝ }
 {
@@ -44,7 +45,7 @@ fn keep(kept: &mut [u64], p: usize, x: u64) -> usize
     highest(&kept[..])
 }
 
-fn count_under(kept: &[u64], bound: u64) -> u64
+pub fn count_under(kept: &[u64], bound: u64) -> u64
     ensures { λ r. ⌜ r ≡ count (under bound) (now (kept .entry)) ⌝ }
 {
     let mut count: u64 = 0;
@@ -102,4 +103,55 @@ pub fn select(registry: &[u64], n: usize, finalized_epoch: u64, limit: usize) ->
 {
     let mut kept = [18446744073709551615u64; 64];
     choose(registry, n, finalized_epoch, &mut kept[0..limit])
+}
+
+// The epoch since which one waits for activation once this close has written the eligibility epochs, and FAR of one that does not wait.
+pub fn waiting_since(max_effective_balance: u64, epoch: u64, entry: &[u64]) -> u64
+    requires { ⌜ (length (now entry) ≡ 10) × (epoch < 18446744073709551615) ⌝ }
+    ensures { λ r. ⌜ r ≡ waitingSince «max_effective_balance» epoch (decodeOne (now (entry .entry))) ⌝ }
+{
+    if entry[3] != FAR_FUTURE_EPOCH {
+        return FAR_FUTURE_EPOCH;
+    }
+    if becomes_eligible(max_effective_balance, entry[0], entry[2]) {
+        return epoch + 1;
+    }
+    entry[2]
+}
+
+fn at_most_next(epoch: u64, finalized_epoch: u64) -> u64
+    requires { ⌜ «finalized_epoch» < 18446744073709551615 ⌝ }
+    ensures { λ r. ⌜ r ≡ min epoch («finalized_epoch» + 1) ⌝ }
+{
+    if finalized_epoch < epoch {
+        return finalized_epoch + 1;
+    }
+    epoch
+}
+
+// The limit is the length of `first`.
+fn pick(kept: &[u64], finalized_epoch: u64, first: &mut [u64]) -> Cut
+    requires { ⌜ («finalized_epoch» < 18446744073709551615) × Blank (now first) ⌝ }
+    ensures { λ r. ⌜ CutOf (length (now (first .entry))) «finalized_epoch» (now (kept .entry)) (r .bound) (r .quota) ⌝ }
+{
+    let mut p: usize = 0;
+    for j in 0..kept.len() {
+        p = keep(first, p, kept[j]);
+    }
+    let bound = at_most_next(first[p], finalized_epoch);
+    let before = count_under(&first[..], bound);
+    let all = first.len() as u64;
+    Cut {
+        bound: bound,
+        quota: all - before,
+    }
+}
+
+// The cut from the smallest epochs kept, for a limit of at most as many.
+pub fn cut_few(kept: &[u64], finalized_epoch: u64, limit: usize) -> Cut
+    requires { ⌜ («finalized_epoch» < 18446744073709551615) × (0 < limit) × (limit ≤ 64) ⌝ }
+    ensures { λ r. ⌜ CutOf limit «finalized_epoch» (now (kept .entry)) (r .bound) (r .quota) ⌝ }
+{
+    let mut first = [18446744073709551615u64; 64];
+    pick(kept, finalized_epoch, &mut first[0..limit])
 }

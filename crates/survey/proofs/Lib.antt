@@ -1,4 +1,4 @@
 -- Laws of the survey.
-pub mod Flags
 pub mod Surveying
 pub mod Raised
+pub mod Found

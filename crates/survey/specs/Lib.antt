@@ -1,2 +1,3 @@
--- What the contracts cite.
+-- The sums of a close, and what its survey finds.
 pub mod Sums
+pub mod Found

@@ -1,17 +1,27 @@
 // One pass over the registry for all the sums of effective balances that a close asks for.
 ghost use mathlib.Core.Path.{_≡_};
-ghost use mathlib.Core.Bool.{cond, _&&_, not};
-ghost use Prim.Native.Nat.{_+_, _*_, _/_, _^_, _≤_, _<_};
-ghost use lib.Dec.{leb, ltb, eqb};
+ghost use mathlib.Core.Bool.{cond, _&&_};
+ghost use Prim.Native.Nat.{_+_, _*_, _/_, _<_};
+ghost use lib.Dec.{leb};
 ghost use lib.ListN.{length};
 ghost use Rattle.definitions.specs.Answers.{Answers};
 ghost use Rattle.definitions.specs.Record.{decodeOne, decode};
-ghost use Rattle.definitions.specs.Document.Altair.Helpers.{«has_flag»};
+ghost use Rattle.selection.specs.Keep.{Blank};
 ghost use Rattle.survey.specs.Sums.{sumsOf, addedTo, sumsFor, Surveyed, raisedTo};
+ghost use Rattle.survey.specs.Found.{overAfter, sumsAfter, oversAfter, foundAfter, allFit, Finds};
 use arithmetic::add64;
-use entries::flag_is_set;
+use entries::flags_at;
+use entries::is_active;
+use entries::participates;
+use exit_queue::ExitQueue;
+use exit_queue::last_after;
+use exit_queue::number_after;
+use selection::keep;
+use selection::waiting_since;
+use std::num::wrapping_add_u64;
 use totals::raised;
 use types::Number;
+use types::Settings;
 
 // Sums over those active at the current epoch, over those that participate by the previous epoch's source, target and head flag, and over
 // those that do by the current epoch's target flag.
@@ -28,30 +38,6 @@ pub enum SumsAnswer {
     Refused(u64),
 }
 
-// What follows works on numbers, not on the entry: the compiled loop has then no branch that depends on the validator.
-
-fn is_active(since: u64, exit: u64, epoch: u64) -> bool
-    ensures { λ r. ⌜ r ≡ (leb since epoch && ltb epoch exit) ⌝ }
-{
-    if epoch < since {
-        return false;
-    }
-    epoch < exit
-}
-
-fn participates(active: bool, slashed: u64, flags: u64, flag_index: u64) -> bool
-    requires { ⌜ «flag_index» ≤ 7 ⌝ }
-    ensures { λ r. ⌜ r ≡ (active && «has_flag» flags «flag_index» && not (eqb slashed 1)) ⌝ }
-{
-    if !active {
-        return false;
-    }
-    if slashed == 1 {
-        return false;
-    }
-    flag_is_set(flags, flag_index)
-}
-
 fn weight_where(on: bool, weight: u64) -> u64
     ensures { λ r. ⌜ r ≡ cond on weight 0 ⌝ }
 {
@@ -59,16 +45,6 @@ fn weight_where(on: bool, weight: u64) -> u64
         return weight;
     }
     0
-}
-
-// The flags that count for the previous epoch: at the genesis epoch, which is also the previous one, the current ones.
-fn previous_flags(current_epoch: u64, previous_epoch: u64, current: u64, previous: u64) -> u64
-    ensures { λ r. ⌜ r ≡ cond (eqb «previous_epoch» «current_epoch») current previous ⌝ }
-{
-    if previous_epoch == current_epoch {
-        return current;
-    }
-    previous
 }
 
 // One validator's own part of each sum.
@@ -82,7 +58,7 @@ fn entry_sums(current_epoch: u64, previous_epoch: u64, entry: &[u64]) -> Sums
     let exit = entry[4];
     let before = entry[7];
     let now = entry[8];
-    let flags = previous_flags(current_epoch, previous_epoch, now, before);
+    let flags = flags_at(current_epoch, previous_epoch, now, before);
     let active = is_active(since, exit, current_epoch);
     let was_active = is_active(since, exit, previous_epoch);
     let source = participates(was_active, slashed, flags, 0);
@@ -162,4 +138,166 @@ pub fn totals(sums: Sums, increment: u64) -> Sums
         head: raised(sums.head, increment),
         current_target: raised(sums.current_target, increment),
     }
+}
+
+// What one pass over the opening registry finds. A plain sum is a number where its `over` is 0, and has left 64 bits where it is 1. The pair of
+// the exit queue is the record's: the largest exit epoch below FAR, or 0, and how many have exactly it.
+pub struct Findings {
+    pub refusal: u64,
+    pub sums: Sums,
+    pub over: Sums,
+    pub active: u64,
+    pub queue: ExitQueue,
+}
+
+fn over_after(over: u64, sum: u64, weight: u64) -> u64
+    ensures { λ r. ⌜ r ≡ overAfter over sum weight ⌝ }
+{
+    if 18446744073709551615 - sum < weight {
+        return 1;
+    }
+    over
+}
+
+fn sums_after(t: Sums, own: Sums) -> Sums
+    ensures { λ r. ⌜ r ≡ sumsAfter t own ⌝ }
+{
+    Sums {
+        active: wrapping_add_u64(t.active, own.active),
+        source: wrapping_add_u64(t.source, own.source),
+        target: wrapping_add_u64(t.target, own.target),
+        head: wrapping_add_u64(t.head, own.head),
+        current_target: wrapping_add_u64(t.current_target, own.current_target),
+    }
+}
+
+fn overs_after(over: Sums, t: Sums, own: Sums) -> Sums
+    ensures { λ r. ⌜ r ≡ oversAfter over t own ⌝ }
+{
+    Sums {
+        active: over_after(over.active, t.active, own.active),
+        source: over_after(over.source, t.source, own.source),
+        target: over_after(over.target, t.target, own.target),
+        head: over_after(over.head, t.head, own.head),
+        current_target: over_after(over.current_target, t.current_target, own.current_target),
+    }
+}
+
+// Test 3 of one validator after those before it: 0 or 3.
+fn test_after(refusal: u64, slashed: u64, previous: u64, current: u64) -> u64
+    ensures { λ r. ⌜ r ≡ cond (leb slashed 1 && leb previous 255 && leb current 255) refusal 3 ⌝ }
+{
+    if 1 < slashed {
+        return 3;
+    }
+    if 255 < previous {
+        return 3;
+    }
+    if 255 < current {
+        return 3;
+    }
+    refusal
+}
+
+fn count_after(count: u64, on: bool) -> u64
+    requires { ⌜ count < 18446744073709551615 ⌝ }
+    ensures { λ r. ⌜ r ≡ count + cond on 1 0 ⌝ }
+{
+    if on {
+        return count + 1;
+    }
+    count
+}
+
+fn survey_entry(current_epoch: u64, previous_epoch: u64, entry: &[u64], found: Findings) -> Findings
+    requires { ⌜ (length (now entry) ≡ 10) × (found .active < 18446744073709551615) × (found .queue .number < 18446744073709551615) ⌝ }
+    ensures { λ r. ⌜ r ≡ foundAfter «current_epoch» «previous_epoch» found (decodeOne (now (entry .entry))) ⌝ }
+{
+    let sums = found.sums;
+    let over = found.over;
+    let queue = found.queue;
+    let own = entry_sums(current_epoch, previous_epoch, entry);
+    let exit = entry[4];
+    let active = is_active(entry[3], exit, current_epoch);
+    Findings {
+        refusal: test_after(found.refusal, entry[1], entry[7], entry[8]),
+        sums: sums_after(sums, own),
+        over: overs_after(over, sums, own),
+        active: count_after(found.active, active),
+        queue: ExitQueue {
+            last_epoch: last_after(queue.last_epoch, exit),
+            number: number_after(queue.last_epoch, queue.number, exit),
+        },
+    }
+}
+
+fn no_sums() -> Sums
+    ensures { λ r. ⌜ r ≡ record { active = 0; source = 0; target = 0; head = 0; «current_target» = 0 } ⌝ }
+{
+    Sums {
+        active: 0,
+        source: 0,
+        target: 0,
+        head: 0,
+        current_target: 0,
+    }
+}
+
+// The one survey of a close. It never refuses: test 3 of every entry is among what it finds. `kept`, lent with FAR in its 64 places, is left
+// with the smallest epochs since which one waits for activation, those that become eligible in this close among them; the finalized epoch,
+// which is not known yet, cuts a prefix of them later.
+pub fn survey_registry(
+    s: Settings,
+    current_epoch: u64,
+    previous_epoch: u64,
+    registry: &[u64],
+    kept: &mut [u64],
+) -> Findings
+    requires { ⌜ length (now registry) ≡ 10 * (length (now registry) / 10) ⌝ }
+    requires { ⌜ «current_epoch» < 18446744073709551615 ⌝ }
+    requires { ⌜ (length (now kept) ≡ 64) × Blank (now kept) ⌝ }
+    ensures { λ r. ⌜ Finds s «current_epoch» «previous_epoch» (now (registry .entry)) (now (kept .exit)) r ⌝ }
+{
+    let n = registry.len() / 10;
+    let most = s.max_effective_balance;
+    let mut found = Findings {
+        refusal: 0,
+        sums: no_sums(),
+        over: no_sums(),
+        active: 0,
+        queue: ExitQueue {
+            last_epoch: 0,
+            number: 0,
+        },
+    };
+    let mut p: usize = 0;
+    for i in 0..n {
+        let a = 10 * i;
+        let b = a + 10;
+        found = survey_entry(current_epoch, previous_epoch, &registry[a..b], found);
+        let since = waiting_since(most, current_epoch, &registry[a..b]);
+        if kept[p] <= since {
+            continue;
+        }
+        p = keep(kept, p, since);
+    }
+    found
+}
+
+pub fn all_fit(over: Sums) -> bool
+    ensures { λ r. ⌜ r ≡ allFit over ⌝ }
+{
+    if over.active != 0 {
+        return false;
+    }
+    if over.source != 0 {
+        return false;
+    }
+    if over.target != 0 {
+        return false;
+    }
+    if over.head != 0 {
+        return false;
+    }
+    over.current_target == 0
 }

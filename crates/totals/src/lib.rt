@@ -175,6 +175,14 @@ pub fn active_count(epoch: u64, registry: &[u64]) -> u64
     count
 }
 
+// The churn limit by the number of the active.
+pub fn churn_by(s: Settings, active: u64) -> u64
+    requires { ⌜ 0 < s .«churn_limit_quotient» ⌝ }
+    ensures { λ r. ⌜ r ≡ max (s .«min_per_epoch_churn_limit») (active / s .«churn_limit_quotient») ⌝ }
+{
+    max(s.min_per_epoch_churn_limit, active / s.churn_limit_quotient)
+}
+
 pub fn churn_limit(s: Settings, state_slot: u64, registry: &[u64]) -> u64
     requires { ⌜ length (now registry) ≡ 10 * (length (now registry) / 10) ⌝ }
     requires { ⌜ (0 < s .«slots_per_epoch») × (0 < s .«churn_limit_quotient») ⌝ }
@@ -182,7 +190,7 @@ pub fn churn_limit(s: Settings, state_slot: u64, registry: &[u64]) -> u64
 {
     let epoch = current_epoch(s, state_slot);
     let active = active_count(epoch, registry);
-    max(s.min_per_epoch_churn_limit, active / s.churn_limit_quotient)
+    churn_by(s, active)
 }
 
 pub fn get_validator_churn_limit(s: Settings, state_slot: u64, registry: &[u64]) -> Number

@@ -1,23 +1,22 @@
 use borrow.Author.Needs.{needs}
-use borrow.Author.Tests.{le-leb, lt-leb}
 use Rattle.definitions.specs.Document.Phase0.Helpers.{«is_active_validator»}
 use Rattle.entries.proofs.entry_is_active.Statement.{statement}
 use Rattle.entries.proofs.entry_is_active.Tie as tie
 
-shared-slice-read-if1 : tie.Need-shared-slice-read-if1
-shared-slice-read-if1 c = search needs
+shared-slice-read-is-active : tie.Need-shared-slice-read-is-active
+shared-slice-read-is-active c = search needs
+
+shared-slice-read-is-active-2 : tie.Need-shared-slice-read-is-active-2
+shared-slice-read-is-active-2 c = search needs
+
+is-active-requires : tie.Need-is-active-requires
+is-active-requires c κs = search needs
 
 returns : tie.Need-returns
 unfolding «is_active_validator»
-returns c = rw (lt-leb _ _ (c .if1 .taken))
-
-shared-slice-read-result : tie.Need-shared-slice-read-result
-shared-slice-read-result c = search needs
-
-returns-2 : tie.Need-returns-2
-unfolding «is_active_validator»
-returns-2 c = rw (le-leb _ _ (c .before .if1 .left))
+returns c = c .is-active .ensures
 
 pub entry-is-active-spec : {M : Type 1} → statement M
 entry-is-active-spec =
-    tie.close (tie.spec shared-slice-read-if1 returns shared-slice-read-result returns-2)
+    tie.close
+    (tie.spec shared-slice-read-is-active shared-slice-read-is-active-2 is-active-requires returns)

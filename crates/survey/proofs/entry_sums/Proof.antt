@@ -24,8 +24,8 @@ shared-slice-read-before c = search needs
 shared-slice-read-now : tie.Need-shared-slice-read-now
 shared-slice-read-now c = search needs
 
-previous-flags-requires : tie.Need-previous-flags-requires
-previous-flags-requires c κs = search needs
+flags-at-requires : tie.Need-flags-at-requires
+flags-at-requires c κs = search needs
 
 is-active-requires : tie.Need-is-active-requires
 is-active-requires c κs = search needs
@@ -78,7 +78,7 @@ returns c =
       p .participates4 .ensures,
       a .before .is-active .ensures,
       a .is-active2 .ensures,
-      a .before .before .previous-flags .ensures,
+      a .before .before .flags-at .ensures,
       eq-eqb epoch epoch refl,
     )
 
@@ -92,7 +92,7 @@ entry-sums-spec =
     shared-slice-read-exit
     shared-slice-read-before
     shared-slice-read-now
-    previous-flags-requires
+    flags-at-requires
     is-active-requires
     is-active-requires-2
     participates-requires

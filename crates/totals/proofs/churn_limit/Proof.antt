@@ -1,5 +1,5 @@
-use borrow.Author.Needs.{needs}
 use Rattle.definitions.specs.Document.Phase0.Helpers.{«get_validator_churn_limit»}
+use borrow.Author.Needs.{needs}
 use Rattle.totals.proofs.churn_limit.Statement.{statement}
 use Rattle.totals.proofs.churn_limit.Tie as tie
 
@@ -9,16 +9,13 @@ current-epoch-requires c κs = search needs
 active-count-requires : tie.Need-active-count-requires
 active-count-requires c κs = search needs
 
-div-max : tie.Need-div-max
-div-max c = search needs
-
-max-requires : tie.Need-max-requires
-max-requires c κs = search needs
+churn-by-requires : tie.Need-churn-by-requires
+churn-by-requires c κs = search needs
 
 returns : tie.Need-returns
 unfolding «get_validator_churn_limit»
-returns c = rw (← c .before .before .before .current-epoch .ensures, ← c .before .before .active-count .ensures) (c .max .ensures)
+returns c = rw (← c .before .before .current-epoch .ensures, ← c .before .active-count .ensures) (c .churn-by .ensures)
 
 pub churn-limit-spec : {M : Type 1} → statement M
 churn-limit-spec =
-    tie.close (tie.spec current-epoch-requires active-count-requires div-max max-requires returns)
+    tie.close (tie.spec current-epoch-requires active-count-requires churn-by-requires returns)

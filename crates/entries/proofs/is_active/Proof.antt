@@ -1,6 +1,6 @@
 use borrow.Author.Tests.{le-leb, lt-leb}
-use Rattle.survey.proofs.is_active.Statement.{statement}
-use Rattle.survey.proofs.is_active.Tie as tie
+use Rattle.entries.proofs.is_active.Statement.{statement}
+use Rattle.entries.proofs.is_active.Tie as tie
 
 returns : tie.Need-returns
 returns c = rw (lt-leb _ _ (c .if1 .taken))

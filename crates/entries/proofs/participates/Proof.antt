@@ -1,9 +1,9 @@
 use borrow.Author.Needs.{needs}
 use borrow.Author.Tests.{eq-eqb, ne-eqb, not-true, not-false}
 use Rattle.definitions.specs.Document.Altair.Helpers.{«has_flag»}
-use Rattle.survey.proofs.Flags.{slashed-never, unslashed-by-flag}
-use Rattle.survey.proofs.participates.Statement.{statement}
-use Rattle.survey.proofs.participates.Tie as tie
+use Rattle.entries.proofs.Flags.{slashed-never, unslashed-by-flag}
+use Rattle.entries.proofs.participates.Statement.{statement}
+use Rattle.entries.proofs.participates.Tie as tie
 
 returns : tie.Need-returns
 returns c = rw (not-true (c .before .args .active) (c .if1 .taken))
