@@ -1,0 +1,2 @@
+-- Why the cut is right.
+mod Bracket

@@ -1,0 +1,2 @@
+-- The bracket of a bisection.
+pub mod Bracket
