@@ -53,8 +53,7 @@ static void *room(size_t count, size_t size) {
     return p;
 }
 
-/* -- Reading
- * ----------------------------------------------------------------------------------------------------------- */
+/* -- Reading ------------------------------------------------------------------------------------------------------- */
 
 typedef struct record {
     uint8_t *file;
@@ -72,8 +71,7 @@ static uint64_t number_at(const uint8_t *bytes) {
     return n;
 }
 
-/* The input, but no more than one byte beyond the length that its header names: such a file is refused whatever
- * follows. */
+/* The input, but no more than one byte beyond the length that its header names: it is refused whatever follows. */
 static uint8_t *read_all(const char *path, size_t *length) {
     FILE *in = strcmp(path, "-") == 0 ? stdin : fopen(path, "rb");
     if (in == NULL)
@@ -135,8 +133,7 @@ static const char *place(uint64_t number, uint64_t position) {
     return words;
 }
 
-/* -- Writing
- * ----------------------------------------------------------------------------------------------------------- */
+/* -- Writing ------------------------------------------------------------------------------------------------------- */
 
 static void finish(FILE *out, const char *path) {
     if (ferror(out) || fclose(out) != 0)
@@ -246,8 +243,7 @@ static void write_record(const char *path, const uint8_t *bytes, size_t length) 
     free(beside), free(real);
 }
 
-/* -- The command
- * ------------------------------------------------------------------------------------------------------- */
+/* -- The command --------------------------------------------------------------------------------------------------- */
 
 static int close_record(const char *path, const form *as, const char *target) {
     record r;

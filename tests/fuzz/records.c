@@ -30,9 +30,6 @@ static altair_settings random_settings(void) {
             numbers[k] = one_in(3) ? odd_number() : near(numbers[k], 2);
         } while (one_in(2));
         memcpy(&s, numbers, sizeof s);
-        /* the vectors that are lent have at most these lengths */
-        if (s.slots_per_historical_root > 65537 && one_in(2))
-            s.slots_per_historical_root = 65537;
     }
     return s;
 }

@@ -114,7 +114,7 @@ static void one_run(const row *row, const lent *c, uint8_t *answer, uint8_t befo
     for (size_t i = 0; i < reads; i++)
         protect((int)i, true);
     for (size_t i = 0; i < reads; i++)
-        MUST(memcmp(c->in[i].at, saved[i], bytes_of(c->in[i])) == 0 || bytes_of(c->in[i]) == 0);
+        MUST(bytes_of(c->in[i]) == 0 || memcmp(c->in[i].at, saved[i], bytes_of(c->in[i])) == 0);
     for (size_t i = 0; i < reads; i++)
         MUST(kept_within((int)i));
     for (size_t k = 0; k < writes; k++)
@@ -210,7 +210,8 @@ static void try_checked(const row *row, const lent *c, const uint8_t *accepted) 
         lent beside = *c;
         beside.in[0].at = lend(5, c->in[0].length + whole.length, 8).at;
         beside.out[0].at = (uint8_t *)beside.in[0].at + bytes_of(c->in[0]);
-        memcpy(beside.in[0].at, saved[0], bytes_of(c->in[0]));
+        if (bytes_of(c->in[0]) > 0)
+            memcpy(beside.in[0].at, saved[0], bytes_of(c->in[0]));
         row->call(&beside, answer);
         MUST(memcmp(answer, accepted, row->size) == 0);
     }
@@ -229,7 +230,7 @@ void try_row(size_t place, const record *r) {
     }
     for (size_t k = 0; k < writes; k++) {
         c.out[k] = written_buffer(written[k], row, r, &c, 3 + (int)k);
-        if (written[k] != 'r' && written[k] != 'v')
+        if (bytes_of(c.out[k]) > 0 && written[k] != 'r' && written[k] != 'v')
             memset(c.out[k].at, 0xa5, bytes_of(c.out[k]));
         save(3 + (int)k, c.out[k]);
     }
