@@ -3,7 +3,7 @@
 #   make                              target/altair: libaltair.a, libaltair.so.1, altair-close
 #   make install PREFIX=/usr/local    and below DESTDIR, where that is given; `make uninstall` takes the same words
 #   make release                      target/release: an archive to hand on and its sha256 sum, the same bytes each time
-#   make wheel                        target/release: the Python wheel, which carries the shared library
+#   make wheel                        target/release: the Python wheel, which carries the shared library, and its sha256 sum
 #   make test                         tests/run
 #
 # The proved functions are the archive that `rt staticlib exports` writes; PROVED=FILE names one that was made elsewhere.
@@ -13,6 +13,7 @@ PREFIX ?= /usr/local
 DESTDIR ?=
 CFLAGS ?= -O2
 release := altair-$(VERSION)-x86_64-linux
+wheel := altair_close-$(VERSION)-py3-none-linux_x86_64.whl
 
 out := target/altair
 stage := target/stage/$(release)
@@ -93,6 +94,7 @@ release: stage
 
 wheel: all
 	python3 -B bindings/python/build_wheel.py target/release
+	cd target/release && sha256sum $(wheel) | tee $(wheel).sha256
 
 test:
 	tests/run

@@ -52,7 +52,7 @@ def view_of(name, value, wanted):
         view = memoryview(value)
     except TypeError:
         raise TypeError(f"{name}: {wanted} is wanted, not {kind_of(value)}") from None
-    except ValueError as error:
+    except (ValueError, BufferError) as error:
         raise ValueError(f"{name}: {wanted} is wanted: {error}") from None
     if not view.c_contiguous:
         raise ValueError(f"{name}: {wanted} is wanted, and this one is not C-contiguous")
@@ -73,18 +73,19 @@ class Buffer:
     """A C-contiguous buffer, lent as it stands: a pointer, and how many elements."""
 
     words = (ctypes.c_void_p, ctypes.c_size_t)
-    format, size, wanted = "", 0, ""
+    format, size, wanted, or_else = "", 0, "", ""
 
     def __init__(self, row=None, written=None):
         """row: how many elements a row of a 2-D buffer has. written: how long one is made where None is given, from `lent`."""
         self.row, self.written = row, written
 
     def checked(self, name, value, written):
-        view = view_of(name, value, self.wanted)
+        wanted = self.wanted if written else self.or_else + self.wanted
+        view = view_of(name, value, wanted)
         format = view.format.lstrip("@=<")
         if view.itemsize != self.size or len(format) != 1 or format not in self.format:
             found = f"format {view.format!r} with {view.itemsize} bytes an element"
-            raise TypeError(f"{name}: {self.wanted} is wanted, not one of {found}")
+            raise TypeError(f"{name}: {wanted} is wanted, not one of {found}")
         if view.ndim > 1 and (self.row is None or view.ndim > 2 or view.shape[1] != self.row):
             rows = "has one dimension" if self.row is None else f"with two dimensions has {self.row} elements a row"
             raise ValueError(f"{name}: one that {rows} is wanted, not one of shape {tuple(view.shape)}")
@@ -112,7 +113,7 @@ class Buffer:
 class Numbers(Buffer):
     """64-bit numbers: any buffer of them, or a list or tuple, which is copied."""
 
-    format, size, wanted = "QLN", 8, "a C-contiguous buffer of 64-bit unsigned numbers, or a list"
+    format, size, wanted, or_else = "QLN", 8, "a C-contiguous buffer of 64-bit unsigned numbers", "a list or "
 
     def made(self, name, value):
         return numbers(name, value) if isinstance(value, (list, tuple)) else value

@@ -1,7 +1,7 @@
 """Buffers lent to C as they stand: where each one is in memory, and how much of it there is. Nothing is copied."""
 import ctypes
 
-_api = ctypes.pythonapi
+_api = ctypes.PyDLL(None)  # the interpreter itself; a handle of its own, since argtypes are set on it
 _NOWHERE = (ctypes.c_uint64 * 1)()  # what an empty buffer points to: C wants no null pointer
 
 

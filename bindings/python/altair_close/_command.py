@@ -7,12 +7,11 @@
 '-' is standard input or output. The text is JSON; samples/example.json is one, and altair_close/text.py says what it holds. What
 is no record is refused with the field that is at fault; --unchecked also writes records that the library refuses.
 Exit status: 0; 1 where text or file is no record that the library takes; 2 where it could not be read or written."""
-import contextlib
 import os
-import shutil
 import sys
 
 from . import _layout, text
+from ._files import write_whole
 
 
 def said(message):
@@ -38,25 +37,11 @@ def read(source):
 
 
 def put(target, parts):
-    """Writes the parts. A file has all of them or is as it was."""
-    path = os.path.realpath(target)
     if target == "-":
         stream("stdout").writelines(parts)
         stream("stdout").flush()
-    elif os.path.exists(path) and not os.path.isfile(path):
-        with open(path, "wb") as file:  # a pipe or a device
-            file.writelines(parts)
     else:
-        made = f"{path}.{os.getpid()}.new"
-        try:
-            with open(made, "xb") as file:
-                file.writelines(parts)
-            if os.path.exists(path):
-                shutil.copymode(path, made)
-            os.replace(made, path)
-        finally:
-            with contextlib.suppress(OSError):
-                os.unlink(made)
+        write_whole(target, parts)
 
 
 def write(source, target, unchecked):

@@ -4,6 +4,7 @@ from typing import Any, NamedTuple
 
 from . import _layout
 from ._close import charged, close, listing_head, listing_lines, pair
+from ._files import write_whole
 from ._refusals import Refused
 from ._signatures import call
 from ._types import Finality, Settings
@@ -67,8 +68,8 @@ class Record(NamedTuple):
         return bytes(write_file(self.settings, self.finality, self.registry, self.roots, self.slashings))
 
     def save(self, path):
-        """Writes the record's file to a path."""
-        Path(path).write_bytes(self.write())
+        """Writes the record's file to a path; what stood there stays where it cannot be written."""
+        write_whole(path, [self.write()])
 
     def close(self, *, out=(None, None)):
         """The closed record; roots stay. `out` is as that of the function."""

@@ -1,8 +1,11 @@
 """Any buffer goes in as it stands, and `out` takes buffers to reuse."""
 import ctypes
 import mmap
+import tempfile
 import unittest
 from array import array
+from concurrent.futures import ThreadPoolExecutor
+from pathlib import Path
 
 import altair_close as altair
 from altair_close import Checkpoint, Finality, MINIMAL, Refused
@@ -111,7 +114,7 @@ class Buffers(unittest.TestCase):
         step = altair.process_participation_flag_updates
         room = bytearray(8 * len(NUMBERS) + 80)
         for bad in (NUMBERS.tolist(), 1, "x", bytes(560), memoryview(bytes(560)).cast("Q"), bytearray(560), array("q", [0] * 70)):
-            with self.assertRaisesRegex(TypeError, r"^out \(closing\): "):
+            with self.assertRaisesRegex(TypeError, r"^out \(closing\): (a C-contiguous buffer|it is written)"):
                 step(NUMBERS, out=bad)
         with self.assertRaisesRegex(ValueError, r"^out \(closing\): .*overlaps opening"):
             step(NUMBERS, out=NUMBERS)
@@ -163,6 +166,28 @@ class Buffers(unittest.TestCase):
             altair.read_file(room, out=(memoryview(room)[:560].cast("Q"), None))
         with self.assertRaises(Refused):
             altair.write_file(MINIMAL, FINALITY, NUMBERS, ROOTS, SLASHINGS, out=bytearray(len(file) - 1))
+
+    def test_records_by_path(self):
+        with tempfile.TemporaryDirectory() as folder:
+            path = Path(folder, "my.record")
+            record = altair.Record(MINIMAL, FINALITY, NUMBERS, SLASHINGS, ROOTS)
+            record.save(path)
+            self.assertEqual(altair.Record.open(str(path)), record)
+            closed = altair.Record.open(path).close()
+            self.assertEqual(closed, altair.Record(MINIMAL, *self.closed, ROOTS))
+            with self.assertRaises(Refused):
+                record._replace(roots=b"").save(path)
+            self.assertEqual(altair.Record.open(path), record)
+            self.assertRaises(FileNotFoundError, altair.Record.open, Path(folder, "none"))
+
+    def test_threads(self):
+        """Records of their own, closed side by side."""
+        registries_ = [array("Q", NUMBERS) for _ in range(8)]
+        for place, registry in enumerate(registries_):
+            registry[6] += place
+        close = lambda registry: altair.close(MINIMAL, FINALITY, registry, SLASHINGS, ROOTS)
+        with ThreadPoolExecutor(4) as pool:
+            self.assertEqual(list(pool.map(close, registries_ * 50)), list(map(close, registries_)) * 50)
 
     def test_nothing_is_moved_while_it_is_lent(self):
         registry = array("Q", NUMBERS)
