@@ -25,7 +25,7 @@ static const char help[] =
     "bits and charged; then for each validator its index, opening and closing balance, effective balance and score "
     "after.\n"
     "\n"
-    "  --json        the listing as one JSON object\n"
+    "  --json        the listing as one JSON object; numbers are whole, up to 2^64 - 1\n"
     "  --csv         the listing as lines of comma separated values, the epoch's figures on each line\n"
     "  --out FILE    the closed record, written as a record file; it is there whole, or not at all\n"
     "  --help        this text\n"

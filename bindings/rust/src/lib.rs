@@ -34,7 +34,7 @@ pub mod validator;
 pub use close::*;
 pub use file::*;
 pub use helpers::*;
-pub use record::Record;
+pub use record::{OpenError, Record};
 pub use refusal::Refusal;
 pub use steps::*;
 pub use types::*;

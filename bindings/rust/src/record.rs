@@ -2,6 +2,9 @@
 use crate::file::{read_file, read_header, write_file, Header, ReadRefused};
 use crate::types::{Finality, Settings};
 use crate::{charged, close, validator, Refusal};
+use std::error::Error;
+use std::path::Path;
+use std::{fmt, fs, io};
 
 /// All that a close is handed, and hands back.
 #[derive(Clone, Debug, PartialEq, Eq)]
@@ -15,7 +18,36 @@ pub struct Record {
     pub roots: Vec<u8>,
 }
 
+/// Why a record file was not opened: it could not be read, or it was refused.
+#[derive(Debug)]
+pub enum OpenError {
+    Io(io::Error),
+    Refused(ReadRefused),
+}
+
+impl fmt::Display for OpenError {
+    fn fmt(&self, f: &mut fmt::Formatter<'_>) -> fmt::Result {
+        match self {
+            OpenError::Io(error) => error.fmt(f),
+            OpenError::Refused(refused) => refused.fmt(f),
+        }
+    }
+}
+
+impl Error for OpenError {}
+
 impl Record {
+    /// The record of the file at a path.
+    ///
+    /// ```
+    /// use altair_close::{OpenError, Record, Refusal};
+    /// assert!(matches!(Record::open("/no such file"), Err(OpenError::Io(_))));
+    /// assert!(matches!(Record::open("/dev/null"), Err(OpenError::Refused(no)) if no.refusal == Refusal::File));
+    /// ```
+    pub fn open(path: impl AsRef<Path>) -> Result<Record, OpenError> {
+        Record::read(&fs::read(path).map_err(OpenError::Io)?).map_err(OpenError::Refused)
+    }
+
     /// The record of a file.
     ///
     /// ```
