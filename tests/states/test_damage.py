@@ -137,6 +137,7 @@ class Damaged(unittest.TestCase):
             (whole.replace(b'"slot"', b"5", 1), "a name is wanted"),
             (whole.replace(b",", b";", 1), "byte"),
             (whole.replace(b'"slot": "', b'"slot": "x', 1), "slot, byte "),
+            (whole.replace(b'"slashed": ', b'"slashed": true, "slashed": ', 1), "the name slashed stands there twice"),
             (b'{"slot": 5}', "slot, byte 9: a number below 2^64 in quotes is wanted, not 5"),
             (b'{"slot": "\xd9\xa3"}', "not ASCII"),
             (b'{"slot": "\\u0663"}', "slot, byte 9"),

@@ -121,15 +121,29 @@ class Records(unittest.TestCase):
     def test_a_long_json(self):
         """Longer than the window, which then moves on inside every list."""
         state = encoder.random_state(random.Random(8), "minimal", "altair", 6000, 3)
-        after = closed(random.Random(9), state)
+        everywhere = closed(random.Random(9), state)
+        ejected = [{**v, "exit_epoch": 77} if i % 97 == 0 else v for i, v in enumerate(state["validators"])]
+        here_and_there = {**state, "validators": ejected, "balances": state["balances"][:-1] + [5]}
         with Directory() as at:
             at.write("state", encoder.text(state, "altair"))
             self.assertGreater((at / "state").stat().st_size, 2 * 2**20)
             self.assertEqual(run("record", "--preset", "minimal", at / "state", at / "made").code, 0)
             self.assertEqual(at.read("made"), encoder.record(state, encoder.SETTINGS["minimal"]))
-            at.write("closed", encoder.record(after, encoder.SETTINGS["minimal"]))
-            self.assertEqual(run("back", "--preset", "minimal", at / "state", at / "closed", at / "again").code, 0)
-            self.assertEqual(at.read("again"), encoder.text(after, "altair"))
+            for k, after in enumerate([everywhere, here_and_there]):
+                at.write("closed", encoder.record(after, encoder.SETTINGS["minimal"]))
+                self.assertEqual(run("back", "--preset", "minimal", at / "state", at / "closed", at / f"again{k}").code, 0)
+                self.assertEqual(at.read(f"again{k}"), encoder.text(after, "altair"))
+
+    def test_a_value_at_the_edge_of_the_window(self):
+        """Numbers, names and strings that the window cuts anywhere are read whole."""
+        whole = encoder.text(encoder.random_state(random.Random(14), "minimal", "altair", 1, 1), "altair")
+        with Directory() as at:
+            for k in range(16):
+                before = b'{"other": ' + b" " * (2**20 - 18 + k - 10) + b'123456, "name": "text", '
+                at.write("state", before + whole[1:])
+                self.assertEqual(run("record", "--preset", "minimal", "--force", at / "state", at / "made").code, 0)
+                self.assertEqual(run("back", "--preset", "minimal", "--force", at / "state", at / "made", at / "again").code, 0)
+                self.assertEqual(at.read("again"), at.read("state"))
 
 
 if __name__ == "__main__":
