@@ -4,8 +4,9 @@
   {0} show RECORD TEXT.json                   the text of a record file
   {0} check RECORD                            whether the library reads a file, or why not
 
-'-' is standard input or output. The text is JSON; samples/example.json is one, and altair_close/text.py says what it holds. What
-is no record is refused with the field that is at fault; --unchecked also writes records that the library refuses.
+'-' is standard input or output. The text is JSON, and altair_close/text.py says what it holds; in the repository
+samples/example.json is one. What is no record is refused with the field that is at fault; --unchecked also writes records that
+the library refuses.
 Exit status: 0; 1 where text or file is no record that the library takes; 2 where it could not be read or written."""
 import os
 import sys
