@@ -12,14 +12,16 @@ mod random;
 mod record;
 
 #[allow(dead_code)]
-#[path = "../../compare/src/library.rs"]
-mod library;
+#[path = "../../compare/src/convert.rs"]
+mod convert;
 mod measure;
 mod plain;
 mod plot;
 mod scenarios;
+mod stack;
 mod table;
 
+use altair_close as types;
 use scenarios::SCENARIOS;
 use std::path::Path;
 
@@ -43,7 +45,7 @@ fn main() {
             rows.push(row);
         }
     }
-    let text = table::markdown(&rows);
+    let text = table::markdown(&rows, stack::deepest());
     println!("\n{text}");
     let write = |name: &str, text: String| {
         let file = Path::new(&folder).join(name);

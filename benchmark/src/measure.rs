@@ -1,5 +1,6 @@
 //! One row: a scenario at a size. The four are measured in turn, round by round, so that what disturbs one disturbs all.
-use crate::{library, plain, record::Record, scenarios::Scenario};
+use crate::{convert, plain, record::Record, scenarios::Scenario, types};
+use altair_close::Refusal;
 use std::{
     hint::black_box,
     time::{Duration, Instant},
@@ -10,8 +11,6 @@ const LONGEST: Duration = Duration::from_secs(40);
 /// Rounds go on for so long, within these numbers of them.
 const ENOUGH: Duration = Duration::from_secs(8);
 const ROUNDS: (usize, usize) = (9, 301);
-/// How much of the stack is looked at, beneath a close's caller.
-const STACK: usize = 64 * 1024;
 
 /// Median and least, in milliseconds.
 #[derive(Clone, Copy)]
@@ -28,8 +27,6 @@ pub struct Row {
     pub close: Option<Time>,
     pub plain: Option<Time>,
     pub reference: Option<Time>,
-    /// bytes of stack that a close touched
-    pub stack: usize,
 }
 
 /// Whether a function that took this long at a tenth or a quarter of the size may be run, were it quadratic.
@@ -45,7 +42,7 @@ fn time(mut all: Vec<Duration>) -> Time {
 
 pub fn row(scenario: Scenario, validators: usize, before: Option<&Row>) -> Row {
     let growth = before.map_or(1.0, |b| validators as f64 / b.validators as f64);
-    let mut row = Row { scenario, validators, copy: None, close: None, plain: None, reference: None, stack: 0 };
+    let mut row = Row { scenario, validators, copy: None, close: None, plain: None, reference: None };
     // one left out stays out at larger sizes
     let left_out = before.is_some_and(|b| b.close.is_none());
     if left_out || !foreseen(before.and_then(|b| b.close), growth) {
@@ -53,18 +50,25 @@ pub fn row(scenario: Scenario, validators: usize, before: Option<&Row>) -> Row {
     }
     let r = scenario.record(validators);
     let mut buffers = Buffers::new(&r);
-    row.stack = buffers.checked(&r);
+    // the others refuse nothing, or by a panic
+    let refused = buffers.checked(&r, scenario.refusal());
     let (mut copies, mut closes, mut plains) = (Vec::new(), Vec::new(), Vec::new());
     let start = Instant::now();
     while closes.len() < ROUNDS.0 || (closes.len() < ROUNDS.1 && start.elapsed() < ENOUGH) {
         copies.push(buffers.copy(&r));
-        closes.push(buffers.close(&r));
-        plains.push(buffers.plain(&r));
+        closes.push(buffers.close(&r, scenario.refusal()));
+        if !refused {
+            plains.push(buffers.plain(&r));
+        }
         if closes.len() >= 3 && start.elapsed() > 3 * ENOUGH {
             break;
         }
     }
-    (row.copy, row.close, row.plain) = (Some(time(copies)), Some(time(closes)), Some(time(plains)));
+    (row.copy, row.close) = (Some(time(copies)), Some(time(closes)));
+    if refused {
+        return row;
+    }
+    row.plain = Some(time(plains));
     let reference_out = before.is_some_and(|b| b.reference.is_none());
     if cfg!(judged) && !reference_out && foreseen(before.and_then(|b| b.reference), growth) {
         row.reference = buffers.reference(&r);
@@ -72,14 +76,21 @@ pub fn row(scenario: Scenario, validators: usize, before: Option<&Row>) -> Row {
     row
 }
 
-struct Buffers {
+pub struct Buffers {
+    settings: types::Settings,
+    finality: types::Finality,
     registry: Vec<u64>,
     slashings: Vec<u64>,
 }
 
 impl Buffers {
-    fn new(r: &Record) -> Self {
-        Buffers { registry: vec![1; r.registry.len()], slashings: vec![1; r.slashings.len()] }
+    pub fn new(r: &Record) -> Self {
+        Buffers {
+            settings: convert::settings(&r.settings),
+            finality: convert::finality(&r.finality),
+            registry: vec![1; r.registry.len()],
+            slashings: vec![1; r.slashings.len()],
+        }
     }
 
     fn copy(&mut self, r: &Record) -> Duration {
@@ -89,17 +100,17 @@ impl Buffers {
         start.elapsed()
     }
 
-    fn close(&mut self, r: &Record) -> Duration {
+    fn close(&mut self, r: &Record, refusal: Option<Refusal>) -> Duration {
         let start = Instant::now();
-        let (refusal, _) = self.closed(r);
+        let closed = self.closed(r);
         let spent = start.elapsed();
-        assert_eq!(refusal, 0, "the library refused a record");
+        assert_eq!(closed.err(), refusal, "the library's answer");
         spent
     }
 
-    fn closed(&mut self, r: &Record) -> (u64, crate::record::Finality) {
+    pub fn closed(&mut self, r: &Record) -> Result<types::Finality, Refusal> {
         let (registry, slashings) = (&mut self.registry[..], &mut self.slashings[..]);
-        library::close(&r.settings, &r.finality, &r.registry, &r.slashings, &r.roots, registry, slashings)
+        altair_close::close(&self.settings, &self.finality, &r.registry, &r.slashings, &r.roots, registry, slashings)
     }
 
     fn plain(&mut self, r: &Record) -> Duration {
@@ -108,24 +119,28 @@ impl Buffers {
         start.elapsed()
     }
 
-    /// The library's close and the plain one give the same: finality, registry and slashings. The bytes of stack that it took.
-    fn checked(&mut self, r: &Record) -> usize {
-        let top = here();
-        paint(top);
+    /// The library's close and the plain one give the same: finality, registry and slashings. Or it is refused as foreseen, and the
+    /// opening is there.
+    fn checked(&mut self, r: &Record, refusal: Option<Refusal>) -> bool {
         let closed = self.closed(r);
-        let stack = painted(top);
         let mut other = Buffers::new(r);
-        let finality = plain::close(r, &mut other.registry, &mut other.slashings);
-        assert!(closed == (0, finality), "finality is not the same");
+        if refusal.is_some() {
+            assert_eq!(closed.err(), refusal, "the library's answer");
+            other.registry.copy_from_slice(&r.registry);
+            other.slashings.copy_from_slice(&r.slashings);
+        } else {
+            let finality = plain::close(r, &mut other.registry, &mut other.slashings);
+            assert!(closed == Ok(convert::finality(&finality)), "finality is not the same");
+        }
         assert!(self.registry == other.registry, "the closing registry is not the same");
         assert!(self.slashings == other.slashings, "the closing slashings are not the same");
-        stack
+        refusal.is_some()
     }
 
     /// The Rust's close, whose result must be the library's.
     #[cfg(judged)]
     fn reference(&mut self, r: &Record) -> Option<Time> {
-        let (_, finality) = self.closed(r);
+        let finality = convert::plain(&self.closed(r).expect("it was closed before"));
         let mut all = Vec::new();
         let start = Instant::now();
         while all.is_empty() || (all.len() < ROUNDS.0 && start.elapsed() < ENOUGH) {
@@ -142,28 +157,4 @@ impl Buffers {
     fn reference(&mut self, _: &Record) -> Option<Time> {
         None
     }
-}
-
-const PAINT: u8 = 0xa5;
-
-/// An address in the caller's frame or just beneath it.
-#[inline(never)]
-fn here() -> usize {
-    let local = 0u8;
-    black_box(&local) as *const u8 as usize
-}
-
-/// Fills what lies beneath `top`, but for the next 512 bytes, in which this function itself stands. The bytes belong to no frame.
-#[inline(never)]
-fn paint(top: usize) {
-    for at in top - STACK..top - 512 {
-        unsafe { (at as *mut u8).write_volatile(PAINT) };
-    }
-}
-
-/// How far beneath `top` the deepest byte lies that is no longer as it was painted.
-#[inline(never)]
-fn painted(top: usize) -> usize {
-    let touched = (top - STACK..top - 512).find(|&at| unsafe { (at as *const u8).read_volatile() } != PAINT);
-    touched.map_or(512, |at| top - at)
 }

@@ -1,8 +1,9 @@
 //! Records of any size at mainnet's settings. Each is a function of its number of validators.
 use crate::{
     random::Random,
-    record::{at, Checkpoint, Finality, Record, FAR, MAINNET},
+    record::{at, of, Checkpoint, Finality, Record, FAR, MAINNET},
 };
+use altair_close::Refusal;
 
 #[derive(Clone, Copy, PartialEq, Eq)]
 pub enum Scenario {
@@ -12,9 +13,14 @@ pub enum Scenario {
     Leak,
     /// as calm, with a fifth waiting for activation and 2 percent to be ejected at once
     Queue,
+    /// as queue, with a churn limit of 1,000
+    Churn,
+    /// as calm, with one sum out of 64 bits that justification does not ask for
+    Overflow,
 }
 
-pub const SCENARIOS: [Scenario; 3] = [Scenario::Calm, Scenario::Leak, Scenario::Queue];
+pub const SCENARIOS: [Scenario; 5] =
+    [Scenario::Calm, Scenario::Leak, Scenario::Queue, Scenario::Churn, Scenario::Overflow];
 
 const EPOCH: u64 = 200_000;
 const ETHER: u64 = 1_000_000_000;
@@ -25,7 +31,18 @@ impl Scenario {
             Scenario::Calm => "calm",
             Scenario::Leak => "leak",
             Scenario::Queue => "queue",
+            Scenario::Churn => "churn",
+            Scenario::Overflow => "overflow",
         }
+    }
+
+    /// What the close answers.
+    pub fn refusal(self) -> Option<Refusal> {
+        (self == Scenario::Overflow).then_some(Refusal::Overflow)
+    }
+
+    fn crowded(self) -> bool {
+        matches!(self, Scenario::Queue | Scenario::Churn)
     }
 
     fn finality(self, rng: &mut Random) -> Finality {
@@ -56,11 +73,11 @@ impl Scenario {
             // new
             42 => (v[2], v[3], v[7], v[8]) = (FAR, FAR, 0, 0),
             // waiting
-            43..=242 if self == Scenario::Queue => {
+            43..=242 if self.crowded() => {
                 (v[2], v[3], v[7], v[8]) = (EPOCH - 3 - rng.below(4000), FAR, 0, 0);
             }
             // ejected now
-            243..=262 if self == Scenario::Queue => (v[0], v[6]) = (16 * ETHER, 16 * ETHER + rng.below(ETHER)),
+            243..=262 if self.crowded() => (v[0], v[6]) = (16 * ETHER, 16 * ETHER + rng.below(ETHER)),
             _ => (),
         }
         v
@@ -80,12 +97,23 @@ impl Scenario {
     pub fn record(self, validators: usize) -> Record {
         let rng = &mut Random::new(validators as u64);
         let finality = self.finality(rng);
-        let registry = (0..validators).flat_map(|_| self.validator(rng)).collect();
+        let mut registry: Vec<u64> = (0..validators).flat_map(|_| self.validator(rng)).collect();
         let roots = (0..32 * MAINNET[at::S]).map(|_| rng.next() as u8).collect();
         let mut slashings = vec![0; MAINNET[at::L] as usize];
         for _ in 0..20 {
             slashings[rng.index(8192)] = 32 * ETHER * rng.below(10);
         }
-        Record { settings: MAINNET, finality, registry, roots, slashings }
+        let mut settings = MAINNET;
+        if self == Scenario::Churn {
+            settings[at::MIN_CHURN] = 1_000;
+        }
+        if self == Scenario::Overflow {
+            // the last two left with this epoch and hit the previous source alone: in no sum but that one
+            for v in registry.chunks_exact_mut(10).rev().take(2) {
+                (v[of::EFFECTIVE], v[of::SLASHED], v[of::ACTIVATION], v[of::EXIT], v[of::PREVIOUS]) =
+                    (1 << 63, 0, 1, EPOCH, 1);
+            }
+        }
+        Record { settings, finality, registry, roots, slashings }
     }
 }

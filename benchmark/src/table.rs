@@ -58,10 +58,10 @@ fn cells(r: &Row) -> Vec<String> {
 
 /// A row as it comes.
 pub fn line(r: &Row) -> String {
-    format!("{}  stack {} bytes", cells(r).join("  "), r.stack)
+    cells(r).join("  ")
 }
 
-pub fn markdown(rows: &[Row]) -> String {
+pub fn markdown(rows: &[Row], stack: usize) -> String {
     let head = [
         "scenario",
         "validators",
@@ -77,6 +77,5 @@ pub fn markdown(rows: &[Row]) -> String {
     for row in rows {
         text += &format!("| {} |\n", cells(row).join(" | "));
     }
-    let stack = rows.iter().map(|r| r.stack).max().unwrap_or(0);
     text + &format!("\nStack of a close: at most {stack} bytes.\n")
 }

@@ -1,54 +1,21 @@
 //! The library's reading and writing of record files, against the reference's.
-use crate::library::{finality, points, In, Numbers, Out, Points};
+use crate::{convert, raw};
 use reference::{
     calls::{Call, Operation},
     generate,
     random::Random,
-    record::{number_at, write_file, Finality, Record},
+    record::{number_at, write_file, Finality, Record, Settings},
     refusals,
 };
-
-#[repr(C)]
-#[derive(Debug, PartialEq, Eq)]
-pub struct Header {
-    refusal: u64,
-    validators: u64,
-    roots: u64,
-    slashings: u64,
-}
-
-#[repr(C)]
-struct Read {
-    refusal: u64,
-    position: u64,
-    settings: Numbers,
-    finality: Points,
-}
-
-extern "C" {
-    fn altair_read_header(bytes: *const u8, n: usize) -> Header;
-    fn altair_read_file(bytes: *const u8, n: usize, registry: Out, m: usize, slashings: Out, l: usize) -> Read;
-    fn altair_write_file(
-        s: Numbers,
-        finality: Points,
-        registry: In,
-        registry_length: usize,
-        roots: *const u8,
-        roots_length: usize,
-        slashings: In,
-        slashings_length: usize,
-        file: *mut u8,
-        file_length: usize,
-    ) -> u64;
-}
 
 /// Everything that a reading answers and leaves in the buffers.
 #[derive(Debug, PartialEq, Eq)]
 pub struct Told {
-    header: Header,
+    /// refusal, validators, roots, slashings
+    header: [u64; 4],
     pub refusal: u64,
     position: u64,
-    settings: [u64; 19],
+    settings: Settings,
     finality: Finality,
     registry: Vec<u64>,
     slashings: Vec<u64>,
@@ -75,8 +42,7 @@ fn pattern(n: usize) -> Vec<u64> {
 pub fn called_for(r: &Reading) -> Told {
     let good = r.bytes.len() >= 80 && refusals::header_good(&r.bytes);
     let count = |at| if good { number_at(&r.bytes, at) } else { 0 };
-    let header =
-        Header { refusal: if good { 0 } else { 6 }, validators: count(16), roots: count(24), slashings: count(32) };
+    let header = [if good { 0 } else { 6 }, count(16), count(24), count(32)];
     let read = refusals::read(&r.bytes, r.registry, r.slashings);
     let (refusal, position) = (read.refusal, read.position);
     match read.record {
@@ -98,15 +64,15 @@ pub fn called_for(r: &Reading) -> Told {
 pub fn told(r: &Reading) -> Told {
     let (bytes, n) = (r.bytes.as_ptr(), r.bytes.len());
     let (mut registry, mut slashings) = (pattern(r.registry), pattern(r.slashings));
-    let header = unsafe { altair_read_header(bytes, n) };
+    let header = unsafe { raw::altair_read_header(bytes, n) };
     let (a, b) = (registry.as_mut_ptr(), slashings.as_mut_ptr());
-    let read = unsafe { altair_read_file(bytes, n, a, registry.len(), b, slashings.len()) };
+    let read = unsafe { raw::altair_read_file(bytes, n, a, registry.len(), b, slashings.len()) };
     Told {
-        header,
+        header: [header.refusal, header.validators, header.roots, header.slashings],
         refusal: read.refusal,
         position: read.position,
-        settings: read.settings.0,
-        finality: finality(read.finality),
+        settings: convert::numbers(&read.settings),
+        finality: convert::plain(&read.finality),
         registry,
         slashings,
     }
@@ -132,9 +98,9 @@ pub fn written(record: &Record, length: usize) -> (u64, Vec<u8>) {
     let mut file = vec![0xa5; length];
     let r = record;
     let refusal = unsafe {
-        altair_write_file(
-            Numbers(r.settings),
-            points(&r.finality),
+        raw::altair_write_file(
+            convert::settings(&r.settings),
+            convert::finality(&r.finality),
             r.registry.as_ptr(),
             r.registry.len(),
             r.roots.as_ptr(),

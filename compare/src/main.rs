@@ -1,11 +1,21 @@
 //! The library's archive against the Rust of ethereum-consensus, in one process, on generated records: the close, each of the eight
 //! steps, every leaf, and reading and writing a file. Every number that comes back or is left in a lent buffer is compared.
 use reference::record;
+mod convert;
 mod crowd;
 mod files;
 mod leaves;
 mod library;
+#[allow(dead_code)]
+#[path = "../../bindings/rust/src/raw.rs"]
+mod raw;
+#[allow(dead_code)]
+#[path = "../../bindings/rust/src/refusal.rs"]
+mod refusal;
 mod steps;
+#[allow(dead_code)]
+#[path = "../../bindings/rust/src/types.rs"]
+mod types;
 
 use reference::{
     calls::{LEAVES, OPERATIONS},

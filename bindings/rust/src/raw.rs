@@ -4,33 +4,33 @@ use crate::types::{Checkpoint, Clock, Deltas, Finality, Head, Line, Settings};
 
 #[repr(C)]
 pub struct FinalityAnswer {
-    refusal: u64,
-    finality: Finality,
+    pub refusal: u64,
+    pub finality: Finality,
 }
 
 #[repr(C)]
 pub struct NumberAnswer {
-    refusal: u64,
-    value: u64,
+    pub refusal: u64,
+    pub value: u64,
 }
 
 #[repr(C)]
 pub struct TruthAnswer {
-    refusal: u64,
-    value: u64,
+    pub refusal: u64,
+    pub value: u64,
 }
 
 #[repr(C)]
 pub struct DeltasAnswer {
-    refusal: u64,
-    reward: u64,
-    penalty: u64,
+    pub refusal: u64,
+    pub reward: u64,
+    pub penalty: u64,
 }
 
 #[repr(C)]
 pub struct RootAnswer {
-    refusal: u64,
-    root: [u8; 32],
+    pub refusal: u64,
+    pub root: [u8; 32],
 }
 
 #[repr(C)]
@@ -51,22 +51,22 @@ pub struct ReadAnswer {
 
 #[repr(C)]
 pub struct HeadAnswer {
-    refusal: u64,
-    epoch: u64,
-    justified_epoch: u64,
-    finalized_epoch: u64,
-    justification_bits: u64,
-    charged: u64,
+    pub refusal: u64,
+    pub epoch: u64,
+    pub justified_epoch: u64,
+    pub finalized_epoch: u64,
+    pub justification_bits: u64,
+    pub charged: u64,
 }
 
 #[repr(C)]
 pub struct LineAnswer {
-    refusal: u64,
-    index: u64,
-    opening_balance: u64,
-    closing_balance: u64,
-    effective_balance: u64,
-    inactivity_score: u64,
+    pub refusal: u64,
+    pub index: u64,
+    pub opening_balance: u64,
+    pub closing_balance: u64,
+    pub effective_balance: u64,
+    pub inactivity_score: u64,
 }
 
 impl FinalityAnswer {
