@@ -45,7 +45,7 @@ closed-agrees : (c : Call) (st : BeaconState) → closed c ≡ value st → docu
 unfolding closed afterTests
 closed-agrees c st e = close-agrees (c .settings) (stateOf c) st (bound _ _ e .then)
 
-document-closed : (c : Call) → close c .refusal ≡ 0 → DocumentClosed c
+document-closed : (c : Call) → close c .refusal ≡ 0 → DocumentClosed c (close c)
 document-closed c z =
     let a = restored c .accepted z in
     let e = sym (closed-agrees c (a .state) (a .gave)) in
@@ -71,7 +71,7 @@ close-complete c (refused r) t = inl (rw t (after-refusal r c _ _))
 close-complete c (value u) t =
     ⊎-elim (λ e. inl (ap (outcomeOf c) e)) (λ p. inr (t, p)) (complete-close (c .settings) (stateOf c) (close-passed c t .passed))
 
-pub close-call : (c : Call) → CloseCall c
+pub close-call : (c : Call) → CloseCall c (close c)
 close-call c = record { accepted = document-closed c; complete = close-complete c (closeTests c) refl }
 
 -- A step with a closing buffer

@@ -29,7 +29,7 @@ use Rattle.completeness.specs.DocumentIn64Bits as in64
 use Rattle.completeness.specs.Rows.{hits, hitters, FinalizedAhead, downward, upward, Row, nobodyEligible, nobodyHits, noValidators}
 use Rattle.completeness.specs.Complete.{StepParts, CompleteStep, EveryRow}
 use Rattle.laws.proofs.Checked.{bound}
-use Rattle.agreement.proofs.Agrees.{Agrees, Overflow}
+use Rattle.agreement.proofs.Agrees.{Agrees, Overflow, not-refused}
 use Rattle.agreement.proofs.Fits.{mul64-fits}
 use Rattle.agreement.proofs.Bounds.{given}
 use Rattle.agreement.proofs.EffectiveBalances.{effective-balances}
@@ -211,4 +211,5 @@ every-row s st =
       inactivity = inactivity-row s st;
       effectiveBalances = effective-balances-row s st;
       parts = λ k st′ l e. record { row = l; rust = rows-refused s st k l; document = rw (each-step s st k .same st′ e) e };
+      differ = λ k p e. not-refused (sym (p .document) ∙ sym e ∙ p .rust);
     }

@@ -13,7 +13,7 @@ use Rattle.definitions.specs.Refusals.{afterTests, closingBuffer, justification
 use Rattle.definitions.specs.Document.Altair.EpochProcessing as Document
 use Rattle.definitions.specs.Rust.Phase0.EpochProcessing.{«process_registry_updates», «process_effective_balance_updates», resetSlashings}
 use Rattle.definitions.specs.Rust.Altair.EpochProcessing.{«process_justification_and_finalization», «process_inactivity_updates», «process_rewards_and_penalties», «process_slashings», «process_participation_flag_updates»}
-use Rattle.definitions.specs.Close.{finalizedEpochOf, Step, justificationStep, inactivityStep, rewardsStep, registryStep, slashingsStep, effectiveBalancesStep, slashingsResetStep, participationFlagsStep, Call, stateOf, closeTests, close, Outcome}
+use Rattle.definitions.specs.Close.{finalizedEpochOf, Step, justificationStep, inactivityStep, rewardsStep, registryStep, slashingsStep, effectiveBalancesStep, slashingsResetStep, participationFlagsStep, Call, stateOf, closeTests, Outcome}
 use Rattle.definitions.specs.File.{Contents, writeTests, read}
 use Rattle.agreement.specs.Agreement.{documentStep}
 use Rattle.agreement.specs.Restored.{OneOf}
@@ -39,16 +39,17 @@ outcomeOf c work =
       closingSlashings = closingBuffer slashingsOf (closeTests c) work (c .slashings) (c .closingSlashings);
     }
 
--- the document's process_epoch of the record handed in
-pub record DocumentClosed (c : Call) : Type 0 where
-  pub finality : close c .finality ≡ Document.«process_epoch» (c .settings) (stateOf c) .finality
-  pub registry : close c .closingRegistry ≡ registryOf (Document.«process_epoch» (c .settings) (stateOf c))
-  pub slashings : close c .closingSlashings ≡ slashingsOf (Document.«process_epoch» (c .settings) (stateOf c))
+-- the outcome o is the document's process_epoch of the record handed in
+pub record DocumentClosed (c : Call) (o : Outcome) : Type 0 where
+  pub finality : o .finality ≡ Document.«process_epoch» (c .settings) (stateOf c) .finality
+  pub registry : o .closingRegistry ≡ registryOf (Document.«process_epoch» (c .settings) (stateOf c))
+  pub slashings : o .closingSlashings ≡ slashingsOf (Document.«process_epoch» (c .settings) (stateOf c))
 
-pub record CloseCall (c : Call) : Type 0 where
-  pub accepted : close c .refusal ≡ 0 → DocumentClosed c
+-- of every call c, whose outcome o is `close c`
+pub record CloseCall (c : Call) (o : Outcome) : Type 0 where
+  pub accepted : o .refusal ≡ 0 → DocumentClosed c o
   -- it answers as the document in 64 bits would, or a row parts the two
-  pub complete : (close c ≡ outcomeOf c (In64Bits.«process_epoch» (c .settings) (stateOf c))) ⊎ ((closeTests c ≡ value tt) × CloseParts (c .settings) (stateOf c))
+  pub complete : (o ≡ outcomeOf c (In64Bits.«process_epoch» (c .settings) (stateOf c))) ⊎ ((closeTests c ≡ value tt) × CloseParts (c .settings) (stateOf c))
 
 -- The steps
 

@@ -41,6 +41,8 @@ pub record EveryRow (s : Settings) (st : BeaconState) : Type 0 where
   pub effectiveBalances : Row s st effectiveBalancesStep → In64Bits.step s st effectiveBalancesStep ≡ value st
   -- at the second it goes on unless another number leaves 64 bits, and where it goes on the two part
   pub parts : (k : Step) (st′ : BeaconState) → Row s st k → In64Bits.step s st k ≡ value st′ → StepParts s st k
+  -- and they are not the same there
+  pub differ : (k : Step) → StepParts s st k → Rust.step s st k ≡ In64Bits.step s st k → ⊥
 
 -- The leaf get_flag_index_deltas
 

@@ -1,3 +1,4 @@
--- From what the library's functions answer to what is answered for C; demand 3 of the whole close.
+-- From what the library's functions answer to what is answered for C; demands 2 and 3 of the calls.
 pub mod Roots
 pub mod Demand3
+pub mod Demand2
