@@ -13,12 +13,13 @@ use Rattle.definitions.specs.Document.Altair.Helpers.{isUnslashedParticipating,
 use Rattle.definitions.specs.Document.Altair.EpochProcessing as document
 use Rattle.definitions.specs.Rust.Altair.Helpers as rustHelpers
 use Rattle.definitions.specs.Rust.Altair.EpochProcessing as rust
-use Rattle.definitions.specs.Close.{Step, justificationStep, inactivityStep, rewardsStep, registryStep, slashingsStep, effectiveBalancesStep, slashingsResetStep, participationFlagsStep}
+use Rattle.definitions.specs.Close.{Step, justificationStep, inactivityStep, rewardsStep, registryStep, slashingsStep, effectiveBalancesStep, slashingsResetStep, participationFlagsStep, steps}
 use Rattle.agreement.specs.Agreement.{documentStep}
 use Rattle.completeness.specs.ListByList as byLists
 use Rattle.completeness.specs.DocumentIn64Bits as in64
 use Rattle.completeness.specs.DocumentIn64Bits.{FlagTotals}
-use Rattle.completeness.specs.Complete.{StepAgreesIn64Bits}
+use Rattle.completeness.specs.Complete.{StepAgreesIn64Bits, CloseAgreesIn64Bits}
+use Rattle.laws.proofs.Checked.{foldChecked-value}
 use Rattle.agreement.proofs.Agrees.{Agrees, Overflow, OverflowOrNoRoot, value-agrees, equal-agrees, bind-agrees, cond-agrees, add64-agrees, mul64-agrees, map-agrees, fold-agrees}
 use Rattle.agreement.proofs.Helpers.{activation-exit-epoch, total-balance, total-active-balance, leak, kept-validators}
 use Rattle.agreement.proofs.Deltas.{base-reward, inactivity-deltas}
@@ -142,3 +143,8 @@ each-step s st participationFlagsStep = participation-flags s st
 
 pub step-agrees-in-64-bits : StepAgreesIn64Bits
 step-agrees-in-64-bits s st st′ k e = each-step s st k .same st′ e
+
+pub close-agrees-in-64-bits : CloseAgreesIn64Bits
+unfolding in64.«process_epoch» document.«process_epoch»
+close-agrees-in-64-bits s st st′ e =
+    foldChecked-value (in64.step s) (documentStep s) (λ before k after. step-agrees-in-64-bits s before after k) st steps e

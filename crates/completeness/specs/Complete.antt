@@ -21,6 +21,9 @@ use Rattle.completeness.specs.Rows.{Row, LeafRow, CloseRow}
 abbrev pub StepAgreesIn64Bits : Type 0
 StepAgreesIn64Bits = (s : Settings) (st st′ : BeaconState) (k : Step) → In64Bits.step s st k ≡ value st′ → documentStep s st k ≡ st′
 
+abbrev pub CloseAgreesIn64Bits : Type 0
+CloseAgreesIn64Bits = (s : Settings) (st st′ : BeaconState) → In64Bits.«process_epoch» s st ≡ value st′ → Document.«process_epoch» s st ≡ st′
+
 -- Steps
 
 pub record StepParts (s : Settings) (st : BeaconState) (k : Step) : Type 0 where
