@@ -9,9 +9,12 @@ pub mod Agrees
 -- The Rust's form against it
 pub mod Delay
 pub mod Steps
+pub mod Kept
 pub mod Close
 pub mod Records
 -- The exported calls
-pub mod Calls
+pub mod CloseCalls
+pub mod StepCalls
+pub mod OtherCalls
 -- Shut out
 mod Wrong

@@ -14,7 +14,9 @@ use Rattle.definitions.specs.Close.{Step, inactivityStep, rewardsStep, registry
 use Rattle.close.proofs.close.Kinds as closeKinds
 use Rattle.close.proofs.Contract.{callOf, outcomeOf}
 use Rattle.completeness.specs.Calls.{CloseCall, StepCall, JustificationCall, registryOf, slashingsOf}
-use Rattle.completeness.proofs.Calls.{close-call, step-calls, justification-calls}
+use Rattle.completeness.proofs.CloseCalls.{close-call}
+use Rattle.completeness.proofs.StepCalls.{step-calls}
+use Rattle.completeness.proofs.OtherCalls.{justification-calls}
 use Rattle.exports.proofs.whole.altair_close.Reads as whole
 use Rattle.exports.proofs.steps.altair_process_justification_and_finalization.Kinds as justificationKinds
 use Rattle.exports.proofs.steps.altair_process_justification_and_finalization.Reads as justification

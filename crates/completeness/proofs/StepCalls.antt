@@ -1,80 +1,34 @@
--- Demand 2 and the table of refusals of the exported calls.
+-- Demand 2 and the table of refusals of the steps that have a closing buffer.
 use mathlib.Core.Path.{_≡_, refl, sym, ap, _∙_}
-use mathlib.Core.Bool.{Bool, true, false, cond}
+use mathlib.Core.Bool.{Bool, true, false}
 use mathlib.Core.List.{List, [], _∷_}
 use mathlib.Core.Logic.{_⊎_, inl, inr, ⊎-elim}
 use Prim.Native.Nat.{ℕ}
 use native.Mathlib.Omega.{arith}
 use Rattle.types.specs.declared.Settings.{Settings}
-use Rattle.types.specs.declared.Finality.{Finality}
-use Rattle.types.specs.declared.FinalityAnswer.{FinalityAnswer}
 use Rattle.definitions.specs.Record.{Validator, BeaconState, encode, decode}
-use Rattle.definitions.specs.Updates.{withValidators, withSlashings, withFinality}
-use Rattle.definitions.specs.Checked.{Refusal, badShape, badRecord, badFile, overflow, Checked, value, refused, bind, numberOf, codeOf, settle}
-use Rattle.definitions.specs.Answers.{finalityAnswerFor}
-use Rattle.definitions.specs.Refusals.{inOrder, afterTests, closingBuffer, justificationTests, registryTests, slashingsTests, effectiveBalanceTests, slashingsResetTests, rotationTests}
-use Rattle.definitions.specs.Document.Altair.EpochProcessing as document
+use Rattle.definitions.specs.Updates.{withValidators, withSlashings}
+use Rattle.definitions.specs.Checked.{Refusal, badShape, badRecord, overflow, Checked, value, refused, bind, numberOf}
+use Rattle.definitions.specs.Refusals.{inOrder, afterTests, closingBuffer, registryTests, slashingsTests, effectiveBalanceTests, slashingsResetTests, rotationTests}
 use Rattle.definitions.specs.Rust.Phase0.EpochProcessing.{resetSlashings}
 use Rattle.definitions.specs.Rust.Altair.EpochProcessing as rust
-use Rattle.definitions.specs.Close.{onValidators, finalizedEpochOf, Step, justificationStep, inactivityStep, rewardsStep, registryStep, slashingsStep, effectiveBalancesStep, slashingsResetStep, participationFlagsStep, step, «process_epoch», Call, stateOf, closeTests, closed, close, Outcome}
-use Rattle.definitions.specs.File.{Contents, contentsOf, goodHeader, writeTests, readTests, readFile, read}
+use Rattle.definitions.specs.Close.{onValidators, finalizedEpochOf, Step, inactivityStep, rewardsStep, registryStep, slashingsStep, effectiveBalancesStep, slashingsResetStep, participationFlagsStep, step}
 use Rattle.agreement.specs.Agreement.{documentStep}
 use Rattle.agreement.specs.Bounds.{Passed}
 use Rattle.agreement.specs.Restored.{OneOf}
 use Rattle.buffers.specs.Closes.{Closes}
 use Rattle.completeness.specs.DocumentIn64Bits as in64
-use Rattle.completeness.specs.Complete.{CloseParts}
-use Rattle.completeness.specs.Calls.{registryOf, slashingsOf, outcomeOf, DocumentClosed, CloseCall, ByNumber, StepCall, StepCalls, JustificationCall, JustificationCalls, FileCalls}
-use Rattle.laws.proofs.Checked.{bound}
+use Rattle.completeness.specs.Calls.{registryOf, slashingsOf, ByNumber, StepCall, StepCalls}
 use Rattle.agreement.proofs.Agrees.{Agrees, Overflow, not-refused}
-use Rattle.agreement.proofs.Bounds.{close-passed, tests-passed}
-use Rattle.agreement.proofs.Justification.{justification}
+use Rattle.agreement.proofs.Bounds.{tests-passed}
 use Rattle.agreement.proofs.Inactivity.{inactivity}
 use Rattle.agreement.proofs.Rewards.{rewards}
 use Rattle.agreement.proofs.Registry.{registry}
 use Rattle.agreement.proofs.Slashings.{slashings}
 use Rattle.agreement.proofs.EffectiveBalances.{effective-balances}
-use Rattle.agreement.proofs.Close.{slashings-reset, participation-flags, close-agrees}
-use Rattle.agreement.proofs.Restored.{restored, low, high, one-left, one-right, tests-number, work-number}
+use Rattle.agreement.proofs.Close.{slashings-reset, participation-flags}
+use Rattle.agreement.proofs.Restored.{restored, low, high, one-left, tests-number, work-number}
 use Rattle.completeness.proofs.Steps.{complete-step}
-use Rattle.completeness.proofs.Close.{complete-close}
-
--- The close
-
-closed-agrees : (c : Call) (st : BeaconState) → closed c ≡ value st → document.«process_epoch» (c .settings) (stateOf c) ≡ st
-unfolding closed afterTests
-closed-agrees c st e = close-agrees (c .settings) (stateOf c) st (bound _ _ e .then)
-
-document-closed : (c : Call) → close c .refusal ≡ 0 → DocumentClosed c (close c)
-document-closed c z =
-    let a = restored c .accepted z in
-    let e = sym (closed-agrees c (a .state) (a .gave)) in
-    record { finality = a .finality ∙ ap (λ st. st .finality) e; registry = a .registry ∙ ap registryOf e; slashings = a .slashings ∙ ap slashingsOf e }
-
--- the work shows only where the tests passed
-abbrev outcomeBy : Checked (Unit {0}) → Call → Checked BeaconState → Outcome
-outcomeBy tests c work =
-    record {
-      refusal = codeOf (afterTests tests work);
-      finality = settle (afterTests tests work) (stateOf c) .finality;
-      closingRegistry = closingBuffer registryOf tests work (c .registry) (c .closingRegistry);
-      closingSlashings = closingBuffer slashingsOf tests work (c .slashings) (c .closingSlashings);
-    }
-
-after-refusal : (r : Refusal) (c : Call) (m n : Checked BeaconState) → outcomeBy (refused r) c m ≡ outcomeBy (refused r) c n
-unfolding afterTests bind closingBuffer
-after-refusal r c m n = refl
-
-close-complete : (c : Call) (t : Checked (Unit {0})) → closeTests c ≡ t → (close c ≡ outcomeOf c (in64.«process_epoch» (c .settings) (stateOf c))) ⊎ ((closeTests c ≡ value tt) × CloseParts (c .settings) (stateOf c))
-unfolding close closed
-close-complete c (refused r) t = inl (rw t (after-refusal r c _ _))
-close-complete c (value u) t =
-    ⊎-elim (λ e. inl (ap (outcomeOf c) e)) (λ p. inr (t, p)) (complete-close (c .settings) (stateOf c) (close-passed c t .passed))
-
-pub close-call : (c : Call) → CloseCall c (close c)
-close-call c = record { accepted = document-closed c; complete = close-complete c (closeTests c) refl }
-
--- A step with a closing buffer
 
 -- the contract's work, on the whole state
 widen : {A : Type 0} (contents : A → List ℕ) (wide : BeaconState → List ℕ) (put : A → BeaconState) → ((a : A) → wide (put a) ≡ contents a) → (tests : Checked (Unit {0})) (work : Checked A) {opening closing after : List ℕ} {r : ℕ} → Closes contents tests work opening closing after r → Closes wide tests (bind work (λ a. value (put a))) opening closing after r
@@ -194,76 +148,4 @@ step-calls s st opening closing after r =
       effectiveBalances = λ e h. step-call s st effectiveBalancesStep _ _ _ (effective-balances s st) (λ k _. other k) (on-registry st _ _ (rw e at h));
       slashingsReset = reset-call s st;
       participationFlags = flags-call s st;
-    }
-
--- Justification
-
-not-zero : (n : ℕ) → OneOf n (1 ∷ 2 ∷ 3 ∷ 4 ∷ 5 ∷ []) → n ≡ 0 → ⊥
-not-zero n (inl e) z = omega arith
-not-zero n (inr (inl e)) z = omega arith
-not-zero n (inr (inr (inl e))) z = omega arith
-not-zero n (inr (inr (inr (inl e)))) z = omega arith
-not-zero n (inr (inr (inr (inr (inl e))))) z = omega arith
-not-zero n (inr (inr (inr (inr (inr o))))) z = o
-
-module _ (s : Settings) (st : BeaconState) where
-  answered : (tests : Checked (Unit {0})) (work : Checked Finality) → ((q : Refusal) → tests ≡ refused q → OneOf (numberOf q) (1 ∷ 2 ∷ 3 ∷ [])) → ((q : Refusal) → work ≡ refused q → OneOf (numberOf q) (4 ∷ 5 ∷ [])) → ((f : Finality) → work ≡ value f → documentStep s st justificationStep .finality ≡ f) → (answer : FinalityAnswer) → answer ≡ finalityAnswerFor (afterTests tests work) (st .finality) → JustificationCall s st answer
-  unfolding afterTests bind
-  answered (refused q) work t w g answer e =
-      let n : OneOf (answer .refusal) (1 ∷ 2 ∷ 3 ∷ []) = rw e (t q refl) in
-      record {
-        number = inr (one-left (answer .refusal) (1 ∷ 2 ∷ 3 ∷ []) (4 ∷ 5 ∷ []) n);
-        accepted = λ z. absurd (omega (arith, low (answer .refusal) n));
-        refused = λ _. rw e;
-      }
-  answered (value u) (refused q) t w g answer e =
-      let n : OneOf (answer .refusal) (4 ∷ 5 ∷ []) = rw e (w q refl) in
-      record {
-        number = inr (one-right (answer .refusal) (1 ∷ 2 ∷ 3 ∷ []) (4 ∷ 5 ∷ []) n);
-        accepted = λ z. absurd (omega (arith, high (answer .refusal) n));
-        refused = λ _. rw e;
-      }
-  answered (value u) (value f) t w g answer e =
-      record {
-        number = inl (rw e);
-        accepted = λ _. rw e (sym (g f refl));
-        refused = λ o. absurd (not-zero (answer .refusal) o (rw e));
-      }
-
-  justification-refused : (q : Refusal) → rust.«process_justification_and_finalization» s (st .«block_roots») (st .finality) (st .validators) ≡ refused q → OneOf (numberOf q) (4 ∷ 5 ∷ [])
-  unfolding step bind
-  justification-refused q e = work-number q (justification s st .only q (rw e))
-
-  justification-gave : (f : Finality) → rust.«process_justification_and_finalization» s (st .«block_roots») (st .finality) (st .validators) ≡ value f → documentStep s st justificationStep .finality ≡ f
-  unfolding step bind
-  justification-gave f e = ap (λ t. t .finality) (justification s st .same (withFinality f st) (rw e))
-
-pub justification-calls : JustificationCalls
-unfolding justificationTests
-justification-calls s st registry answer e h =
-    answered s st (justificationTests s (st .«block_roots») (st .finality) registry) _ (tests-number _ _ _) (justification-refused s st) (justification-gave s st) answer (rw e at h)
-
--- Files
-
-read-number : (header a b d : Bool) (c : Contents) → OneOf (codeOf (bind (cond header (inOrder a b d) (refused badFile)) (λ _. value c))) (0 ∷ 1 ∷ 2 ∷ 3 ∷ 6 ∷ [])
-unfolding inOrder bind
-read-number false a b d c = inr (inr (inr (inr (inl refl))))
-read-number true false b d c = inr (inl refl)
-read-number true true false d c = inr (inr (inl refl))
-read-number true true true false c = inr (inr (inr (inl refl)))
-read-number true true true true c = inl refl
-
-write-number : (a b d : Bool) → OneOf (codeOf (inOrder a b d)) (0 ∷ 1 ∷ 2 ∷ 3 ∷ [])
-unfolding inOrder
-write-number false b d = inr (inl refl)
-write-number true false d = inr (inr (inl refl))
-write-number true true false = inr (inr (inr (inl refl)))
-write-number true true true = inl refl
-
-pub file-calls : FileCalls
-unfolding read readFile readTests writeTests
-file-calls =
-    record {
-      reads = λ bytes registry slashings. read-number (goodHeader bytes) _ _ _ (contentsOf bytes);
-      writes = λ c file. write-number _ _ _;
     }
