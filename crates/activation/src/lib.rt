@@ -19,7 +19,13 @@ use selection::select;
 const FAR_FUTURE_EPOCH: u64 = 18446744073709551615;
 
 // One validator: what is left of the quota after it.
-fn admit_entry(entry: &mut [u64], finalized_epoch: u64, bound: u64, left: u64, epoch: u64) -> u64
+pub fn admit_entry(
+    entry: &mut [u64],
+    finalized_epoch: u64,
+    bound: u64,
+    left: u64,
+    epoch: u64,
+) -> u64
     requires { ⌜ length (now entry) ≡ 10 ⌝ }
     ensures { λ _. ⌜ now (entry .exit) ≡ encodeOne (admitOne epoch «finalized_epoch» bound left (decodeOne (now (entry .entry)))) ⌝ }
     ensures { λ r. ⌜ r ≡ left - cond (queuedAt «finalized_epoch» bound (decodeOne (now (entry .entry)))) 1 0 ⌝ }

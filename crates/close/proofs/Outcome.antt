@@ -9,7 +9,7 @@ use Rattle.definitions.specs.Close.{Call, Outcome, stateOf, closeTests, closed,
 use Rattle.refusals.proofs.Answers.{passed}
 use Rattle.loops.proofs.Ran.{code-value}
 use Rattle.close.specs.Called.{outcome}
-use Rattle.close.specs.Worked.{Worked, stateNow}
+use Rattle.close.specs.Worked.{Worked}
 use Rattle.close.proofs.Worked.{code-refused}
 
 same-outcome : {o p : Outcome} → o .refusal ≡ p .refusal → o .finality ≡ p .finality → o .closingRegistry ≡ p .closingRegistry → o .closingSlashings ≡ p .closingSlashings → o ≡ p
@@ -23,10 +23,7 @@ module _ (c : Call) {x : ℕ} (e : x ≡ codeOf (closeTests c)) where
       let p = code-refused (closeTests c) e z in
       same-outcome (rw (p .is) (p .number)) (rw (p .is)) (rw (p .is)) (rw (p .is))
 
-  module _ (z : x ≡ 0) {copy registry slashings : List ℕ} {r : FinalityAnswer} (copied : copy ≡ c .registry) (worked : Worked (c .settings) (stateNow (c .finality) copy (c .slashings) (c .roots)) registry slashings r) where
-    w : Worked (c .settings) (stateOf c) registry slashings r
-    w = rw copied at worked
-
+  module _ (z : x ≡ 0) {registry slashings : List ℕ} {r : FinalityAnswer} (w : Worked (c .settings) (stateOf c) registry slashings r) where
     -- a step is refused, and the opening put back
     pub steps-refused : {xs ys : List ℕ} → (r .refusal ≡ 0 → ⊥) → xs ≡ c .registry → ys ≡ c .slashings → outcome r xs ys ≡ close c
     unfolding close closed afterTests bind closingBuffer

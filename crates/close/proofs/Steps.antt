@@ -11,7 +11,7 @@ use Rattle.definitions.specs.Rust.Phase0.EpochProcessing.{resetSlashings}
 use Rattle.definitions.specs.Rust.Altair.EpochProcessing.{«process_justification_and_finalization», «process_participation_flag_updates»}
 use Rattle.definitions.specs.Close.{Step, inactivityStep, rewardsStep, registryStep, slashingsStep, effectiveBalancesStep, slashingsResetStep, participationFlagsStep, step, onValidators, finalizedEpochOf, closeUpTo, «process_epoch»}
 use Rattle.refusals.proofs.Answers.{Refused}
-use Rattle.registry_steps.specs.RegistrySteps.{registrySteps}
+use Rattle.write_steps.specs.RegistrySteps.{registrySteps}
 
 -- a step over the registry, and then another
 module _ (st : BeaconState) (rest : BeaconState → Checked BeaconState) where

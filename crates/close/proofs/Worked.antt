@@ -1,7 +1,8 @@
 -- The eight steps, from what justification answered and what the six steps over the registry left.
 use mathlib.Core.Path.{_≡_, refl, sym, ap, _∙_}
+use mathlib.Core.Bool.{true}
 use mathlib.Core.List.{List}
-use Prim.Native.Nat.{ℕ}
+use Prim.Native.Nat.{ℕ, _^_, _<_}
 use Rattle.types.specs.declared.Settings.{Settings}
 use Rattle.types.specs.declared.Finality.{Finality}
 use Rattle.types.specs.declared.FinalityAnswer.{FinalityAnswer}
@@ -9,6 +10,7 @@ use Rattle.definitions.specs.Record.{BeaconState, decode, encode}
 use Rattle.definitions.specs.Updates.{withValidators}
 use Rattle.definitions.specs.Checked.{Checked, value, refused, codeOf, bind}
 use Rattle.definitions.specs.Answers.{finalityAnswerFor}
+use Rattle.definitions.specs.Refusals.{goodFinality}
 use Rattle.definitions.specs.Rust.Phase0.EpochProcessing.{resetSlashings}
 use Rattle.definitions.specs.Rust.Altair.EpochProcessing.{«process_justification_and_finalization»}
 use Rattle.definitions.specs.Close.{«process_epoch»}
@@ -16,8 +18,10 @@ use Rattle.laws.proofs.Checked.{number-not-zero, not-value, value-same}
 use Rattle.loops.specs.Ran.{Ran}
 use Rattle.loops.proofs.Ran.{ran-gave}
 use Rattle.refusals.proofs.Answers.{Refused}
+use Rattle.refusals.proofs.Laws.{GoodFinality, good-finality}
+use Rattle.history.proofs.Shape.{FinalizedMoved, Moved}
 use Rattle.history.proofs.Justification.{justification-moves}
-use Rattle.registry_steps.specs.RegistrySteps.{registrySteps}
+use Rattle.write_steps.specs.RegistrySteps.{registrySteps}
 use Rattle.close.specs.Worked.{stateNow, Worked}
 use Rattle.close.proofs.Steps.{justification-refused, reset, eight-steps}
 
@@ -61,10 +65,20 @@ done s st after e z f a b =
       held = λ other v. let same = value-same (sym e ∙ v) in (rw same at a, rw same at b);
     }
 
+still : {e : ℕ} {was now : Finality} → GoodFinality was → Moved e was now → now .«finalized_checkpoint» .epoch < 2 ^ 48
+still g (Moved.kept a b c) = rw c (g .finalized)
+still g (Moved.weighed a b (FinalizedMoved.same c)) = rw c (g .finalized)
+still g (Moved.weighed a b (FinalizedMoved.fromPrevious c k l)) = rw c (g .previous)
+still g (Moved.weighed a b (FinalizedMoved.fromCurrent c k l)) = rw c (g .current)
+
 module _ (s : Settings) (f : Finality) (xs slashings roots : List ℕ) {r : FinalityAnswer} (h : r ≡ finalityAnswerFor («process_justification_and_finalization» s roots f (decode xs)) f) where
   -- the slot stays
   pub slot-kept : r .refusal ≡ 0 → r .finality .slot ≡ f .slot
   slot-kept z = justification-moves s roots f (decode xs) (gave _ f h z) .slot
+
+  -- and the finalized epoch stays small: it is that of a checkpoint of the opening
+  pub finalized-small : r .refusal ≡ 0 → goodFinality f ≡ true → r .finality .«finalized_checkpoint» .epoch < 2 ^ 48
+  finalized-small z e = still (good-finality f e) (justification-moves s roots f (decode xs) (gave _ f h z) .moved)
 
   -- justification is refused
   pub worked-unjustified : {ys zs : List ℕ} → (r .refusal ≡ 0 → ⊥) → Worked s (stateNow f xs slashings roots) ys zs r

@@ -1,25 +1,43 @@
 -- The steps as the code groups them, and what it promises of them.
 use mathlib.Core.Path.{_≡_}
+use mathlib.Core.Bool.{true, cond, _&&_}
 use mathlib.Core.List.{List}
-use Prim.Native.Nat.{ℕ, _*_, _/_}
+use Prim.Native.Nat.{ℕ, _*_, _/_, max}
+use lib.Dec.{eqb}
 use lib.ListN.{length}
 use Rattle.types.specs.declared.Settings.{Settings}
 use Rattle.types.specs.declared.Finality.{Finality}
 use Rattle.types.specs.declared.FinalityAnswer.{FinalityAnswer}
 use Rattle.definitions.specs.Record.{Validator, BeaconState, encode, decode}
 use Rattle.definitions.specs.Checked.{Checked, value, codeOf, settle, bind}
-use Rattle.definitions.specs.Refusals.{justificationTests}
-use Rattle.definitions.specs.Close.{«process_epoch»}
+use Rattle.types.specs.declared.Number.{Number}
+use Rattle.types.specs.declared.Number.the-variants.{Value, Refused}
+use Rattle.definitions.specs.Refusals.{inOrder, settingsShaped, registryShaped, rootsShaped, slashingsShaped, sameLength, goodSettings, goodFinality}
+use Rattle.definitions.specs.LeafRefusals.{weighTests}
+use Rattle.definitions.specs.Close.{Call, «process_epoch»}
 use Rattle.agreement.specs.Bounds.{Passed}
 
 abbrev pub stateNow : Finality → List ℕ → List ℕ → List ℕ → BeaconState
 stateNow f registry slashings roots =
     record { finality = f; validators = decode registry; slashings = slashings; «block_roots» = roots }
 
--- What the tests of a close say of its opening, of registry xs, slashings ys and roots zs, and its steps rely on
+-- Tests 1, 2 and 3 but for the registry's entries
+unfoldable pub recordTests : Call → Checked (Unit {0})
+recordTests c =
+    let s = c .settings in
+    let opening = settingsShaped s && registryShaped (c .registry) && rootsShaped s (c .roots) && slashingsShaped s (c .slashings) in
+    let shaped = opening && sameLength (c .registry) (c .closingRegistry) && sameLength (c .slashings) (c .closingSlashings) in
+    inOrder shaped (goodSettings s) (goodFinality (c .finality))
+
+-- a total, from the survey's sum and whether it has left 64 bits
+unfoldable pub totalOf : ℕ → ℕ → ℕ → Number
+totalOf increment sum over = cond (eqb over 0) (Value (max increment sum)) (Refused 5)
+
+-- What these tests say of the opening, of registry xs, slashings ys and roots zs, and the steps rely on
 pub record Tested (s : Settings) (f : Finality) (xs ys zs : List ℕ) : Type 0 where
   pub settings : Passed s (f .slot)
-  pub justification : codeOf (justificationTests s zs f xs) ≡ 0
+  pub finality : goodFinality f ≡ true
+  pub weighs : codeOf (weighTests s zs f) ≡ 0
   pub registry : length xs ≡ 10 * (length xs / 10)
   pub slashings : length ys ≡ s .«epochs_per_slashings_vector»
 

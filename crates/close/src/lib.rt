@@ -1,35 +1,33 @@
-// process_epoch, the eight steps of it: the close.
+// process_epoch, the eight steps of it: the close. One survey of the opening, justification by its sums, one pass that writes the closing
+// registry, and the slashings' reset.
 ghost use mathlib.Core.Path.{_≡_};
 ghost use mathlib.Core.Bool.{true, _&&_};
 ghost use lib.ListN.{length};
-ghost use Rattle.definitions.specs.Record.{decode};
 ghost use Rattle.definitions.specs.Checked.{codeOf};
-ghost use Rattle.definitions.specs.Answers.{finalityAnswerFor};
-ghost use Rattle.definitions.specs.Refusals.{settingsShaped, registryShaped, rootsShaped, slashingsShaped, sameLength, justificationTests};
+ghost use Rattle.definitions.specs.Refusals.{settingsShaped, registryShaped, rootsShaped, slashingsShaped, sameLength};
 ghost use Rattle.definitions.specs.Rust.Phase0.Helpers.{«get_current_epoch», «get_previous_epoch»};
-ghost use Rattle.definitions.specs.Rust.Altair.EpochProcessing.{«process_justification_and_finalization»};
-ghost use Rattle.definitions.specs.Close.{closeTests, close as closeOf};
+ghost use Rattle.definitions.specs.Close.{close as closeOf};
+ghost use Rattle.selection.specs.Keep.{Blank};
+ghost use Rattle.survey.specs.Found.{Finds};
 ghost use Rattle.close.specs.Called.{called, outcome};
-ghost use Rattle.survey.specs.Sums.{Surveyed};
-ghost use Rattle.close.specs.Worked.{stateNow, Tested, Worked};
+ghost use Rattle.close.specs.Worked.{recordTests, totalOf, stateNow, Tested, Worked};
 use buffers::copy;
 use justification::justification_core;
-use justification::justification_given;
 use leaf_refusals::current_epoch;
 use leaf_refusals::previous_epoch;
 use refusals::good_finality;
-use refusals::good_registry;
 use refusals::good_settings;
 use refusals::registry_shaped;
 use refusals::settings_shaped;
-use registry_steps::registry_steps;
 use slashings::slashings_reset_core;
-use survey::SumsAnswer;
-use survey::survey;
-use survey::totals;
+use survey::Findings;
+use survey::survey_registry;
+use totals::raised;
 use types::Finality;
 use types::FinalityAnswer;
+use types::Number;
 use types::Settings;
+use write_steps::write_registry;
 
 // Test 1 of everything lent.
 fn close_shaped(
@@ -60,8 +58,8 @@ fn close_shaped(
     closing_slashings.len() == slashings.len()
 }
 
-// Tests 1, 2 and 3: 0, or the number of the first that failed.
-fn close_tests(
+// Tests 1, 2 and 3 but for the registry's entries, which the survey tests: 0, or the number of the first that failed.
+fn record_tests(
     s: Settings,
     finality: Finality,
     registry: &[u64],
@@ -70,7 +68,7 @@ fn close_tests(
     closing_registry: &[u64],
     closing_slashings: &[u64],
 ) -> u64
-    ensures { λ r. ⌜ r ≡ codeOf (closeTests (called s finality (now (registry .entry)) (now (slashings .entry)) (now (roots .entry)) (now («closing_registry» .entry)) (now («closing_slashings» .entry)))) ⌝ }
+    ensures { λ r. ⌜ r ≡ codeOf (recordTests (called s finality (now (registry .entry)) (now (slashings .entry)) (now (roots .entry)) (now («closing_registry» .entry)) (now («closing_slashings» .entry)))) ⌝ }
 {
     if !close_shaped(
         s,
@@ -88,68 +86,56 @@ fn close_tests(
     if !good_finality(finality) {
         return 3;
     }
-    if !good_registry(registry) {
-        return 3;
-    }
     0
 }
 
-// By the survey's sums, where none of them leaves 64 bits.
-fn justify(
-    s: Settings,
-    roots: &[u8],
-    old: Finality,
-    surveyed: SumsAnswer,
-    registry: &[u64],
-) -> FinalityAnswer
-    requires { ⌜ codeOf (justificationTests s (now roots) old (now registry)) ≡ 0 ⌝ }
-    requires { ⌜ Surveyed («get_current_epoch» s (old .slot)) («get_previous_epoch» s (old .slot)) (decode (now registry)) surveyed ⌝ }
-    ensures { λ r. ⌜ r ≡ finalityAnswerFor («process_justification_and_finalization» s (now (roots .entry)) old (decode (now (registry .entry)))) old ⌝ }
+// A total of the survey: at least one increment, and refused where the sum has left 64 bits.
+fn total_of(sum: u64, over: u64, increment: u64) -> Number
+    ensures { λ r. ⌜ r ≡ totalOf increment sum over ⌝ }
 {
-    let SumsAnswer::Value(sums) = surveyed else {
-        return justification_core(s, roots, old, registry);
-    };
-    let totals = totals(sums, s.effective_balance_increment);
-    justification_given(
-        s,
-        roots,
-        old,
-        totals.active,
-        totals.target,
-        totals.current_target,
-    )
+    if over != 0 {
+        return Number::Refused(5);
+    }
+    Number::Value(raised(sum, increment))
 }
 
-// The eight steps, in place, from one survey of the registry: justification, the steps over the registry, the slashings' reset, which
-// is never refused.
+// The eight steps from the survey: justification, the steps over the registry, the slashings' reset, which is never refused.
 fn run_steps(
     s: Settings,
     finality: Finality,
+    found: Findings,
+    kept: &[u64],
+    registry: &[u64],
     slashings: &[u64],
     roots: &[u8],
     closing_registry: &mut [u64],
     closing_slashings: &mut [u64],
 ) -> FinalityAnswer
-    requires { ⌜ Tested s finality (now «closing_registry») (now slashings) (now roots) ⌝ }
-    requires { ⌜ length (now «closing_slashings») ≡ length (now slashings) ⌝ }
-    ensures { λ r. ⌜ Worked s (stateNow finality (now («closing_registry» .entry)) (now (slashings .entry)) (now (roots .entry))) (now («closing_registry» .exit)) (now («closing_slashings» .exit)) r ⌝ }
+    requires { ⌜ Tested s finality (now registry) (now slashings) (now roots) ⌝ }
+    requires { ⌜ (length (now «closing_registry») ≡ length (now registry)) × (length (now «closing_slashings») ≡ length (now slashings)) ⌝ }
+    requires { ⌜ Finds s («get_current_epoch» s (finality .slot)) («get_previous_epoch» s (finality .slot)) (now registry) (now kept) found ⌝ }
+    ensures { λ r. ⌜ Worked s (stateNow finality (now (registry .entry)) (now (slashings .entry)) (now (roots .entry))) (now («closing_registry» .exit)) (now («closing_slashings» .exit)) r ⌝ }
 {
-    let slot = finality.slot;
-    let current = current_epoch(s, slot);
-    let previous = previous_epoch(s, slot);
-    let surveyed = survey(current, previous, closing_registry);
-    let justified = justify(s, roots, finality, surveyed, closing_registry);
+    let increment = s.effective_balance_increment;
+    let sums = found.sums;
+    let over = found.over;
+    let active = total_of(sums.active, over.active, increment);
+    let target = total_of(sums.target, over.target, increment);
+    let current_target = total_of(sums.current_target, over.current_target, increment);
+    let justified = justification_core(s, roots, finality, active, target, current_target);
     if justified.refusal != 0 {
         return justified;
     }
     let weighed = justified.finality;
     let finalized = weighed.finalized_checkpoint;
-    let refusal = registry_steps(
+    let refusal = write_registry(
         s,
         weighed.slot,
         finalized.epoch,
-        surveyed,
+        found,
+        kept,
         slashings,
+        registry,
         closing_registry,
     );
     if refusal != 0 {
@@ -160,7 +146,47 @@ fn run_steps(
     justified
 }
 
-// The closing registry is the steps' working copy. Where one is refused, the opening is put back.
+// Once the tests have passed but for that of the entries. Where a step is refused, the opening is put back. `kept` has room for what the
+// survey keeps of the activation queue.
+fn close_tested(
+    s: Settings,
+    finality: Finality,
+    registry: &[u64],
+    slashings: &[u64],
+    roots: &[u8],
+    closing_registry: &mut [u64],
+    closing_slashings: &mut [u64],
+    kept: &mut [u64],
+) -> FinalityAnswer
+    requires { ⌜ codeOf (recordTests (called s finality (now registry) (now slashings) (now roots) (now «closing_registry») (now «closing_slashings»))) ≡ 0 ⌝ }
+    requires { ⌜ (length (now kept) ≡ 64) × Blank (now kept) ⌝ }
+    ensures { λ r. ⌜ outcome r (now («closing_registry» .exit)) (now («closing_slashings» .exit)) ≡ closeOf (called s finality (now (registry .entry)) (now (slashings .entry)) (now (roots .entry)) (now («closing_registry» .entry)) (now («closing_slashings» .entry))) ⌝ }
+{
+    let current = current_epoch(s, finality.slot);
+    let previous = previous_epoch(s, finality.slot);
+    let found = survey_registry(s, current, previous, registry, kept);
+    let refusal = found.refusal;
+    if refusal != 0 {
+        return FinalityAnswer { refusal, finality };
+    }
+    let answer = run_steps(
+        s,
+        finality,
+        found,
+        kept,
+        registry,
+        slashings,
+        roots,
+        closing_registry,
+        closing_slashings,
+    );
+    if answer.refusal != 0 {
+        copy(registry, closing_registry);
+        copy(slashings, closing_slashings);
+    }
+    answer
+}
+
 pub fn close(
     s: Settings,
     finality: Finality,
@@ -172,7 +198,7 @@ pub fn close(
 ) -> FinalityAnswer
     ensures { λ r. ⌜ outcome r (now («closing_registry» .exit)) (now («closing_slashings» .exit)) ≡ closeOf (called s finality (now (registry .entry)) (now (slashings .entry)) (now (roots .entry)) (now («closing_registry» .entry)) (now («closing_slashings» .entry))) ⌝ }
 {
-    let refusal = close_tests(
+    let refusal = record_tests(
         s,
         finality,
         registry,
@@ -184,18 +210,15 @@ pub fn close(
     if refusal != 0 {
         return FinalityAnswer { refusal, finality };
     }
-    copy(registry, closing_registry);
-    let answer = run_steps(
+    let mut kept = [18446744073709551615u64; 64];
+    close_tested(
         s,
         finality,
+        registry,
         slashings,
         roots,
         closing_registry,
         closing_slashings,
-    );
-    if answer.refusal != 0 {
-        copy(registry, closing_registry);
-        copy(slashings, closing_slashings);
-    }
-    answer
+        &mut kept[0..64],
+    )
 }

@@ -6,13 +6,14 @@ use borrow.Author.Tests.{le-leb, lt-leb}
 use Rattle.types.specs.declared.Finality.{Finality}
 use Rattle.types.specs.declared.FinalityAnswer.{FinalityAnswer}
 use Rattle.types.specs.declared.Settings.{Settings}
-use Rattle.definitions.specs.Answers.{Answers, finalityAnswerFor}
+use Rattle.types.specs.declared.Number.{Number}
+use Rattle.definitions.specs.Answers.{Answers, Says, finalityAnswerFor}
 use Rattle.definitions.specs.Lists.{filter}
 use Rattle.definitions.specs.Record.{Validator}
 use Rattle.definitions.specs.Checked.{Checked, value, bind}
 use Rattle.definitions.specs.Rust.Phase0.Helpers.{«get_current_epoch», «get_previous_epoch», «get_active_validator_indices», «get_total_balance», «get_total_active_balance»}
 use Rattle.definitions.specs.Rust.Phase0.EpochProcessing.{«weigh_justification_and_finalization»}
-use Rattle.definitions.specs.Rust.Altair.Helpers.{isUnslashedParticipating, «get_unslashed_participating_indices»}
+use Rattle.definitions.specs.Rust.Altair.Helpers.{«TIMELY_TARGET_FLAG_INDEX», isUnslashedParticipating, «get_unslashed_participating_indices»}
 use Rattle.definitions.specs.Rust.Altair.EpochProcessing.{«process_justification_and_finalization»}
 use Rattle.justification.specs.Given.{Given}
 use Rattle.arithmetic.proofs.Operations.{OnlyOverflow, only-bind, only-sum64, only-value}
@@ -21,33 +22,30 @@ pub only-total : (s : Settings) (members : List Validator) → OnlyOverflow («g
 unfolding «get_total_balance»
 only-total s members = only-bind (only-sum64 _) (λ total. only-value _)
 
--- the balance that hit the target, at an epoch
-abbrev targetAt : Settings → ℕ → ℕ → List Validator → Checked ℕ
-targetAt s current epoch vs = «get_total_balance» s (filter (isUnslashedParticipating current 1 epoch) vs)
-
--- for the present epoch `current` and the one before it
-abbrev pub weighedTotals : Settings → List ℕ → Finality → List Validator → ℕ → ℕ → Checked Finality
-weighedTotals s roots old vs current previous =
-    bind («get_total_balance» s («get_active_validator_indices» vs current)) (λ total.
-    bind (targetAt s current previous vs) (λ previousTarget.
-    bind (targetAt s current current vs) (λ currentTarget.
+-- what the weighing is handed
+abbrev weighedTotals : Settings → List ℕ → Finality → List Validator → Checked Finality
+weighedTotals s roots old vs =
+    let target = «get_unslashed_participating_indices» s (old .slot) vs «TIMELY_TARGET_FLAG_INDEX» in
+    bind («get_total_active_balance» s (old .slot) vs) (λ total.
+    bind («get_total_balance» s (target («get_previous_epoch» s (old .slot)))) (λ previousTarget.
+    bind («get_total_balance» s (target («get_current_epoch» s (old .slot)))) (λ currentTarget.
     «weigh_justification_and_finalization» s roots old total previousTarget currentTarget)))
+
+pub only-active : (s : Settings) (stateSlot : ℕ) (vs : List Validator) → OnlyOverflow («get_total_active_balance» s stateSlot vs)
+unfolding «get_total_active_balance»
+only-active s stateSlot vs = only-total s _
 
 module _ (s : Settings) (roots : List ℕ) (old : Finality) (vs : List Validator) where
   pub first-epochs : «get_current_epoch» s (old .slot) ≤ 1 → «process_justification_and_finalization» s roots old vs ≡ value old
   unfolding «process_justification_and_finalization»
   first-epochs h = rw (le-leb _ _ h)
 
-  pub later-epochs : 1 < «get_current_epoch» s (old .slot) → «process_justification_and_finalization» s roots old vs ≡ weighedTotals s roots old vs («get_current_epoch» s (old .slot)) («get_previous_epoch» s (old .slot))
-  unfolding «process_justification_and_finalization» «get_total_active_balance» «get_unslashed_participating_indices»
-  later-epochs h = rw (lt-leb _ _ h)
+  -- later, by the answer a of the totals and the weighing
+  pub later-epochs : 1 < «get_current_epoch» s (old .slot) → {a : FinalityAnswer} → Answers (λ m. finalityAnswerFor m old) (weighedTotals s roots old vs) a → a ≡ finalityAnswerFor («process_justification_and_finalization» s roots old vs) old
+  unfolding «process_justification_and_finalization»
+  later-epochs l h = h .is ∙ rw (lt-leb _ _ l)
 
-  -- by the totals themselves
-  pub weighs-given : {total previousTarget currentTarget : ℕ} → 1 < «get_current_epoch» s (old .slot) → Given s (old .slot) vs total previousTarget currentTarget → «process_justification_and_finalization» s roots old vs ≡ «weigh_justification_and_finalization» s roots old total previousTarget currentTarget
-  unfolding «process_justification_and_finalization» bind
-  weighs-given h p = rw (lt-leb _ _ h, p .active, p .previous, p .current)
-
-  -- a is the answer of the code, which has worked out the two epochs
-  module _ {current previous : ℕ} (l : 1 < current) (e : current ≡ «get_current_epoch» s (old .slot)) (d : previous ≡ «get_previous_epoch» s (old .slot)) where
-    pub weighs-totals : {a : FinalityAnswer} → Answers (λ m. finalityAnswerFor m old) (weighedTotals s roots old vs current previous) a → a ≡ finalityAnswerFor («process_justification_and_finalization» s roots old vs) old
-    weighs-totals h = h .is ∙ rw (later-epochs (rw e at l), e, d)
+-- the three totals as the step's own passes tell them, by the two epochs that the code has worked out
+pub given : (s : Settings) (stateSlot : ℕ) (vs : List Validator) {current previous : ℕ} → current ≡ «get_current_epoch» s stateSlot → previous ≡ «get_previous_epoch» s stateSlot → {a b c : Number} → Says («get_total_balance» s («get_active_validator_indices» vs current)) a → Says («get_total_balance» s (filter (isUnslashedParticipating current 1 previous) vs)) b → Says («get_total_balance» s (filter (isUnslashedParticipating current 1 current) vs)) c → Given s stateSlot vs a b c
+unfolding «get_total_active_balance» «get_unslashed_participating_indices»
+given s stateSlot vs e d x y z = record { active = rw e at x; previous = rw (e, d) at y; current = rw e at z }

@@ -5,19 +5,19 @@ use Prim.Native.Nat.{ℕ}
 use Rattle.types.specs.declared.Finality.{Finality}
 use Rattle.types.specs.declared.FinalityAnswer.{FinalityAnswer}
 use Rattle.types.specs.declared.Settings.{Settings}
-use Rattle.definitions.specs.Answers.{finalityAnswerFor}
-use Rattle.definitions.specs.Checked.{value}
+use Rattle.types.specs.declared.Number.{Number}
+use Rattle.definitions.specs.Answers.{Says, finalityAnswerFor}
 use Rattle.definitions.specs.Record.{Validator}
 use Rattle.definitions.specs.Rust.Phase0.Helpers.{«get_current_epoch», «get_previous_epoch», «get_total_balance», «get_total_active_balance»}
 use Rattle.definitions.specs.Rust.Altair.Helpers.{«TIMELY_TARGET_FLAG_INDEX», «get_unslashed_participating_indices»}
 use Rattle.definitions.specs.Rust.Altair.EpochProcessing.{«process_justification_and_finalization»}
 
--- of the validators vs; none of them leaves 64 bits
-pub record Given (s : Settings) (stateSlot : ℕ) (vs : List Validator) (total previousTarget currentTarget : ℕ) : Type 0 where
-  pub active : «get_total_active_balance» s stateSlot vs ≡ value total
-  pub previous : «get_total_balance» s («get_unslashed_participating_indices» s stateSlot vs «TIMELY_TARGET_FLAG_INDEX» («get_previous_epoch» s stateSlot)) ≡ value previousTarget
-  pub current : «get_total_balance» s («get_unslashed_participating_indices» s stateSlot vs «TIMELY_TARGET_FLAG_INDEX» («get_current_epoch» s stateSlot)) ≡ value currentTarget
+-- the answers of the validators vs
+pub record Given (s : Settings) (stateSlot : ℕ) (vs : List Validator) (total previousTarget currentTarget : Number) : Type 0 where
+  pub active : Says («get_total_active_balance» s stateSlot vs) total
+  pub previous : Says («get_total_balance» s («get_unslashed_participating_indices» s stateSlot vs «TIMELY_TARGET_FLAG_INDEX» («get_previous_epoch» s stateSlot))) previousTarget
+  pub current : Says («get_total_balance» s («get_unslashed_participating_indices» s stateSlot vs «TIMELY_TARGET_FLAG_INDEX» («get_current_epoch» s stateSlot))) currentTarget
 
 -- The answer, over all validators that have these totals
-pub record JustifiesGiven (s : Settings) (roots : List ℕ) (old : Finality) (total previousTarget currentTarget : ℕ) (r : FinalityAnswer) : Type 0 where
+pub record JustifiesGiven (s : Settings) (roots : List ℕ) (old : Finality) (total previousTarget currentTarget : Number) (r : FinalityAnswer) : Type 0 where
   pub of : (vs : List Validator) → Given s (old .slot) vs total previousTarget currentTarget → r ≡ finalityAnswerFor («process_justification_and_finalization» s roots old vs) old

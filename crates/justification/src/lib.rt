@@ -1,4 +1,5 @@
-// process_justification_and_finalization of altair/epoch_processing.rs: three totals, each in one pass, and the weighing. No closing registry.
+// process_justification_and_finalization of altair/epoch_processing.rs: three totals, each in one pass, and the weighing by them, which the
+// close shares. No closing registry.
 ghost use mathlib.Core.Path.{_≡_};
 ghost use Rattle.definitions.specs.Answers.{finalityAnswerFor};
 ghost use Rattle.definitions.specs.Checked.{codeOf};
@@ -43,69 +44,48 @@ pub fn justification_refusal(s: Settings, roots: &[u8], finality: Finality, regi
     0
 }
 
-// The step, once the tests have passed. Flag 1 is the target's.
+// The step by the three totals of the registry, once the tests have passed. Each is an answer: it may have left 64 bits, and is wanted from
+// epoch 2 on.
 pub fn justification_core(
     s: Settings,
     roots: &[u8],
     old: Finality,
-    registry: &[u64],
+    total: Number,
+    previous_target: Number,
+    current_target: Number,
 ) -> FinalityAnswer
-    requires { ⌜ codeOf (justificationTests s (now roots) old (now registry)) ≡ 0 ⌝ }
-    ensures { λ r. ⌜ r ≡ finalityAnswerFor («process_justification_and_finalization» s (now (roots .entry)) old (decode (now (registry .entry)))) old ⌝ }
+    requires { ⌜ codeOf (weighTests s (now roots) old) ≡ 0 ⌝ }
+    ensures { λ r. ⌜ JustifiesGiven s (now (roots .entry)) old total «previous_target» «current_target» r ⌝ }
 {
-    let slot = old.slot;
-    let current = current_epoch(s, slot);
+    let current = current_epoch(s, old.slot);
     if current <= 1 {
         return FinalityAnswer {
             refusal: 0,
             finality: old,
         };
     }
-    let previous = previous_epoch(s, slot);
-    let Number::Value(total) = total_active(s, current, registry) else {
+    let Number::Value(active) = total else {
         return FinalityAnswer {
             refusal: 5,
             finality: old,
         };
     };
-    let Number::Value(previous_target) = total_participating(s, current, 1, previous, registry)
-    else {
+    let Number::Value(before) = previous_target else {
         return FinalityAnswer {
             refusal: 5,
             finality: old,
         };
     };
-    let Number::Value(current_target) = total_participating(s, current, 1, current, registry) else {
+    let Number::Value(now) = current_target else {
         return FinalityAnswer {
             refusal: 5,
             finality: old,
         };
     };
-    weigh(s, roots, old, total, previous_target, current_target)
+    weigh(s, roots, old, active, before, now)
 }
 
-// The same for callers that have the three totals of the registry.
-pub fn justification_given(
-    s: Settings,
-    roots: &[u8],
-    old: Finality,
-    total: u64,
-    previous_target: u64,
-    current_target: u64,
-) -> FinalityAnswer
-    requires { ⌜ codeOf (weighTests s (now roots) old) ≡ 0 ⌝ }
-    ensures { λ r. ⌜ JustifiesGiven s (now (roots .entry)) old total «previous_target» «current_target» r ⌝ }
-{
-    let epoch = current_epoch(s, old.slot);
-    if epoch < 2 {
-        return FinalityAnswer {
-            refusal: 0,
-            finality: old,
-        };
-    }
-    weigh(s, roots, old, total, previous_target, current_target)
-}
-
+// Flag 1 is the target's.
 pub fn process_justification_and_finalization(
     s: Settings,
     roots: &[u8],
@@ -118,5 +98,11 @@ pub fn process_justification_and_finalization(
     if refusal != 0 {
         return FinalityAnswer { refusal, finality };
     }
-    justification_core(s, roots, finality, registry)
+    let slot = finality.slot;
+    let current = current_epoch(s, slot);
+    let previous = previous_epoch(s, slot);
+    let total = total_active(s, current, registry);
+    let previous_target = total_participating(s, current, 1, previous, registry);
+    let current_target = total_participating(s, current, 1, current, registry);
+    justification_core(s, roots, finality, total, previous_target, current_target)
 }

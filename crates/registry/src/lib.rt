@@ -49,7 +49,13 @@ fn entry_is_ejected(s: Settings, epoch: u64, entry: &[u64]) -> bool
 }
 
 // One validator's turn. An ejection takes its epoch from the exit queue's pair.
-fn update_entry(s: Settings, epoch: u64, limit: u64, queue: ExitQueue, entry: &mut [u64]) -> Turn
+pub fn update_entry(
+    s: Settings,
+    epoch: u64,
+    limit: u64,
+    queue: ExitQueue,
+    entry: &mut [u64],
+) -> Turn
     requires { ⌜ (length (now entry) ≡ 10) × (epoch < 2 ^ 48) × (queue .number < 18446744073709551615) ⌝ }
     ensures { λ r. ⌜ Turns (turnBy s epoch limit queue) queue (now (entry .entry)) (now (entry .exit)) r ⌝ }
 {

@@ -43,7 +43,7 @@ fn applied(balance: u64, deltas: Deltas) -> Number
     Number::Value(lowered)
 }
 
-fn all_applied(balance: u64, a: Deltas, b: Deltas, c: Deltas, d: Deltas) -> Number
+pub fn all_applied(balance: u64, a: Deltas, b: Deltas, c: Deltas, d: Deltas) -> Number
     ensures { λ r. ⌜ Says (foldChecked appliedBalance balance (a ∷ b ∷ c ∷ d ∷ [])) r ⌝ }
 {
     let Number::Value(first) = applied(balance, a) else {
@@ -62,7 +62,7 @@ fn all_applied(balance: u64, a: Deltas, b: Deltas, c: Deltas, d: Deltas) -> Numb
 }
 
 // The increments of the three flags' participants are source, target and head; `product` is the bias times the quotient.
-fn new_balance(
+pub fn new_balance(
     s: Settings,
     h: Shared,
     source: u64,

@@ -33,7 +33,7 @@ pub struct Shared {
 }
 
 // For a hit: nothing in a leak.
-fn hit_deltas(s: Settings, h: Shared, weight: u64, increments: u64, base: u64) -> DeltasAnswer
+pub fn hit_deltas(s: Settings, h: Shared, weight: u64, increments: u64, base: u64) -> DeltasAnswer
     requires { ⌜ SharedBy s h ⌝ }
     ensures { λ r. ⌜ SaysDeltas (hitDeltas s weight (totalsOf h increments) base) r ⌝ }
 {
@@ -63,7 +63,7 @@ fn hit_deltas(s: Settings, h: Shared, weight: u64, increments: u64, base: u64) -
 }
 
 // For a miss: nothing for the head.
-fn miss_deltas(flag_index: u64, weight: u64, base: u64) -> DeltasAnswer
+pub fn miss_deltas(flag_index: u64, weight: u64, base: u64) -> DeltasAnswer
     ensures { λ r. ⌜ SaysDeltas (missDeltas «flag_index» weight base) r ⌝ }
 {
     if flag_index == 2 {

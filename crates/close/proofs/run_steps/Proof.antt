@@ -1,88 +1,89 @@
-use mathlib.Core.Path.{ap, _∙_}
+use mathlib.Core.Path.{_≡_, ap, _∙_}
 use borrow.Author.Needs.{needs}
 use lib.ListN.{length}
+use Rattle.definitions.specs.Record.{decode}
+use Rattle.definitions.specs.Answers.{finalityAnswerFor}
 use Rattle.definitions.specs.Rust.Phase0.EpochProcessing.{resetSlashings}
-use Rattle.refusals.proofs.Laws.{small, good-settings}
-use Rattle.close.proofs.Worked.{slot-kept, worked-unjustified, worked-refused, worked-done}
+use Rattle.definitions.specs.Rust.Altair.EpochProcessing.{«process_justification_and_finalization»}
+use Rattle.refusals.proofs.Laws.{small}
+use Rattle.close.proofs.Justified.{given-found}
+use Rattle.close.proofs.Worked.{slot-kept, finalized-small, worked-unjustified, worked-refused, worked-done}
 use Rattle.close.proofs.run_steps.Statement.{statement}
 use Rattle.close.proofs.run_steps.Tie as tie
 
-current-epoch-requires : tie.Need-current-epoch-requires
-current-epoch-requires c κs = good-settings _ (c .before .before .before .before .pre .0 .settings .good) .positive .«slots_per_epoch»
+-- what justification answered, by the survey's sums
+abbrev start : tie.After-justification-core → tie.Start
+start c = c .before .before .before .before .before .before .before .before .before .before .before .before
 
-previous-epoch-requires : tie.Need-previous-epoch-requires
-previous-epoch-requires c κs = good-settings _ (c .before .before .before .before .before .pre .0 .settings .good) .positive .«slots_per_epoch»
+justified : (c : tie.After-justification-core) → c .justification-core .result ≡ finalityAnswerFor («process_justification_and_finalization» (start c .args .s) (start c .args .roots .now) (start c .args .finality) (decode (start c .args .registry .now))) (start c .args .finality)
+justified c =
+    let a = start c in
+    c .justification-core .ensures .of (decode (a .args .registry .now)) (given-found (a .args .s) (a .args .finality .slot) (a .args .registry .now) (a .pre .1 .1) (c .before .before .before .total-of .ensures) (c .before .before .total-of2 .ensures) (c .before .total-of3 .ensures))
 
-survey-requires : tie.Need-survey-requires
-survey-requires c κs = c .before .before .before .before .before .before .before .pre .0 .registry
+total-of-requires : tie.Need-total-of-requires
+total-of-requires c κs = search needs
 
-justify-requires : tie.Need-justify-requires
-justify-requires c κs =
-    let v = c .before in
-    let p = v .before .before in
-    (c .before .before .before .before .before .before .before .before .before .pre .0 .justification, rw (← p .before .current-epoch .ensures, ← p .previous-epoch .ensures) (v .survey .ensures))
+total-of-requires-2 : tie.Need-total-of-requires-2
+total-of-requires-2 c κs = search needs
+
+total-of-requires-3 : tie.Need-total-of-requires-3
+total-of-requires-3 c κs = search needs
+
+justification-core-requires : tie.Need-justification-core-requires
+justification-core-requires c κs = c .before .before .before .before .before .before .before .before .before .before .before .pre .0 .weighs
+
+returns : tie.Need-returns
+returns c = worked-unjustified _ _ _ _ _ (justified (c .before .before)) (c .if1 .taken)
+
+write-registry-requires : tie.Need-write-registry-requires
+write-registry-requires c κs =
+    let j = c .before .before .before .before .before in
+    let a = start j in
+    let slot = slot-kept _ _ _ (a .args .slashings .now) _ (justified j) (c .before .before .before .if1 .left) in
+    let finalized = finalized-small _ _ _ (a .args .slashings .now) _ (justified j) (c .before .before .before .if1 .left) (a .pre .0 .finality) in
+    ((a .pre .0 .settings .good, rw slot (small _ (a .pre .0 .settings .small)), finalized), ((a .pre .0 .registry, a .pre .1 .0 .0), rw slot (a .pre .1 .1)))
 
 same-length : tie.Need-same-length
 same-length c = search needs
 
-returns : tie.Need-returns
-returns c = worked-unjustified _ _ _ _ _ (c .before .before .justify .ensures) (c .if1 .taken)
+returns-2 : tie.Need-returns-2
+returns-2 c = worked-refused _ _ _ _ _ (justified (c .before .before .before .before .before .before .before .before .before)) (c .before .before .before .before .before .before .before .if1 .left) (c .before .before .before .write-registry .ensures) (c .if2 .taken)
 
-registry-steps-requires : tie.Need-registry-steps-requires
-registry-steps-requires c κs =
-    let j = c .before .before .before in
-    let v = j .before .before .before .before in
-    let p = v .before .before in
-    let a = j .before .before .before .before .before .before .before .before .before .before .before .before in
-    let slot = slot-kept _ _ _ (a .args .slashings .now) _ (j .before .before .justify .ensures) (j .if1 .left) in
-    ((a .pre .0 .settings .good, rw slot (small _ (a .pre .0 .settings .small)), a .pre .0 .registry), rw (slot, ← p .before .current-epoch .ensures, ← p .previous-epoch .ensures) (v .survey .ensures))
+copy-requires : tie.Need-copy-requires
+copy-requires c κs = c .before .before .before .before .before .before .before .before .before .before .before .before .before .before .before .before .before .before .before .before .before .before .pre .1 .0 .1
+
+slashings-reset-core-requires : tie.Need-slashings-reset-core-requires
+slashings-reset-core-requires c κs =
+    let j = c .before .before .before .before .before .before .before .before .before .before .before .before .before .before in
+    let a = start j in
+    let slot = slot-kept _ _ _ (a .args .slashings .now) _ (justified j) (c .before .before .before .before .before .before .before .before .before .before .before .before .if1 .left) in
+    (ap length (c .before .before .before .copy .ensures) ∙ a .pre .0 .slashings, rw slot (a .pre .0 .settings))
 
 same-length-2 : tie.Need-same-length-2
 same-length-2 c = search needs
 
-returns-2 : tie.Need-returns-2
-returns-2 c =
-    let j = c .before .before .before .before .before .before .before in
-    worked-refused _ _ _ _ _ (j .before .before .justify .ensures) (j .if1 .left) (c .before .before .before .registry-steps .ensures) (c .if2 .taken)
-
-copy-requires : tie.Need-copy-requires
-copy-requires c κs = c .before .before .before .before .before .before .before .before .before .before .before .before .before .before .before .before .before .before .before .before .pre .1
-
-slashings-reset-core-requires : tie.Need-slashings-reset-core-requires
-slashings-reset-core-requires c κs =
-    let j = c .before .before .before .before .before .before .before .before .before .before .before .before in
-    let a = j .before .before .before .before .before .before .before .before .before .before .before .before in
-    let slot = slot-kept _ _ _ (a .args .slashings .now) _ (j .before .before .justify .ensures) (j .if1 .left) in
-    (ap length (c .before .before .before .copy .ensures) ∙ a .pre .0 .slashings, rw slot (a .pre .0 .settings))
-
 same-length-3 : tie.Need-same-length-3
 same-length-3 c = search needs
 
-same-length-4 : tie.Need-same-length-4
-same-length-4 c = search needs
-
 returns-3 : tie.Need-returns-3
 returns-3 c =
-    let k = c .before .before .before .before .before .before .before .before in
-    let j = k .before .before .before .before .before .before .before in
-    worked-done _ _ _ _ _ (j .before .before .justify .ensures) (j .if1 .left) (k .before .before .before .registry-steps .ensures) (k .if2 .left)
+    worked-done _ _ _ _ _ (justified (c .before .before .before .before .before .before .before .before .before .before .before .before .before .before .before .before .before)) (c .before .before .before .before .before .before .before .before .before .before .before .before .before .before .before .if1 .left) (c .before .before .before .before .before .before .before .before .before .before .before .write-registry .ensures) (c .before .before .before .before .before .before .before .before .if2 .left)
     (c .before .before .slashings-reset-core .ensures ∙ ap (resetSlashings _ _) (c .before .before .before .before .before .before .copy .ensures))
 
 pub run-steps-spec : {M : Type 1} → statement M
 run-steps-spec =
     tie.close
     (tie.spec
-    current-epoch-requires
-    previous-epoch-requires
-    survey-requires
-    justify-requires
-    same-length
+    total-of-requires
+    total-of-requires-2
+    total-of-requires-3
+    justification-core-requires
     returns
-    registry-steps-requires
-    same-length-2
+    write-registry-requires
+    same-length
     returns-2
     copy-requires
     slashings-reset-core-requires
+    same-length-2
     same-length-3
-    same-length-4
     returns-3)

@@ -1,28 +1,26 @@
 use native.Mathlib.Omega.{arith}
 use mathlib.Core.Path.{refl}
-use Rattle.definitions.specs.Record.{decode}
+use Prim.Native.Nat.{_<_}
+use borrow.Author.Needs.{needs}
+use Rattle.definitions.specs.Rust.Phase0.Helpers.{«get_current_epoch»}
 use Rattle.arithmetic.proofs.Laws.{next, stop}
 use Rattle.weighing.proofs.Answers.{hands-on}
-use Rattle.justification.proofs.Passed.{justification-passed}
-use Rattle.justification.proofs.Totals.{only-total, first-epochs, weighs-totals}
-use borrow.Author.Needs.{needs}
+use Rattle.weighing.proofs.Passed.{weigh-passed}
+use Rattle.justification.proofs.Totals.{only-active, only-total, first-epochs, later-epochs}
 use Rattle.justification.proofs.justification_core.Statement.{statement}
 use Rattle.justification.proofs.justification_core.Tie as tie
 
 current-epoch-requires : tie.Need-current-epoch-requires
-current-epoch-requires c κs = justification-passed _ _ _ _ (c .before .before .pre) .epoch
+current-epoch-requires c κs = weigh-passed _ _ _ (c .before .pre) .settings .good .positive .«slots_per_epoch»
 
 returns : tie.Need-returns
 returns c =
-    let a = c .before .before .before .before .args in
-    let l = rw (c .before .current-epoch .ensures) at (c .if1 .taken) in
-    hands-on (a .old) (first-epochs (a .s) (a .roots .now) (a .old) (decode (a .registry .now)) l) refl
+    let a = c .before .before .before .args in
+    record { of = λ vs p. hands-on (a .old) (first-epochs (a .s) (a .roots .now) (a .old) vs (omega (arith, c .before .current-epoch .ensures, c .if1 .taken))) refl }
 
-previous-epoch-requires : tie.Need-previous-epoch-requires
-previous-epoch-requires c κs = justification-passed _ _ _ _ (c .before .before .before .before .pre) .epoch
-
-total-active-requires : tie.Need-total-active-requires
-total-active-requires c κs = justification-passed _ _ _ _ (c .before .before .before .before .before .pre) .shape .long
+-- epoch 2 or later
+late : (c : tie.Else1) → 1 < «get_current_epoch» (c .before .before .before .args .s) (c .before .before .before .args .old .slot)
+late c = omega (arith, c .before .current-epoch .ensures, c .if1 .left)
 
 enum-known-total : tie.Need-enum-known-total
 enum-known-total c = search needs
@@ -32,14 +30,9 @@ enum-told c = search needs
 
 returns-2 : tie.Need-returns-2
 returns-2 c =
-    let f = c .before .before in
-    let e = f .before in
-    let a = e .before .before .before .before .before .args in
-    weighs-totals (a .s) (a .roots .now) (a .old) (decode (a .registry .now)) (e .before .if1 .left) (e .before .before .current-epoch .ensures) (e .previous-epoch .ensures)
-    (stop _ (only-total _ _) (f .total-active .ensures) (c .enum-told .given .1) refl)
-
-total-participating-requires : tie.Need-total-participating-requires
-total-participating-requires c κs = (justification-passed _ _ _ _ (c .before .before .before .before .before .before .before .before .before .pre) .shape .long, omega arith)
+    let e = c .before .before in
+    let a = e .before .before .before .args in
+    record { of = λ vs g. later-epochs (a .s) (a .roots .now) (a .old) vs (late e) (stop _ (only-active _ _ _) (g .active) (c .enum-told .given .1) refl) }
 
 enum-known-previous-target : tie.Need-enum-known-previous-target
 enum-known-previous-target c = search needs
@@ -49,16 +42,10 @@ enum-told-2 c = search needs
 
 returns-3 : tie.Need-returns-3
 returns-3 c =
-    let g = c .before .before in
-    let f = g .before .before .before .before in
-    let e = f .before in
-    let a = e .before .before .before .before .before .args in
-    weighs-totals (a .s) (a .roots .now) (a .old) (decode (a .registry .now)) (e .before .if1 .left) (e .before .before .current-epoch .ensures) (e .previous-epoch .ensures)
-    (next _ (f .total-active .ensures) (g .before .before .total .given .1)
-    (stop _ (only-total _ _) (g .total-participating .ensures) (c .enum-told2 .given .1) refl))
-
-total-participating-requires-2 : tie.Need-total-participating-requires-2
-total-participating-requires-2 c κs = (justification-passed _ _ _ _ (c .before .before .before .before .before .before .before .before .before .before .before .before .before .pre) .shape .long, omega arith)
+    let t = c .before .before .before in
+    let e = t .before .before in
+    let a = e .before .before .before .args in
+    record { of = λ vs g. later-epochs (a .s) (a .roots .now) (a .old) vs (late e) (next _ (g .active) (t .total .given .1) (stop _ (only-total _ _) (g .previous) (c .enum-told2 .given .1) refl)) }
 
 enum-known-current-target : tie.Need-enum-known-current-target
 enum-known-current-target c = search needs
@@ -68,31 +55,23 @@ enum-told-3 c = search needs
 
 returns-4 : tie.Need-returns-4
 returns-4 c =
-    let h = c .before .before in
-    let g = h .before .before .before .before in
-    let f = g .before .before .before .before in
-    let e = f .before in
-    let a = e .before .before .before .before .before .args in
-    weighs-totals (a .s) (a .roots .now) (a .old) (decode (a .registry .now)) (e .before .if1 .left) (e .before .before .current-epoch .ensures) (e .previous-epoch .ensures)
-    (next _ (f .total-active .ensures) (g .before .before .total .given .1)
-    (next _ (g .total-participating .ensures) (h .before .before .previous-target .given .1)
-    (stop _ (only-total _ _) (h .total-participating2 .ensures) (c .enum-told3 .given .1) refl)))
+    let u = c .before .before .before in
+    let t = u .before .before .before in
+    let e = t .before .before in
+    let a = e .before .before .before .args in
+    record { of = λ vs g. later-epochs (a .s) (a .roots .now) (a .old) vs (late e) (next _ (g .active) (t .total .given .1) (next _ (g .previous) (u .previous-target .given .1) (stop _ (only-total _ _) (g .current) (c .enum-told3 .given .1) refl))) }
 
 weigh-requires : tie.Need-weigh-requires
-weigh-requires c κs = justification-passed _ _ _ _ (c .before .before .before .before .before .before .before .before .before .before .before .before .before .before .before .before .before .pre) .weighs
+weigh-requires c κs = search needs
 
 returns-5 : tie.Need-returns-5
 returns-5 c =
-    let h = c .before .before .before .before in
-    let g = h .before .before .before .before in
-    let f = g .before .before .before .before in
-    let e = f .before in
-    let a = e .before .before .before .before .before .args in
-    weighs-totals (a .s) (a .roots .now) (a .old) (decode (a .registry .now)) (e .before .if1 .left) (e .before .before .current-epoch .ensures) (e .previous-epoch .ensures)
-    (next _ (f .total-active .ensures) (g .before .before .total .given .1)
-    (next _ (g .total-participating .ensures) (h .before .before .previous-target .given .1)
-    (next _ (h .total-participating2 .ensures) (c .before .before .current-target .given .1)
-    (record { is = c .weigh .ensures }))))
+    let x = c .before .before in
+    let u = x .before .before .before in
+    let t = u .before .before .before in
+    let e = t .before .before in
+    let a = e .before .before .before .args in
+    record { of = λ vs g. later-epochs (a .s) (a .roots .now) (a .old) vs (late e) (next _ (g .active) (t .total .given .1) (next _ (g .previous) (u .previous-target .given .1) (next _ (g .current) (x .current-target .given .1) (record { is = c .weigh .ensures })))) }
 
 pub justification-core-spec : {M : Type 1} → statement M
 justification-core-spec =
@@ -100,16 +79,12 @@ justification-core-spec =
     (tie.spec
     current-epoch-requires
     returns
-    previous-epoch-requires
-    total-active-requires
     enum-known-total
     enum-told
     returns-2
-    total-participating-requires
     enum-known-previous-target
     enum-told-2
     returns-3
-    total-participating-requires-2
     enum-known-current-target
     enum-told-3
     returns-4

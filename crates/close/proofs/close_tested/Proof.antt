@@ -1,0 +1,102 @@
+use mathlib.Core.Path.{_≡_, refl, sym}
+use native.Mathlib.Omega.{arith}
+use borrow.Author.Needs.{needs}
+use Rattle.definitions.specs.Close.{Call, closeTests}
+use Rattle.definitions.specs.Checked.{codeOf}
+use Rattle.refusals.proofs.Laws.{small, good-settings}
+use Rattle.registry.proofs.Epochs.{Epochs, epochs}
+use Rattle.close.specs.Called.{called}
+use Rattle.close.proofs.Lent.{Lent, lent, entries-tested}
+use Rattle.close.proofs.Outcome.{tests-refused, steps-refused, steps-done}
+use Rattle.close.proofs.close_tested.Statement.{statement}
+use Rattle.close.proofs.close_tested.Tie as tie
+
+-- the call, and what its tests gave
+abbrev call : tie.Start → Call
+call c = called (c .args .s) (c .args .finality) (c .args .registry .now) (c .args .slashings .now) (c .args .roots .now) (c .args .closing-registry .now) (c .args .closing-slashings .now)
+
+was-lent : (c : tie.Start) → Lent (call c)
+was-lent c = lent (call c) (sym (c .pre .0)) refl
+
+ep : (c : tie.Start) → Epochs (c .args .s) (c .args .finality .slot)
+ep c = let p = was-lent c .opening .settings in epochs (c .args .s) (c .args .finality .slot) (p .good) (small _ (p .small))
+
+-- with the survey's test of the entries
+abbrev start : tie.After-survey-registry → tie.Start
+start c = c .before .before .before .before .before .before .before .before .before .before
+
+tested : (c : tie.After-survey-registry) → c .survey-registry .result .refusal ≡ codeOf (closeTests (call (start c)))
+tested c = entries-tested (call (start c)) (sym (start c .pre .0)) refl (c .survey-registry .ensures .tested)
+
+current-epoch-requires : tie.Need-current-epoch-requires
+current-epoch-requires c κs = good-settings _ (was-lent (c .before .before .before .before .before .before) .opening .settings .good) .positive .«slots_per_epoch»
+
+previous-epoch-requires : tie.Need-previous-epoch-requires
+previous-epoch-requires c κs = good-settings _ (was-lent (c .before .before .before .before .before .before .before) .opening .settings .good) .positive .«slots_per_epoch»
+
+survey-registry-requires : tie.Need-survey-registry-requires
+survey-registry-requires c κs =
+    let a = c .before .before .before .before .before .before .before .before .before in
+    (was-lent a .opening .registry, (omega (arith, c .before .before .current-epoch .ensures, ep a .small), a .pre .1))
+
+same-length : tie.Need-same-length
+same-length c = search needs
+
+returns : tie.Need-returns
+returns c = tests-refused (call (c .before .before .before .before .before .before .before .before .before .before .before .before .before)) (tested (c .before .before .before)) (c .if1 .taken)
+
+run-steps-requires : tie.Need-run-steps-requires
+run-steps-requires c κs =
+    let p = was-lent (c .before .before .before .before .before .before .before .before .before .before .before .before .before .before .before .before) in
+    (p .opening, ((p .closingRegistry, p .closingSlashings), rw (← c .before .before .before .before .before .before .before .before .before .current-epoch .ensures, ← c .before .before .before .before .before .before .before .before .previous-epoch .ensures) (c .before .before .before .before .before .before .survey-registry .ensures)))
+
+copy-requires : tie.Need-copy-requires
+copy-requires c κs = omega (arith, was-lent (c .before .before .before .before .before .before .before .before .before .before .before .before .before .before .before .before .before .before .before .before .before .before .before .before) .closingRegistry, c .before .before .before .before .before .before .closing-registry .given)
+
+copy-requires-2 : tie.Need-copy-requires-2
+copy-requires-2 c κs = omega (arith, was-lent (c .before .before .before .before .before .before .before .before .before .before .before .before .before .before .before .before .before .before .before .before .before .before .before .before .before .before .before .before) .closingSlashings, c .before .before .before .before .before .before .before .before .closing-slashings .given)
+
+same-length-2 : tie.Need-same-length-2
+same-length-2 c = search needs
+
+same-length-3 : tie.Need-same-length-3
+same-length-3 c = search needs
+
+same-length-4 : tie.Need-same-length-4
+same-length-4 c = search needs
+
+returns-2 : tie.Need-returns-2
+returns-2 c = steps-refused (call (c .before .before .before .before .before .before .before .before .before .before .before .before .before .before .before .before .before .before .before .before .before .before .before .before .before .before .before .before .before .before .before)) (tested (c .before .before .before .before .before .before .before .before .before .before .before .before .before .before .before .before .before .before .before .before .before)) (c .before .before .before .before .before .before .before .before .before .before .before .before .before .before .before .before .before .before .if1 .left) (c .before .before .before .before .before .before .before .before .before .before .before .before .before .before .run-steps .ensures) (c .before .before .before .before .before .before .before .before .if2 .taken) (c .before .before .before .before .before .before .copy .ensures) (c .before .before .copy2 .ensures)
+
+same-length-5 : tie.Need-same-length-5
+same-length-5 c = search needs
+
+same-length-6 : tie.Need-same-length-6
+same-length-6 c = search needs
+
+same-length-7 : tie.Need-same-length-7
+same-length-7 c = search needs
+
+returns-3 : tie.Need-returns-3
+returns-3 c = steps-done (call (c .before .before .before .before .before .before .before .before .before .before .before .before .before .before .before .before .before .before .before .before .before .before .before)) (tested (c .before .before .before .before .before .before .before .before .before .before .before .before .before)) (c .before .before .before .before .before .before .before .before .before .before .if1 .left) (c .before .before .before .before .before .before .run-steps .ensures) (c .if2 .left)
+
+pub close-tested-spec : {M : Type 1} → statement M
+close-tested-spec =
+    tie.close
+    (tie.spec
+    current-epoch-requires
+    previous-epoch-requires
+    survey-registry-requires
+    same-length
+    returns
+    run-steps-requires
+    copy-requires
+    copy-requires-2
+    same-length-2
+    same-length-3
+    same-length-4
+    returns-2
+    same-length-5
+    same-length-6
+    same-length-7
+    returns-3)

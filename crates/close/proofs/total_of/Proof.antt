@@ -1,0 +1,22 @@
+use borrow.Author.Tests.{eq-eqb, ne-eqb}
+use borrow.Author.Needs.{needs}
+use mathlib.Core.Path.{ap, _∙_}
+use Prim.Native.Nat.{ℕ}
+use Rattle.types.specs.declared.Number.the-variants.{Value}
+use Rattle.close.specs.Worked.{totalOf}
+use Rattle.close.proofs.total_of.Statement.{statement}
+use Rattle.close.proofs.total_of.Tie as tie
+
+returns : tie.Need-returns
+unfolding totalOf
+returns c = rw (ne-eqb _ 0 (c .if1 .taken))
+
+raised-requires : tie.Need-raised-requires
+raised-requires c κs = search needs
+
+returns-2 : tie.Need-returns-2
+unfolding totalOf
+returns-2 c = rw (eq-eqb _ 0 (c .before .if1 .left), c .raised .ensures)
+
+pub total-of-spec : {M : Type 1} → statement M
+total-of-spec = tie.close (tie.spec returns raised-requires returns-2)

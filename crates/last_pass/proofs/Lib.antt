@@ -1,3 +1,0 @@
--- Why the pass does what the three steps do.
-mod Only
-mod LastSteps

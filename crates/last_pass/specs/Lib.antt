@@ -1,2 +1,0 @@
--- The three steps that the pass does at once.
-pub mod LastSteps

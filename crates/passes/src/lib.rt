@@ -1,1 +1,0 @@
-// Theorems alone: a pass that does two steps on each entry. See specs/ for what it promises.

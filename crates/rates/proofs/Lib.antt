@@ -1,0 +1,3 @@
+-- Laws of the amounts.
+pub mod Rated
+pub mod Charged

@@ -1,3 +1,0 @@
--- Laws of the steps by the totals.
-mod Totals
-mod Grouped

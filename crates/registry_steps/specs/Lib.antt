@@ -1,2 +1,0 @@
--- The steps over the registry, one after the other.
-pub mod RegistrySteps

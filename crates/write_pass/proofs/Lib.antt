@@ -1,0 +1,4 @@
+-- The functions on one entry, and the loop.
+mod Copied
+mod Entry
+mod Loop

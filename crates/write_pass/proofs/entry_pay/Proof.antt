@@ -1,0 +1,63 @@
+use mathlib.Core.Path.{_∙_}
+use Rattle.write_pass.proofs.Entry.{pays-none, pays-some}
+use Rattle.sweeps.proofs.Runs.{settles-runs, runs-then, runs-stop}
+use borrow.Author.Needs.{needs}
+use Rattle.write_pass.proofs.entry_pay.Statement.{statement}
+use Rattle.write_pass.proofs.entry_pay.Tie as tie
+
+returns : tie.Need-returns
+returns c =
+    let a = c .before .before .before .before in
+    record { runs = pays-none (a .args .s) (a .args .p) (a .pre .1 .0) (c .if1 .taken); memo = a .pre .1 .1 }
+
+entry-update-score-requires : tie.Need-entry-update-score-requires
+entry-update-score-requires c κs = search needs
+
+same-length : tie.Need-same-length
+same-length c = search needs
+
+returns-2 : tie.Need-returns-2
+returns-2 c =
+    let a = c .before .before .before .before .before .before .before .before .before in
+    record {
+      runs = pays-some (a .args .s) (a .args .p) (c .before .before .before .before .before .if1 .left) (runs-stop _ (settles-runs (c .before .before .before .entry-update-score .ensures)) (c .if2 .taken));
+      memo = a .pre .1 .1;
+    }
+
+slice-read-balance : tie.Need-slice-read-balance
+slice-read-balance c = search needs
+
+rates-for-requires : tie.Need-rates-for-requires
+rates-for-requires c κs = search needs
+
+entry-reward-by-requires : tie.Need-entry-reward-by-requires
+entry-reward-by-requires c κs =
+    let a = c .before .before .before .before .before .before .before .before .before .before .before .before .before .pre in
+    let score = c .before .before .before .before .before .before .before in
+    let rates = c .before .before .rates-for .ensures in
+    (a .0 .shared, ((a .0 .bias, a .0 .quotient), (a .0 .product, (score .entry-update-score .kept .1 .1 .1 .1 .0 ∙ a .1 .0, (rates .0 .last, rates .1)))))
+
+same-length-2 : tie.Need-same-length-2
+same-length-2 c = search needs
+
+returns-3 : tie.Need-returns-3
+returns-3 c =
+    let a = c .before .before .before .before .before .before .before .before .before .before .before .before .before .before .before .before in
+    record {
+      runs = pays-some (a .args .s) (a .args .p) (c .before .before .before .before .before .before .before .before .before .before .before .before .if1 .left) (runs-then _ (settles-runs (c .before .before .before .before .before .before .before .before .before .before .entry-update-score .ensures)) (c .before .before .before .before .before .before .before .if2 .left) (settles-runs (c .before .before .entry-reward-by .ensures)));
+      memo = c .before .before .before .before .before .rates-for .ensures .0;
+    }
+
+pub entry-pay-spec : {M : Type 1} → statement M
+entry-pay-spec =
+    tie.close
+    (tie.spec
+    returns
+    entry-update-score-requires
+    same-length
+    returns-2
+    slice-read-balance
+    rates-for-requires
+    entry-reward-by-requires
+    same-length-2
+    returns-3)

@@ -1,0 +1,109 @@
+use Prim.Native.Nat.{_-_, _<_}
+use native.Mathlib.Omega.{arith}
+use Rattle.write_pass.proofs.Loop.{Passing, passing-none, passing-few, passing-from, passing-to, passing-more, passing-stop, passing-all}
+use Rattle.write_pass.proofs.write_all.Statement.{statement}
+use Rattle.write_pass.proofs.write_all.Tie as tie
+
+abbrev Inv-loop : tie.InvT-loop
+Inv-loop s p t quota opening closing₀ n queue₀ left₀ memo₀ i₀ closing queue left memo i = Passing s p t n opening queue₀ quota i closing queue left memo
+
+abbrev μ-loop : tie.MeasureT-loop
+μ-loop s p t quota opening closing₀ n queue₀ left₀ memo₀ i₀ closing queue left memo i = n - i
+
+no-memo-requires : tie.Need-no-memo-requires Inv-loop μ-loop
+no-memo-requires c κs = tt
+
+loop-holds : tie.Need-loop-holds Inv-loop μ-loop
+loop-holds c =
+    let a = c .before .before .before in
+    passing-none _ _ _ (omega (arith, a .pre .1 .0)) (omega (arith, a .pre .1 .0)) (c .no-memo .ensures) (omega (arith, a .pre .1 .0, a .good .1 .1 .1 .1 .1 .0))
+
+mul-a : tie.Need-mul-a Inv-loop μ-loop
+mul-a c = let g = c .before .loop .inv in omega (arith, c .loop-test .taken, g .small, g .writing .at .long, g .writing .long)
+
+add-b : tie.Need-add-b Inv-loop μ-loop
+add-b c = let g = c .before .loop .inv in omega (arith, c .loop-test .taken, g .small, g .writing .at .long, g .writing .long)
+
+mul-write-entry : tie.Need-mul-write-entry Inv-loop μ-loop
+mul-write-entry c = let g = c .before .loop .inv in omega (arith, c .loop-test .taken, g .small, g .writing .at .long, g .writing .long)
+
+sub-write-entry : tie.Need-sub-write-entry Inv-loop μ-loop
+sub-write-entry c = let g = c .before .loop .inv in omega (arith, c .loop-test .taken, g .small, g .writing .at .long, g .writing .long)
+
+part-write-entry-start : tie.Need-part-write-entry-start Inv-loop μ-loop
+part-write-entry-start c = let g = c .before .loop .inv in omega (arith, c .loop-test .taken, g .small, g .writing .at .long, g .writing .long)
+
+part-write-entry-end : tie.Need-part-write-entry-end Inv-loop μ-loop
+part-write-entry-end c = let g = c .before .loop .inv in omega (arith, c .loop-test .taken, g .small, g .writing .at .long, g .writing .long)
+
+mul-write-entry-2 : tie.Need-mul-write-entry-2 Inv-loop μ-loop
+mul-write-entry-2 c = let g = c .before .before .loop .inv in omega (arith, c .before .loop-test .taken, g .small, g .writing .at .long, g .writing .long)
+
+sub-write-entry-2 : tie.Need-sub-write-entry-2 Inv-loop μ-loop
+sub-write-entry-2 c = let g = c .before .before .loop .inv in omega (arith, c .before .loop-test .taken, g .small, g .writing .at .long, g .writing .long)
+
+part-write-entry-start-2 : tie.Need-part-write-entry-start-2 Inv-loop μ-loop
+part-write-entry-start-2 c = let g = c .before .before .loop .inv in omega (arith, c .before .loop-test .taken, g .small, g .writing .at .long, g .writing .long)
+
+part-write-entry-end-2 : tie.Need-part-write-entry-end-2 Inv-loop μ-loop
+part-write-entry-end-2 c = let g = c .before .before .loop .inv in omega (arith, c .before .loop-test .taken, g .small, g .writing .at .long, g .writing .long)
+
+write-entry-requires : tie.Need-write-entry-requires Inv-loop μ-loop
+write-entry-requires c κs =
+    let g = c .before .before .before .loop .inv in
+    let l = c .before .before .loop-test .taken in
+    let a = c .before .before .before .before .before .before .before .pre in
+    (a .0, (g .told, ((passing-from g l, passing-to g l), (a .1 .1 .0, passing-few g l (a .1 .1 .1)))))
+
+same-length : tie.Need-same-length Inv-loop μ-loop
+same-length c =
+    let g = c .before .before .before .before .before .before .before .loop .inv in
+    omega (arith, c .before .before .before .write-entry .kept .1 .1 .1 .1 .1 .1 .1 .0, g .writing .long, g .writing .at .long, c .before .before .before .before .before .before .before .before .before .before .before .pre .1 .0, c .before .before .before .before .before .before .loop-test .taken)
+
+returns : tie.Need-returns Inv-loop μ-loop
+returns c = passing-stop (c .before .before .before .before .before .before .before .loop .inv) (c .before .before .before .before .before .before .loop-test .taken) (c .before .before .before .write-entry .ensures) (c .if1 .taken)
+
+add-i : tie.Need-add-i Inv-loop μ-loop
+add-i c = let g = c .before .before .before .before .before .before .before .before .before .loop .inv in omega (arith, c .before .before .before .before .before .before .before .before .loop-test .taken, g .small, g .writing .at .long, g .writing .long)
+
+loop-less : tie.Need-loop-less Inv-loop μ-loop
+loop-less c = let g = c .before .before .before .before .before .before .before .before .before .loop .inv in omega (arith, c .before .before .before .before .before .before .before .before .loop-test .taken, g .small, g .writing .at .long, g .writing .long)
+
+loop-again : tie.Need-loop-again Inv-loop μ-loop
+loop-again c =
+    let g = c .before .before .before .before .before .before .before .before .before .loop .inv in
+    let l = c .before .before .before .before .before .before .before .before .loop-test .taken in
+    passing-more g l (c .before .before .before .before .before .write-entry .ensures) (c .before .before .if1 .left) (omega (arith, c .before .before .before .before .before .write-entry .kept .1 .1 .1 .1 .1 .1 .1 .0, l, g .writing .long))
+
+same-length-2 : tie.Need-same-length-2 Inv-loop μ-loop
+same-length-2 c = let g = c .before .loop .inv in omega (arith, g .writing .long, g .writing .at .long, c .before .before .before .before .before .pre .1 .0)
+
+returns-2 : tie.Need-returns-2 Inv-loop μ-loop
+returns-2 c = passing-all (c .before .loop .inv) (c .loop-test .left)
+
+pub write-all-spec : {M : Type 1} → statement M
+write-all-spec =
+    tie.close
+    (tie.spec
+    Inv-loop
+    μ-loop
+    no-memo-requires
+    loop-holds
+    mul-a
+    add-b
+    mul-write-entry
+    sub-write-entry
+    part-write-entry-start
+    part-write-entry-end
+    mul-write-entry-2
+    sub-write-entry-2
+    part-write-entry-start-2
+    part-write-entry-end-2
+    write-entry-requires
+    same-length
+    returns
+    add-i
+    loop-less
+    loop-again
+    same-length-2
+    returns-2)

@@ -1,0 +1,270 @@
+-- Where the steps over the registry are accepted, each number that all validators share is a number. So where one has left 64 bits the
+-- answer is 5, whatever else stands in the record.
+use mathlib.Core.Path.{_≡_, refl, sym, ap, _∙_}
+use mathlib.Core.Bool.{Bool, true, false, cond, _&&_, not}
+use mathlib.Core.List.{List, [], _∷_, map}
+use Prim.Native.Nat.{ℕ, _+_, _-_, _/_, _^_, _≤_, _<_}
+use native.Mathlib.Omega.{arith}
+use borrow.Author.Tests.{lt-ltb, eq-eqb, ne-eqb, eqb-true, ltb-true}
+use lib.Dec.{ltb, eqb}
+use lib.ListN.{length, replicate}
+use Rattle.types.specs.declared.Settings.{Settings}
+use Rattle.types.specs.declared.Checkpoint.{Checkpoint}
+use Rattle.definitions.specs.Lists.{sum, filter}
+use Rattle.definitions.specs.Record.{Validator, BeaconState, «GENESIS_EPOCH»}
+use Rattle.definitions.specs.Checked.{Refusal, overflow, Checked, value, refused, bind, mul64, sum64, mapChecked}
+use Rattle.definitions.specs.Rust.Phase0.Helpers.{«is_active_validator», «get_current_epoch», «get_previous_epoch», «get_active_validator_indices», «get_total_balance», «get_total_active_balance»}
+use Rattle.definitions.specs.Rust.Phase0.EpochProcessing.{«is_in_inactivity_leak», «process_registry_updates», «process_effective_balance_updates», updateEffectiveBalance}
+use Rattle.definitions.specs.Rust.Altair.Helpers.{«TIMELY_SOURCE_FLAG_INDEX», «TIMELY_TARGET_FLAG_INDEX», «TIMELY_HEAD_FLAG_INDEX», FlagTotals, flagTotals, isUnslashedParticipating, «get_unslashed_participating_indices»}
+use Rattle.definitions.specs.Rust.Altair.EpochProcessing.{updateInactivityScore, rewardAndPenalize, «process_inactivity_updates», «process_rewards_and_penalties», «process_slashings»}
+use Rattle.definitions.specs.Close.{step, inactivityStep, rewardsStep, registryStep, slashingsStep, effectiveBalancesStep}
+use Rattle.laws.proofs.Checked.{not-value, value-same, bound, sum64-value}
+use Rattle.agreement.proofs.Agrees.{Agrees, Overflow}
+use Rattle.agreement.proofs.Inactivity.{inactivity}
+use Rattle.agreement.proofs.Rewards.{rewards}
+use Rattle.agreement.proofs.Registry.{registry}
+use Rattle.agreement.proofs.Slashings.{slashings}
+use Rattle.agreement.proofs.EffectiveBalances.{effective-balances}
+use Rattle.arithmetic.proofs.Operations.{OnlyOverflow, only-value, only-bind}
+use Rattle.arithmetic.proofs.Laws.{bind-value}
+use Rattle.refusals.proofs.All.{both}
+use Rattle.loops.proofs.Filtered.{sum-filter, sum64-filter}
+use Rattle.registry.proofs.Epochs.{Epochs}
+use Rattle.registry.proofs.Total.{total-kept}
+use Rattle.survey.specs.declared.Sums.{Sums}
+use Rattle.survey.specs.Sums.{weight, activeAt, balanceOf, PlainSums}
+use Rattle.write_steps.specs.RegistrySteps.{registrySteps}
+use Rattle.write_steps.specs.Numbers.{leakOf, slashedProduct}
+use Rattle.write_steps.proofs.Leak.{leak-none, leak-some}
+use Rattle.write_steps.proofs.Kept.{bare, Keeps, score-keeps, reward-keeps, kept-map}
+
+-- Every refusal is 5
+
+only-of : {A B : Type 0} {m : Checked A} (k : A → Checked B) {x : B} → Agrees Overflow (bind m k) x → OnlyOverflow m
+unfolding bind
+only-of k h = record { why = λ p e. h .only p (rw e) }
+
+module _ (s : Settings) (slot fin : ℕ) (ys : List ℕ) where
+  -- a state with these numbers
+  abbrev at : List Validator → BeaconState
+  at vs =
+      let point : ℕ → Checkpoint = λ epoch. record { epoch = epoch; root = replicate 32 0 } in
+      record {
+        finality = record { slot = slot; «justification_bits» = 0; «previous_justified_checkpoint» = point 0; «current_justified_checkpoint» = point 0; «finalized_checkpoint» = point fin };
+        validators = vs;
+        slashings = ys;
+        «block_roots» = [];
+      }
+
+  pub only-steps : (vs : List Validator) → OnlyOverflow (registrySteps s slot fin ys vs)
+  unfolding registrySteps step
+  only-steps vs =
+      only-bind (only-of _ (inactivity s (at vs))) (λ scored.
+      only-bind (only-of _ (rewards s (at scored))) (λ paid.
+      only-bind (only-of _ (registry s (at paid))) (λ updated.
+      only-bind (only-of _ (slashings s (at updated))) (λ slashed.
+      only-bind (only-of _ (effective-balances s (at slashed))) (λ balanced. only-value _)))))
+
+-- What was worked out on the way
+
+pub record Gave {A : Type 0} (m : Checked A) : Type 0 where
+  pub gift : A
+  pub gave : m ≡ value gift
+
+pub none-gave : {A : Type 0} {m : Checked A} → m ≡ refused overflow → Gave m → ⊥
+none-gave e g = not-value (sym e ∙ g .gave)
+
+pub record Accepted (s : Settings) (slot fin : ℕ) (slashings : List ℕ) (vs : List Validator) : Type 0 where
+  pub sums : Sums
+  pub plain : PlainSums («get_current_epoch» s slot) («get_previous_epoch» s slot) vs sums
+  pub leak : Gave (leakOf s slot fin)
+  pub product : Gave (slashedProduct (s .«proportional_slashing_multiplier_altair») slashings)
+  pub downward : Gave (mul64 (s .«effective_balance_increment» / s .«hysteresis_quotient») (s .«hysteresis_downward_multiplier»))
+  pub upward : Gave (mul64 (s .«effective_balance_increment» / s .«hysteresis_quotient») (s .«hysteresis_upward_multiplier»))
+
+-- sums of those that pass a test
+
+pointwise : (f g : Validator → ℕ) → ((v : Validator) → f v ≤ g v) → (vs : List Validator) → sum (map f vs) ≤ sum (map g vs)
+unfolding sum
+pointwise f g h [] = omega arith
+pointwise f g h (v ∷ vs) = omega (arith, h v, pointwise f g h vs)
+
+sum-small : (xs : List ℕ) {x : ℕ} → sum64 xs ≡ value x → sum xs < 2 ^ 64
+unfolding sum64
+sum-small xs {x} e = go (ltb (sum xs) (2 ^ 64)) refl e
+  where
+    go : (t : Bool) → ltb (sum xs) (2 ^ 64) ≡ t → cond t (value (sum xs)) (refused overflow) ≡ value x → sum xs < 2 ^ 64
+    go true q e = ltb-true _ _ q
+    go false q e = absurd (not-value e)
+
+sum-gave : (xs : List ℕ) → sum xs < 2 ^ 64 → Gave (sum64 xs)
+unfolding sum64
+sum-gave xs l = record { gift = sum xs; gave = rw (lt-ltb (sum xs) (2 ^ 64) l) }
+
+-- of some among those whose sum is a number
+part : (p q : Validator → Bool) → ((v : Validator) → p v ≡ true → q v ≡ true) → (vs : List Validator) → Gave (balanceOf q vs) → Gave (balanceOf p vs)
+part p q h vs g =
+    let balance : Validator → ℕ = λ v. v .«effective_balance» in
+    sum-gave (map balance (filter p vs)) (omega (arith, sum-filter p balance vs, sum-filter q balance vs, pointwise (weight p) (weight q) less vs, sum-small _ (g .gave)))
+  where
+    less : (v : Validator) → weight p v ≤ weight q v
+    less v = go (p v) refl
+      where
+        go : (t : Bool) → p v ≡ t → cond t (v .«effective_balance») 0 ≤ weight q v
+        go true e = rw (h v e) (omega arith)
+        go false e = omega arith
+
+total-gave : (s : Settings) (members : List Validator) {x : ℕ} → «get_total_balance» s members ≡ value x → Gave (sum64 (map (λ v. v .«effective_balance») members))
+unfolding «get_total_balance»
+total-gave s members e = let a = bound (sum64 (map (λ v. v .«effective_balance») members)) _ e in record { gift = a .first; gave = a .gave }
+
+same-sum : (p : Validator → Bool) (vs ws : List Validator) → map (weight p) ws ≡ map (weight p) vs → Gave (balanceOf p ws) → Gave (balanceOf p vs)
+same-sum p vs ws e g =
+    let balance : Validator → ℕ = λ v. v .«effective_balance» in
+    record { gift = g .gift; gave = sum64-filter p balance vs ∙ ap sum64 (sym e) ∙ sym (sum64-filter p balance ws) ∙ g .gave }
+
+-- scores and rewards leave what reads neither balance nor score
+module _ {B : Type 0} (h : Validator → B) (blind : (v : Validator) → h (bare v) ≡ h v) where
+  seen-by : (f : Validator → Checked Validator) → Keeps f bare → Keeps f h
+  seen-by f k v w e = sym (blind w) ∙ ap h (k v w e) ∙ blind v
+
+  scores-keep : (s : Settings) (slot fin : ℕ) (vs : List Validator) {ws : List Validator} → «process_inactivity_updates» s slot fin vs ≡ value ws → map h ws ≡ map h vs
+  unfolding «process_inactivity_updates»
+  scores-keep s slot fin vs {ws} e = go (eqb («get_current_epoch» s slot) «GENESIS_EPOCH») e
+    where
+      f : Bool → Validator → Checked Validator
+      f leaking = updateInactivityScore s («get_current_epoch» s slot) («get_previous_epoch» s slot) leaking
+
+      go : (b : Bool) → cond b (value vs) (bind («is_in_inactivity_leak» s slot fin) (λ leaking. mapChecked (f leaking) vs)) ≡ value ws → map h ws ≡ map h vs
+      go true e = ap (map h) (sym (value-same e))
+      go false e =
+          let a = bound («is_in_inactivity_leak» s slot fin) _ e in
+          kept-map (f (a .first)) h (seen-by (f (a .first)) (score-keeps s _ _ (a .first))) vs (a .then)
+
+  rewards-keep : (s : Settings) (quotient slot fin : ℕ) (vs : List Validator) {ws : List Validator} → «process_rewards_and_penalties» s quotient slot fin vs ≡ value ws → map h ws ≡ map h vs
+  unfolding «process_rewards_and_penalties»
+  rewards-keep s quotient slot fin vs {ws} e = go (eqb («get_current_epoch» s slot) «GENESIS_EPOCH») e
+    where
+      totals : ℕ → Checked FlagTotals
+      totals = flagTotals s slot fin vs
+
+      f : FlagTotals → FlagTotals → FlagTotals → Validator → Checked Validator
+      f = rewardAndPenalize s quotient («get_current_epoch» s slot) («get_previous_epoch» s slot)
+
+      go : (b : Bool) → cond b (value vs) (bind (totals «TIMELY_SOURCE_FLAG_INDEX») (λ source. bind (totals «TIMELY_TARGET_FLAG_INDEX») (λ target. bind (totals «TIMELY_HEAD_FLAG_INDEX») (λ head. mapChecked (f source target head) vs)))) ≡ value ws → map h ws ≡ map h vs
+      go true e = ap (map h) (sym (value-same e))
+      go false e =
+          let a = bound (totals «TIMELY_SOURCE_FLAG_INDEX») _ e in
+          let b = bound (totals «TIMELY_TARGET_FLAG_INDEX») _ (a .then) in
+          let c = bound (totals «TIMELY_HEAD_FLAG_INDEX») _ (b .then) in
+          kept-map (f (a .first) (b .first) (c .first)) h (seen-by _ (reward-keeps s quotient _ _ (a .first) (b .first) (c .first))) vs (c .then)
+
+-- The five sums
+
+abbrev participating : Settings → ℕ → ℕ → Validator → Bool
+participating s slot index = isUnslashedParticipating («get_current_epoch» s slot) index («get_previous_epoch» s slot)
+
+flag-gave : (s : Settings) (slot fin : ℕ) (vs : List Validator) (index : ℕ) {t : FlagTotals} → flagTotals s slot fin vs index ≡ value t → Gave (balanceOf (participating s slot index) vs) × Gave («is_in_inactivity_leak» s slot fin)
+unfolding flagTotals «get_unslashed_participating_indices»
+flag-gave s slot fin vs index e =
+    let a = bound («get_total_balance» s (filter (participating s slot index) vs)) _ e in
+    let b = bound («get_total_active_balance» s slot vs) _ (a .then) in
+    let c = bound («is_in_inactivity_leak» s slot fin) _ (b .then) in
+    (total-gave s _ (a .gave), record { gift = c .first; gave = c .gave })
+
+-- those of the previous epoch's flags
+record Flags (s : Settings) (slot : ℕ) (vs : List Validator) : Type 0 where
+  source : Gave (balanceOf (participating s slot 0) vs)
+  target : Gave (balanceOf (participating s slot 1) vs)
+  head : Gave (balanceOf (participating s slot 2) vs)
+
+module _ (s : Settings) (slot fin : ℕ) (vs : List Validator) where
+  abbrev current : ℕ
+  current = «get_current_epoch» s slot
+
+  -- from epoch 1 on rewards ask for them, and for the leak
+  asked : (quotient : ℕ) → (current ≡ 0 → ⊥) → {ws : List Validator} → «process_rewards_and_penalties» s quotient slot fin vs ≡ value ws → Flags s slot vs × Gave («is_in_inactivity_leak» s slot fin)
+  unfolding «process_rewards_and_penalties»
+  asked quotient n e =
+      let totals : ℕ → Checked FlagTotals = flagTotals s slot fin vs in
+      let a = bound (totals 0) _ (rw (ne-eqb current 0 n) at e) in
+      let b = bound (totals 1) _ (a .then) in
+      let c = bound (totals 2) _ (b .then) in
+      let source = flag-gave s slot fin vs 0 (a .gave) in
+      (record { source = source .0; target = flag-gave s slot fin vs 1 (b .gave) .0; head = flag-gave s slot fin vs 2 (c .gave) .0 }, source .1)
+
+  is-active : (index epoch : ℕ) → epoch ≡ current → (v : Validator) → isUnslashedParticipating current index epoch v ≡ true → activeAt current v ≡ true
+  unfolding isUnslashedParticipating
+  is-active index epoch e v h = rw e at (both (activeAt epoch v) _ (both (activeAt epoch v && _) _ h .first) .first)
+
+  -- at the genesis epoch, which is also the previous one, they are parts of the active balance
+  genesis : current ≡ 0 → Gave (balanceOf (activeAt current) vs) → Flags s slot vs
+  unfolding «get_previous_epoch»
+  genesis z g =
+      let e : «get_previous_epoch» s slot ≡ current = rw (eq-eqb current 0 z) (sym z) in
+      let of : (index : ℕ) → Gave (balanceOf (participating s slot index) vs) = λ index. part (participating s slot index) (activeAt current) (is-active index («get_previous_epoch» s slot) e) vs g in
+      record { source = of 0; target = of 1; head = of 2 }
+
+module _ (s : Settings) (slot fin : ℕ) (ep : Epochs s slot) (ys : List ℕ) where
+  pub accepted : (vs : List Validator) {ws : List Validator} → registrySteps s slot fin ys vs ≡ value ws → Accepted s slot fin ys vs
+  unfolding registrySteps slashedProduct «process_slashings» «process_effective_balance_updates» «get_total_active_balance» «get_active_validator_indices» «is_active_validator» isUnslashedParticipating
+  accepted vs h =
+      let quotient = s .«inactivity_penalty_quotient_altair» in
+      let now = «get_current_epoch» s slot in
+      let a = bound («process_inactivity_updates» s slot fin vs) _ h in
+      let b = bound («process_rewards_and_penalties» s quotient slot fin (a .first)) _ (a .then) in
+      let c = bound («process_registry_updates» s slot fin (b .first)) _ (b .then) in
+      let d = bound («process_slashings» s (s .«proportional_slashing_multiplier_altair») slot ys (c .first)) _ (c .then) in
+      let e = bound («process_effective_balance_updates» s (d .first)) _ (d .then) in
+      let total = bound («get_total_active_balance» s slot (c .first)) _ (d .gave) in
+      let slashed = bound (sum64 ys) _ (total .then) in
+      let product = bound (mul64 (slashed .first) (s .«proportional_slashing_multiplier_altair»)) _ (slashed .then) in
+      let down = bound (mul64 (s .«effective_balance_increment» / s .«hysteresis_quotient») (s .«hysteresis_downward_multiplier»)) _ (e .gave) in
+      let up = bound (mul64 (s .«effective_balance_increment» / s .«hysteresis_quotient») (s .«hysteresis_upward_multiplier»)) _ (down .then) in
+      let paid : Gave (balanceOf (activeAt now) (b .first)) = total-gave s _ (sym (total-kept s slot fin ep (b .first) (c .gave)) ∙ total .gave) in
+      let scored : Gave (balanceOf (activeAt now) (a .first)) = same-sum (activeAt now) (a .first) (b .first) (rewards-keep (weight (activeAt now)) (λ v. refl) s quotient slot fin (a .first) (b .gave)) paid in
+      let active : Gave (balanceOf (activeAt now) vs) = same-sum (activeAt now) vs (a .first) (scores-keep (weight (activeAt now)) (λ v. refl) s slot fin vs (a .gave)) scored in
+      go (eqb now 0) refl vs (a .first) (b .first) (a .gave) (b .gave) active
+      (record { gift = product .first; gave = bind-value (λ x. mul64 x (s .«proportional_slashing_multiplier_altair»)) (slashed .gave) ∙ product .gave })
+      (record { gift = down .first; gave = down .gave })
+      (record { gift = up .first; gave = up .gave })
+    where
+      back : (index : ℕ) (vs scored : List Validator) → «process_inactivity_updates» s slot fin vs ≡ value scored → Gave (balanceOf (participating s slot index) scored) → Gave (balanceOf (participating s slot index) vs)
+      back index vs scored e g = same-sum (participating s slot index) vs scored (scores-keep (weight (participating s slot index)) (λ v. refl) s slot fin vs e) g
+
+      go : (t : Bool) → eqb («get_current_epoch» s slot) 0 ≡ t → (vs scored paid : List Validator) → «process_inactivity_updates» s slot fin vs ≡ value scored → «process_rewards_and_penalties» s (s .«inactivity_penalty_quotient_altair») slot fin scored ≡ value paid → Gave (balanceOf (activeAt («get_current_epoch» s slot)) vs) → Gave (slashedProduct (s .«proportional_slashing_multiplier_altair») ys) → Gave (mul64 (s .«effective_balance_increment» / s .«hysteresis_quotient») (s .«hysteresis_downward_multiplier»)) → Gave (mul64 (s .«effective_balance_increment» / s .«hysteresis_quotient») (s .«hysteresis_upward_multiplier»)) → Accepted s slot fin ys vs
+      go true t vs scored paid e f g product down up =
+          let z = eqb-true _ _ t in
+          let flags = genesis s slot fin vs z g in
+          let target = part (isUnslashedParticipating («get_current_epoch» s slot) 1 («get_current_epoch» s slot)) (activeAt («get_current_epoch» s slot)) (is-active s slot fin vs 1 _ refl) vs g in
+          record {
+            sums = record { active = g .gift; source = flags .source .gift; target = flags .target .gift; head = flags .head .gift; «current_target» = target .gift };
+            plain = record { active = g .gave; source = flags .source .gave; target = flags .target .gave; head = flags .head .gave; «current_target» = target .gave };
+            leak = record { gift = false; gave = leak-none s slot fin z };
+            product = product;
+            downward = down;
+            upward = up;
+          }
+      go false t vs scored paid e f g product down up =
+          let n : «get_current_epoch» s slot ≡ 0 → ⊥ = λ z. mathlib.Core.Bool.true≢false (sym (eq-eqb _ 0 z) ∙ t) in
+          let told = asked s slot fin scored _ n f in
+          let source = back 0 vs scored e (told .0 .source) in
+          let hit = back 1 vs scored e (told .0 .target) in
+          let head = back 2 vs scored e (told .0 .head) in
+          let target = part (isUnslashedParticipating («get_current_epoch» s slot) 1 («get_current_epoch» s slot)) (activeAt («get_current_epoch» s slot)) (is-active s slot fin vs 1 _ refl) vs g in
+          record {
+            sums = record { active = g .gift; source = source .gift; target = hit .gift; head = head .gift; «current_target» = target .gift };
+            plain = record { active = g .gave; source = source .gave; target = hit .gave; head = head .gave; «current_target» = target .gave };
+            leak = record { gift = told .1 .gift; gave = leak-some s slot fin n ∙ told .1 .gave };
+            product = product;
+            downward = down;
+            upward = up;
+          }
+
+  -- so that what is not accepted is refused by 5
+  pub not-accepted : (vs : List Validator) → (Accepted s slot fin ys vs → ⊥) → registrySteps s slot fin ys vs ≡ refused overflow
+  not-accepted vs n = go (registrySteps s slot fin ys vs) refl
+    where
+      go : (m : Checked (List Validator)) → registrySteps s slot fin ys vs ≡ m → m ≡ refused overflow
+      go (value ws) e = absurd (n (accepted vs e))
+      go (refused p) e = ap refused (only-steps s slot fin ys vs .why p e)

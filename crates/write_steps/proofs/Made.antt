@@ -1,0 +1,65 @@
+-- What the code's ways through the steps need of what was found.
+use mathlib.Core.Path.{_≡_, refl, sym, ap, _∙_}
+use mathlib.Core.Bool.{Bool, true, false, true≢false}
+use mathlib.Core.List.{List, map}
+use Prim.Native.Nat.{ℕ, _*_, _/_, _≤_, max}
+use native.Mathlib.Omega.{arith}
+use borrow.Author.Tests.{eq-eqb}
+use lib.Dec.{eqb}
+use lib.ListN.{length}
+use Rattle.types.specs.declared.Settings.{Settings}
+use Rattle.definitions.specs.Record.{Validator, decode}
+use Rattle.definitions.specs.Checked.{value, sum64}
+use Rattle.definitions.specs.Rust.Phase0.Helpers.{«get_current_epoch», «get_previous_epoch», «get_total_balance», «get_validator_churn_limit»}
+use Rattle.laws.proofs.Checked.{bound, not-value, value-same}
+use Rattle.laws.proofs.Encode.{length-decode}
+use Rattle.queue.specs.Cut.{CutAt, eligibleNow}
+use Rattle.exit_queue.specs.declared.ExitQueue.{ExitQueue}
+use Rattle.exit_queue.specs.Queue.{Tracks, startPair}
+use Rattle.exit_queue.proofs.Tracks.{tracks-few, tracks-start}
+use Rattle.registry.specs.Updates.{leastExit}
+use Rattle.registry.proofs.Epochs.{Epochs}
+use Rattle.survey.specs.declared.Sums.{Sums}
+use Rattle.survey.specs.declared.Findings.{Findings}
+use Rattle.survey.specs.Sums.{balanceOf, PlainSums, raisedTo}
+use Rattle.survey.specs.Found.{PlainSum, Finds, allFit}
+use Rattle.survey.proofs.Raised.{raised-totals}
+use Rattle.survey.proofs.Found.{plain-sums}
+use Rattle.write_steps.specs.Numbers.{Found}
+
+pub queue-few : {least : ℕ} (xs : List ℕ) {q : ExitQueue} → length xs ≡ 10 * (length xs / 10) → Tracks least (decode xs) q → q .number ≤ length xs
+queue-few xs h t = let f = tracks-few t in omega (arith, length-decode (length xs / 10) xs h)
+
+-- a total is at least an increment
+pub total-least : (s : Settings) (members : List Validator) {t : ℕ} → «get_total_balance» s members ≡ value t → s .«effective_balance_increment» ≤ t
+unfolding «get_total_balance»
+total-least s members e =
+    let a = bound (sum64 (map (λ v. v .«effective_balance») members)) (λ x. value (max (s .«effective_balance_increment») x)) e in
+    omega (arith, value-same (a .then))
+
+-- From the survey
+
+-- a sum that is a number has not gone over
+zero-over : {p : Validator → Bool} {vs : List Validator} {sum over : ℕ} → PlainSum p vs sum over → {x : ℕ} → balanceOf p vs ≡ value x → eqb over 0 ≡ true
+zero-over {p} {vs} {sum} {over} h e = go (eqb over 0) refl
+  where
+    go : (t : Bool) → eqb over 0 ≡ t → t ≡ true
+    go true q = refl
+    go false q = absurd (not-value (sym (h .past (λ z. true≢false (sym (eq-eqb over 0 z) ∙ q))) ∙ e))
+
+module _ {s : Settings} {current previous : ℕ} {xs kept : List ℕ} {r : Findings} (h : Finds s current previous xs kept r) where
+  pub plain-fit : {t : Sums} → PlainSums current previous (decode xs) t → allFit (r .over) ≡ true
+  unfolding allFit
+  plain-fit g =
+      rw (zero-over (h .active) (g .active), zero-over (h .source) (g .source), zero-over (h .target) (g .target), zero-over (h .head) (g .head), zero-over (h .«current_target») (g .«current_target»))
+
+-- what the steps ask for, where no sum has gone over
+pub found-all : (s : Settings) (slot fin : ℕ) → Epochs s slot → (xs : List ℕ) {kept : List ℕ} {r : Findings} → Finds s («get_current_epoch» s slot) («get_previous_epoch» s slot) xs kept r → allFit (r .over) ≡ true → {t : Sums} → t ≡ raisedTo (s .«effective_balance_increment») (r .sums) → {limit : ℕ} → limit ≡ max (s .«min_per_epoch_churn_limit») (r .active / s .«churn_limit_quotient») → {q : ExitQueue} → q ≡ startPair (leastExit s («get_current_epoch» s slot)) (r .queue) → {bound quota : ℕ} → CutAt limit fin (eligibleNow s («get_current_epoch» s slot) (decode xs)) bound quota → Found s slot fin (decode xs) t limit q bound quota
+unfolding «get_validator_churn_limit»
+found-all s slot fin ep xs h fit t l q cut =
+    record {
+      totals = rw t (raised-totals s (plain-sums h fit));
+      churn = sym (l ∙ ap (λ (n : ℕ). max (s .«min_per_epoch_churn_limit») (n / s .«churn_limit_quotient»)) (h .number));
+      queue = rw q (tracks-start (ep .fits) (h .queue));
+      cut = cut;
+    }

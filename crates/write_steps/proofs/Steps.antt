@@ -1,0 +1,144 @@
+-- The steps over the registry, one after the other as the Rust has them, are the one pass from the opening.
+use mathlib.Core.Path.{_≡_, refl, sym, ap, subst, _∙_}
+use mathlib.Core.Bool.{Bool, true, false, cond}
+use mathlib.Core.List.{List, [], _∷_, map}
+use Prim.Native.Nat.{ℕ, _+_, _/_, _≤_, _<_, min, max}
+use native.Mathlib.Omega.{arith}
+use borrow.Author.Tests.{eqb-true, eq-eqb, ne-eqb}
+use lib.Dec.{eqb}
+use lib.ListN.{length}
+use Rattle.types.specs.declared.Settings.{Settings}
+use Rattle.types.specs.declared.Number.{Number}
+use Rattle.definitions.specs.Lists.{range, sum}
+use Rattle.definitions.specs.Record.{Validator, «FAR_FUTURE_EPOCH»}
+use Rattle.definitions.specs.Checked.{Checked, value, refused, bind, mul64, sum64, mapChecked, foldChecked}
+use Rattle.definitions.specs.Document.Phase0.EpochProcessing.{dequeued}
+use Rattle.definitions.specs.Rust.Phase0.Helpers.{«get_current_epoch», «get_previous_epoch», «is_active_validator», «get_active_validator_indices», «get_total_active_balance», «get_validator_churn_limit»}
+use Rattle.definitions.specs.Rust.Phase0.EpochProcessing.{«is_in_inactivity_leak», «process_registry_updates»}
+use Rattle.definitions.specs.Rust.Altair.EpochProcessing.{«process_inactivity_updates», «process_rewards_and_penalties»}
+use Rattle.laws.proofs.Checked.{bound}
+use Rattle.loops.specs.Ran.{Ran}
+use Rattle.loops.proofs.Filtered.{length-filter}
+use Rattle.registry.specs.Updates.{leastExit, updateAt}
+use Rattle.registry.proofs.Epochs.{Epochs}
+use Rattle.registry.proofs.Churn.{updates-by-numbers, limit-kept}
+use Rattle.registry.proofs.Total.{total-kept}
+use Rattle.queue.specs.Cut.{CutAt, eligibleNow}
+use Rattle.exit_queue.specs.declared.ExitQueue.{ExitQueue}
+use Rattle.exit_queue.specs.Queue.{Tracks}
+use Rattle.survey.specs.declared.Sums.{Sums}
+use Rattle.survey.specs.Sums.{Totals}
+use Rattle.sweeps.specs.Sweep.{sweep, dropped}
+use Rattle.write_pass.specs.declared.Plan.{Plan}
+use Rattle.write_pass.specs.Planned.{paidBy, lastBy}
+use Rattle.write_pass.specs.declared.Course.{Course}
+use Rattle.write_pass.specs.Written.{payOf, writtenWith}
+use Rattle.write_steps.specs.RegistrySteps.{registrySteps, lastSteps}
+use Rattle.write_steps.specs.Numbers.{slashedProduct, leakOf, planOf, Found}
+use Rattle.write_steps.proofs.Leak.{leak-some}
+use Rattle.write_steps.proofs.Kept.{kept-map, totals-kept}
+use Rattle.write_steps.proofs.Rewards.{no-scores, no-rewards, one-pass}
+use Rattle.write_steps.proofs.Last.{as-one}
+use Rattle.write_steps.proofs.Tracked.{pay-bare}
+use Rattle.write_steps.proofs.Opening.{closing-is}
+
+map-same : (f g : Validator → Checked Validator) → ((v : Validator) → f v ≡ g v) → (vs : List Validator) → mapChecked f vs ≡ mapChecked g vs
+unfolding mapChecked
+map-same f g h [] = refl
+map-same f g h (v ∷ vs) = rw (h v, map-same f g h vs)
+
+map-none : (f : Validator → Checked Validator) → ((v : Validator) → f v ≡ value v) → (vs : List Validator) → mapChecked f vs ≡ value vs
+unfolding mapChecked bind
+map-none f h [] = refl
+map-none f h (v ∷ vs) = rw (h v, map-none f h vs)
+
+in-turn : {A B C : Type 0} (m : Checked A) (k : A → Checked B) (l : B → Checked C) → bind (bind m k) l ≡ bind m (λ a. bind (k a) l)
+unfolding bind
+in-turn (value a) k l = refl
+in-turn (refused r) k l = refl
+
+grouped : (s : Settings) (stateSlot finalizedEpoch : ℕ) (slashings : List ℕ) (vs : List Validator) → registrySteps s stateSlot finalizedEpoch slashings vs ≡ bind (bind («process_inactivity_updates» s stateSlot finalizedEpoch vs) («process_rewards_and_penalties» s (s .«inactivity_penalty_quotient_altair») stateSlot finalizedEpoch)) (λ paid. bind («process_registry_updates» s stateSlot finalizedEpoch paid) (λ updated. lastSteps s (s .«proportional_slashing_multiplier_altair») stateSlot slashings updated))
+unfolding registrySteps lastSteps
+grouped s stateSlot finalizedEpoch slashings vs = sym (in-turn _ _ _)
+
+module _ (s : Settings) (slot fin : ℕ) (ep : Epochs s slot) (totals : Sums) (leaking : Bool) (a b c : Number) (slashed product downward upward : ℕ) where
+  abbrev current : ℕ
+  current = «get_current_epoch» s slot
+
+  abbrev previous : ℕ
+  previous = «get_previous_epoch» s slot
+
+  abbrev quotient : ℕ
+  quotient = s .«inactivity_penalty_quotient_altair»
+
+  abbrev increment : ℕ
+  increment = s .«effective_balance_increment»
+
+  abbrev multiplier : ℕ
+  multiplier = s .«proportional_slashing_multiplier_altair»
+
+  abbrev pub plan : Plan
+  plan = planOf s current previous leaking totals a b c (min product (totals .active)) downward upward
+
+  pays : (vs : List Validator) → Totals s current previous vs totals → ((current ≡ 0 → ⊥) → «is_in_inactivity_leak» s slot fin ≡ value leaking) → bind («process_inactivity_updates» s slot fin vs) («process_rewards_and_penalties» s quotient slot fin) ≡ mapChecked (payOf s plan) vs
+  unfolding bind
+  pays vs h leak = go (eqb current 0) refl
+    where
+      go : (t : Bool) → eqb current 0 ≡ t → bind («process_inactivity_updates» s slot fin vs) («process_rewards_and_penalties» s quotient slot fin) ≡ mapChecked (payOf s plan) vs
+      go true e =
+          let z = eqb-true current 0 e in
+          rw (no-scores s quotient slot fin refl vs z) (no-rewards s quotient slot fin refl vs z ∙ sym (map-none (payOf s plan) (λ v. rw e) vs))
+      go false e =
+          let n : current ≡ 0 → ⊥ = λ z. mathlib.Core.Bool.true≢false (sym (eq-eqb current 0 z) ∙ e) in
+          one-pass s quotient slot fin refl n refl (leak n) totals h ∙ sym (map-same (payOf s plan) (paidBy s plan) (λ v. rw e) vs)
+
+  churn-paid : (vs paid : List Validator) → mapChecked (payOf s plan) vs ≡ value paid → «get_validator_churn_limit» s slot paid ≡ «get_validator_churn_limit» s slot vs
+  unfolding «get_validator_churn_limit» «get_active_validator_indices» «is_active_validator»
+  churn-paid vs paid e =
+      let on : Validator → Bool = λ v. «is_active_validator» v current in
+      let same = kept-map {B = ℕ} (payOf s plan) (λ v. cond (on v) 1 0) (λ v w h. ap (λ (u : Validator). cond (on u) 1 0) (pay-bare s plan v w h)) vs e in
+      ap (λ (k : ℕ). max (s .«min_per_epoch_churn_limit») (k / s .«churn_limit_quotient»)) (length-filter on paid ∙ ap sum same ∙ sym (length-filter on vs))
+
+  registered : (limit : ℕ) (paid : List Validator) → «get_validator_churn_limit» s slot paid ≡ limit → «process_registry_updates» s slot fin paid ≡ bind (foldChecked (updateAt s current (leastExit s current) limit) paid (range 0 (length paid))) (λ queued. value (dequeued (leastExit s current) limit fin queued))
+  unfolding «process_registry_updates» bind
+  registered limit paid churn = rw (ep .least, updates-by-numbers s slot (ep .least) (ep .small) (omega arith) paid churn (range 0 (length paid))) (go (foldChecked (updateAt s current (leastExit s current) limit) paid (range 0 (length paid))) refl)
+    where
+      go : (m : Checked (List Validator)) → foldChecked (updateAt s current (leastExit s current) limit) paid (range 0 (length paid)) ≡ m → bind m (λ queued. value (dequeued (leastExit s current) («get_validator_churn_limit» s slot queued) fin queued)) ≡ bind m (λ queued. value (dequeued (leastExit s current) limit fin queued))
+      go (value queued) e = ap (λ (k : ℕ). value (dequeued (leastExit s current) k fin queued)) (limit-kept s slot (ep .least) (ep .small) (omega arith) limit paid (range 0 (length paid)) e ∙ churn)
+      go (refused r) e = refl
+
+  module _ (slashings : List ℕ) (sums : sum64 slashings ≡ value slashed) (times : mul64 slashed multiplier ≡ value product) (down : mul64 (increment / s .«hysteresis_quotient») (s .«hysteresis_downward_multiplier») ≡ value downward) (up : mul64 (increment / s .«hysteresis_quotient») (s .«hysteresis_upward_multiplier») ≡ value upward) where
+    lastly : (updated : List Validator) → «get_total_active_balance» s slot updated ≡ value (totals .active) → lastSteps s multiplier slot slashings updated ≡ mapChecked (lastBy s plan) updated
+    unfolding bind
+    lastly updated h = as-one s multiplier slot (totals .active) slashings updated h ∙ rw (sums, times, down, up)
+
+    pub steps-are : (t : Course) (q : ExitQueue) (quota : ℕ) (vs : List Validator) → Totals s current previous vs totals → ((current ≡ 0 → ⊥) → «is_in_inactivity_leak» s slot fin ≡ value leaking) → t .«finalized_epoch» ≡ fin → t .«activation_epoch» ≡ leastExit s current → «get_validator_churn_limit» s slot vs ≡ t .limit → Tracks (leastExit s current) vs q → CutAt (t .limit) (t .«finalized_epoch») (eligibleNow s current vs) (t .bound) quota → registrySteps s slot fin slashings vs ≡ dropped (sweep (writtenWith s plan t) (q, quota) vs)
+    unfolding bind «get_total_active_balance»
+    steps-are t q quota vs h leak isFin isLeast churn tracks cut =
+        grouped s slot fin slashings vs ∙ rw (pays vs h leak) (go (mapChecked (payOf s plan) vs) refl) ∙ sym (closing-is s plan t quota vs cut tracks)
+      where
+        lets : List Validator → List Validator
+        lets queued = dequeued (t .«activation_epoch») (t .limit) (t .«finalized_epoch») queued
+
+        go : (m : Checked (List Validator)) → mapChecked (payOf s plan) vs ≡ m → bind m (λ paid. bind («process_registry_updates» s slot fin paid) (λ updated. lastSteps s multiplier slot slashings updated)) ≡ bind m (λ paid. bind (foldChecked (updateAt s current (leastExit s current) (t .limit)) paid (range 0 (length paid))) (λ queued. mapChecked (lastBy s plan) (dequeued (t .«activation_epoch») (t .limit) (t .«finalized_epoch») queued)))
+        go (refused r) e = refl
+        go (value paid) e = rw (isFin, isLeast, is) (later (foldChecked (updateAt s current (leastExit s current) (t .limit)) paid (range 0 (length paid))) refl)
+          where
+            is : «process_registry_updates» s slot fin paid ≡ bind (foldChecked (updateAt s current (leastExit s current) (t .limit)) paid (range 0 (length paid))) (λ queued. value (dequeued (leastExit s current) (t .limit) fin queued))
+            is = registered (t .limit) paid (churn-paid vs paid e ∙ churn)
+
+            later : (m : Checked (List Validator)) → foldChecked (updateAt s current (leastExit s current) (t .limit)) paid (range 0 (length paid)) ≡ m → bind (bind m (λ queued. value (dequeued (leastExit s current) (t .limit) fin queued))) (λ updated. lastSteps s multiplier slot slashings updated) ≡ bind m (λ queued. mapChecked (lastBy s plan) (dequeued (leastExit s current) (t .limit) fin queued))
+            later (value queued) k =
+                let updated = dequeued (leastExit s current) (t .limit) fin queued in
+                let done : «process_registry_updates» s slot fin paid ≡ value updated = is ∙ ap (λ (m : Checked (List Validator)). bind m (λ queued. value (dequeued (leastExit s current) (t .limit) fin queued))) k in
+                lastly updated (total-kept s slot fin ep paid done ∙ totals-kept (payOf s plan) vs e (pay-bare s plan) s current previous h .active)
+            later (refused r) k = refl
+
+-- The same of what the code has: the numbers as they were told
+module _ {s : Settings} {slot fin : ℕ} (ep : Epochs s slot) (slashings : List ℕ) {vs : List Validator} where
+  pub steps-run : {t : Sums} {q : ExitQueue} (course : Course) {quota : ℕ} → Found s slot fin vs t (course .limit) q (course .bound) quota → course .«finalized_epoch» ≡ fin → course .«activation_epoch» ≡ leastExit s («get_current_epoch» s slot) → {leaking : Bool} → leakOf s slot fin ≡ value leaking → {product : ℕ} → slashedProduct (s .«proportional_slashing_multiplier_altair») slashings ≡ value product → {downward upward : ℕ} → mul64 (s .«effective_balance_increment» / s .«hysteresis_quotient») (s .«hysteresis_downward_multiplier») ≡ value downward → mul64 (s .«effective_balance_increment» / s .«hysteresis_quotient») (s .«hysteresis_upward_multiplier») ≡ value upward → {p : Plan} → p ≡ planOf s («get_current_epoch» s slot) («get_previous_epoch» s slot) leaking t (p .shared .«per_increment») (p .shared .denominator) (p .product) (min product (t .active)) downward upward → {xs : List ℕ} {r : ℕ} → Ran (dropped (sweep (writtenWith s p course) (q, quota) vs)) xs r → Ran (registrySteps s slot fin slashings vs) xs r
+  unfolding slashedProduct
+  steps-run {t} {q} course {quota} found isFin isLeast {leaking} leak {product} times {downward} {upward} down up {p} is {xs} {r} ran =
+      let m = bound (sum64 slashings) _ times in
+      let are = steps-are s slot fin ep t leaking (p .shared .«per_increment») (p .shared .denominator) (p .product) (m .first) product downward upward slashings (m .gave) (m .then) down up course q quota vs (found .totals) (λ n. sym (leak-some s slot fin n) ∙ leak) isFin isLeast (found .churn) (found .queue) (rw isFin (found .cut)) in
+      subst (λ k. Ran k xs r) (ap (λ (p : Plan). dropped (sweep (writtenWith s p course) (q, quota) vs)) is ∙ sym are) ran

@@ -1,0 +1,54 @@
+-- The numbers that all validators share, as they are made.
+use mathlib.Core.Path.{_≡_}
+use mathlib.Core.Bool.{Bool, false, cond}
+use mathlib.Core.List.{List}
+use Prim.Native.Nat.{ℕ, _/_}
+use lib.Dec.{eqb}
+use Rattle.types.specs.declared.Settings.{Settings}
+use Rattle.types.specs.declared.Number.{Number}
+use Rattle.definitions.specs.Record.{Validator}
+use Rattle.definitions.specs.Checked.{Checked, value, bind, mul64, sum64}
+use Rattle.definitions.specs.Rust.Phase0.Helpers.{«get_current_epoch», «get_previous_epoch», «get_validator_churn_limit»}
+use Rattle.definitions.specs.Rust.Phase0.EpochProcessing.{«is_in_inactivity_leak»}
+use Rattle.queue.specs.Cut.{CutAt, eligibleNow}
+use Rattle.exit_queue.specs.declared.ExitQueue.{ExitQueue}
+use Rattle.exit_queue.specs.Queue.{Tracks}
+use Rattle.registry.specs.Updates.{leastExit}
+use Rattle.survey.specs.declared.Sums.{Sums}
+use Rattle.survey.specs.Sums.{Totals}
+use Rattle.write_pass.specs.declared.Plan.{Plan}
+use Rattle.write_pass.specs.Planned.{Planned}
+
+-- no delay is evaluated at the genesis epoch
+unfoldable pub leakOf : Settings → ℕ → ℕ → Checked Bool
+leakOf s slot finalizedEpoch = cond (eqb («get_current_epoch» s slot) 0) (value false) («is_in_inactivity_leak» s slot finalizedEpoch)
+
+-- the sum of the slashings times the multiplier
+unfoldable pub slashedProduct : ℕ → List ℕ → Checked ℕ
+slashedProduct multiplier slashings = bind (sum64 slashings) (λ slashed. mul64 slashed multiplier)
+
+-- the three that may have left 64 bits and be wanted by nobody are perIncrement, denominator and product
+abbrev pub planOf : Settings → ℕ → ℕ → Bool → Sums → Number → Number → Number → ℕ → ℕ → ℕ → Plan
+planOf s current previous leaking t perIncrement denominator product adjusted downward upward =
+    record {
+      shared = record { «current_epoch» = current; «previous_epoch» = previous; total = t .active; leaking = leaking; «per_increment» = perIncrement; denominator = denominator };
+      source = t .source / s .«effective_balance_increment»;
+      target = t .target / s .«effective_balance_increment»;
+      head = t .head / s .«effective_balance_increment»;
+      quotient = s .«inactivity_penalty_quotient_altair»;
+      product = product;
+      adjusted = adjusted;
+      downward = downward;
+      upward = upward;
+    }
+
+pub record Makes (s : Settings) (current previous : ℕ) (leaking : Bool) (t : Sums) (adjusted downward upward : ℕ) (p : Plan) : Type 0 where
+  pub planned : Planned s p
+  pub is : p ≡ planOf s current previous leaking t (p .shared .«per_increment») (p .shared .denominator) (p .product) adjusted downward upward
+
+-- What the steps ask of the whole registry, found before them
+pub record Found (s : Settings) (slot finalizedEpoch : ℕ) (vs : List Validator) (t : Sums) (limit : ℕ) (q : ExitQueue) (bound quota : ℕ) : Type 0 where
+  pub totals : Totals s («get_current_epoch» s slot) («get_previous_epoch» s slot) vs t
+  pub churn : «get_validator_churn_limit» s slot vs ≡ limit
+  pub queue : Tracks (leastExit s («get_current_epoch» s slot)) vs q
+  pub cut : CutAt limit finalizedEpoch (eligibleNow s («get_current_epoch» s slot) vs) bound quota

@@ -1,0 +1,193 @@
+// The steps over the registry from the opening to the closing one: the numbers that all validators share, each made once, and one pass
+// that writes.
+ghost use mathlib.Core.Path.{_≡_};
+ghost use mathlib.Core.Bool.{true};
+ghost use Prim.Native.Nat.{_*_, _/_, _^_, _<_, _≤_};
+ghost use lib.ListN.{length};
+ghost use Rattle.definitions.specs.Record.{decode};
+ghost use Rattle.definitions.specs.Answers.{Says, SaysTruth};
+ghost use Rattle.definitions.specs.Refusals.{goodSettings};
+ghost use Rattle.definitions.specs.Rust.Phase0.Helpers.{«get_current_epoch», «get_previous_epoch»};
+ghost use Rattle.loops.specs.Ran.{Ran};
+ghost use Rattle.survey.specs.Found.{Finds};
+ghost use Rattle.write_steps.specs.RegistrySteps.{registrySteps};
+ghost use Rattle.write_steps.specs.Numbers.{leakOf, slashedProduct, Makes, Found};
+use arithmetic::min;
+use arithmetic::mul64;
+use base_rewards::base_reward_per_increment;
+use exit_queue::ExitQueue;
+use exit_queue::start_pair;
+use finality::inactivity_leak;
+use leaf_refusals::current_epoch;
+use leaf_refusals::previous_epoch;
+use queue_cut::cut_queue;
+use rewards::Shared;
+use selection::Cut;
+use slashings::slashed_balance;
+use survey::Findings;
+use survey::Sums;
+use survey::all_fit;
+use survey::totals;
+use totals::churn_by;
+use types::Number;
+use types::Settings;
+use types::Truth;
+use write_pass::Course;
+use write_pass::Plan;
+use write_pass::write_all;
+
+// Neither scores nor rewards are moved at the genesis epoch, and no delay is evaluated.
+fn leak_of(s: Settings, current: u64, state_slot: u64, finalized_epoch: u64) -> Truth
+    requires { ⌜ (0 < s .«slots_per_epoch») × (current ≡ «get_current_epoch» s «state_slot») ⌝ }
+    ensures { λ r. ⌜ SaysTruth (leakOf s «state_slot» «finalized_epoch») r ⌝ }
+{
+    if current == 0 {
+        return Truth::Value(false);
+    }
+    inactivity_leak(s, state_slot, finalized_epoch)
+}
+
+fn slashed_product(multiplier: u64, slashings: &[u64]) -> Number
+    ensures { λ r. ⌜ Says (slashedProduct multiplier (now (slashings .entry))) r ⌝ }
+{
+    let Number::Value(slashed) = slashed_balance(slashings) else {
+        return Number::Refused(5);
+    };
+    mul64(slashed, multiplier)
+}
+
+fn make_plan(
+    s: Settings,
+    current_epoch: u64,
+    previous_epoch: u64,
+    leaking: bool,
+    totals: Sums,
+    adjusted: u64,
+    downward: u64,
+    upward: u64,
+) -> Plan
+    requires { ⌜ (0 < s .«effective_balance_increment») × (s .«effective_balance_increment» ≤ totals .active) ⌝ }
+    requires { ⌜ (0 < s .«inactivity_score_bias») × (0 < s .«inactivity_penalty_quotient_altair») ⌝ }
+    ensures { λ r. ⌜ Makes s «current_epoch» «previous_epoch» leaking totals adjusted downward upward r ⌝ }
+{
+    let increment = s.effective_balance_increment;
+    let quotient = s.inactivity_penalty_quotient_altair;
+    let total = totals.active;
+    let per_increment = base_reward_per_increment(s, total);
+    let denominator = mul64(total / increment, 64);
+    let shared = Shared {
+        current_epoch: current_epoch,
+        previous_epoch: previous_epoch,
+        total: total,
+        leaking: leaking,
+        per_increment: per_increment,
+        denominator: denominator,
+    };
+    let product = mul64(s.inactivity_score_bias, quotient);
+    Plan {
+        shared: shared,
+        source: totals.source / increment,
+        target: totals.target / increment,
+        head: totals.head / increment,
+        quotient: quotient,
+        product: product,
+        adjusted: adjusted,
+        downward: downward,
+        upward: upward,
+    }
+}
+
+// By the opening's totals, churn limit, exit queue and cut.
+fn write_found(
+    s: Settings,
+    state_slot: u64,
+    finalized_epoch: u64,
+    totals: Sums,
+    limit: u64,
+    queue: ExitQueue,
+    cut: Cut,
+    slashings: &[u64],
+    opening: &[u64],
+    closing: &mut [u64],
+) -> u64
+    requires { ⌜ (goodSettings s ≡ true) × («state_slot» < 2 ^ 48) ⌝ }
+    requires { ⌜ (length (now opening) ≡ 10 * (length (now opening) / 10)) × (length (now closing) ≡ length (now opening)) ⌝ }
+    requires { ⌜ Found s «state_slot» «finalized_epoch» (decode (now opening)) totals limit queue (cut .bound) (cut .quota) ⌝ }
+    ensures { λ r. ⌜ Ran (registrySteps s «state_slot» «finalized_epoch» (now (slashings .entry)) (decode (now (opening .entry)))) (now (closing .exit)) r ⌝ }
+{
+    let current = current_epoch(s, state_slot);
+    let previous = previous_epoch(s, state_slot);
+    let Truth::Value(leaking) = leak_of(s, current, state_slot, finalized_epoch) else {
+        return 5;
+    };
+    let Number::Value(product) = slashed_product(
+        s.proportional_slashing_multiplier_altair,
+        slashings,
+    ) else {
+        return 5;
+    };
+    let increment = s.effective_balance_increment / s.hysteresis_quotient;
+    let Number::Value(downward) = mul64(increment, s.hysteresis_downward_multiplier) else {
+        return 5;
+    };
+    let Number::Value(upward) = mul64(increment, s.hysteresis_upward_multiplier) else {
+        return 5;
+    };
+    let adjusted = min(product, totals.active);
+    let p = make_plan(
+        s,
+        current,
+        previous,
+        leaking,
+        totals,
+        adjusted,
+        downward,
+        upward,
+    );
+    let course = Course {
+        limit: limit,
+        finalized_epoch: finalized_epoch,
+        bound: cut.bound,
+        activation_epoch: current + 1 + s.max_seed_lookahead,
+    };
+    write_all(s, p, course, queue, cut.quota, opening, closing)
+}
+
+// By the survey of the opening. For callers that have tested the record, and put the opening back on refusal.
+pub fn write_registry(
+    s: Settings,
+    state_slot: u64,
+    finalized_epoch: u64,
+    found: Findings,
+    kept: &[u64],
+    slashings: &[u64],
+    opening: &[u64],
+    closing: &mut [u64],
+) -> u64
+    requires { ⌜ (goodSettings s ≡ true) × («state_slot» < 2 ^ 48) × («finalized_epoch» < 2 ^ 48) ⌝ }
+    requires { ⌜ (length (now opening) ≡ 10 * (length (now opening) / 10)) × (length (now closing) ≡ length (now opening)) ⌝ }
+    requires { ⌜ Finds s («get_current_epoch» s «state_slot») («get_previous_epoch» s «state_slot») (now opening) (now kept) found ⌝ }
+    ensures { λ r. ⌜ Ran (registrySteps s «state_slot» «finalized_epoch» (now (slashings .entry)) (decode (now (opening .entry)))) (now (closing .exit)) r ⌝ }
+{
+    if !all_fit(found.over) {
+        return 5;
+    }
+    let totals = totals(found.sums, s.effective_balance_increment);
+    let epoch = current_epoch(s, state_slot);
+    let limit = churn_by(s, found.active);
+    let least = epoch + 1 + s.max_seed_lookahead;
+    let queue = start_pair(found.queue, least);
+    let cut = cut_queue(s, epoch, opening, kept, finalized_epoch, limit);
+    write_found(
+        s,
+        state_slot,
+        finalized_epoch,
+        totals,
+        limit,
+        queue,
+        cut,
+        slashings,
+        opening,
+        closing,
+    )
+}
