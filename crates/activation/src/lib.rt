@@ -51,7 +51,7 @@ pub fn admit_entry(
     left - 1
 }
 
-fn admit_below(
+pub fn admit_below(
     registry: &mut [u64],
     n: usize,
     stop: usize,

@@ -4,3 +4,4 @@ pub mod Churn
 pub mod Turns
 pub mod Step
 pub mod Total
+pub mod Seen

@@ -1,5 +1,5 @@
 -- What the code's ways through the step give, once the loop has left ys and answered r.
-use mathlib.Core.Path.{_≡_, sym, ap, _∙_}
+use mathlib.Core.Path.{_≡_, refl, sym, ap, _∙_}
 use mathlib.Core.List.{List}
 use Prim.Native.Nat.{ℕ, _+_, _/_, max}
 use native.Mathlib.Omega.{arith}
@@ -7,13 +7,13 @@ use lib.ListN.{length}
 use Rattle.types.specs.declared.Settings.{Settings}
 use Rattle.definitions.specs.Lists.{range}
 use Rattle.definitions.specs.Record.{Validator, encode, decode}
-use Rattle.definitions.specs.Checked.{Checked, value, bind, foldChecked}
+use Rattle.definitions.specs.Checked.{Checked, value, refused, bind, foldChecked}
 use Rattle.definitions.specs.Document.Phase0.EpochProcessing.{dequeued}
 use Rattle.definitions.specs.Rust.Phase0.Helpers.{«get_current_epoch», «get_active_validator_indices», «get_validator_churn_limit»}
 use Rattle.definitions.specs.Rust.Phase0.EpochProcessing.{«process_registry_updates»}
 use Rattle.loops.specs.Ran.{Ran}
 use Rattle.loops.proofs.Ran.{ran-value, ran-gave, ran-next, ran-stop}
-use Rattle.registry.specs.Updates.{leastExit, updateAt}
+use Rattle.registry.specs.Updates.{leastExit, updateAt, updatesBy}
 use Rattle.registry.proofs.Epochs.{Epochs}
 use Rattle.registry.proofs.Churn.{updates-by-numbers, limit-kept}
 
@@ -38,3 +38,12 @@ module _ (s : Settings) (stateSlot finalizedEpoch : ℕ) (xs : List ℕ) {epoch 
     step-ends z k =
         let kept = limit-kept s stateSlot (p .least) (p .small) (omega arith) limit (decode xs) (range 0 (length (decode xs))) (ran-gave (rw now at h) z) in
         rw as-written (ran-next h _ z (rw (kept, ← churn) (ran-value k)))
+
+  -- the step is the one by its numbers
+  pub step-by : «process_registry_updates» s stateSlot finalizedEpoch (decode xs) ≡ updatesBy s epoch limit finalizedEpoch (decode xs)
+  unfolding updatesBy bind
+  step-by = as-written ∙ rw now (go (loop («get_current_epoch» s stateSlot)) refl)
+    where
+      go : (m : Checked (List Validator)) → loop («get_current_epoch» s stateSlot) ≡ m → bind m (λ queued. value (dequeued (leastExit s («get_current_epoch» s stateSlot)) («get_validator_churn_limit» s stateSlot queued) finalizedEpoch queued)) ≡ bind m (λ queued. value (dequeued (leastExit s («get_current_epoch» s stateSlot)) limit finalizedEpoch queued))
+      go (value queued) e = ap (λ (k : ℕ). value (dequeued (leastExit s («get_current_epoch» s stateSlot)) k finalizedEpoch queued)) (limit-kept s stateSlot (p .least) (p .small) (omega arith) limit (decode xs) (range 0 (length (decode xs))) e ∙ sym churn)
+      go (refused q) e = refl

@@ -12,10 +12,13 @@ ghost use Rattle.definitions.specs.Document.Phase0.EpochProcessing.{queueEligib
 ghost use Rattle.definitions.specs.Rust.Phase0.EpochProcessing.{«process_registry_updates»};
 ghost use Rattle.loops.specs.Ran.{Ran};
 ghost use Rattle.buffers.specs.Closes.{Closes};
+ghost use Rattle.queue.specs.Cut.{CutAt, eligibleNow};
+ghost use Rattle.selection.specs.Keep.{Blank};
 ghost use Rattle.exit_queue.specs.Queue.{Tracks};
 ghost use Rattle.exit_queue.specs.Turns.{Turns};
-ghost use Rattle.registry.specs.Updates.{leastExit, updateAt, turnBy};
+ghost use Rattle.registry.specs.Updates.{leastExit, updateAt, turnBy, updatesBy};
 use activation::activate;
+use activation::admit_below;
 use arithmetic::max;
 use buffers::copy;
 use entries::entry_is_active;
@@ -24,8 +27,14 @@ use exit_queue::ExitQueue;
 use exit_queue::Turn;
 use exit_queue::count_exits;
 use exit_queue::exit_entry;
+use exit_queue::start_pair;
 use finalized::registry_tests;
 use leaf_refusals::current_epoch;
+use leaf_refusals::previous_epoch;
+use queue_cut::cut_queue;
+use selection::Cut;
+use survey::survey_registry;
+use totals::churn_by;
 use types::Settings;
 
 fn entry_queue_eligible(s: Settings, epoch: u64, entry: &mut [u64])
@@ -123,6 +132,56 @@ pub fn registry_core(
     0
 }
 
+// By the numbers that were found: the churn limit, the exit queue's pair and the cut of the activation queue.
+fn update_by(
+    s: Settings,
+    epoch: u64,
+    limit: u64,
+    queue: ExitQueue,
+    cut: Cut,
+    finalized_epoch: u64,
+    registry: &mut [u64],
+) -> u64
+    requires { ⌜ (length (now registry) ≡ 10 * (length (now registry) / 10)) × (epoch < 2 ^ 48) × (s .«max_seed_lookahead» < 2 ^ 48) ⌝ }
+    requires { ⌜ Tracks (leastExit s epoch) (decode (now registry)) queue ⌝ }
+    requires { ⌜ CutAt limit «finalized_epoch» (eligibleNow s epoch (decode (now registry))) (cut .bound) (cut .quota) ⌝ }
+    ensures { λ r. ⌜ Ran (updatesBy s epoch limit «finalized_epoch» (decode (now (registry .entry)))) (now (registry .exit)) r ⌝ }
+{
+    let n = registry.len() / 10;
+    let least = epoch + 1 + s.max_seed_lookahead;
+    let refusal = update_all(s, epoch, limit, queue, registry, n);
+    if refusal != 0 {
+        return refusal;
+    }
+    admit_below(registry, n, n, finalized_epoch, cut.bound, cut.quota, least);
+    0
+}
+
+// The closing registry is a copy of the opening one, of which all that the step asks is surveyed in one pass.
+fn update_registry(
+    s: Settings,
+    state_slot: u64,
+    finalized_epoch: u64,
+    opening: &[u64],
+    kept: &mut [u64],
+    closing: &mut [u64],
+) -> u64
+    requires { ⌜ goodSettings s ≡ true ⌝ }
+    requires { ⌜ («state_slot» < 2 ^ 48) × («finalized_epoch» < 2 ^ 48) ⌝ }
+    requires { ⌜ (length (now opening) ≡ 10 * (length (now opening) / 10)) × (now closing ≡ now opening) ⌝ }
+    requires { ⌜ (length (now kept) ≡ 64) × Blank (now kept) ⌝ }
+    ensures { λ r. ⌜ Ran («process_registry_updates» s «state_slot» «finalized_epoch» (decode (now (opening .entry)))) (now (closing .exit)) r ⌝ }
+{
+    let epoch = current_epoch(s, state_slot);
+    let previous = previous_epoch(s, state_slot);
+    let found = survey_registry(s, epoch, previous, opening, kept);
+    let limit = churn_by(s, found.active);
+    let cut = cut_queue(s, epoch, opening, &kept[..], finalized_epoch, limit);
+    let least = epoch + 1 + s.max_seed_lookahead;
+    let queue = start_pair(found.queue, least);
+    update_by(s, epoch, limit, queue, cut, finalized_epoch, closing)
+}
+
 pub fn process_registry_updates(
     s: Settings,
     state_slot: u64,
@@ -137,7 +196,15 @@ pub fn process_registry_updates(
         return refusal;
     }
     copy(opening, closing);
-    let done = registry_core(s, state_slot, finalized_epoch, closing);
+    let mut kept = [18446744073709551615u64; 64];
+    let done = update_registry(
+        s,
+        state_slot,
+        finalized_epoch,
+        opening,
+        &mut kept[0..64],
+        closing,
+    );
     if done != 0 {
         copy(opening, closing);
     }

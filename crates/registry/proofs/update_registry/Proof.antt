@@ -1,0 +1,62 @@
+use native.Mathlib.Omega.{arith}
+use Rattle.refusals.proofs.Laws.{good-settings}
+use Rattle.exit_queue.proofs.Tracks.{tracks-start}
+use Rattle.registry.proofs.Epochs.{epochs}
+use Rattle.registry.proofs.Step.{counted-limit, step-by}
+use native.Mathlib.Omega.{arith}
+use borrow.Author.Needs.{needs}
+use Rattle.registry.proofs.update_registry.Statement.{statement}
+use Rattle.registry.proofs.update_registry.Tie as tie
+
+current-epoch-requires : tie.Need-current-epoch-requires
+current-epoch-requires c κs = good-settings _ (c .before .before .before .pre .0) .positive .«slots_per_epoch»
+
+previous-epoch-requires : tie.Need-previous-epoch-requires
+previous-epoch-requires c κs = good-settings _ (c .before .before .before .before .pre .0) .positive .«slots_per_epoch»
+
+survey-registry-requires : tie.Need-survey-registry-requires
+survey-registry-requires c κs = let s = c .before .before .before .before .before .before in let p = epochs _ _ (s .pre .0) (s .pre .1 .0 .0) in (s .pre .1 .1 .0 .0, (omega (arith, p .small, c .before .before .current-epoch .ensures), s .pre .1 .1 .1))
+
+churn-by-requires : tie.Need-churn-by-requires
+churn-by-requires c κs = good-settings _ (c .before .before .before .before .before .before .before .before .before .pre .0) .positive .«churn_limit_quotient»
+
+cut-queue-requires : tie.Need-cut-queue-requires
+cut-queue-requires c κs = let s = c .before .before .before .before .before .before .before .before .before .before .before in let p = epochs _ _ (s .pre .0) (s .pre .1 .0 .0) in (s .pre .1 .1 .0 .0, ((omega (arith, p .small, c .before .before .before .before .before .before .before .current-epoch .ensures), omega (arith, s .pre .1 .0 .1)), c .before .before .before .before .survey-registry .ensures .waiting))
+
+add-least : tie.Need-add-least
+add-least c = let s = c .before .before .before .before .before .before .before .before .before .before .before .before in let p = epochs _ _ (s .pre .0) (s .pre .1 .0 .0) in omega (arith, p .fits, c .before .before .before .before .before .before .before .before .current-epoch .ensures)
+
+add-least-2 : tie.Need-add-least-2
+add-least-2 c = let s = c .before .before .before .before .before .before .before .before .before .before .before .before .before in let p = epochs _ _ (s .pre .0) (s .pre .1 .0 .0) in omega (arith, p .fits, c .before .before .before .before .before .before .before .before .before .current-epoch .ensures)
+
+start-pair-requires : tie.Need-start-pair-requires
+start-pair-requires c κs = search needs
+
+update-by-requires : tie.Need-update-by-requires
+update-by-requires c κs = let s = c .before .before .before .before .before .before .before .before .before .before .before .before .before .before .before in let e = c .before .before .before .before .before .before .before .before .before .before .before in let p = epochs _ _ (s .pre .0) (s .pre .1 .0 .0) in let q = good-settings _ (s .pre .0) .small .«max_seed_lookahead» in rw (s .pre .1 .1 .0 .1) ((s .pre .1 .1 .0 .0, omega (arith, p .small, e .current-epoch .ensures), q), (rw (c .before .start-pair .ensures) (tracks-start (omega (arith, p .fits, e .current-epoch .ensures)) (c .before .before .before .before .before .before .before .before .survey-registry .ensures .queue)), c .before .before .before .cut-queue .ensures))
+
+same-length : tie.Need-same-length
+same-length c = search needs
+
+same-length-2 : tie.Need-same-length-2
+same-length-2 c = search needs
+
+returns : tie.Need-returns
+returns c = let s = c .before .before .before .before .before .before .before .before .before .before .before .before .before .before .before .before .before .before in let e = c .before .before .before .before .before .before .before .before .before .before .before .before .before .before in let p = epochs _ _ (s .pre .0) (s .pre .1 .0 .0) in let limit = counted-limit _ _ _ (e .current-epoch .ensures) (c .before .before .before .before .before .before .before .before .before .before .before .survey-registry .ensures .number) (c .before .before .before .before .before .before .before .before .churn-by .ensures) in rw (step-by _ _ _ _ p (e .current-epoch .ensures) limit) (rw (s .pre .1 .1 .0 .1) at (c .before .before .update-by .ensures))
+
+pub update-registry-spec : {M : Type 1} → statement M
+update-registry-spec =
+    tie.close
+    (tie.spec
+    current-epoch-requires
+    previous-epoch-requires
+    survey-registry-requires
+    churn-by-requires
+    cut-queue-requires
+    add-least
+    add-least-2
+    start-pair-requires
+    update-by-requires
+    same-length
+    same-length-2
+    returns)
