@@ -4,4 +4,3 @@ pub mod Tracks
 pub mod Exits
 pub mod Turns
 pub mod Cases
-mod Counting

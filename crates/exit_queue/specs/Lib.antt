@@ -1,4 +1,3 @@
 -- What contracts of the exit queue cite.
 pub mod Queue
 pub mod Turns
-pub mod Counts

@@ -1,15 +1,12 @@
-// The exit queue: the last epoch that is taken and how many leave at it. The pair is made in one pass over the registry and moved in
-// place at each exit, and answers as a rescan of the registry does.
+// The exit queue: the last epoch that is taken and how many leave at it. The survey makes the pair, it is moved in place at each exit, and
+// it answers as a rescan of the registry does.
 ghost use mathlib.Core.Path.{_≡_};
-ghost use Prim.Native.Nat.{_*_, _<_};
+ghost use Prim.Native.Nat.{_<_};
 ghost use lib.ListN.{length};
-ghost use Rattle.definitions.specs.Record.{decodeOne, decode};
 ghost use Rattle.definitions.specs.Answers.{Says};
 ghost use Rattle.exit_queue.specs.Queue.{lastAfter, numberAfter, joined, startPair, nextEpoch, exitBy};
 ghost use Rattle.exit_queue.specs.Turns.{Exits};
-ghost use Rattle.exit_queue.specs.Counts.{Finds};
 use arithmetic::add64;
-use entries::entry_is_active;
 use exits::write_exit;
 use types::Number;
 
@@ -68,47 +65,6 @@ pub fn exited(queue: ExitQueue, epoch: u64) -> ExitQueue
     let mut own = queue;
     exit(&mut own, epoch);
     own
-}
-
-fn entry_joined(entry: &[u64], queue: ExitQueue) -> ExitQueue
-    requires { ⌜ (length (now entry) ≡ 10) × (queue .number < 18446744073709551615) ⌝ }
-    ensures { λ r. ⌜ r ≡ joined queue (decodeOne (now (entry .entry)) .«exit_epoch») ⌝ }
-{
-    exited(queue, entry[4])
-}
-
-// How many are active at an epoch, and the pair.
-pub struct Counts {
-    pub active: u64,
-    pub queue: ExitQueue,
-}
-
-// One pass for both. `least` is the activation exit epoch of the present epoch: no exit is earlier.
-pub fn count_exits(registry: &[u64], n: usize, epoch: u64, least: u64) -> Counts
-    requires { ⌜ (length (now registry) ≡ 10 * n) × (least < 18446744073709551615) ⌝ }
-    ensures { λ r. ⌜ Finds epoch least (decode (now (registry .entry))) r ⌝ }
-{
-    let mut queue = ExitQueue {
-        last_epoch: least,
-        number: 0,
-    };
-    let mut active: u64 = 0;
-    let mut i: usize = 0;
-    while i < n {
-        let a = 10 * i;
-        let b = a + 10;
-        queue = entry_joined(&registry[a..b], queue);
-        if entry_is_active(&registry[a..b], epoch) {
-            active += 1;
-            i += 1;
-        } else {
-            i += 1;
-        }
-    }
-    Counts {
-        active: active,
-        queue: queue,
-    }
 }
 
 // `least` is the activation exit epoch of the present epoch: no exit is earlier.

@@ -11,7 +11,7 @@ use Rattle.definitions.specs.Record.{Validator, «FAR_FUTURE_EPOCH», nobody}
 use Rattle.definitions.specs.Updates.{withActivation}
 use Rattle.definitions.specs.Document.Phase0.Helpers.{«is_eligible_for_activation»}
 use Rattle.queue.specs.Queue.{ahead, mapBelow, activatedAt, activated}
-use Rattle.queue.specs.Cut.{queuedBefore, queuedAt, count, admitOne, admittedAt, admitted, Cuts, Reaches, CutAt}
+use Rattle.queue.specs.Cut.{queuedBefore, queuedAt, count, admitOne, admittedAt, admitted, Cuts, CutAt}
 use Rattle.queue.proofs.Filter.{count-mono, first-more, first-le}
 use Rattle.queue.proofs.Counts.{and-left, before-queued, at-queued, grows, next, ahead-is}
 
@@ -21,12 +21,6 @@ below-same zero f g vs h = refl
 below-same (suc stop) f g [] h = refl
 below-same (suc stop) f g (v ∷ vs) h =
     ap₂ _∷_ (h 0 (omega arith)) (below-same stop (λ j. f (suc j)) (λ j. g (suc j)) vs (λ i l. h (suc i) (omega arith)))
-
-below-none : (stop : ℕ) (vs : List Validator) → mapBelow stop (λ i v. v) vs ≡ vs
-unfolding mapBelow
-below-none zero vs = refl
-below-none (suc stop) [] = refl
-below-none (suc stop) (v ∷ vs) = ap (λ (t : List Validator). v ∷ t) (below-none stop vs)
 
 -- two tests that hold together
 ltb-same : (a b c d : ℕ) → (a < b → c < d) → (c < d → a < b) → ltb a b ≡ ltb c d
@@ -97,10 +91,15 @@ module _ (f : ℕ) (vs : List Validator) (i : ℕ) (l : i < length vs) (w : «is
   unfolding «is_eligible_for_activation»
   since-final = leb-true (since vs i) f (and-left (leb (since vs i) f) (eqb (getD vs i nobody .«activation_epoch») «FAR_FUTURE_EPOCH») w)
 
--- the limit is reached at the bound's own epoch, or all are queued since the bound or before
-pub reaches-at : (limit f : ℕ) (vs : List Validator) (bound quota : ℕ) → count (queuedBefore f bound) vs + quota ≡ limit → (bound < f → limit ≤ count (queuedBefore f (bound + 1)) vs) → Reaches limit f vs bound quota
-reaches-at limit f vs bound quota reach over = record { cuts = cuts limit f vs bound quota agrees; reach = reach }
+pub cut-cuts : {limit f bound quota : ℕ} {vs : List Validator} → CutAt limit f vs bound quota → Cuts limit f vs bound quota
+cut-cuts {limit} {f} {bound} {quota} {vs} c = cuts limit f vs bound quota agrees
   where
+    reach : count (queuedBefore f bound) vs + quota ≡ limit
+    reach = c .reach
+
+    over : bound < f → limit ≤ count (queuedBefore f (bound + 1)) vs
+    over = c .enough
+
     agrees : Agrees limit f vs bound quota
     agrees i l w =
         by-order (since vs i) bound
@@ -114,49 +113,3 @@ reaches-at limit f vs bound quota reach over = record { cuts = cuts limit f vs b
         (λ s.
         rw (le-ltb (since vs i) bound (omega arith), ne-eqb (since vs i) bound (λ e. omega arith))
         (le-ltb (ahead f vs i) limit (omega (arith, over (omega (arith, since-final f vs i l w)), ahead-is f vs i, grows f (bound + 1) (since vs i) vs (omega arith)))))
-
-pub cut-cuts : {limit f bound quota : ℕ} {vs : List Validator} → CutAt limit f vs bound quota → Cuts limit f vs bound quota
-cut-cuts {limit} {f} {bound} {quota} {vs} c = reaches-at limit f vs bound quota (c .reach) (c .enough) .cuts
-
--- no more are queued than the limit
-pub cuts-all : (limit f : ℕ) (vs : List Validator) → count («is_eligible_for_activation» f) vs ≤ limit → Cuts limit f vs f limit
-cuts-all limit f vs few = cuts limit f vs f limit agrees
-  where
-    agrees : Agrees limit f vs f limit
-    agrees i l w =
-        let a : ahead f vs i < limit = omega (arith, ahead-less f vs i l w, count-mono (queuedBefore f (since vs i + 1)) («is_eligible_for_activation» f) (before-queued f (since vs i + 1)) vs) in
-        rw (lt-ltb (ahead f vs i) limit a)
-        (by-order (since vs i) f
-        (λ s. rw (lt-ltb (since vs i) f s))
-        (λ s.
-        let b : count (queuedAt f f) (take i vs) + 1 ≤ count (queuedAt f f) vs = rw s at (strict f vs i l w) in
-        rw (le-ltb (since vs i) f (omega arith), eq-eqb (since vs i) f s, lt-ltb 0 (limit - count (queuedAt f f) (take i vs)) (omega (arith, count-mono (queuedAt f f) («is_eligible_for_activation» f) (at-queued f f) vs))))
-        (λ s. absurd (omega (arith, since-final f vs i l w))))
-
--- all are queued since the finalized epoch or before
-queued-before : (f b : ℕ) → f < b → (v : Validator) → «is_eligible_for_activation» f v ≡ true → queuedBefore f b v ≡ true
-unfolding queuedBefore «is_eligible_for_activation»
-queued-before f b h v e = rw e (lt-ltb x b (omega (arith, leb-true x f (and-left (leb x f) (eqb (v .«activation_epoch») «FAR_FUTURE_EPOCH») e))))
-  where
-    x : ℕ
-    x = v .«activation_eligibility_epoch»
-
--- a cut past the finalized epoch that leaves the whole limit: nobody is queued
-pub reaches-none : {limit f bound quota : ℕ} {vs : List Validator} → Reaches limit f vs bound quota → f < bound → quota ≡ limit → count («is_eligible_for_activation» f) vs ≡ 0
-reaches-none {limit} {f} {bound} {quota} {vs} r l e = omega (arith, r .reach, count-mono («is_eligible_for_activation» f) (queuedBefore f bound) (queued-before f bound l) vs)
-
--- nobody is queued, or the limit is 0
-module _ (epoch limit f stop : ℕ) (vs : List Validator) where
-  nobody-activated : ((i : ℕ) → i < length vs → «is_eligible_for_activation» f (getD vs i nobody) ≡ true → limit ≤ ahead f vs i) → activated epoch limit f stop vs ≡ vs
-  unfolding activated activatedAt
-  nobody-activated h = below-same stop (activatedAt epoch limit f vs) (λ i v. v) vs (λ i l. go («is_eligible_for_activation» f (getD vs i nobody)) (h i l)) ∙ below-none stop vs
-    where
-      go : {v : Validator} {n : ℕ} (w : Bool) → (w ≡ true → limit ≤ n) → cond (w && ltb n limit) (withActivation epoch v) v ≡ v
-      go false k = refl
-      go {v} {n} true k = rw (le-ltb n limit (k refl))
-
-  pub none-queued : count («is_eligible_for_activation» f) vs ≡ 0 → activated epoch limit f stop vs ≡ vs
-  none-queued z = nobody-activated (λ i l w. absurd (omega (arith, ahead-less f vs i l w, count-mono (queuedBefore f (since vs i + 1)) («is_eligible_for_activation» f) (before-queued f (since vs i + 1)) vs)))
-
-  pub none-allowed : limit ≡ 0 → activated epoch limit f stop vs ≡ vs
-  none-allowed z = nobody-activated (λ i l w. omega arith)

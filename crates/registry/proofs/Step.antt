@@ -1,4 +1,4 @@
--- What the code's ways through the step give, once the loop has left ys and answered r.
+-- The step by the numbers that were found.
 use mathlib.Core.Path.{_≡_, refl, sym, ap, _∙_}
 use mathlib.Core.List.{List}
 use Prim.Native.Nat.{ℕ, _+_, _/_, max}
@@ -6,13 +6,11 @@ use native.Mathlib.Omega.{arith}
 use lib.ListN.{length}
 use Rattle.types.specs.declared.Settings.{Settings}
 use Rattle.definitions.specs.Lists.{range}
-use Rattle.definitions.specs.Record.{Validator, encode, decode}
+use Rattle.definitions.specs.Record.{Validator, decode}
 use Rattle.definitions.specs.Checked.{Checked, value, refused, bind, foldChecked}
 use Rattle.definitions.specs.Document.Phase0.EpochProcessing.{dequeued}
 use Rattle.definitions.specs.Rust.Phase0.Helpers.{«get_current_epoch», «get_active_validator_indices», «get_validator_churn_limit»}
 use Rattle.definitions.specs.Rust.Phase0.EpochProcessing.{«process_registry_updates»}
-use Rattle.loops.specs.Ran.{Ran}
-use Rattle.loops.proofs.Ran.{ran-value, ran-gave, ran-next, ran-stop}
 use Rattle.registry.specs.Updates.{leastExit, updateAt, updatesBy}
 use Rattle.registry.proofs.Epochs.{Epochs}
 use Rattle.registry.proofs.Churn.{updates-by-numbers, limit-kept}
@@ -29,15 +27,6 @@ module _ (s : Settings) (stateSlot finalizedEpoch : ℕ) (xs : List ℕ) {epoch 
   as-written : «process_registry_updates» s stateSlot finalizedEpoch (decode xs) ≡ bind (loop epoch) (λ queued. value (dequeued (leastExit s epoch) («get_validator_churn_limit» s stateSlot queued) finalizedEpoch queued))
   unfolding «process_registry_updates» bind
   as-written = rw (p .least, updates-by-numbers s stateSlot (p .least) (p .small) (omega arith) (decode xs) (sym churn) (range 0 (length (decode xs))), now)
-
-  module _ {ys : List ℕ} {r : ℕ} (h : Ran (loop epoch) ys r) where
-    pub step-stops : {zs : List ℕ} → (r ≡ 0 → ⊥) → Ran («process_registry_updates» s stateSlot finalizedEpoch (decode xs)) zs r
-    step-stops z = rw as-written (ran-stop h _ z)
-
-    pub step-ends : {zs : List ℕ} → r ≡ 0 → zs ≡ encode (dequeued (leastExit s epoch) limit finalizedEpoch (decode ys)) → Ran («process_registry_updates» s stateSlot finalizedEpoch (decode xs)) zs 0
-    step-ends z k =
-        let kept = limit-kept s stateSlot (p .least) (p .small) (omega arith) limit (decode xs) (range 0 (length (decode xs))) (ran-gave (rw now at h) z) in
-        rw as-written (ran-next h _ z (rw (kept, ← churn) (ran-value k)))
 
   -- the step is the one by its numbers
   pub step-by : «process_registry_updates» s stateSlot finalizedEpoch (decode xs) ≡ updatesBy s epoch limit finalizedEpoch (decode xs)

@@ -1,5 +1,5 @@
-// process_registry_updates: eligibility and ejection in register order, then activation. Passes over the registry: one that counts the
-// active and makes the exit queue's pair, one for the turns, and those of activation.
+// process_registry_updates: eligibility and ejection in register order, then activation. Passes over the registry: one for the tests, the
+// copy, the survey, what the cut of the activation queue needs, one for the turns and one for activation.
 ghost use mathlib.Core.Path.{_≡_};
 ghost use mathlib.Core.Bool.{true};
 ghost use Prim.Native.Nat.{_*_, _/_, _^_, _<_};
@@ -17,15 +17,12 @@ ghost use Rattle.selection.specs.Keep.{Blank};
 ghost use Rattle.exit_queue.specs.Queue.{Tracks};
 ghost use Rattle.exit_queue.specs.Turns.{Turns};
 ghost use Rattle.registry.specs.Updates.{leastExit, updateAt, turnBy, updatesBy};
-use activation::activate;
 use activation::admit_below;
-use arithmetic::max;
 use buffers::copy;
 use entries::entry_is_active;
 use entries::entry_is_eligible_for_activation_queue;
 use exit_queue::ExitQueue;
 use exit_queue::Turn;
-use exit_queue::count_exits;
 use exit_queue::exit_entry;
 use exit_queue::start_pair;
 use finalized::registry_tests;
@@ -101,34 +98,6 @@ fn update_all(
         }
         queue = turn.queue;
     }
-    0
-}
-
-// In place, for callers that have tested the record and put the opening back on refusal.
-pub fn registry_core(
-    s: Settings,
-    state_slot: u64,
-    finalized_epoch: u64,
-    registry: &mut [u64],
-) -> u64
-    requires { ⌜ goodSettings s ≡ true ⌝ }
-    requires { ⌜ «state_slot» < 2 ^ 48 ⌝ }
-    requires { ⌜ length (now registry) ≡ 10 * (length (now registry) / 10) ⌝ }
-    ensures { λ r. ⌜ Ran («process_registry_updates» s «state_slot» «finalized_epoch» (decode (now (registry .entry)))) (now (registry .exit)) r ⌝ }
-{
-    let n = registry.len() / 10;
-    let epoch = current_epoch(s, state_slot);
-    let least = epoch + 1 + s.max_seed_lookahead;
-    let counts = count_exits(&registry[..], n, epoch, least);
-    let limit = max(
-        s.min_per_epoch_churn_limit,
-        counts.active / s.churn_limit_quotient,
-    );
-    let refusal = update_all(s, epoch, limit, counts.queue, registry, n);
-    if refusal != 0 {
-        return refusal;
-    }
-    activate(registry, n, finalized_epoch, limit, least);
     0
 }
 

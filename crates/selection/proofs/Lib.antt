@@ -1,5 +1,4 @@
 -- The laws of the loops.
 pub mod Kept
-pub mod Keeping
 pub mod Picking
 pub mod Waiting

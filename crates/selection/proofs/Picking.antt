@@ -3,8 +3,8 @@ use mathlib.Core.Path.{_≡_, refl, ap, _∙_}
 use mathlib.Core.List.{List}
 use Prim.Native.Nat.{ℕ, _+_, _-_, _≤_, _<_, min}
 use native.Mathlib.Omega.{arith}
-use lib.ListN.{length, getD, take}
-use lib.Seq.{take-all}
+use lib.ListN.{length, getD, take, replicate, length-take, length-replicate, getD-replicate}
+use lib.Seq.{take-all, getD-take}
 use Rattle.definitions.specs.Record.{«FAR_FUTURE_EPOCH»}
 use Rattle.queue.specs.Cut.{count}
 use Rattle.queue.proofs.Filter.{flag, count-none, first-more}
@@ -50,3 +50,13 @@ module _ {ns : List ℕ} {size i : ℕ} {ks : List ℕ} {p : ℕ} (g : Picking n
           reach = omega (arith, g .places);
           enough = λ m. omega (arith, g .places, picking-all (bound + 1) (omega arith), under-all (bound + 1) ks (λ j k. omega (arith, g .top .highest j k)));
         }
+
+-- the first places of an array of FAR
+pub blank-length : (limit size : ℕ) → limit ≤ size → length (take (limit - 0) (replicate size «FAR_FUTURE_EPOCH»)) ≡ limit
+blank-length limit size h = simp (length-take, length-replicate) (omega arith)
+
+pub blank-part : (limit size : ℕ) → 0 < limit → limit ≤ size → Blank (take (limit - 0) (replicate size «FAR_FUTURE_EPOCH»))
+blank-part limit size p h = record {
+  some = omega (arith, blank-length limit size h);
+  blank = λ j l. getD-take (limit - 0) (replicate size «FAR_FUTURE_EPOCH») j 0 (omega (arith, blank-length limit size h)) ∙ getD-replicate size j «FAR_FUTURE_EPOCH» 0 (omega (arith, blank-length limit size h));
+}

@@ -6,7 +6,6 @@ use Prim.Native.Nat.{ℕ, _+_, _≤_, _<_, min}
 use lib.Dec.{ltb, eqb}
 use lib.ListN.{length, getD}
 use Rattle.definitions.specs.Record.{Validator, «FAR_FUTURE_EPOCH»}
-use Rattle.definitions.specs.Document.Phase0.Helpers.{«is_eligible_for_activation»}
 use Rattle.queue.specs.Cut.{count}
 
 abbrev pub under : ℕ → ℕ → Bool
@@ -27,10 +26,6 @@ pub record Kept (ks : List ℕ) (x : ℕ) (ls : List ℕ) (p : ℕ) : Type 0 whe
 pub record Blank (ks : List ℕ) : Type 0 where
   pub some : 0 < length ks
   pub blank : (j : ℕ) → j < length ks → getD ks j 0 ≡ «FAR_FUTURE_EPOCH»
-
--- the epoch since which one is queued
-unfoldable pub queuedSince : ℕ → Validator → ℕ
-queuedSince finalizedEpoch v = cond («is_eligible_for_activation» finalizedEpoch v) (v .«activation_eligibility_epoch») «FAR_FUTURE_EPOCH»
 
 -- Waiting: no activation epoch yet. The epoch since which one waits once this close has written the eligibility epochs, and FAR for another
 unfoldable pub waitingSince : ℕ → ℕ → Validator → ℕ

@@ -1,4 +1,3 @@
 -- Laws of the survey.
-pub mod Surveying
 pub mod Raised
 pub mod Found

@@ -2,17 +2,14 @@
 use mathlib.Core.Path.{_≡_}
 use mathlib.Core.Bool.{Bool, cond}
 use mathlib.Core.List.{List, map}
-use Prim.Native.Nat.{ℕ, _+_, max}
-use lib.ListN.{length}
+use Prim.Native.Nat.{ℕ, max}
 use Rattle.types.specs.declared.Settings.{Settings}
-use Rattle.definitions.specs.Checked.{Checked, value, refused, numberOf, bind, add64, sum64}
+use Rattle.definitions.specs.Checked.{Checked, value, sum64}
 use Rattle.definitions.specs.Lists.{filter}
 use Rattle.definitions.specs.Record.{Validator}
 use Rattle.definitions.specs.Rust.Phase0.Helpers.{«is_active_validator», «get_active_validator_indices», «get_total_balance»}
 use Rattle.definitions.specs.Rust.Altair.Helpers.{«TIMELY_SOURCE_FLAG_INDEX», «TIMELY_TARGET_FLAG_INDEX», «TIMELY_HEAD_FLAG_INDEX», isUnslashedParticipating}
 use Rattle.survey.specs.declared.Sums.{Sums}
-use Rattle.survey.specs.declared.SumsAnswer.{SumsAnswer}
-use Rattle.survey.specs.declared.SumsAnswer.the-variants.{Value, Refused}
 
 -- a validator's weight where it passes a test
 abbrev pub weight : (Validator → Bool) → Validator → ℕ
@@ -32,19 +29,6 @@ sumsOf current previous v =
       «current_target» = weight (isUnslashedParticipating current «TIMELY_TARGET_FLAG_INDEX» current) v;
     }
 
-unfoldable pub addedTo : Sums → Sums → Checked Sums
-addedTo t own =
-    bind (add64 (t .active) (own .active)) (λ active.
-    bind (add64 (t .source) (own .source)) (λ source.
-    bind (add64 (t .target) (own .target)) (λ target.
-    bind (add64 (t .head) (own .head)) (λ head.
-    bind (add64 (t .«current_target») (own .«current_target»)) (λ currentTarget.
-    value (record { active = active; source = source; target = target; head = head; «current_target» = currentTarget }))))))
-
-abbrev pub sumsFor : Checked Sums → SumsAnswer
-sumsFor (value t) = Value t
-sumsFor (refused r) = Refused (numberOf r)
-
 -- the plain sum of the effective balances of those that pass a test
 abbrev pub balanceOf : (Validator → Bool) → List Validator → Checked ℕ
 balanceOf p vs = sum64 (map (λ v. v .«effective_balance») (filter p vs))
@@ -56,11 +40,6 @@ pub record PlainSums (current previous : ℕ) (vs : List Validator) (t : Sums) :
   pub target : balanceOf (isUnslashedParticipating current «TIMELY_TARGET_FLAG_INDEX» previous) vs ≡ value (t .target)
   pub head : balanceOf (isUnslashedParticipating current «TIMELY_HEAD_FLAG_INDEX» previous) vs ≡ value (t .head)
   pub «current_target» : balanceOf (isUnslashedParticipating current «TIMELY_TARGET_FLAG_INDEX» current) vs ≡ value (t .«current_target»)
-
--- The answer: the sums, or refused where there are none
-pub record Surveyed (current previous : ℕ) (vs : List Validator) (r : SumsAnswer) : Type 0 where
-  pub given : (t : Sums) → r ≡ Value t → PlainSums current previous vs t
-  pub over : (q : ℕ) → r ≡ Refused q → (t : Sums) → PlainSums current previous vs t → ⊥
 
 abbrev pub raisedTo : ℕ → Sums → Sums
 raisedTo increment t =

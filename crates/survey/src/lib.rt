@@ -1,15 +1,13 @@
-// One pass over the registry for all the sums of effective balances that a close asks for.
+// One pass over the registry for all that a close asks of it as a whole.
 ghost use mathlib.Core.Path.{_≡_};
 ghost use mathlib.Core.Bool.{cond, _&&_};
 ghost use Prim.Native.Nat.{_+_, _*_, _/_, _<_};
 ghost use lib.Dec.{leb};
 ghost use lib.ListN.{length};
-ghost use Rattle.definitions.specs.Answers.{Answers};
-ghost use Rattle.definitions.specs.Record.{decodeOne, decode};
+ghost use Rattle.definitions.specs.Record.{decodeOne};
 ghost use Rattle.selection.specs.Keep.{Blank};
-ghost use Rattle.survey.specs.Sums.{sumsOf, addedTo, sumsFor, Surveyed, raisedTo};
+ghost use Rattle.survey.specs.Sums.{sumsOf, raisedTo};
 ghost use Rattle.survey.specs.Found.{overAfter, sumsAfter, oversAfter, foundAfter, allFit, Finds};
-use arithmetic::add64;
 use entries::flags_at;
 use entries::is_active;
 use entries::participates;
@@ -20,7 +18,6 @@ use selection::keep;
 use selection::waiting_since;
 use std::num::wrapping_add_u64;
 use totals::raised;
-use types::Number;
 use types::Settings;
 
 // Sums over those active at the current epoch, over those that participate by the previous epoch's source, target and head flag, and over
@@ -31,11 +28,6 @@ pub struct Sums {
     pub target: u64,
     pub head: u64,
     pub current_target: u64,
-}
-
-pub enum SumsAnswer {
-    Value(Sums),
-    Refused(u64),
 }
 
 fn weight_where(on: bool, weight: u64) -> u64
@@ -72,59 +64,6 @@ fn entry_sums(current_epoch: u64, previous_epoch: u64, entry: &[u64]) -> Sums
         head: weight_where(head, balance),
         current_target: weight_where(current_target, balance),
     }
-}
-
-fn added(sums: Sums, own: Sums) -> SumsAnswer
-    ensures { λ r. ⌜ Answers sumsFor (addedTo sums own) r ⌝ }
-{
-    let Number::Value(active) = add64(sums.active, own.active) else {
-        return SumsAnswer::Refused(5);
-    };
-    let Number::Value(source) = add64(sums.source, own.source) else {
-        return SumsAnswer::Refused(5);
-    };
-    let Number::Value(target) = add64(sums.target, own.target) else {
-        return SumsAnswer::Refused(5);
-    };
-    let Number::Value(head) = add64(sums.head, own.head) else {
-        return SumsAnswer::Refused(5);
-    };
-    let Number::Value(current_target) = add64(sums.current_target, own.current_target) else {
-        return SumsAnswer::Refused(5);
-    };
-    let more = Sums {
-        active: active,
-        source: source,
-        target: target,
-        head: head,
-        current_target: current_target,
-    };
-    SumsAnswer::Value(more)
-}
-
-// The plain sums, or refused where one of them leaves 64 bits.
-pub fn survey(current_epoch: u64, previous_epoch: u64, registry: &[u64]) -> SumsAnswer
-    requires { ⌜ length (now registry) ≡ 10 * (length (now registry) / 10) ⌝ }
-    ensures { λ r. ⌜ Surveyed «current_epoch» «previous_epoch» (decode (now (registry .entry))) r ⌝ }
-{
-    let n = registry.len() / 10;
-    let mut sums = Sums {
-        active: 0,
-        source: 0,
-        target: 0,
-        head: 0,
-        current_target: 0,
-    };
-    for i in 0..n {
-        let a = 10 * i;
-        let b = a + 10;
-        let own = entry_sums(current_epoch, previous_epoch, &registry[a..b]);
-        let SumsAnswer::Value(more) = added(sums, own) else {
-            return SumsAnswer::Refused(5);
-        };
-        sums = more;
-    }
-    SumsAnswer::Value(sums)
 }
 
 // The totals: each sum is at least one increment.

@@ -1,7 +1,7 @@
 use mathlib.Core.Path.{sym, _∙_}
 use native.Mathlib.Omega.{arith}
 use borrow.Author.Needs.{needs}
-use Rattle.selection.proofs.Keeping.{blank-length, blank-part}
+use Rattle.selection.proofs.Picking.{blank-length, blank-part}
 use Rattle.close.proofs.Lent.{record-refused}
 use Rattle.close.proofs.Outcome.{tests-refused}
 use Rattle.close.proofs.close.Statement.{statement}

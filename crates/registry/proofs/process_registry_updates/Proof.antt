@@ -5,7 +5,7 @@ use Rattle.definitions.specs.Rust.Phase0.EpochProcessing.{«process_registry_up
 use Rattle.buffers.proofs.Closes.{closes-refused, step-done, step-restored}
 use Rattle.refusals.proofs.Laws.{small}
 use Rattle.finalized.proofs.Tests.{registry-passed}
-use Rattle.selection.proofs.Keeping.{blank-length, blank-part}
+use Rattle.selection.proofs.Picking.{blank-length, blank-part}
 use borrow.Author.Needs.{needs}
 use Rattle.registry.proofs.process_registry_updates.Statement.{statement}
 use Rattle.registry.proofs.process_registry_updates.Tie as tie

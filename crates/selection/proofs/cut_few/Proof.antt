@@ -1,4 +1,4 @@
-use Rattle.selection.proofs.Keeping.{blank-length, blank-part}
+use Rattle.selection.proofs.Picking.{blank-length, blank-part}
 use borrow.Author.Needs.{needs}
 use Rattle.selection.proofs.cut_few.Statement.{statement}
 use Rattle.selection.proofs.cut_few.Tie as tie

@@ -1,3 +1,0 @@
--- The laws of the survey and of the bisection.
-pub mod Surveying
-pub mod Bracket
