@@ -21,14 +21,14 @@
  *   1  a length, a vector's size or an index is not the one called for:
  *        a registry of 10 * N numbers, N at most 2^24; one validator of 10 numbers; S and L each 1 to 65536;
  *        roots of 32 * S bytes; slashings of L numbers; a closing buffer as long as its opening;
- *        a file to be written of ALTAIR_FILE_LENGTH bytes; a file's N, S and L in these ranges, S and L like its settings;
+ *        marks of N numbers; a file to be written of ALTAIR_FILE_LENGTH bytes; a file's N, S and L in these ranges, S and L like its settings;
  *        a validator's index below N; a flag index of 0 to 2 (0 to 7 for has_flag and add_flag);
  *        a participation epoch that is the previous or the current one; a total to divide by that is not 0
  *   2  a setting is 0 where it divides, or 2^48 or more: slots_per_epoch, effective_balance_increment, hysteresis_quotient,
  *        inactivity_score_bias, inactivity_penalty_quotient_altair and churn_limit_quotient may not be 0
  *   14  a second is before genesis
  *   3  a slot, epoch, bit field or flag of the record is out of range: the state's slot and the checkpoints' epochs are below
- *        2^48, justification_bits is 0 to 15, slashed 0 or 1, each of the two flags 0 to 255; all else is any 64-bit number
+ *        2^48, justification_bits is 0 to 15, slashed 0 or 1, each of the two flags 0 to 255, a mark 0 to 3; all else is any 64-bit number
  *   4  a block root is wanted that the record does not keep: at slot s, where s >= state's slot or state's slot > s + S
  *   5  a sum, product or difference that is evaluated leaves 64 bits
  * Where it is not 0, the values beside it are zeros, unless a line below says otherwise.
@@ -205,6 +205,27 @@ typedef struct altair_line {
     uint64_t effective_balance;
     uint64_t inactivity_score;
 } altair_line;
+
+/* What votes not yet counted can come to. The first `count` of finalized_epochs, at most three, rise, and zeros stand behind them.
+ * previous_target and current_target are of enum altair_passes. */
+typedef struct altair_votes_answer {
+    uint64_t refusal;
+    uint64_t count;
+    uint64_t finalized_epochs[3];
+    uint64_t previous_target;
+    uint64_t current_target;
+} altair_votes_answer;
+
+/* In how many fillings of the unknown flags a target's two-thirds test passes. */
+enum altair_passes { ALTAIR_PASSES_IN_NONE = 0, ALTAIR_PASSES_IN_SOME = 1, ALTAIR_PASSES_IN_ALL = 2 };
+
+/* A validator's mark: which of its two target flags are unknown. */
+enum altair_mark {
+    ALTAIR_BOTH_KNOWN = 0,
+    ALTAIR_PREVIOUS_UNKNOWN = 1,
+    ALTAIR_CURRENT_UNKNOWN = 2,
+    ALTAIR_BOTH_UNKNOWN = 3
+};
 
 /* Answers ALTAIR_VERSION of the header that the library was made for.
  * There are no buffers. */
@@ -476,6 +497,17 @@ altair_truth_answer altair_is_in_inactivity_leak(altair_settings settings, uint6
 altair_finality_answer altair_weigh_justification_and_finalization(altair_settings settings, const uint8_t *roots,
                                                                    size_t roots_length, altair_finality finality,
                                                                    uint64_t total, uint64_t previous, uint64_t current);
+
+/* -- Votes not yet counted ---------------------------------------------------------------------------------------------- */
+
+/* Answers each finalized epoch that justification gives for some filling of the unknown target flags, and no other, and for either
+ * target epoch whether its two-thirds test passes in all, some or no fillings; or 1 to 5. marks has one of enum altair_mark a
+ * validator; a flag that it calls unknown counts for nothing, whatever is stored. 3 also for a mark over 3; 4 where either target's
+ * root cannot be looked up, wanted or not, and that before 5, which is given where some filling overflows. Up to epoch 1 the
+ * finalized epoch alone is listed, both tests pass in none, and neither 4 nor 5 is given. Roots, registry and marks are read. */
+altair_votes_answer altair_unknown_votes(altair_settings settings, const uint8_t *roots, size_t roots_length,
+                                         altair_finality finality, const uint64_t *registry, size_t registry_length,
+                                         const uint64_t *marks, size_t marks_length);
 
 /* -- In C: not proved, but tested ------------------------------------------------------------------------------------- */
 

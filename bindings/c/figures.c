@@ -99,6 +99,41 @@ static void opening_hours(void) {
     REFUSED(altair_slot_at_time(bad, 8), 14);
 }
 
+/* an answer of `count` epochs, and both verdicts */
+static void votes_are(altair_votes_answer a, uint64_t count, const uint64_t *epochs, uint64_t previous, uint64_t current) {
+    SAME(a.refusal, 0), SAME(a.count, count);
+    for (size_t i = 0; i < 3; i++)
+        SAME(a.finalized_epochs[i], i < count ? epochs[i] : 0);
+    SAME(a.previous_target, previous), SAME(a.current_target, current);
+}
+
+static void votes_not_yet_counted(void) {
+    static uint8_t roots[32 * 64];
+    const altair_settings minimal = ALTAIR_MINIMAL;
+    uint64_t five[FIVE], marks[5] = {3, 3, 3, 3, 3};
+    altair_finality f = finality_at(31);
+    f.justification_bits = 2;
+    f.previous_justified_checkpoint.epoch = 1;
+    f.current_justified_checkpoint.epoch = 2;
+    fill(five, 5);
+    votes_are(altair_unknown_votes(minimal, roots, sizeof roots, f, five, FIVE, marks, 5), 3, (uint64_t[]){0, 1, 2},
+              ALTAIR_PASSES_IN_SOME, ALTAIR_PASSES_IN_SOME);
+    memset(marks, 0, sizeof marks);
+    votes_are(altair_unknown_votes(minimal, roots, sizeof roots, f, five, FIVE, marks, 5), 1, (uint64_t[]){2},
+              ALTAIR_PASSES_IN_ALL, ALTAIR_PASSES_IN_ALL);
+    SAME(altair_unknown_votes(minimal, roots, sizeof roots, f, five, FIVE, marks, 4).refusal, 1);
+    marks[4] = 4;
+    SAME(altair_unknown_votes(minimal, roots, sizeof roots, f, five, FIVE, marks, 5).refusal, 3);
+    marks[4] = ALTAIR_CURRENT_UNKNOWN;
+    five[ALTAIR_EFFECTIVE_BALANCE] = FAR; /* the sum overflows, and the first slot's root is looked up before */
+    SAME(altair_unknown_votes(minimal, roots, sizeof roots, f, five, FIVE, marks, 5).refusal, 5);
+    f.slot = 24;
+    SAME(altair_unknown_votes(minimal, roots, sizeof roots, f, five, FIVE, marks, 5).refusal, 4);
+    f.slot = 15;
+    votes_are(altair_unknown_votes(minimal, roots, sizeof roots, f, five, FIVE, marks, 5), 1, (uint64_t[]){0},
+              ALTAIR_PASSES_IN_NONE, ALTAIR_PASSES_IN_NONE);
+}
+
 static void one_validator(void) {
     uint64_t v[ENTRY], before[ENTRY];
     fill(v, 1);
@@ -325,6 +360,7 @@ static void in_c(void) {
 int main(void) {
     slots_and_epochs();
     opening_hours();
+    votes_not_yet_counted();
     one_validator();
     block_roots();
     the_registry();

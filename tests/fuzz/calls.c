@@ -1,7 +1,7 @@
 /* The table of the functions, one line for each. A new function is one line more.
  *
  * Buffers: R a registry, V one validator, S slashings, B roots, F a file, P a registry of which only the length is
- * tested, Q numbers as many as the first buffer's. Behind '>' those that are written: R, S, F; r, v a registry and a
+ * tested, M marks, Q numbers as many as the first buffer's. Behind '>' those that are written: R, S, F; r, v a registry and a
  * validator changed in place. Numbers that are tested: s the settings, f the finality, t the slot, z the finalized
  * epoch, i an index, g a flag index of 0 to 2, G one of 0 to 7, e a participation epoch, d a total to divide by, c the
  * clock, w a second, which is c->number. */
@@ -70,6 +70,7 @@
     X(is_in_inactivity_leak, VALUES, altair_truth_answer, "", "stz", "5", c->s, c->slot, c->finalized)                 \
     X(weigh_justification_and_finalization, FINALITY, altair_finality_answer, "B", "sf", "45", c->s, IN(0), c->f,      \
       c->totals[0], c->totals[1], c->totals[2])                                                                        \
+    X(unknown_votes, VALUES, altair_votes_answer, "BRM", "sf", "45", c->s, IN(0), c->f, IN(1), IN(2))                  \
     /* in C */                                                                                                         \
     X(checked_close, FINALITY, altair_finality_answer, "RSB>RS", "sf", "45", c->s, c->f, IN(0), IN(1), IN(2), OUT(0),  \
       OUT(1))                                                                                                          \

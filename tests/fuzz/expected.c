@@ -37,6 +37,13 @@ static size_t first_bad(const uint64_t *registry, size_t validators) {
     return 10 * validators;
 }
 
+static bool good_marks(buffer marks) {
+    for (size_t i = 0; i < marks.length; i++)
+        if (((const uint64_t *)marks.at)[i] > 3)
+            return false;
+    return true;
+}
+
 /* -- A file */
 
 static bool good_header(buffer file) {
@@ -107,6 +114,8 @@ static bool shaped(char letter, buffer b, const lent *c, size_t validators) {
     case 'F':
         return b.length ==
                ALTAIR_FILE_LENGTH(validators, c->s.slots_per_historical_root, c->s.epochs_per_slashings_vector);
+    case 'M':
+        return b.length == validators;
     default: /* Q */
         return b.length == c->in[0].length;
     }
@@ -158,5 +167,8 @@ uint64_t expected(const row *row, const lent *c) {
     if ((tests(row, 't') && !is_small(c->slot)) || (tests(row, 'z') && !is_small(c->finalized)) ||
         (tests(row, 'f') && !good_finality(&c->f)) || (whole && first_bad(registry.at, validators) != 10 * validators))
         return 3;
+    for (size_t i = 0; i < reads; i++)
+        if (read[i] == 'M' && !good_marks(c->in[i]))
+            return 3;
     return 0;
 }

@@ -45,6 +45,7 @@ static buffer random_file(const record *r, int slot) {
 }
 
 static buffer read_buffer(char letter, const record *r, const lent *c, int slot) {
+    static uint64_t marks[LARGEST / 80];
     uint64_t validator[10];
     switch (letter) {
     case 'R':
@@ -59,6 +60,10 @@ static buffer read_buffer(char letter, const record *r, const lent *c, int slot)
         return with(slot, r->roots, r->roots_length, 1);
     case 'F':
         return random_file(r, slot);
+    case 'M':
+        for (size_t i = 0; i < r->validators; i++)
+            marks[i] = one_in(40) ? odd_number() : below(4);
+        return with(slot, marks, r->validators, 8);
     case 'Q':
         return with(slot, c->in[0].at, c->in[0].length, 8);
     }

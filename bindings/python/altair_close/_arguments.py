@@ -201,7 +201,7 @@ def finality_of(words):
 
 SETTINGS, CLOCK, FINALITY = Fields(_types.Settings), Fields(_types.Clock), Finality()
 NUMBER, FLAGS = Number(), Number(255, ctypes.c_uint8)
-REGISTRY, SLASHINGS = Numbers(row=10), Numbers()
+REGISTRY, SLASHINGS, MARKS = Numbers(row=10), Numbers(), Numbers()
 VALIDATOR = REGISTRY  # ten numbers: C counts them
 ROOTS, BYTES = Bytes(row=32), Bytes()
 CHANGED = Changed(row=10)

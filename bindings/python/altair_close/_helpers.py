@@ -199,3 +199,11 @@ def is_in_inactivity_leak(settings, state_slot, finalized_epoch):
 def weigh_justification_and_finalization(settings, roots, finality, total, previous, current):
     """The finality from three totals: of all that are active, and of those that hit the previous and the current target."""
     return _call("weigh_justification_and_finalization", settings, roots, finality, total, previous, current)
+
+
+# Votes not yet counted
+
+
+def unknown_votes(settings, roots, finality, registry, marks):
+    """What justification can still come to, where marks has for each validator which of its two target flags are unknown."""
+    return _call("unknown_votes", settings, roots, finality, registry, marks)

@@ -16,10 +16,10 @@ import ctypes
 from typing import Any, Callable, NamedTuple
 
 from . import _buffers, _layout, _library
-from ._arguments import (BYTES, CHANGED, CLOCK, FINALITY, FLAGS, NUMBER, REGISTRY, ROOTS, SETTINGS, SLASHINGS, U64, VALIDATOR,
+from ._arguments import (BYTES, CHANGED, CLOCK, FINALITY, FLAGS, MARKS, NUMBER, REGISTRY, ROOTS, SETTINGS, SLASHINGS, U64, VALIDATOR,
                          Bytes, FinalityWords, Numbers, as_long_as, finality_of)
 from ._refusals import Refused
-from ._types import VALIDATOR_LENGTH, Closed, Deltas, Head, Header, Line, Settings
+from ._types import VALIDATOR_LENGTH, Closed, Deltas, Head, Header, Line, Settings, Votes
 
 VERSION = 1
 
@@ -52,6 +52,10 @@ class ReadAnswer(ctypes.Structure):
     _fields_ = [("refusal", U64), ("position", U64), ("settings", SETTINGS.words[0]), ("finality", FinalityWords)]
 
 
+class VotesAnswer(ctypes.Structure):
+    _fields_ = [("refusal", U64), ("count", U64), ("finalized_epochs", U64 * 3), ("previous_target", U64), ("current_target", U64)]
+
+
 class Answer(NamedTuple):
     """What C answers, and what Python gives for it and for the buffers that were written."""
 
@@ -72,6 +76,9 @@ HEAD = Answer(LineAnswer, lambda answer: Head(*answer.numbers[:]))
 LINE = Answer(LineAnswer, lambda answer: Line(*answer.numbers[:]))
 HEADER = Answer(HeaderAnswer, lambda answer: Header(*answer.numbers[:]))
 READ = Answer(ReadAnswer, lambda answer, *written: (Settings(*answer.settings.numbers), finality_of(answer.finality), *written))
+
+VOTES = Answer(VotesAnswer, lambda answer: Votes(tuple(answer.finalized_epochs[: answer.count]), answer.previous_target,
+                                                 answer.current_target))
 
 
 class Signature:
@@ -179,6 +186,8 @@ SIGNATURES = {
     "is_in_inactivity_leak": Signature(TRUTH, settings=SETTINGS, state_slot=NUMBER, finalized_epoch=NUMBER),
     "weigh_justification_and_finalization": Signature(FINALITY_AFTER, settings=SETTINGS, roots=ROOTS, finality=FINALITY,
                                                       total=NUMBER, previous=NUMBER, current=NUMBER),
+    # votes not yet counted
+    "unknown_votes": Signature(VOTES, settings=SETTINGS, roots=ROOTS, finality=FINALITY, registry=REGISTRY, marks=MARKS),
 }
 
 _functions = {}

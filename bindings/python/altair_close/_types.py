@@ -108,3 +108,18 @@ class Header(NamedTuple):
     validators: int
     roots: int
     slashings: int
+
+
+# a validator's mark: which of its two target flags are unknown
+BOTH_KNOWN, PREVIOUS_UNKNOWN, CURRENT_UNKNOWN, BOTH_UNKNOWN = range(4)
+
+# in how many fillings of the unknown flags a target's two-thirds test passes
+PASSES_IN_NONE, PASSES_IN_SOME, PASSES_IN_ALL = range(3)
+
+
+class Votes(NamedTuple):
+    """What votes not yet counted can come to: the finalized epochs, rising, and PASSES_IN_.. of each target's test."""
+
+    finalized_epochs: tuple
+    previous_target: int
+    current_target: int

@@ -55,6 +55,22 @@ class Figures(unittest.TestCase):
         self.refused(2, slot_at_time, Clock(9, 1, 2**48), 8)
         self.refused(14, slot_at_time, Clock(9, 1, 1), 8)
 
+    def test_votes_not_yet_counted(self):
+        settings = MAINNET._replace(slots_per_epoch=8, slots_per_historical_root=64, epochs_per_slashings_vector=64)
+        standing, roots = Finality(31, 2, Checkpoint(1), Checkpoint(2)), bytes(32 * 64)
+        none, some, every = altair.PASSES_IN_NONE, altair.PASSES_IN_SOME, altair.PASSES_IN_ALL
+        told = {altair.BOTH_KNOWN: ((2,), every, every), altair.PREVIOUS_UNKNOWN: ((0, 2), some, every),
+                altair.CURRENT_UNKNOWN: ((1, 2), every, some), altair.BOTH_UNKNOWN: ((0, 1, 2), some, some)}
+        for mark, votes in told.items():
+            self.assertEqual(unknown_votes(settings, roots, standing, HIT * 5, [mark] * 5), altair.Votes(*votes))
+        early = Finality(8, finalized_checkpoint=Checkpoint(5))
+        self.assertEqual(unknown_votes(settings, roots, early, HIT * 5, [3] * 5), ((5,), none, none))
+        self.refused(1, unknown_votes, settings, roots, standing, HIT * 5, [0] * 4)
+        self.refused(3, unknown_votes, settings, roots, standing, HIT * 5, [4, 0, 0, 0, 0])
+        heavy = changed(HIT * 5, effective_balance=FAR)
+        self.refused(5, unknown_votes, settings, roots, standing, heavy, [0] * 5)
+        self.refused(4, unknown_votes, settings, roots, standing._replace(slot=24), heavy, [0] * 5)
+
     def test_one_validator(self):
         self.assertTrue(is_active_validator(HIT, 3))
         self.refused(1, is_active_validator, HIT[1:], 3)

@@ -20,6 +20,7 @@ ANSWERS = {
     "altair_read_answer": (_signatures.ReadAnswer,),
     "altair_head": (_signatures.LineAnswer,),
     "altair_line": (_signatures.LineAnswer,),
+    "altair_votes_answer": (_signatures.VotesAnswer,),
 }
 
 

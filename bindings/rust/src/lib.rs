@@ -29,6 +29,7 @@ mod record;
 mod refusal;
 mod steps;
 mod types;
+mod unknown_votes;
 pub mod validator;
 
 pub use close::*;
@@ -38,6 +39,7 @@ pub use record::{OpenError, Record};
 pub use refusal::Refusal;
 pub use steps::*;
 pub use types::*;
+pub use unknown_votes::unknown_votes;
 
 /// The number of the interface that this crate is written for.
 pub const VERSION: u64 = 1;

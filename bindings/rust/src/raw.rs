@@ -1,6 +1,6 @@
 //! The library's functions as bindings/c/altair.h declares them: a slice is a pointer and a length in elements.
 use crate::refusal::Refusal;
-use crate::types::{Checkpoint, Clock, Deltas, Finality, Head, Line, Settings};
+use crate::types::{Checkpoint, Clock, Deltas, Finality, Head, Line, Passes, Settings, Votes};
 
 #[repr(C)]
 pub struct FinalityAnswer {
@@ -67,6 +67,27 @@ pub struct LineAnswer {
     pub closing_balance: u64,
     pub effective_balance: u64,
     pub inactivity_score: u64,
+}
+
+#[repr(C)]
+pub struct VotesAnswer {
+    refusal: u64,
+    count: u64,
+    finalized_epochs: [u64; 3],
+    previous_target: u64,
+    current_target: u64,
+}
+
+impl VotesAnswer {
+    pub fn result(self) -> Result<Votes, Refusal> {
+        let passes = |number| [Passes::InNone, Passes::InSome, Passes::InAll][number as usize];
+        Refusal::or(self.refusal, ())?;
+        Ok(Votes {
+            finalized_epochs: self.finalized_epochs[..self.count as usize].to_vec(),
+            previous_target: passes(self.previous_target),
+            current_target: passes(self.current_target),
+        })
+    }
 }
 
 impl FinalityAnswer {
@@ -362,4 +383,16 @@ extern "C" {
         previous: u64,
         current: u64,
     ) -> FinalityAnswer;
+
+    // votes not yet counted
+    pub fn altair_unknown_votes(
+        settings: Settings,
+        roots: *const u8,
+        roots_length: usize,
+        finality: Finality,
+        registry: *const u64,
+        registry_length: usize,
+        marks: *const u64,
+        marks_length: usize,
+    ) -> VotesAnswer;
 }

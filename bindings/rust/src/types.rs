@@ -137,3 +137,28 @@ pub struct Line {
     pub effective_balance: u64,
     pub inactivity_score: u64,
 }
+
+/// In how many fillings of the unknown flags a target's two-thirds test passes.
+#[derive(Clone, Copy, Debug, PartialEq, Eq)]
+pub enum Passes {
+    InNone,
+    InSome,
+    InAll,
+}
+
+/// What votes not yet counted can come to.
+#[derive(Clone, Debug, PartialEq, Eq)]
+pub struct Votes {
+    /// Each finalized epoch that some filling gives, rising, at most three.
+    pub finalized_epochs: Vec<u64>,
+    pub previous_target: Passes,
+    pub current_target: Passes,
+}
+
+/// A validator's mark: which of its two target flags are unknown.
+pub mod mark {
+    pub const BOTH_KNOWN: u64 = 0;
+    pub const PREVIOUS_UNKNOWN: u64 = 1;
+    pub const CURRENT_UNKNOWN: u64 = 2;
+    pub const BOTH_UNKNOWN: u64 = 3;
+}

@@ -262,6 +262,32 @@ fn the_close() {
 }
 
 #[test]
+fn votes_not_yet_counted() {
+    let settings = Settings { slots_per_epoch: 8, slots_per_historical_root: 64, epochs_per_slashings_vector: 64, ..MAINNET };
+    let at = |epoch| Checkpoint { epoch, ..Checkpoint::default() };
+    let standing = Finality {
+        justification_bits: 2,
+        previous_justified_checkpoint: at(1),
+        current_justified_checkpoint: at(2),
+        ..finality(31)
+    };
+    let (roots, registry) = (vec![0; 32 * 64], hit().repeat(5));
+    let votes = |finality: &Finality, marks: &[u64]| unknown_votes(&settings, &roots, finality, &registry, marks);
+    let told = |finalized_epochs: &[u64], previous_target, current_target| {
+        Ok(Votes { finalized_epochs: finalized_epochs.to_vec(), previous_target, current_target })
+    };
+    assert_eq!(votes(&standing, &[mark::BOTH_KNOWN; 5]), told(&[2], Passes::InAll, Passes::InAll));
+    assert_eq!(votes(&standing, &[mark::BOTH_UNKNOWN; 5]), told(&[0, 1, 2], Passes::InSome, Passes::InSome));
+    assert_eq!(votes(&standing, &[mark::PREVIOUS_UNKNOWN; 5]), told(&[0, 2], Passes::InSome, Passes::InAll));
+    assert_eq!(votes(&standing, &[mark::CURRENT_UNKNOWN; 5]), told(&[1, 2], Passes::InAll, Passes::InSome));
+    let early = Finality { finalized_checkpoint: at(5), ..finality(8) };
+    assert_eq!(votes(&early, &[3; 5]), told(&[5], Passes::InNone, Passes::InNone));
+    assert_eq!(votes(&finality(24), &[3; 5]), Err(Refusal::Root));
+    assert_eq!(votes(&standing, &[4, 0, 0, 0, 0]), Err(Refusal::Record));
+    assert_eq!(votes(&standing, &[0; 4]), Err(Refusal::Shape));
+}
+
+#[test]
 fn refusals_have_their_numbers() {
     let numbers = Refusal::ALL.map(Refusal::number);
     assert!(numbers.windows(2).all(|pair| pair[0] < pair[1]), "{numbers:?}");

@@ -11,6 +11,7 @@ mod listing;
 mod opening_hours;
 mod phase0_helpers;
 mod steps;
+mod unknown_votes;
 mod whole;
 
 // The number of this interface. It grows when a declaration changes.

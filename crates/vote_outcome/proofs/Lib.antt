@@ -1,0 +1,2 @@
+-- The list of at most three, on its numbers.
+pub mod Shown

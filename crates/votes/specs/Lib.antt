@@ -1,0 +1,2 @@
+-- What is claimed beside the contracts.
+pub mod Laws

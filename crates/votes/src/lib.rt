@@ -1,0 +1,121 @@
+// Votes not yet counted (document 02, R-13): which epochs justification can still finalize, and whether each target's two-thirds test
+// passes, whatever the unknown target flags turn out to be.
+ghost use mathlib.Core.Path.{_≡_};
+ghost use Rattle.definitions.specs.Checked.{codeOf};
+ghost use Rattle.definitions.specs.Lists.{all};
+ghost use Rattle.definitions.specs.Refusals.{afterTests};
+ghost use Rattle.definitions_votes.specs.Filling.{goodMark};
+ghost use Rattle.definitions_votes.specs.Votes.{votes, votesTests, ballotOf};
+ghost use Rattle.definitions_votes.specs.Answers.{votesAnswerFor};
+use definitions_votes::VotesAnswer;
+use leaf_refusals::current_epoch;
+use leaf_refusals::previous_epoch;
+use refusals::good_finality;
+use refusals::good_registry;
+use refusals::good_settings;
+use refusals::registry_shaped;
+use roots::epoch_lookup;
+use roots::roots_shaped;
+use types::Finality;
+use types::Settings;
+use vote_outcome::refused;
+use vote_outcome::weigh_votes;
+use vote_sums::VoteSumsAnswer;
+use vote_sums::count_votes;
+
+fn good_marks(marks: &[u64]) -> bool
+    ensures { λ r. ⌜ r ≡ all goodMark (now (marks .entry)) ⌝ }
+{
+    for i in 0..marks.len() {
+        if 3 < marks[i] {
+            return false;
+        }
+    }
+    true
+}
+
+pub fn votes_refusal(
+    s: Settings,
+    roots: &[u8],
+    finality: Finality,
+    registry: &[u64],
+    marks: &[u64],
+) -> u64
+    ensures { λ r. ⌜ r ≡ codeOf (votesTests s (now (roots .entry)) finality (now (registry .entry)) (now (marks .entry))) ⌝ }
+{
+    if !roots_shaped(s, roots) {
+        return 1;
+    }
+    if !registry_shaped(registry) {
+        return 1;
+    }
+    if marks.len() != registry.len() / 10 {
+        return 1;
+    }
+    if !good_settings(s) {
+        return 2;
+    }
+    if !good_finality(finality) {
+        return 3;
+    }
+    if !good_registry(registry) {
+        return 3;
+    }
+    if !good_marks(marks) {
+        return 3;
+    }
+    0
+}
+
+fn votes_core(
+    s: Settings,
+    roots: &[u8],
+    old: Finality,
+    registry: &[u64],
+    marks: &[u64],
+) -> VotesAnswer
+    requires { ⌜ codeOf (votesTests s (now roots) old (now registry) (now marks)) ≡ 0 ⌝ }
+    ensures { λ r. ⌜ r ≡ votesAnswerFor (votes (ballotOf s (now (roots .entry)) old (now (registry .entry)) (now (marks .entry)))) ⌝ }
+{
+    let slot = old.slot;
+    let current = current_epoch(s, slot);
+    if current <= 1 {
+        let finalized = old.finalized_checkpoint;
+        return VotesAnswer {
+            refusal: 0,
+            count: 1,
+            finalized_epochs: [finalized.epoch, 0, 0],
+            previous_target: 0,
+            current_target: 0,
+        };
+    }
+    let previous = previous_epoch(s, slot);
+    let before = epoch_lookup(s, roots, slot, previous);
+    if before != 0 {
+        return refused(4);
+    }
+    let now = epoch_lookup(s, roots, slot, current);
+    if now != 0 {
+        return refused(4);
+    }
+    let VoteSumsAnswer::Value(sums) = count_votes(current, previous, registry, marks) else {
+        return refused(5);
+    };
+    weigh_votes(s, old, current, sums)
+}
+
+pub fn unknown_votes(
+    s: Settings,
+    roots: &[u8],
+    finality: Finality,
+    registry: &[u64],
+    marks: &[u64],
+) -> VotesAnswer
+    ensures { λ r. ⌜ r ≡ votesAnswerFor (afterTests (votesTests s (now (roots .entry)) finality (now (registry .entry)) (now (marks .entry))) (votes (ballotOf s (now (roots .entry)) finality (now (registry .entry)) (now (marks .entry))))) ⌝ }
+{
+    let refusal = votes_refusal(s, roots, finality, registry, marks);
+    if refusal != 0 {
+        return refused(refusal);
+    }
+    votes_core(s, roots, finality, registry, marks)
+}
