@@ -15,6 +15,7 @@
 
 #define NAME "altair-close"
 #define U64 "%" PRIu64
+#define I64 "%" PRId64
 enum { CLOSED = 0, REFUSED = 1, TROUBLE = 2 };
 
 static const char help[] =
@@ -23,15 +24,18 @@ static const char help[] =
     "Closes the epoch of a record file ('-' is standard input) and prints the listing: epoch, justified and finalized "
     "epoch,\n"
     "bits and charged; then for each validator its index, opening and closing balance, effective balance and score "
-    "after.\n"
+    "after,\n"
+    "and its net change, closing minus opening.\n"
     "\n"
-    "  --json        the listing as one JSON object; numbers are whole, up to 2^64 - 1\n"
+    "  --json        the listing as one JSON object; numbers are whole, up to 2^64 - 1; a loss has a minus sign\n"
     "  --csv         the listing as lines of comma separated values, the epoch's figures on each line\n"
     "  --out FILE    the closed record, written as a record file; it is there whole, or not at all\n"
     "  --help        this text\n"
     "  --version     the version\n"
     "\n"
-    "Exit status: 0 closed; 1 refused, with the number and its words on standard error; 2 could not read or write.\n";
+    "Exit status: 0 closed; 1 refused, with the number and its words on standard error, and then nothing is written or "
+    "printed;\n"
+    "2 could not read or write.\n";
 
 /* the largest file that any record makes; input beyond it has one byte more than is read, and is refused */
 #define LONGEST ALTAIR_FILE_LENGTH(ALTAIR_MOST_VALIDATORS, ALTAIR_LONGEST_VECTOR, ALTAIR_LONGEST_VECTOR)
@@ -155,8 +159,8 @@ static void listing_first(const altair_head *head, size_t validators) {
 
 static void listing_line(const altair_head *head, const altair_line *line) {
     (void)head;
-    printf(U64 " " U64 " " U64 " " U64 " " U64 "\n", line->index, line->opening_balance, line->closing_balance,
-           line->effective_balance, line->inactivity_score);
+    printf(U64 " " U64 " " U64 " " U64 " " U64 " " I64 "\n", line->index, line->opening_balance, line->closing_balance,
+           line->effective_balance, line->inactivity_score, line->net_change);
 }
 
 static void json_first(const altair_head *head, size_t validators) {
@@ -169,9 +173,9 @@ static void json_first(const altair_head *head, size_t validators) {
 static void json_line(const altair_head *head, const altair_line *line) {
     (void)head;
     printf("%s\n  {\"index\": " U64 ", \"opening_balance\": " U64 ", \"closing_balance\": " U64
-           ", \"effective_balance\": " U64 ", \"inactivity_score\": " U64 "}",
+           ", \"effective_balance\": " U64 ", \"inactivity_score\": " U64 ", \"net_change\": " I64 "}",
            line->index == 0 ? "" : ",", line->index, line->opening_balance, line->closing_balance,
-           line->effective_balance, line->inactivity_score);
+           line->effective_balance, line->inactivity_score, line->net_change);
 }
 
 static void csv_epoch(const altair_head *head) {
@@ -182,22 +186,33 @@ static void csv_epoch(const altair_head *head) {
 /* with no validators one line stands for the epoch, and the validator's columns are empty */
 static void csv_first(const altair_head *head, size_t validators) {
     puts("epoch,justified_epoch,finalized_epoch,justification_bits,charged,index,opening_balance,closing_balance,"
-         "effective_balance,inactivity_score");
+         "effective_balance,inactivity_score,net_change");
     if (validators == 0) {
         csv_epoch(head);
-        puts(",,,,");
+        puts(",,,,,");
     }
 }
 
 static void csv_line(const altair_head *head, const altair_line *line) {
     csv_epoch(head);
-    printf(U64 "," U64 "," U64 "," U64 "," U64 "\n", line->index, line->opening_balance, line->closing_balance,
-           line->effective_balance, line->inactivity_score);
+    printf(U64 "," U64 "," U64 "," U64 "," U64 "," I64 "\n", line->index, line->opening_balance, line->closing_balance,
+           line->effective_balance, line->inactivity_score, line->net_change);
 }
 
 static const form listing = {listing_first, listing_line, ""};
 static const form json = {json_first, json_line, "]}\n"};
 static const form csv = {csv_first, csv_line, ""};
+
+/* The first refusal of a validator's line, with the line's index; or 0. */
+static uint64_t unprintable(const record *opening, const uint64_t *closing, uint64_t *index) {
+    for (*index = 0; *index < opening->numbers / ALTAIR_VALIDATOR_LENGTH; ++*index) {
+        const uint64_t number =
+            altair_listing_line(opening->registry, opening->numbers, closing, opening->numbers, *index).refusal;
+        if (number != 0)
+            return number;
+    }
+    return 0;
+}
 
 static void print(const form *as, const altair_head *head, const record *opening, const uint64_t *closing) {
     const size_t validators = opening->numbers / ALTAIR_VALIDATOR_LENGTH;
@@ -276,6 +291,13 @@ static int close_record(const char *path, const form *as, const char *target) {
     const altair_head head = altair_listing_head(r.settings, r.finality.slot, closed.finality, r.registry, r.numbers);
     if (head.refusal != 0)
         return refused(path, head.refusal, " (the closed record)");
+    uint64_t index;
+    const uint64_t number = unprintable(&r, closing, &index);
+    if (number != 0) {
+        char words[48];
+        snprintf(words, sizeof words, " (validators[" U64 "])", index);
+        return refused(path, number, words);
+    }
 
     if (target != NULL) {
         uint8_t *file = room(r.length, 1);

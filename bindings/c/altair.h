@@ -31,6 +31,7 @@
  *        2^48, justification_bits is 0 to 15, slashed 0 or 1, each of the two flags 0 to 255, a mark 0 to 3; all else is any 64-bit number
  *   4  a block root is wanted that the record does not keep: at slot s, where s >= state's slot or state's slot > s + S
  *   5  a sum, product or difference that is evaluated leaves 64 bits
+ *   7  a net change, closing minus opening balance, does not fit signed 64 bits
  * Where it is not 0, the values beside it are zeros, unless a line below says otherwise.
  */
 #ifndef ALTAIR_H
@@ -62,6 +63,7 @@ enum altair_refusal {
     ALTAIR_NO_ROOT = 4,
     ALTAIR_OVERFLOW = 5,
     ALTAIR_BAD_FILE = 6,
+    ALTAIR_SIGNED_OVERFLOW = 7,
     ALTAIR_BEFORE_GENESIS = 14,
     ALTAIR_NO_SECONDS = 15
 };
@@ -162,6 +164,11 @@ typedef struct altair_deltas_answer {
     uint64_t penalty;
 } altair_deltas_answer;
 
+typedef struct altair_change_answer {
+    uint64_t refusal;
+    int64_t value;
+} altair_change_answer;
+
 typedef struct altair_root_answer {
     uint64_t refusal;
     uint8_t root[32];
@@ -196,7 +203,8 @@ typedef struct altair_head {
     uint64_t charged;
 } altair_head;
 
-/* The numbers of one validator's line: effective balance and score are those after the close. */
+/* The numbers of one validator's line: effective balance and score are those after the close, net_change is closing minus opening
+ * balance. */
 typedef struct altair_line {
     uint64_t refusal;
     uint64_t index;
@@ -204,6 +212,7 @@ typedef struct altair_line {
     uint64_t closing_balance;
     uint64_t effective_balance;
     uint64_t inactivity_score;
+    int64_t net_change;
 } altair_line;
 
 /* What votes not yet counted can come to. The first `count` of finalized_epochs, at most three, rise, and zeros stand behind them.
@@ -253,10 +262,15 @@ altair_number_answer altair_charged(altair_settings settings, uint64_t state_slo
 altair_head altair_listing_head(altair_settings settings, uint64_t state_slot, altair_finality closing,
                                 const uint64_t *opening, size_t opening_length);
 
-/* Answers the numbers of validator `index`'s line, from the opening and the closing registry; or 1.
+/* Answers the numbers of validator `index`'s line, from the opening and the closing registry; or 1 or 7. A listing is only
+ * `refused 7` where one of its lines is: ask for all of them before the first is printed. The close itself is not refused.
  * Both registries are read. */
 altair_line altair_listing_line(const uint64_t *opening, size_t opening_length, const uint64_t *closing,
                                 size_t closing_length, uint64_t index);
+
+/* Answers closing minus opening of any two balances, from -2^63 to 2^63 - 1; or 7.
+ * There are no buffers. */
+altair_change_answer altair_net_change(uint64_t opening, uint64_t closing);
 
 /* -- A record file ---------------------------------------------------------------------------------------------------- */
 

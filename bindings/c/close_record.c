@@ -78,14 +78,21 @@ int main(void) {
     if (closed.refusal != 0)
         return refused(closed.refusal);
 
+    /* the net changes are tested before anything is printed */
+    for (uint64_t i = 0; i < header.validators; i++) {
+        altair_line line = altair_listing_line(registry, numbers, closing, numbers, i);
+        if (line.refusal != 0)
+            return refused(line.refusal);
+    }
     altair_head head =
         altair_listing_head(record.settings, record.finality.slot, closed.finality, registry, numbers);
     printf("epoch %" PRIu64 " justified %" PRIu64 " finalized %" PRIu64 " bits %" PRIu64 " charged %" PRIu64 "\n",
            head.epoch, head.justified_epoch, head.finalized_epoch, head.justification_bits, head.charged);
     for (uint64_t i = 0; i < header.validators; i++) {
         altair_line line = altair_listing_line(registry, numbers, closing, numbers, i);
-        printf("%" PRIu64 " %" PRIu64 " %" PRIu64 " %" PRIu64 " %" PRIu64 "\n", line.index, line.opening_balance,
-               line.closing_balance, line.effective_balance, line.inactivity_score);
+        printf("%" PRIu64 " %" PRIu64 " %" PRIu64 " %" PRIu64 " %" PRIu64 " %" PRId64 "\n", line.index,
+               line.opening_balance, line.closing_balance, line.effective_balance, line.inactivity_score,
+               line.net_change);
     }
     printed();
     free(file), free(registry), free(closing), free(slashings), free(closing_slashings);

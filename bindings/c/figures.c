@@ -319,7 +319,12 @@ static void the_file(void) {
     closing[ENTRY * 4 + ALTAIR_EFFECTIVE_BALANCE] = 8, closing[ENTRY * 4 + ALTAIR_INACTIVITY_SCORE] = 9;
     altair_line line = altair_listing_line(registry, FIVE, closing, FIVE, 4);
     SAME(line.refusal, 0), SAME(line.index, 4), SAME(line.opening_balance, 6), SAME(line.closing_balance, 7);
-    SAME(line.effective_balance, 8), SAME(line.inactivity_score, 9);
+    SAME(line.effective_balance, 8), SAME(line.inactivity_score, 9), SAME(line.net_change, 1);
+    closing[ENTRY * 4 + ALTAIR_BALANCE] = 5;
+    SAME(altair_listing_line(registry, FIVE, closing, FIVE, 4).net_change, -1);
+    closing[ENTRY * 4 + ALTAIR_BALANCE] = UINT64_MAX;
+    line = altair_listing_line(registry, FIVE, closing, FIVE, 4);
+    SAME(line.refusal, 7), SAME(line.index, 0), SAME(line.closing_balance, 0), SAME(line.net_change, 0);
     line = altair_listing_line(registry, FIVE, closing, FIVE, 5);
     SAME(line.refusal, 1), SAME(line.index, 0);
 
@@ -357,6 +362,21 @@ static void in_c(void) {
     SAME(altair_checked_process_participation_flag_updates(NULL, 0, NULL, 0), 0);
 }
 
+/* both ends of the range, and one beyond either */
+static void net_changes(void) {
+    const uint64_t end = UINT64_C(1) << 63;
+    VALUE(altair_net_change(7, 7), 0);
+    VALUE(altair_net_change(32000000000, 31996800000), (uint64_t)-3200000);
+    SAME(altair_net_change(32000000000, 31996800000).value < 0, 1);
+    VALUE(altair_net_change(0, end - 1), INT64_MAX);
+    REFUSED(altair_net_change(0, end), 7);
+    VALUE(altair_net_change(end, 0), (uint64_t)INT64_MIN);
+    VALUE(altair_net_change(UINT64_MAX, end - 1), (uint64_t)INT64_MIN);
+    REFUSED(altair_net_change(end + 1, 0), 7);
+    REFUSED(altair_net_change(0, UINT64_MAX), 7);
+    REFUSED(altair_net_change(UINT64_MAX, 0), 7);
+}
+
 int main(void) {
     slots_and_epochs();
     opening_hours();
@@ -366,6 +386,7 @@ int main(void) {
     the_registry();
     the_steps();
     the_file();
+    net_changes();
     in_c();
     printf("%d figures agreed, %d did not\n", agreed, parted);
     return parted != 0;

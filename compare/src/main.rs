@@ -1,11 +1,13 @@
 //! The library's archive against the Rust of ethereum-consensus, in one process, on generated records: the close, each of the eight
-//! steps, every leaf, and reading and writing a file. Every number that comes back or is left in a lent buffer is compared.
+//! steps, every leaf, and reading and writing a file. Every number that comes back or is left in a lent buffer is compared. The
+//! listing's lines, of which the Rust knows nothing, are held to a model.
 use reference::record;
 mod convert;
 mod crowd;
 mod files;
 mod leaves;
 mod library;
+mod listing;
 #[allow(dead_code)]
 #[path = "../../bindings/rust/src/raw.rs"]
 mod raw;
@@ -117,6 +119,7 @@ fn run(count: u64, seed: u64) -> Option<Difference> {
         counts.numbers,
         start.elapsed().as_secs_f64()
     );
+    println!("{} lines and net changes held to the model, {} of them refused with 7", counts.lines, counts.wide);
     first.into_inner().expect("a worker panicked")
 }
 
@@ -136,12 +139,14 @@ struct Counts {
     report: Report,
     answers: u64,
     numbers: u64,
+    lines: u64,
+    wide: u64,
 }
 
 impl Default for Counts {
     fn default() -> Self {
         let report = Report { leaves: vec![Tally::default(); LEAVES.len()], ..Report::default() };
-        Counts { report, answers: 0, numbers: 0 }
+        Counts { report, answers: 0, numbers: 0, lines: 0, wide: 0 }
     }
 }
 
@@ -157,6 +162,8 @@ impl Counts {
         operations.chain(closes).chain(leaves).chain([(&mut a.files, &b.files)]).for_each(|(a, b)| a.add(b));
         self.answers += other.answers;
         self.numbers += other.numbers;
+        self.lines += other.lines;
+        self.wide += other.wide;
         self
     }
 
@@ -187,11 +194,13 @@ impl Counts {
 
     fn operations(&mut self, rng: &mut Random, record: &Record, kind: usize) -> Result<(), String> {
         let call = steps::call(rng, record);
+        let mut closed = None;
         for (i, operation) in OPERATIONS.into_iter().enumerate() {
             let rust = judge::outcome(&call, operation);
             self.report.operations[i].count(rust.refusal);
             if i + 1 == OPERATIONS.len() {
                 self.report.closes[kind].count(rust.refusal);
+                closed = (rust.refusal == 0).then(|| rust.registry.clone());
             }
             self.numbers += (18 + rust.registry.len() + rust.slashings.len()) as u64;
             let asked = || {
@@ -200,11 +209,23 @@ impl Counts {
             };
             self.same(asked, rust, steps::outcome(&call, operation))?;
         }
-        if call.record == *record {
-            Ok(())
-        } else {
-            Err("the opening was written to".to_string())
+        if call.record != *record {
+            return Err("the opening was written to".to_string());
         }
+        closed.map_or(Ok(()), |closed| self.listing(rng, &record.registry, &closed))
+    }
+
+    fn listing(&mut self, rng: &mut Random, opening: &[u64], closed: &[u64]) -> Result<(), String> {
+        for (i, (before, after)) in opening.chunks(10).zip(closed.chunks(10)).enumerate() {
+            let line = listing::line(i, before, after);
+            (self.lines, self.wide) = (self.lines + 1, self.wide + u64::from(line.0 == 7));
+            let asked = || format!("the line of validator {i}, closed to {after:?}");
+            self.same(asked, line, listing::told(opening, closed, i))?;
+        }
+        let (a, b) = listing::far_apart(rng);
+        let change = listing::change(a, b);
+        (self.lines, self.wide) = (self.lines + 1, self.wide + u64::from(change.0 == 7));
+        self.same(|| format!("the net change from {a} to {b}"), change, listing::change_told(a, b))
     }
 
     fn leaves(&mut self, rng: &mut Random, record: &Record) -> Result<(), String> {

@@ -82,14 +82,14 @@ pub fn example() -> Record {
 
 const LISTING: &str = "\
 epoch 3 justified 3 finalized 2 bits 7 charged 5
-0 32000000000 32003456000 32000000000 0
-1 32000000000 32003456000 32000000000 0
-2 32000000000 32003456000 32000000000 0
-3 32000000000 32003456000 32000000000 0
-4 32000000000 31996800000 32000000000 0
+0 32000000000 32003456000 32000000000 0 3456000
+1 32000000000 32003456000 32000000000 0 3456000
+2 32000000000 32003456000 32000000000 0 3456000
+3 32000000000 32003456000 32000000000 0 3456000
+4 32000000000 31996800000 32000000000 0 -3200000
 ";
 
-/// The close in the words of 01's listing program.
+/// The close in the words of 01's listing program, with 02's net change; only `refused 7` where one does not fit.
 pub fn listing(record: &Record) -> String {
     let out = run(record, Operation::Close);
     if out.refusal != 0 {
@@ -102,13 +102,11 @@ pub fn listing(record: &Record) -> String {
         f.current.epoch, f.finalized.epoch, f.bits
     );
     for (i, (before, after)) in record.registry.chunks(10).zip(out.registry.chunks(10)).enumerate() {
-        text += &format!(
-            "{i} {} {} {} {}\n",
-            before[of::BALANCE],
-            after[of::BALANCE],
-            after[of::EFFECTIVE],
-            after[of::SCORE]
-        );
+        let (opening, closing) = (before[of::BALANCE], after[of::BALANCE]);
+        let Ok(change) = i64::try_from(i128::from(closing) - i128::from(opening)) else {
+            return "refused 7\n".to_string();
+        };
+        text += &format!("{i} {opening} {closing} {} {} {change}\n", after[of::EFFECTIVE], after[of::SCORE]);
     }
     text
 }

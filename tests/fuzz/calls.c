@@ -1,7 +1,7 @@
 /* The table of the functions, one line for each. A new function is one line more.
  *
  * Buffers: R a registry, V one validator, S slashings, B roots, F a file, P a registry of which only the length is
- * tested, M marks, Q numbers as many as the first buffer's. Behind '>' those that are written: R, S, F; r, v a registry and a
+ * tested, M marks, Q the first buffer's numbers with other balances. Behind '>' those that are written: R, S, F; r, v a registry and a
  * validator changed in place. Numbers that are tested: s the settings, f the finality, t the slot, z the finalized
  * epoch, i an index, g a flag index of 0 to 2, G one of 0 to 7, e a participation epoch, d a total to divide by, c the
  * clock, w a second, which is c->number. */
@@ -18,7 +18,8 @@
     X(close, FINALITY, altair_finality_answer, "RSB>RS", "sf", "45", c->s, c->f, IN(0), IN(1), IN(2), OUT(0), OUT(1))  \
     X(charged, VALUES, altair_number_answer, "R", "st", "", c->s, c->slot, IN(0))                                      \
     X(listing_head, VALUES, altair_head, "R", "stf", "", c->s, c->slot, c->f, IN(0))                                   \
-    X(listing_line, VALUES, altair_line, "PQ", "i", "", IN(0), IN(1), c->index)                                        \
+    X(listing_line, VALUES, altair_line, "PQ", "i", "7", IN(0), IN(1), c->index)                                       \
+    X(net_change, VALUES, altair_change_answer, "", "", "7", c->number, c->totals[0])                                  \
     X(read_header, VALUES, altair_header, "F", "", "", IN(0))                                                          \
     X(read_file, READ, altair_read_answer, "F>RS", "", "", IN(0), OUT(0), OUT(1))                                      \
     X(write_file, NUMBER, uint64_t, "RBS>F", "sf", "", c->s, c->f, IN(0), IN(1), IN(2), OUT(0))                        \

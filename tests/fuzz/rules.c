@@ -38,6 +38,13 @@ static uint64_t steps(const record *r, altair_finality *finality, uint64_t *regi
     return 0;
 }
 
+/* closing minus opening in 128 bits */
+static altair_change_answer changed(uint64_t opening, uint64_t closing) {
+    const __int128 change = (__int128)closing - opening;
+    const bool fits = INT64_MIN <= change && change <= INT64_MAX;
+    return (altair_change_answer){fits ? 0 : 7, fits ? (int64_t)change : 0};
+}
+
 static void the_close(const record *r) {
     static uint64_t registry[NUMBERS], slashings[SLASHINGS], by_steps[NUMBERS], slashings_by_steps[SLASHINGS];
     const size_t numbers = 10 * r->validators;
@@ -61,7 +68,11 @@ static void the_close(const record *r) {
     for (size_t i = 0; i < r->validators; i++) {
         const altair_line line = altair_listing_line(r->registry, numbers, registry, numbers, i);
         const uint64_t *before = r->registry + 10 * i, *after = registry + 10 * i;
-        MUST(line.refusal == 0 && line.index == i);
+        const altair_change_answer change = changed(before[ALTAIR_BALANCE], after[ALTAIR_BALANCE]);
+        MUST(line.refusal == change.refusal && line.net_change == change.value);
+        if (line.refusal != 0)
+            continue;
+        MUST(line.index == i);
         MUST(line.opening_balance == before[ALTAIR_BALANCE] && line.closing_balance == after[ALTAIR_BALANCE]);
         MUST(line.effective_balance == after[ALTAIR_EFFECTIVE_BALANCE]);
         MUST(line.inactivity_score == after[ALTAIR_INACTIVITY_SCORE]);
@@ -128,6 +139,11 @@ static void the_leaves(const record *r) {
     MUST((by_slot.refusal == 4) == (start.value >= slot || slot > start.value + r->s.slots_per_historical_root));
     if (by_slot.refusal == 0)
         MUST(memcmp(by_slot.root, r->roots + 32 * (start.value % r->s.slots_per_historical_root), 32) == 0);
+
+    const uint64_t opening = odd_number();
+    const uint64_t closing = one_in(2) ? odd_number() : opening + (UINT64_C(1) << 63) + below(5) - 2;
+    const altair_change_answer change = altair_net_change(opening, closing), wanted = changed(opening, closing);
+    MUST(change.refusal == wanted.refusal && change.value == wanted.value);
 
     const uint8_t flags = (uint8_t)random_number();
     const uint64_t flag = below(8), delta = odd_number();

@@ -47,6 +47,7 @@ static buffer random_file(const record *r, int slot) {
 static buffer read_buffer(char letter, const record *r, const lent *c, int slot) {
     static uint64_t marks[LARGEST / 80];
     uint64_t validator[10];
+    buffer like;
     switch (letter) {
     case 'R':
     case 'P':
@@ -65,7 +66,11 @@ static buffer read_buffer(char letter, const record *r, const lent *c, int slot)
             marks[i] = one_in(40) ? odd_number() : below(4);
         return with(slot, marks, r->validators, 8);
     case 'Q':
-        return with(slot, c->in[0].at, c->in[0].length, 8);
+        like = with(slot, c->in[0].at, c->in[0].length, 8);
+        for (size_t i = ALTAIR_BALANCE; i < like.length; i += 10)
+            if (one_in(4))
+                ((uint64_t *)like.at)[i] = odd_number();
+        return like;
     }
     fail("no buffer has the letter %c", letter);
 }

@@ -10,13 +10,7 @@ import encoder
 import worked
 from tool import ROOT, Directory
 
-LISTING = """epoch 3 justified 3 finalized 2 bits 7 charged 5
-0 32000000000 32003456000 32000000000 0
-1 32000000000 32003456000 32000000000 0
-2 32000000000 32003456000 32000000000 0
-3 32000000000 32003456000 32000000000 0
-4 32000000000 31996800000 32000000000 0
-"""
+LISTING = (ROOT / "tests/example.listing").read_text()
 
 
 def commands():

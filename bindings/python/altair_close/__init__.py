@@ -12,7 +12,7 @@ with the number. Python's standard library alone, CPython 3.8 or later.
     >>> altair_close.get_base_reward_per_increment(altair_close.MAINNET, 160 * 10**9)
     160000
 """
-from ._close import charged, close, listing_head, listing_line, listing_lines
+from ._close import charged, close, listing_head, listing_line, listing_lines, net_change
 from ._helpers import *
 from ._record import Record, read_file, read_header, write_file
 from ._refusals import REFUSALS, Refused

@@ -34,8 +34,14 @@ def listing_line(opening, closing, index):
     return call("listing_line", opening, closing, index)
 
 
+def net_change(opening, closing):
+    """Closing minus opening of two balances, from -2^63 to 2^63 - 1."""
+    return call("net_change", opening, closing)
+
+
 def listing_lines(opening, closing):
-    """Every validator's line, in order. The registries are checked and lent once."""
+    """Every validator's line, in order. The registries are checked and lent once. A listing is only `refused 7` where one of
+    its lines is: take all of them before the first is printed."""
     lent = {}
     *words, _ = lend("listing_line", (opening, closing, 0), lent)
     line, given = function("listing_line"), LINE.given

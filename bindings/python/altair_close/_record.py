@@ -81,11 +81,12 @@ class Record(NamedTuple):
         return charged(self.settings, self.finality.slot, self.registry)
 
     def listing(self, closed):
-        """The lines of the listing, as text, of this record and the closed one."""
+        """The lines of the listing, as text, of this record and the closed one. Refused, there is none of them."""
+        # all of them before the first is handed out: a net change may not fit
+        lines = ["%d %d %d %d %d %d" % line for line in listing_lines(self.registry, closed.registry)]
         head = listing_head(self.settings, self.finality.slot, closed.finality, self.registry)
         yield (
             f"epoch {head.epoch} justified {head.justified_epoch} finalized {head.finalized_epoch} "
             f"bits {head.justification_bits} charged {head.charged}"
         )
-        for line in listing_lines(self.registry, closed.registry):
-            yield "%d %d %d %d %d" % line
+        yield from lines

@@ -7,6 +7,7 @@ REFUSALS = {
     4: "a block root is wanted that the record does not keep",
     5: "a sum, product or difference that is evaluated leaves 64 bits",
     6: "a record file's header is not as it must be",
+    7: "a net change, closing minus opening balance, does not fit signed 64 bits",
     14: "a second is before genesis",
     15: "seconds_per_slot is 0",
 }

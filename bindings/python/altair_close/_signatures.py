@@ -22,6 +22,7 @@ from ._refusals import Refused
 from ._types import VALIDATOR_LENGTH, Closed, Deltas, Head, Header, Line, Settings, Votes
 
 VERSION = 1
+I64 = ctypes.c_int64
 
 
 class NumberAnswer(ctypes.Structure):
@@ -44,8 +45,16 @@ class HeaderAnswer(ctypes.Structure):
     _fields_ = [("refusal", U64), ("numbers", U64 * 3)]
 
 
-class LineAnswer(ctypes.Structure):
+class HeadAnswer(ctypes.Structure):
     _fields_ = [("refusal", U64), ("numbers", U64 * 5)]
+
+
+class LineAnswer(ctypes.Structure):
+    _fields_ = [("refusal", U64), ("numbers", U64 * 5), ("net_change", I64)]
+
+
+class ChangeAnswer(ctypes.Structure):
+    _fields_ = [("refusal", U64), ("value", I64)]
 
 
 class ReadAnswer(ctypes.Structure):
@@ -72,8 +81,9 @@ DELTAS = Answer(DeltasAnswer, lambda answer: Deltas(answer.reward, answer.penalt
 ROOT = Answer(RootAnswer, lambda answer: bytes(answer.root))
 FINALITY_AFTER = Answer(FinalityAnswer, lambda answer: finality_of(answer.finality))
 CLOSED = Answer(FinalityAnswer, lambda answer, *written: Closed(finality_of(answer.finality), *written))
-HEAD = Answer(LineAnswer, lambda answer: Head(*answer.numbers[:]))
-LINE = Answer(LineAnswer, lambda answer: Line(*answer.numbers[:]))
+HEAD = Answer(HeadAnswer, lambda answer: Head(*answer.numbers[:]))
+LINE = Answer(LineAnswer, lambda answer: Line(*answer.numbers[:], answer.net_change))
+CHANGE = Answer(ChangeAnswer, lambda answer: answer.value)
 HEADER = Answer(HeaderAnswer, lambda answer: Header(*answer.numbers[:]))
 READ = Answer(ReadAnswer, lambda answer, *written: (Settings(*answer.settings.numbers), finality_of(answer.finality), *written))
 
@@ -117,6 +127,7 @@ SIGNATURES = {
     # the listing of a close
     "listing_head": Signature(HEAD, settings=SETTINGS, state_slot=NUMBER, closing=FINALITY, opening=REGISTRY),
     "listing_line": Signature(LINE, opening=REGISTRY, closing=REGISTRY, index=NUMBER),
+    "net_change": Signature(CHANGE, opening=NUMBER, closing=NUMBER),
     # a record file
     "read_header": Signature(HEADER, file=BYTES),
     "read_file": Signature(READ, file=BYTES,

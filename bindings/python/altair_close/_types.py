@@ -93,13 +93,15 @@ class Head(NamedTuple):
 
 
 class Line(NamedTuple):
-    """The numbers of one validator's line: effective balance and score are those after the close."""
+    """The numbers of one validator's line: effective balance and score are those after the close, net_change is closing minus
+    opening balance."""
 
     index: int
     opening_balance: int
     closing_balance: int
     effective_balance: int
     inactivity_score: int
+    net_change: int
 
 
 class Header(NamedTuple):

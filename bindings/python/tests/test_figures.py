@@ -160,6 +160,14 @@ class Figures(unittest.TestCase):
         self.assertEqual(list(turned), changed(HIT, previous_epoch_participation=5, current_epoch_participation=0))
         self.refused(1, process_participation_flag_updates, HIT[1:])
 
+    def test_net_changes(self):
+        """Both ends of the range, and one beyond either."""
+        for opening, closing, change in [(7, 7, 0), (32 * ETH, 31996800000, -3200000), (0, 2**63 - 1, 2**63 - 1),
+                                         (2**63, 0, -2**63), (2**64 - 1, 2**63 - 1, -2**63)]:
+            self.assertEqual(net_change(opening, closing), change)
+        for opening, closing in [(0, 2**63), (2**63 + 1, 0), (0, 2**64 - 1), (2**64 - 1, 0)]:
+            self.refused(7, net_change, opening, closing)
+
     def test_the_file_and_the_close(self):
         settings = MAINNET._replace(slots_per_epoch=8, slots_per_historical_root=64, epochs_per_slashings_vector=64)
         finality = Finality(31, 3, Checkpoint(1), Checkpoint(2), Checkpoint(1))
@@ -182,11 +190,15 @@ class Figures(unittest.TestCase):
         head = listing_head(settings, 31, closed.finality, registry)
         self.assertEqual(head, altair.Head(3, 3, 2, 7, 5))
         last = changed(closed.registry, at=4, effective_balance=8, inactivity_score=9)
-        self.assertEqual(listing_line(registry, last, 4), altair.Line(4, 32 * ETH, 31996800000, 8, 9))
+        self.assertEqual(listing_line(registry, last, 4), altair.Line(4, 32 * ETH, 31996800000, 8, 9, -3200000))
         self.refused(1, listing_line, registry, last, 5)
         lines = [listing_line(registry, closed.registry, index) for index in range(5)]
         self.assertEqual(list(listing_lines(registry, closed.registry)), lines)
-        self.assertEqual(list(record.listing(closed))[5], "4 32000000000 31996800000 32000000000 0")
+        self.assertEqual(list(record.listing(closed))[5], "4 32000000000 31996800000 32000000000 0 -3200000")
+        wide = record._replace(registry=changed(closed.registry, at=4, balance=2**64 - 1))
+        self.refused(7, listing_line, registry, wide.registry, 4)
+        lines = record.listing(wide)
+        self.refused(7, next, lines)  # before the head
         self.refused(5, close, settings, finality, changed(registry, balance=2**64 - 1), slashings, roots)
         self.refused(3, close, settings, finality._replace(slot=2**48), registry, slashings, roots)
         self.refused(1, close, settings, finality, registry, slashings, roots[1:])

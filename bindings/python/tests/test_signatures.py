@@ -18,7 +18,8 @@ ANSWERS = {
     "altair_finality_answer": (_signatures.FinalityAnswer,),
     "altair_header": (_signatures.HeaderAnswer,),
     "altair_read_answer": (_signatures.ReadAnswer,),
-    "altair_head": (_signatures.LineAnswer,),
+    "altair_change_answer": (_signatures.ChangeAnswer,),
+    "altair_head": (_signatures.HeadAnswer,),
     "altair_line": (_signatures.LineAnswer,),
     "altair_votes_answer": (_signatures.VotesAnswer,),
 }
@@ -50,7 +51,7 @@ def in_c(name, kind):
 def size(kind, structs):
     """The bytes of a type of the header."""
     if kind not in structs:
-        return {"uint8_t": 1, "uint64_t": 8}[kind]
+        return {"uint8_t": 1, "uint64_t": 8, "int64_t": 8}[kind]
     parts = re.findall(r"(\w+) \w+(?:\[(\d+)\])?;", structs[kind])
     return sum(size(part, structs) * int(count or 1) for part, count in parts)
 

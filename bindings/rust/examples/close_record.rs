@@ -17,8 +17,13 @@ fn listing(file: &[u8]) -> Result<String, Refusal> {
     for index in 0..opening.validators().count() as u64 {
         let line = listing_line(&opening.registry, &closed.registry, index)?;
         text += &format!(
-            "{} {} {} {} {}\n",
-            line.index, line.opening_balance, line.closing_balance, line.effective_balance, line.inactivity_score,
+            "{} {} {} {} {} {}\n",
+            line.index,
+            line.opening_balance,
+            line.closing_balance,
+            line.effective_balance,
+            line.inactivity_score,
+            line.net_change,
         );
     }
     Ok(text)

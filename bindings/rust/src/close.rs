@@ -72,16 +72,28 @@ pub fn listing_head(
     unsafe { raw::altair_listing_head(*settings, state_slot, *closing, opening.as_ptr(), opening.len()) }.result()
 }
 
-/// The numbers of validator `index`'s line, from the opening and the closing registry.
+/// The numbers of validator `index`'s line, from the opening and the closing registry. A listing is only `refused 7`
+/// where one of its lines is: ask for all of them before the first is printed.
 ///
 /// ```
 /// use altair_close::{listing_line, validator, Refusal};
 /// let (opening, closing) = (validator::new(32_000_000_000), validator::new(31_000_000_000));
-/// assert_eq!(listing_line(&opening, &closing, 0)?.closing_balance, 31_000_000_000);
+/// assert_eq!(listing_line(&opening, &closing, 0)?.net_change, -1_000_000_000);
 /// assert_eq!(listing_line(&opening, &closing, 1), Err(Refusal::Shape));
 /// # Ok::<(), Refusal>(())
 /// ```
 pub fn listing_line(opening: &[u64], closing: &[u64], index: u64) -> Result<Line, Refusal> {
     unsafe { raw::altair_listing_line(opening.as_ptr(), opening.len(), closing.as_ptr(), closing.len(), index) }
         .result()
+}
+
+/// Closing minus opening of any two balances, as a signed 64-bit number.
+///
+/// ```
+/// use altair_close::{net_change, Refusal};
+/// assert_eq!(net_change(32_000_000_000, 31_996_800_000), Ok(-3_200_000));
+/// assert_eq!(net_change(u64::MAX, 0), Err(Refusal::SignedOverflow));
+/// ```
+pub fn net_change(opening: u64, closing: u64) -> Result<i64, Refusal> {
+    unsafe { raw::altair_net_change(opening, closing) }.result()
 }

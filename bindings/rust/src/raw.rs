@@ -28,6 +28,12 @@ pub struct DeltasAnswer {
 }
 
 #[repr(C)]
+pub struct ChangeAnswer {
+    pub refusal: u64,
+    pub value: i64,
+}
+
+#[repr(C)]
 pub struct RootAnswer {
     pub refusal: u64,
     pub root: [u8; 32],
@@ -67,6 +73,7 @@ pub struct LineAnswer {
     pub closing_balance: u64,
     pub effective_balance: u64,
     pub inactivity_score: u64,
+    pub net_change: i64,
 }
 
 #[repr(C)]
@@ -114,6 +121,12 @@ impl DeltasAnswer {
     }
 }
 
+impl ChangeAnswer {
+    pub fn result(self) -> Result<i64, Refusal> {
+        Refusal::or(self.refusal, self.value)
+    }
+}
+
 impl RootAnswer {
     pub fn result(self) -> Result<[u8; 32], Refusal> {
         Refusal::or(self.refusal, self.root)
@@ -129,8 +142,15 @@ impl HeadAnswer {
 
 impl LineAnswer {
     pub fn result(self) -> Result<Line, Refusal> {
-        let LineAnswer { refusal, index, opening_balance, closing_balance, effective_balance, inactivity_score } = self;
-        Refusal::or(refusal, Line { index, opening_balance, closing_balance, effective_balance, inactivity_score })
+        let line = Line {
+            index: self.index,
+            opening_balance: self.opening_balance,
+            closing_balance: self.closing_balance,
+            effective_balance: self.effective_balance,
+            inactivity_score: self.inactivity_score,
+            net_change: self.net_change,
+        };
+        Refusal::or(self.refusal, line)
     }
 }
 
@@ -173,6 +193,7 @@ extern "C" {
         closing_length: usize,
         index: u64,
     ) -> LineAnswer;
+    pub fn altair_net_change(opening: u64, closing: u64) -> ChangeAnswer;
 
     // a record file
     pub fn altair_read_header(file: *const u8, file_length: usize) -> Header;

@@ -19,6 +19,8 @@ pub enum Refusal {
     Overflow = 5,
     /// A record file's header is not as it must be. Nothing was written.
     File = 6,
+    /// A net change, closing minus opening balance, does not fit signed 64 bits. There was nothing to write: the close was accepted.
+    SignedOverflow = 7,
     /// A second is before genesis. There was nothing to write.
     BeforeGenesis = 14,
     /// seconds_per_slot is 0. There was nothing to write.
@@ -26,13 +28,14 @@ pub enum Refusal {
 }
 
 impl Refusal {
-    pub const ALL: [Refusal; 8] = [
+    pub const ALL: [Refusal; 9] = [
         Refusal::Shape,
         Refusal::Settings,
         Refusal::Record,
         Refusal::Root,
         Refusal::Overflow,
         Refusal::File,
+        Refusal::SignedOverflow,
         Refusal::BeforeGenesis,
         Refusal::NoSeconds,
     ];
@@ -71,6 +74,7 @@ impl fmt::Display for Refusal {
             Refusal::Root => "a block root is wanted that the record does not keep",
             Refusal::Overflow => "a sum, product or difference that is evaluated leaves 64 bits",
             Refusal::File => "a record file's header is not as it must be",
+            Refusal::SignedOverflow => "a net change, closing minus opening balance, does not fit signed 64 bits",
             Refusal::BeforeGenesis => "a second is before genesis",
             Refusal::NoSeconds => "seconds_per_slot is 0",
         };

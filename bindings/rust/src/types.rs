@@ -128,7 +128,8 @@ pub struct Head {
     pub charged: u64,
 }
 
-/// The numbers of one validator's line: effective balance and score are those after the close.
+/// The numbers of one validator's line: effective balance and score are those after the close, `net_change` is closing
+/// minus opening balance.
 #[derive(Clone, Copy, Debug, PartialEq, Eq)]
 pub struct Line {
     pub index: u64,
@@ -136,6 +137,7 @@ pub struct Line {
     pub closing_balance: u64,
     pub effective_balance: u64,
     pub inactivity_score: u64,
+    pub net_change: i64,
 }
 
 /// In how many fillings of the unknown flags a target's two-thirds test passes.

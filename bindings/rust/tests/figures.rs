@@ -244,9 +244,12 @@ fn the_close() {
     let mut last = closed.registry.clone();
     (last[40 + EFFECTIVE_BALANCE], last[40 + INACTIVITY_SCORE]) = (8, 9);
     let (opening_balance, closing_balance) = (32 * ETH, 31_996_800_000);
-    let line = Line { index: 4, opening_balance, closing_balance, effective_balance: 8, inactivity_score: 9 };
+    let (effective_balance, inactivity_score, net_change) = (8, 9, -3_200_000);
+    let line = Line { index: 4, opening_balance, closing_balance, effective_balance, inactivity_score, net_change };
     assert_eq!(listing_line(&record.registry, &last, 4), Ok(line));
     assert_eq!(listing_line(&record.registry, &last, 5), Err(Refusal::Shape));
+    last[40 + BALANCE] = u64::MAX;
+    assert_eq!(listing_line(&record.registry, &last, 4), Err(Refusal::SignedOverflow));
 
     // refused with 3 nothing is written, with 5 the opening is put back
     let mut far = record.clone();
@@ -297,4 +300,15 @@ fn refusals_have_their_numbers() {
         assert_eq!(Refusal::from_number(refusal.number()), Some(refusal));
         assert!(refusal.to_string().starts_with(&format!("refused {}: ", refusal.number())));
     }
+}
+
+// both ends of the range, and one beyond either
+#[test]
+fn net_changes() {
+    assert_eq!(net_change(7, 7), Ok(0));
+    assert_eq!(net_change(0, (1 << 63) - 1), Ok(i64::MAX));
+    assert_eq!(net_change(0, 1 << 63), Err(Refusal::SignedOverflow));
+    assert_eq!(net_change(1 << 63, 0), Ok(i64::MIN));
+    assert_eq!(net_change(u64::MAX, (1 << 63) - 1), Ok(i64::MIN));
+    assert_eq!(net_change((1 << 63) + 1, 0), Err(Refusal::SignedOverflow));
 }

@@ -9,7 +9,7 @@ use native.Mathlib.Omega.{arith}
 use borrow.Author.Tests.{lt-ltb, le-ltb, ltb-true, ltb-false}
 use lib.Dec.{ltb, lit≤}
 use lib.ListN.{length, length-append}
-use Rattle.decimals.specs.Decimal.{digit, digits, decimal}
+use Rattle.definitions_listing.specs.Decimal.{digit, digits, decimal}
 
 pub digits-one : (most n : ℕ) → n < 10 → digits (suc most) n ≡ digit n ∷ []
 unfolding digits

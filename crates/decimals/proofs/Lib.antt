@@ -2,3 +2,4 @@
 pub mod Decimal
 pub mod Right
 pub mod Put
+mod Signed

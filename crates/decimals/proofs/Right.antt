@@ -9,7 +9,7 @@ use borrow.Author.Tests.{le-leb}
 use lib.Dec.{leb}
 use lib.ListN.{length, getD, length-append, List·getD-append}
 use Rattle.definitions.specs.Lists.{all}
-use Rattle.decimals.specs.Decimal.{digit, digits, decimal}
+use Rattle.definitions_listing.specs.Decimal.{digit, digits, decimal}
 use Rattle.refusals.proofs.All.{both}
 use Rattle.decimals.proofs.Decimal.{one-or-more, digits-one, digits-more}
 

@@ -1,3 +1,2 @@
--- Decimal numbers, and text put into lent bytes.
-pub mod Decimal
+-- Text put into lent bytes.
 pub mod Put

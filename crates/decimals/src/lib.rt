@@ -1,9 +1,10 @@
 // Decimal numbers put into lent bytes.
 ghost use Prim.Native.Nat.{_+_, _≤_, _<_};
 ghost use mathlib.Core.Path.{_≡_};
-ghost use mathlib.Core.List.{_++_};
+ghost use mathlib.Core.List.{_∷_, _++_};
+ghost use lib.IntN.{subℕ};
 ghost use lib.ListN.{length};
-ghost use Rattle.decimals.specs.Decimal.{digit as digitOf, decimal};
+ghost use Rattle.definitions_listing.specs.Decimal.{digit as digitOf, decimal, signedDecimal};
 ghost use Rattle.decimals.specs.Put.{Put};
 
 fn digit(d: u64) -> u8
@@ -35,4 +36,16 @@ pub fn put_labelled(text: &mut [u8], at: usize, label: &[u8], n: u64) -> usize
 {
     fields::put_bytes(text, at, label);
     put_decimal(text, at + label.len(), n)
+}
+
+// A blank, and closing minus opening behind it.
+pub fn put_change(text: &mut [u8], at: usize, opening: u64, closing: u64) -> usize
+    requires { ⌜ at + 22 ≤ length (now text) ⌝ }
+    ensures { λ r. ⌜ Put (now (text .entry)) at (32 ∷ signedDecimal (subℕ closing opening)) (now (text .exit)) r ⌝ }
+    ensures { λ r. ⌜ r ≤ at + 22 ⌝ }
+{
+    if opening <= closing {
+        return put_labelled(text, at, b" ", closing - opening);
+    }
+    put_labelled(text, at, b" -", opening - closing)
 }

@@ -1,8 +1,12 @@
 // What the lines of a listing tell, as numbers.
 ghost use mathlib.Core.Path.{_≡_};
-ghost use Rattle.listing_lines.specs.Answers.{headOf, lineOf};
-use listing_lines::numbers::Head;
-use listing_lines::numbers::Line;
+ghost use Rattle.definitions_listing.specs.Answers.{headOf, lineOf};
+ghost use Rattle.definitions_listing.specs.NetChange.{netChange, changeFor};
+ghost use Rattle.plain.specs.Plain.{plainChange};
+use definitions_listing::Change;
+use definitions_listing::Head;
+use definitions_listing::Line;
+use plain::PlainChange;
 use types::Finality;
 use types::Settings;
 
@@ -24,4 +28,15 @@ pub extern "C" fn altair_listing_line(opening: &[u64], closing: &[u64], index: u
     ensures { λ r. ⌜ r ≡ lineOf (now (opening .entry)) (now (closing .entry)) index ⌝ }
 {
     listing_lines::line(opening, closing, index)
+}
+
+// Closing minus opening, of any two balances.
+#[no_mangle]
+pub extern "C" fn altair_net_change(opening: u64, closing: u64) -> PlainChange
+    ensures { λ r. ⌜ r ≡ plainChange (changeFor (netChange opening closing)) ⌝ }
+{
+    match listing_lines::numbers::net_change(opening, closing) {
+        Change::Value(value) => PlainChange { refusal: 0, value },
+        Change::Refused(refusal) => PlainChange { refusal, value: 0 },
+    }
 }

@@ -4,12 +4,12 @@ use mathlib.Core.List.{List}
 use Prim.Native.Nat.{ℕ}
 use lib.Dec.{leb}
 use lib.ListN.{length}
-use Rattle.listing.specs.Listing.{listing}
+use Rattle.definitions_listing.specs.Listing.{listing}
 use Rattle.listing.specs.Lent.{inFront}
 
 -- the longest text: the head line and the lines of 814 validators, which are all that 65536 bytes hold
 abbrev pub longest : ℕ
-longest = 85614
+longest = 103522
 
 -- nothing is written where the longest would not fit
 unfoldable pub printedText : List ℕ → List ℕ → List ℕ

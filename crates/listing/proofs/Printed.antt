@@ -9,10 +9,10 @@ use Rattle.definitions.specs.Close.{close}
 use Rattle.definitions.specs.File.{Contents, read}
 use Rattle.record_file.specs.Answers.{contentsWith}
 use Rattle.decimals.specs.Put.{Put}
-use Rattle.listing_lines.specs.Lines.{refusedLine, closePrinted}
+use Rattle.definitions_listing.specs.Lines.{refusedLine, closePrinted}
 use Rattle.listing_close.specs.Listed.{ListedClose}
 use Rattle.listing_close.proofs.Printed.{or-refused, or-text}
-use Rattle.listing.specs.Listing.{callOf}
+use Rattle.definitions_listing.specs.Listing.{callOf}
 use Rattle.listing.specs.Lent.{Buffers, buffers, Listed, openingOf, closingOf}
 use Rattle.listing.proofs.Opened.{read-accepted, read-refused, alike}
 use Rattle.listing.proofs.Closing.{nothing-registry, nothing-slashings}

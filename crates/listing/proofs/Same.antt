@@ -9,8 +9,8 @@ use lib.Dec.{eqb}
 use lib.ListN.{length, length-replicate, replicate}
 use Rattle.definitions.specs.File.{Contents, contentsOf, countOf, slashingCountOf, goodHeader}
 use Rattle.definitions.specs.Close.{Call, Outcome, close}
-use Rattle.listing_lines.specs.Lines.{orRefused, closeText, closePrinted}
-use Rattle.listing.specs.Listing.{opened, callOf, closing, printed, listing}
+use Rattle.definitions_listing.specs.Lines.{orRefused, closeText, acceptedText, closePrinted}
+use Rattle.definitions_listing.specs.Listing.{opened, callOf, closing, printed, listing}
 use Rattle.listing.specs.Lent.{Buffers, openingOf, closingOf}
 use Rattle.listing.proofs.Opened.{read-accepted, read-header, read-record, alike, headless}
 use Rattle.listing.proofs.Closing.{same-refusal, same-finality, same-registry}
@@ -23,9 +23,9 @@ or-same x y text other e f = by (eqb x 0) refl
     by true q = rw (← e, q) (f (eqb-true x 0 q))
     by false q = rw (← e, q)
 
-close-text-same : (c call : Call) (out other : Outcome) → c .settings ≡ call .settings → c .finality ≡ call .finality → c .registry ≡ call .registry → out .finality ≡ other .finality → out .closingRegistry ≡ other .closingRegistry → closeText c out ≡ closeText call other
-unfolding closeText
-close-text-same c call out other s i o f r = rw (s, i, o, f, r)
+accepted-text-same : (c call : Call) (out other : Outcome) → c .settings ≡ call .settings → c .finality ≡ call .finality → c .registry ≡ call .registry → out .finality ≡ other .finality → out .closingRegistry ≡ other .closingRegistry → acceptedText c out ≡ acceptedText call other
+unfolding acceptedText closeText
+accepted-text-same c call out other s i o f r = rw (s, i, o, f, r)
 
 -- closing buffers as long as the opening's
 closed-same : (c : Contents) (xs ys : List ℕ) → length xs ≡ length (c .registry) → length ys ≡ length (c .slashings) → closePrinted (callOf c xs ys) (close (callOf c xs ys)) ≡ closePrinted (closing c) (close (closing c))
@@ -33,8 +33,8 @@ closed-same c xs ys l m =
     let r = c .registry in
     let s = c .slashings in
     let call = callOf c xs ys in
-    or-same (close call .refusal) (close (closing c) .refusal) (closeText call (close call)) (closeText (closing c) (close (closing c))) (same-refusal c xs ys r s l m)
-    (λ z. close-text-same call (closing c) (close call) (close (closing c)) refl refl refl (same-finality c xs ys r s l m) (same-registry c xs ys r s l m z))
+    or-same (close call .refusal) (close (closing c) .refusal) (acceptedText call (close call)) (acceptedText (closing c) (close (closing c))) (same-refusal c xs ys r s l m)
+    (λ z. accepted-text-same call (closing c) (close call) (close (closing c)) refl refl refl (same-finality c xs ys r s l m) (same-registry c xs ys r s l m z))
 
 -- as long as called for, where there is a header
 pub record Exact (bytes : List ℕ) (b : Buffers) : Type 0 where

@@ -10,7 +10,7 @@ use Rattle.definitions.specs.Close.{Call, close}
 use Rattle.record_file.specs.declared.Header.{Header}
 use Rattle.record_file.specs.Answers.{noHeader, headerRead}
 use Rattle.decimals.specs.Put.{Put}
-use Rattle.listing.specs.Listing.{callOf, printed, listing}
+use Rattle.definitions_listing.specs.Listing.{callOf, printed, listing}
 
 pub record Buffers : Type 0 where
   pub registry : List ℕ
@@ -61,7 +61,7 @@ fits h b =
     && leb (h .slashings) (length (b .slashings))
     && leb (10 * h .validators) (length (b .closingRegistry))
     && leb (h .slashings) (length (b .closingSlashings))
-    && leb (144 + 105 * h .validators) (length (b .text))
+    && leb (144 + 127 * h .validators) (length (b .text))
 
 abbrev pub fronts : Header → Buffers → Buffers
 fronts h b =

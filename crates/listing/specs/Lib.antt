@@ -1,3 +1,2 @@
--- The listing of a file, and what it leaves in lent buffers.
-pub mod Listing
+-- What a listing leaves in lent buffers.
 pub mod Lent

@@ -8,7 +8,7 @@ use Rattle.types.specs.declared.FinalityAnswer.{FinalityAnswer}
 use Rattle.definitions.specs.Close.{Call, Outcome, close}
 use Rattle.close.specs.Called.{outcome}
 use Rattle.decimals.specs.Put.{Put}
-use Rattle.listing_lines.specs.Lines.{refusedLine, orRefused, closeText, closePrinted}
+use Rattle.definitions_listing.specs.Lines.{refusedLine, orRefused, acceptedText, closePrinted}
 use Rattle.listing_close.specs.Listed.{ListedClose}
 
 pub or-refused : {x y : ℕ} (text : List ℕ) → x ≡ y → (x ≡ 0 → ⊥) → orRefused y text ≡ refusedLine x
@@ -28,7 +28,7 @@ module _ (c : Call) {r : FinalityAnswer} {xs ys before after : List ℕ} {end : 
       }
 
   pub listed-refused : (r .refusal ≡ 0 → ⊥) → Put before 0 (refusedLine (r .refusal)) after end → ListedClose c xs ys before after end
-  listed-refused z p = listed (rw (or-refused {x = r .refusal} (closeText c (outcome r xs ys)) refl z) p)
+  listed-refused z p = listed (rw (or-refused {x = r .refusal} (acceptedText c (outcome r xs ys)) refl z) p)
 
-  pub listed-close : r .refusal ≡ 0 → Put before 0 (closeText c (outcome r xs ys)) after end → ListedClose c xs ys before after end
-  listed-close z p = listed (rw (or-text (closeText c (outcome r xs ys)) z) p)
+  pub listed-close : r .refusal ≡ 0 → Put before 0 (acceptedText c (outcome r xs ys)) after end → ListedClose c xs ys before after end
+  listed-close z p = listed (rw (or-text (acceptedText c (outcome r xs ys)) z) p)

@@ -5,7 +5,7 @@ use Prim.Native.Nat.{ℕ, _≤_}
 use lib.ListN.{length}
 use Rattle.definitions.specs.Close.{Call, close}
 use Rattle.decimals.specs.Put.{Put}
-use Rattle.listing_lines.specs.Lines.{closePrinted}
+use Rattle.definitions_listing.specs.Lines.{closePrinted}
 
 -- the closing buffers are the close's, and the text is put at the front
 pub record ListedClose (c : Call) (closingRegistry closingSlashings before after : List ℕ) (end : ℕ) : Type 0 where

@@ -5,14 +5,17 @@ ghost use mathlib.Core.List.{_++_};
 ghost use Prim.Native.Nat.{_+_, _*_, _/_, _≤_, _<_};
 ghost use lib.ListN.{length};
 ghost use Rattle.definitions.specs.Record.{decode};
+ghost use Rattle.definitions.specs.Checked.{codeOf};
 ghost use Rattle.definitions.specs.Refusals.{registryShaped};
 ghost use Rattle.definitions.specs.Document.Phase0.Helpers.{«get_current_epoch»};
 ghost use Rattle.definitions.specs.Close.{charged};
 ghost use Rattle.close.specs.Called.{called};
 ghost use Rattle.decimals.specs.Put.{Put};
-ghost use Rattle.listing_lines.specs.Lines.{headLine, lines};
+ghost use Rattle.definitions_listing.specs.NetChange.{changeTests};
+ghost use Rattle.definitions_listing.specs.Lines.{headLine, lines, orRefused};
 ghost use Rattle.listing_close.specs.Listed.{ListedClose};
 use close::close;
+use listing_lines::changes;
 use listing_lines::head_core;
 use listing_lines::text::put_head;
 use listing_lines::text::put_lines;
@@ -20,7 +23,7 @@ use listing_lines::text::put_refused;
 use types::Finality;
 use types::Settings;
 
-// The head line, and a line for each validator.
+// The head line and a line for each validator, or the refusal of a net change: tested before anything is put.
 fn put_close(
     s: Settings,
     state_slot: u64,
@@ -31,10 +34,14 @@ fn put_close(
 ) -> usize
     requires { ⌜ 0 < s .«slots_per_epoch» ⌝ }
     requires { ⌜ (registryShaped (now registry) ≡ true) × (length (now «closing_registry») ≡ length (now registry)) ⌝ }
-    requires { ⌜ 144 + 105 * (length (now registry) / 10) ≤ length (now text) ⌝ }
-    ensures { λ r. ⌜ Put (now (text .entry)) 0 (headLine («get_current_epoch» s «state_slot») («closing_finality» .«current_justified_checkpoint» .epoch) («closing_finality» .«finalized_checkpoint» .epoch) («closing_finality» .«justification_bits») (charged s «state_slot» (decode (now (registry .entry)))) ++ lines 0 (decode (now (registry .entry))) (decode (now («closing_registry» .entry)))) (now (text .exit)) r ⌝ }
+    requires { ⌜ 144 + 127 * (length (now registry) / 10) ≤ length (now text) ⌝ }
+    ensures { λ r. ⌜ Put (now (text .entry)) 0 (orRefused (codeOf (changeTests (decode (now (registry .entry))) (decode (now («closing_registry» .entry))))) (headLine («get_current_epoch» s «state_slot») («closing_finality» .«current_justified_checkpoint» .epoch) («closing_finality» .«finalized_checkpoint» .epoch) («closing_finality» .«justification_bits») (charged s «state_slot» (decode (now (registry .entry)))) ++ lines 0 (decode (now (registry .entry))) (decode (now («closing_registry» .entry))))) (now (text .exit)) r ⌝ }
     ensures { λ r. ⌜ r ≤ length (now (text .entry)) ⌝ }
 {
+    let refusal = changes(registry, closing_registry);
+    if refusal != 0 {
+        return put_refused(text, 0, refusal);
+    }
     let h = head_core(s, state_slot, closing_finality, registry);
     let at = put_head(text, 0, h);
     put_lines(text, at, registry, closing_registry)
@@ -51,7 +58,7 @@ pub fn list_close(
     closing_slashings: &mut [u64],
     text: &mut [u8],
 ) -> usize
-    requires { ⌜ 144 + 105 * (length (now registry) / 10) ≤ length (now text) ⌝ }
+    requires { ⌜ 144 + 127 * (length (now registry) / 10) ≤ length (now text) ⌝ }
     ensures { λ r. ⌜ ListedClose (called s finality (now (registry .entry)) (now (slashings .entry)) (now (roots .entry)) (now («closing_registry» .entry)) (now («closing_slashings» .entry))) (now («closing_registry» .exit)) (now («closing_slashings» .exit)) (now (text .entry)) (now (text .exit)) r ⌝ }
 {
     let closed = close(

@@ -11,7 +11,7 @@ use Rattle.definitions.specs.LeafRefusals.{slotRegistryTests}
 use Rattle.definitions.specs.Refusals.{settingsShaped, registryShaped, isSmall, goodSettings, goodFinality, goodRegistry}
 use Rattle.refusals.proofs.Answers.{after-passed, after-refused}
 use Rattle.leaf_refusals.proofs.Order.{refused-before, last-failed, last-passed}
-use Rattle.listing_lines.specs.Answers.{headTests, headNumbers, noHead, headFor, headOf}
+use Rattle.definitions_listing.specs.Answers.{headTests, headNumbers, noHead, headFor, headOf}
 
 module _ (s : Settings) (stateSlot : ℕ) (closing : Finality) (opening : List ℕ) {x : ℕ} (e : x ≡ codeOf (slotRegistryTests s stateSlot opening)) where
   tests : Checked (Unit {0})

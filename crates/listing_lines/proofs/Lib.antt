@@ -1,4 +1,6 @@
--- Laws of the lines of a listing.
+-- Laws of the listing's lines.
+pub mod Change
+pub mod Fitting
 pub mod HeadNumbers
 pub mod LineNumbers
 pub mod Lines

@@ -5,7 +5,7 @@ use mathlib.Core.Path.{_≡_, refl, sym, _∙_}
 use Prim.Native.Nat.{ℕ, suc, _+_, _-_, _*_, _/_, _≤_, _<_}
 use native.Mathlib.Numerals.{add-one}
 use native.Mathlib.Omega.{arith}
-use lib.ListN.{length, drop, drop-of-length-le}
+use lib.ListN.{length, getD, drop, drop-of-length-le}
 use lib.Seq.{drop-cons}
 use Rattle.definitions.specs.Record.{decode, nobody}
 use Rattle.definitions.specs.Refusals.{registryShaped}
@@ -13,14 +13,13 @@ use Rattle.laws.proofs.Encode.{length-decode}
 use Rattle.refusals.proofs.Laws.{registry-shaped}
 use Rattle.decimals.specs.Put.{Put}
 use Rattle.decimals.proofs.Put.{put, put-more, put-length}
-use Rattle.listing_lines.specs.declared.numbers.Line.{Line}
-use Rattle.listing_lines.specs.Lines.{validatorLine, lines}
-use Rattle.listing_lines.specs.Answers.{lineNumbers, lineOf}
-use Rattle.listing_lines.proofs.LineNumbers.{line-is}
+use Rattle.loops.proofs.Entry.{number-at}
+use Rattle.definitions_listing.specs.Lines.{validatorLine, lines}
 
--- the text of a validator's line
-abbrev pub lineText : Line → List ℕ
-lineText l = validatorLine (l .index) (l .«opening_balance») (l .«closing_balance») (l .«effective_balance») (l .«inactivity_score»)
+-- the line of the validator i, of its numbers where they stand
+abbrev pub lineAt : List ℕ → List ℕ → ℕ → List ℕ
+lineAt opening closing i =
+    validatorLine i (getD opening (10 * i + 6) 0) (getD closing (10 * i + 6) 0) (getD closing (10 * i) 0) (getD closing (10 * i + 9) 0)
 
 -- the lines from the validator i on
 abbrev linesFrom : List ℕ → List ℕ → ℕ → List ℕ
@@ -29,7 +28,7 @@ linesFrom opening closing i = lines i (drop i (decode opening)) (drop i (decode 
 pub record Lining (before : List ℕ) (at : ℕ) (opening closing : List ℕ) (n : ℕ) (text : List ℕ) (end i : ℕ) : Type 0 where
   pub count : n ≡ length opening / 10
   pub below : i ≤ n
-  pub room : end + 105 * (n - i) ≤ length text
+  pub room : end + 127 * (n - i) ≤ length text
   pub long : length text ≡ length before
   pub rest : (after : List ℕ) (last : ℕ) → Put text end (linesFrom opening closing i) after last → Put before at (linesFrom opening closing 0) after last
 
@@ -37,32 +36,33 @@ module _ (opening closing : List ℕ) (shaped : registryShaped opening ≡ true)
   many : (xs : List ℕ) → length xs ≡ length opening → length (decode xs) ≡ length opening / 10
   many xs e = length-decode (length opening / 10) xs (e ∙ registry-shaped opening shaped .long)
 
-  next : (i : ℕ) → i < length opening / 10 → linesFrom opening closing i ≡ lineText (lineNumbers opening closing i) ++ linesFrom opening closing (suc i)
+  next : (i : ℕ) → i < length opening / 10 → linesFrom opening closing i ≡ lineAt opening closing i ++ linesFrom opening closing (suc i)
   unfolding lines
   next i l =
+      let n = length opening / 10 in
+      let o = registry-shaped opening shaped .long in
       let a : i < length (decode opening) = omega (arith, many opening refl) in
       let b : i < length (decode closing) = omega (arith, many closing alike) in
-      rw (drop-cons (decode opening) i nobody a, drop-cons (decode closing) i nobody b)
+      let first : 10 * i ≡ 10 * i + 0 = omega arith in
+      rw (drop-cons (decode opening) i nobody a, drop-cons (decode closing) i nobody b, number-at n opening i o l 6 (omega arith), number-at n closing i (alike ∙ o) l 6 (omega arith), number-at n closing i (alike ∙ o) l 9 (omega arith), first, number-at n closing i (alike ∙ o) l 0 (omega arith))
 
   none : (i : ℕ) → length opening / 10 ≤ i → linesFrom opening closing i ≡ []
   unfolding lines
   none i l = let a : length (decode opening) ≤ i = omega (arith, many opening refl) in rw (drop-of-length-le (decode opening) a)
 
-  pub lining-none : (before : List ℕ) (at : ℕ) → at + 105 * (length opening / 10) ≤ length before → Lining before at opening closing (length opening / 10) before at 0
+  pub lining-none : (before : List ℕ) (at : ℕ) → at + 127 * (length opening / 10) ≤ length before → Lining before at opening closing (length opening / 10) before at 0
   lining-none before at r = record { count = refl; below = omega arith; room = omega arith; long = refl; rest = λ after last p. p }
 
   module _ {before : List ℕ} {at n : ℕ} {text : List ℕ} {end i : ℕ} (s : Lining before at opening closing n text end i) where
-    pub lining-more : {l : Line} {after : List ℕ} {last : ℕ} → i < n → l ≡ lineOf opening closing i → Put text end (lineText l) after last → last ≤ end + 105 → Lining before at opening closing n after last (i + 1)
-    lining-more {l} {after} {last} h e p few =
+    pub lining-more : {after : List ℕ} {last : ℕ} → i < n → Put text end (lineAt opening closing i) after last → last ≤ end + 127 → Lining before at opening closing n after last (i + 1)
+    lining-more {after} {last} h p few =
         let k : i < length opening / 10 = omega (arith, s .count) in
-        let f = e ∙ sym (line-is opening closing i shaped alike k) in
-        let q : Put text end (lineText (lineNumbers opening closing i)) after last = rw f at p in
         record {
           count = s .count;
           below = omega arith;
           room = omega (arith, s .room, put-length p);
           long = put-length p ∙ s .long;
-          rest = λ a b t. s .rest a b (rw (next i k) (put-more q (rw (add-one i) at t)));
+          rest = λ a b t. s .rest a b (rw (next i k) (put-more p (rw (add-one i) at t)));
         }
 
     pub lining-all : n ≤ i → Put before at (lines 0 (decode opening) (decode closing)) text end

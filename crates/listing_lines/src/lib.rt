@@ -2,14 +2,19 @@
 ghost use mathlib.Core.Path.{_≡_};
 ghost use Prim.Native.Nat.{_*_, _/_, _<_};
 ghost use lib.ListN.{length};
-ghost use Rattle.listing_lines.specs.Answers.{headNumbers, headOf, lineOf};
+ghost use Rattle.definitions.specs.Record.{decode};
+ghost use Rattle.definitions.specs.Checked.{codeOf};
+ghost use Rattle.definitions_listing.specs.NetChange.{changeTests};
+ghost use Rattle.definitions_listing.specs.Answers.{headNumbers, headOf, lineOf};
 
 pub mod numbers;
 pub mod text;
 
+use definitions_listing::Change;
+use definitions_listing::Head;
+use definitions_listing::Line;
 use leaf_refusals::current_epoch;
-use numbers::Head;
-use numbers::Line;
+use numbers::net_change;
 use numbers::no_head;
 use numbers::no_line;
 use refusals::good_finality;
@@ -58,23 +63,44 @@ pub fn line(opening: &[u64], closing: &[u64], index: u64) -> Line
     ensures { λ r. ⌜ r ≡ lineOf (now (opening .entry)) (now (closing .entry)) index ⌝ }
 {
     if !registry_shaped(opening) {
-        return no_line();
+        return no_line(1);
     }
     if closing.len() != opening.len() {
-        return no_line();
+        return no_line(1);
     }
     if (opening.len() / 10) as u64 <= index {
-        return no_line();
+        return no_line(1);
     }
     let a = 10 * (index as usize);
     let balance_at = a + 6;
     let score_at = a + 9;
+    let before = opening[balance_at];
+    let after = closing[balance_at];
+    let Change::Value(change) = net_change(before, after) else {
+        return no_line(7);
+    };
     Line {
         refusal: 0,
         index,
-        opening_balance: opening[balance_at],
-        closing_balance: closing[balance_at],
+        opening_balance: before,
+        closing_balance: after,
         effective_balance: closing[a],
         inactivity_score: closing[score_at],
+        net_change: change,
     }
+}
+
+// Whether every validator's net change fits: 0, or 7 at the first that does not.
+pub fn changes(opening: &[u64], closing: &[u64]) -> u64
+    requires { ⌜ (length (now opening) ≡ 10 * (length (now opening) / 10)) × (length (now closing) ≡ length (now opening)) ⌝ }
+    ensures { λ r. ⌜ r ≡ codeOf (changeTests (decode (now (opening .entry))) (decode (now (closing .entry)))) ⌝ }
+{
+    let n = opening.len() / 10;
+    for i in 0..n {
+        let at = 10 * i + 6;
+        let Change::Value(_) = net_change(opening[at], closing[at]) else {
+            return 7;
+        };
+    }
+    0
 }

@@ -1,17 +1,12 @@
 // The numbers of a line.
 ghost use mathlib.Core.Path.{_≡_};
-ghost use Rattle.listing_lines.specs.Answers.{noHead, noLine};
-
-// Of the first line, or a refusal's number and zeros.
-#[repr(C)]
-pub struct Head {
-    pub refusal: u64,
-    pub epoch: u64,
-    pub justified_epoch: u64,
-    pub finalized_epoch: u64,
-    pub justification_bits: u64,
-    pub charged: u64,
-}
+ghost use Prim.Native.Nat.{_<_, _^_};
+ghost use lib.IntN.{pos};
+ghost use Rattle.definitions_listing.specs.NetChange.{netChange, changeFor};
+ghost use Rattle.definitions_listing.specs.Answers.{noHead, noLine};
+use definitions_listing::Change;
+use definitions_listing::Head;
+use definitions_listing::Line;
 
 pub fn no_head(refusal: u64) -> Head
     ensures { λ r. ⌜ r ≡ noHead refusal ⌝ }
@@ -26,26 +21,34 @@ pub fn no_head(refusal: u64) -> Head
     }
 }
 
-// Of one validator's line, or refusal 1 and zeros.
-#[repr(C)]
-pub struct Line {
-    pub refusal: u64,
-    pub index: u64,
-    pub opening_balance: u64,
-    pub closing_balance: u64,
-    pub effective_balance: u64,
-    pub inactivity_score: u64,
-}
-
-pub fn no_line() -> Line
-    ensures { λ r. ⌜ r ≡ noLine 1 ⌝ }
+pub fn no_line(refusal: u64) -> Line
+    ensures { λ r. ⌜ r ≡ noLine refusal ⌝ }
 {
     Line {
-        refusal: 1,
+        refusal,
         index: 0,
         opening_balance: 0,
         closing_balance: 0,
         effective_balance: 0,
         inactivity_score: 0,
+        net_change: 0,
     }
+}
+
+// Closing minus opening, by cases: neither difference wraps, and -1 - loss reaches the least number.
+pub fn net_change(opening: u64, closing: u64) -> Change
+    ensures { λ r. ⌜ r ≡ changeFor (netChange opening closing) ⌝ }
+{
+    if opening <= closing {
+        let gain = closing - opening;
+        if gain < 9223372036854775808 {
+            return Change::Value(gain as i64);
+        }
+        return Change::Refused(7);
+    }
+    let loss = opening - closing - 1;
+    if loss < 9223372036854775808 {
+        return Change::Value(-1 - (loss as i64));
+    }
+    Change::Refused(7)
 }

@@ -7,11 +7,10 @@ ghost use lib.ListN.{length};
 ghost use Rattle.definitions.specs.Record.{decode};
 ghost use Rattle.definitions.specs.Refusals.{registryShaped};
 ghost use Rattle.decimals.specs.Put.{Put};
-ghost use Rattle.listing_lines.specs.Lines.{row, headLine, validatorLine, lines, refusedLine};
-use crate::line;
-use crate::numbers::Head;
-use crate::numbers::Line;
+ghost use Rattle.definitions_listing.specs.Lines.{row, headLine, validatorLine, lines, refusedLine};
+use decimals::put_change;
 use decimals::put_labelled;
+use definitions_listing::Head;
 
 fn put_end(text: &mut [u8], at: usize) -> usize
     requires { ⌜ at + 1 ≤ length (now text) ⌝ }
@@ -36,16 +35,15 @@ fn put_row(
     e: &[u8],
     o: u64,
 ) -> usize
-    requires { ⌜ at + (length (now a) + length (now b) + length (now c) + length (now d) + length (now e)) + 101 ≤ length (now text) ⌝ }
+    requires { ⌜ at + (length (now a) + length (now b) + length (now c) + length (now d) + length (now e)) + 100 ≤ length (now text) ⌝ }
     ensures { λ r. ⌜ Put (now (text .entry)) at (row (now (a .entry)) k (now (b .entry)) l (now (c .entry)) m (now (d .entry)) n (now (e .entry)) o) (now (text .exit)) r ⌝ }
-    ensures { λ r. ⌜ r ≤ at + (length (now (a .entry)) + length (now (b .entry)) + length (now (c .entry)) + length (now (d .entry)) + length (now (e .entry))) + 101 ⌝ }
+    ensures { λ r. ⌜ r ≤ at + (length (now (a .entry)) + length (now (b .entry)) + length (now (c .entry)) + length (now (d .entry)) + length (now (e .entry))) + 100 ⌝ }
 {
     let first = put_labelled(text, at, a, k);
     let second = put_labelled(text, first, b, l);
     let third = put_labelled(text, second, c, m);
     let fourth = put_labelled(text, third, d, n);
-    let fifth = put_labelled(text, fourth, e, o);
-    put_end(text, fifth)
+    put_labelled(text, fourth, e, o)
 }
 
 pub fn put_head(text: &mut [u8], at: usize, h: Head) -> usize
@@ -53,7 +51,7 @@ pub fn put_head(text: &mut [u8], at: usize, h: Head) -> usize
     ensures { λ r. ⌜ Put (now (text .entry)) at (headLine (h .epoch) (h .«justified_epoch») (h .«finalized_epoch») (h .«justification_bits») (h .charged)) (now (text .exit)) r ⌝ }
     ensures { λ r. ⌜ r ≤ at + 144 ⌝ }
 {
-    put_row(
+    let end = put_row(
         text,
         at,
         b"epoch ",
@@ -66,42 +64,64 @@ pub fn put_head(text: &mut [u8], at: usize, h: Head) -> usize
         h.justification_bits,
         b" charged ",
         h.charged,
-    )
+    );
+    put_end(text, end)
 }
 
-pub fn put_line(text: &mut [u8], at: usize, l: Line) -> usize
-    requires { ⌜ at + 105 ≤ length (now text) ⌝ }
-    ensures { λ r. ⌜ Put (now (text .entry)) at (validatorLine (l .index) (l .«opening_balance») (l .«closing_balance») (l .«effective_balance») (l .«inactivity_score»)) (now (text .exit)) r ⌝ }
-    ensures { λ r. ⌜ r ≤ at + 105 ⌝ }
+// One validator's line, of its numbers in either registry.
+fn put_line(
+    text: &mut [u8],
+    at: usize,
+    index: u64,
+    opening: u64,
+    closing: u64,
+    effective: u64,
+    score: u64,
+) -> usize
+    requires { ⌜ at + 127 ≤ length (now text) ⌝ }
+    ensures { λ r. ⌜ Put (now (text .entry)) at (validatorLine index opening closing effective score) (now (text .exit)) r ⌝ }
+    ensures { λ r. ⌜ r ≤ at + 127 ⌝ }
 {
-    put_row(
+    let row = put_row(
         text,
         at,
         b"",
-        l.index,
+        index,
         b" ",
-        l.opening_balance,
+        opening,
         b" ",
-        l.closing_balance,
+        closing,
         b" ",
-        l.effective_balance,
+        effective,
         b" ",
-        l.inactivity_score,
-    )
+        score,
+    );
+    let end = put_change(text, row, opening, closing);
+    put_end(text, end)
 }
 
 // A line for each validator.
 pub fn put_lines(text: &mut [u8], at: usize, opening: &[u64], closing: &[u64]) -> usize
     requires { ⌜ (registryShaped (now opening) ≡ true) × (length (now closing) ≡ length (now opening)) ⌝ }
-    requires { ⌜ at + 105 * (length (now opening) / 10) ≤ length (now text) ⌝ }
+    requires { ⌜ at + 127 * (length (now opening) / 10) ≤ length (now text) ⌝ }
     ensures { λ r. ⌜ Put (now (text .entry)) at (lines 0 (decode (now (opening .entry))) (decode (now (closing .entry)))) (now (text .exit)) r ⌝ }
     ensures { λ r. ⌜ r ≤ length (now (text .entry)) ⌝ }
 {
     let n = opening.len() / 10;
     let mut end = at;
     for i in 0..n {
-        let l = line(opening, closing, i as u64);
-        end = put_line(text, end, l);
+        let a = 10 * i;
+        let balance_at = a + 6;
+        let score_at = a + 9;
+        end = put_line(
+            text,
+            end,
+            i as u64,
+            opening[balance_at],
+            closing[balance_at],
+            closing[a],
+            closing[score_at],
+        );
     }
     end
 }

@@ -3,6 +3,7 @@ use mathlib.Core.Bool.{cond}
 use mathlib.Core.List.{List}
 use Prim.Native.Nat.{ℕ}
 use lib.Dec.{eqb}
+use lib.IntN.{pos}
 use lib.ListN.{length, replicate}
 use Rattle.types.specs.declared.Number.{Number}
 use Rattle.types.specs.declared.Number.the-variants.{Value as NumberValue, Refused as NumberRefused}
@@ -11,9 +12,12 @@ use Rattle.types.specs.declared.Truth.the-variants.{Value as TruthValue, Refuse
 use Rattle.types.specs.declared.DeltasAnswer.{DeltasAnswer}
 use Rattle.types.specs.declared.DeltasAnswer.the-variants.{Value as DeltasValue, Refused as DeltasRefused}
 use Rattle.definitions.specs.Checked.{Checked, codeOf, settle}
+use Rattle.definitions_listing.specs.declared.Change.{Change}
+use Rattle.definitions_listing.specs.declared.Change.the-variants.{Value as ChangeValue, Refused as ChangeRefused}
 use Rattle.plain.specs.declared.PlainNumber.{PlainNumber}
 use Rattle.plain.specs.declared.PlainTruth.{PlainTruth}
 use Rattle.plain.specs.declared.PlainDeltas.{PlainDeltas}
+use Rattle.plain.specs.declared.PlainChange.{PlainChange}
 use Rattle.plain.specs.declared.PlainRoot.{PlainRoot}
 
 unfoldable pub plainNumber : Number → PlainNumber
@@ -27,6 +31,10 @@ plainTruth (TruthRefused n) = record { refusal = n; value = 0 }
 unfoldable pub plainDeltas : DeltasAnswer → PlainDeltas
 plainDeltas (DeltasValue d) = record { refusal = 0; reward = d .reward; penalty = d .penalty }
 plainDeltas (DeltasRefused n) = record { refusal = n; reward = 0; penalty = 0 }
+
+unfoldable pub plainChange : Change → PlainChange
+plainChange (ChangeValue x) = record { refusal = 0; value = x }
+plainChange (ChangeRefused n) = record { refusal = n; value = pos 0 }
 
 abbrev pub noRoot : List ℕ
 noRoot = replicate 32 0

@@ -26,6 +26,13 @@ pub struct PlainDeltas {
     pub penalty: u64,
 }
 
+// value is from -2^63 to 2^63 - 1; the call that answers it makes it
+#[repr(C)]
+pub struct PlainChange {
+    pub refusal: u64,
+    pub value: i64,
+}
+
 #[repr(C)]
 pub struct PlainRoot {
     pub refusal: u64,

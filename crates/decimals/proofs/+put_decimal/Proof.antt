@@ -8,7 +8,7 @@ use borrow.Author.Needs.{needs}
 use borrow.Fn.Kinds.{In}
 use borrow.Fn.PlainCycle.{Measures, is, falls, and}
 use lib.ListN.{length, length-set}
-use Rattle.decimals.specs.Decimal.{digit, decimal}
+use Rattle.definitions_listing.specs.Decimal.{digit, decimal}
 use Rattle.decimals.proofs.Decimal.{decimal-one, decimal-more, room-one, room-more}
 use Rattle.decimals.proofs.Put.{put, put-byte, put-length}
 use Rattle.decimals.proofs.put_decimal.Reads as put-decimal

@@ -3,7 +3,7 @@ use native.Mathlib.Omega.{arith}
 use borrow.Author.Needs.{needs}
 use Rattle.definitions.specs.Close.{Call, Outcome}
 use Rattle.close.specs.Called.{called}
-use Rattle.listing_lines.specs.Lines.{closeText}
+use Rattle.definitions_listing.specs.Lines.{closeText, acceptedText}
 use Rattle.listing_close.proofs.Accepted.{accepted}
 use Rattle.listing_close.proofs.Printed.{listed-refused, listed-close}
 use Rattle.listing_close.proofs.list_close.Statement.{statement}
@@ -47,7 +47,7 @@ same-length-6 : tie.Need-same-length-6
 same-length-6 c = search needs
 
 returns-2 : tie.Need-returns-2
-unfolding closeText
+unfolding closeText acceptedText
 returns-2 c =
     let p = c .before .before .put-close .ensures in
     listed-close (handed (c .before .before .before .before .before .before .before .before .before .before .before .before .before .before .before .before .before .before .before .before .before)) (c .before .before .before .before .before .before .before .before .before .before .before .before .close .ensures) (p .1) (c .before .before .before .before .before .before .if1 .left) (p .0)

@@ -1,13 +1,32 @@
+use mathlib.Core.Path.{sym, _∙_}
 use native.Mathlib.Omega.{arith}
 use borrow.Author.Needs.{needs}
 use Rattle.refusals.proofs.Laws.{registry-shaped}
 use Rattle.decimals.proofs.Put.{put-more, put-length}
+use Rattle.listing_close.proofs.Printed.{or-refused, or-text}
 use Rattle.listing_close.proofs.put_close.Statement.{statement}
 use Rattle.listing_close.proofs.put_close.Tie as tie
 
+changes-requires : tie.Need-changes-requires
+changes-requires c κs =
+    let s = c .before .before .before in
+    (registry-shaped _ (s .pre .1 .0 .0) .long, s .pre .1 .0 .1)
+
+put-refused-requires : tie.Need-put-refused-requires
+put-refused-requires c κs = search needs
+
+same-length : tie.Need-same-length
+same-length c = search needs
+
+returns : tie.Need-returns
+returns c =
+    let p = c .before .before .put-refused .ensures in
+    let k = c .before .before .before .before in
+    (rw (or-refused _ (k .before .changes .ensures) (k .if1 .taken)) (p .0), omega (arith, p .1, put-length (p .0)))
+
 head-core-requires : tie.Need-head-core-requires
 head-core-requires c κs =
-    let s = c .before .before .before in
+    let s = c .before .before .before .before .before in
     (s .pre .0, registry-shaped _ (s .pre .1 .0 .0) .long)
 
 put-head-requires : tie.Need-put-head-requires
@@ -16,17 +35,28 @@ put-head-requires c κs = search needs
 put-lines-requires : tie.Need-put-lines-requires
 put-lines-requires c κs = search needs
 
-same-length : tie.Need-same-length
-same-length c = search needs
+same-length-2 : tie.Need-same-length-2
+same-length-2 c = search needs
 
-returns : tie.Need-returns
-returns c =
-    let h = c .before .before .before .before .before .before .before .before .head-core .ensures in
-    let p = c .before .before .before .before .before .before .put-head .ensures .0 in
+returns-2 : tie.Need-returns-2
+returns-2 c =
     let q = c .before .before .put-lines .ensures in
-    (put-more (rw h at p) (q .0), omega (arith, q .1, put-length p))
+    let k = c .before .before .before .before .before .before in
+    let p = k .put-head .ensures .0 in
+    let h = k .before .before .head-core .ensures in
+    let t = k .before .before .before in
+    (rw (or-text _ (sym (t .before .changes .ensures) ∙ t .if1 .left)) (put-more (rw h at p) (q .0)), omega (arith, q .1, put-length p))
 
 pub put-close-spec : {M : Type 1} → statement M
 put-close-spec =
     tie.close
-    (tie.spec head-core-requires put-head-requires put-lines-requires same-length returns)
+    (tie.spec
+    changes-requires
+    put-refused-requires
+    same-length
+    returns
+    head-core-requires
+    put-head-requires
+    put-lines-requires
+    same-length-2
+    returns-2)

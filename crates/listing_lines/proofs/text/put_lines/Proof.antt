@@ -1,6 +1,5 @@
 use Prim.Native.Nat.{_-_}
 use native.Mathlib.Omega.{arith}
-use borrow.Author.Needs.{needs}
 use Rattle.listing_lines.proofs.Lines.{Lining, lining-none, lining-more, lining-all}
 use Rattle.listing_lines.proofs.text.put_lines.Statement.{statement}
 use Rattle.listing_lines.proofs.text.put_lines.Tie as tie
@@ -16,8 +15,38 @@ loop-holds c =
     let s = c .before .before .before in
     lining-none _ _ (s .pre .0 .0) (s .pre .0 .1) _ _ (s .pre .1)
 
-line-requires : tie.Need-line-requires Inv-loop μ-loop
-line-requires c κs = search needs
+mul-a : tie.Need-mul-a Inv-loop μ-loop
+mul-a c = omega arith
+
+add-balance-at : tie.Need-add-balance-at Inv-loop μ-loop
+add-balance-at c = omega arith
+
+add-score-at : tie.Need-add-score-at Inv-loop μ-loop
+add-score-at c = omega arith
+
+mul-put-line : tie.Need-mul-put-line Inv-loop μ-loop
+mul-put-line c = omega arith
+
+shared-slice-read-put-line : tie.Need-shared-slice-read-put-line Inv-loop μ-loop
+shared-slice-read-put-line c = omega arith
+
+mul-put-line-2 : tie.Need-mul-put-line-2 Inv-loop μ-loop
+mul-put-line-2 c = omega arith
+
+shared-slice-read-put-line-2 : tie.Need-shared-slice-read-put-line-2 Inv-loop μ-loop
+shared-slice-read-put-line-2 c = omega arith
+
+mul-put-line-3 : tie.Need-mul-put-line-3 Inv-loop μ-loop
+mul-put-line-3 c = omega arith
+
+shared-slice-read-put-line-3 : tie.Need-shared-slice-read-put-line-3 Inv-loop μ-loop
+shared-slice-read-put-line-3 c = omega arith
+
+mul-put-line-4 : tie.Need-mul-put-line-4 Inv-loop μ-loop
+mul-put-line-4 c = omega arith
+
+shared-slice-read-put-line-4 : tie.Need-shared-slice-read-put-line-4 Inv-loop μ-loop
+shared-slice-read-put-line-4 c = omega arith
 
 put-line-requires : tie.Need-put-line-requires Inv-loop μ-loop
 put-line-requires c κs = omega arith
@@ -30,9 +59,11 @@ loop-less c = omega arith
 
 loop-again : tie.Need-loop-again Inv-loop μ-loop
 loop-again c =
-    let s = c .before .before .before .before .before .before .before .before .before .before in
-    let p = c .before .before .put-line .ensures in
-    lining-more _ _ (s .pre .0 .0) (s .pre .0 .1) (c .before .before .before .before .before .before .loop .inv) (c .before .before .before .before .before .loop-test .taken) (c .before .before .before .before .line .ensures) (p .0) (p .1)
+    let k = c .before .before in
+    let t = k .before .before .before .before .before .before in
+    let s = t .before .before .before .before .before in
+    let p = k .put-line .ensures in
+    lining-more _ _ (s .pre .0 .0) (s .pre .0 .1) (t .before .loop .inv) (t .loop-test .taken) (p .0) (p .1)
 
 same-length : tie.Need-same-length Inv-loop μ-loop
 same-length c = omega arith
@@ -50,7 +81,17 @@ put-lines-spec =
     Inv-loop
     μ-loop
     loop-holds
-    line-requires
+    mul-a
+    add-balance-at
+    add-score-at
+    mul-put-line
+    shared-slice-read-put-line
+    mul-put-line-2
+    shared-slice-read-put-line-2
+    mul-put-line-3
+    shared-slice-read-put-line-3
+    mul-put-line-4
+    shared-slice-read-put-line-4
     put-line-requires
     add-i
     loop-less

@@ -19,21 +19,21 @@ put-labelled-requires-4 c κs = search needs
 put-labelled-requires-5 : tie.Need-put-labelled-requires-5
 put-labelled-requires-5 c κs = search needs
 
-put-end-requires : tie.Need-put-end-requires
-put-end-requires c κs = search needs
-
 same-length : tie.Need-same-length
 same-length c = search needs
 
 returns : tie.Need-returns
 returns c =
-    let p1 = c .before .before .before .before .before .before .before .before .before .before .before .before .before .before .before .before .before .before .before .before .before .before .put-labelled .ensures in
-    let p2 = c .before .before .before .before .before .before .before .before .before .before .before .before .before .before .before .before .before .before .put-labelled2 .ensures in
-    let p3 = c .before .before .before .before .before .before .before .before .before .before .before .before .before .before .put-labelled3 .ensures in
-    let p4 = c .before .before .before .before .before .before .before .before .before .before .put-labelled4 .ensures in
-    let p5 = c .before .before .before .before .before .before .put-labelled5 .ensures in
-    let p6 = c .before .before .put-end .ensures in
-    (put-more (put-more (put-more (put-more (put-more (p1 .0) (p2 .0)) (p3 .0)) (p4 .0)) (p5 .0)) p6, omega (arith, p1 .1, p2 .1, p3 .1, p4 .1, p5 .1, p6 .stopped))
+    let k4 = c .before .before .before .before in
+    let k3 = k4 .before .before .before .before in
+    let k2 = k3 .before .before .before .before in
+    let k1 = k2 .before .before .before .before in
+    let p1 = k1 .before .before .put-labelled .ensures in
+    let p2 = k2 .before .before .put-labelled2 .ensures in
+    let p3 = k3 .before .before .put-labelled3 .ensures in
+    let p4 = k4 .before .before .put-labelled4 .ensures in
+    let p5 = c .before .before .put-labelled5 .ensures in
+    (put-more (put-more (put-more (put-more (p1 .0) (p2 .0)) (p3 .0)) (p4 .0)) (p5 .0), omega (arith, p1 .1, p2 .1, p3 .1, p4 .1, p5 .1))
 
 pub put-row-spec : {M : Type 1} → statement M
 put-row-spec =
@@ -44,6 +44,5 @@ put-row-spec =
     put-labelled-requires-3
     put-labelled-requires-4
     put-labelled-requires-5
-    put-end-requires
     same-length
     returns)

@@ -7,7 +7,7 @@ use lib.ListN.{length, replicate}
 use Rattle.definitions.specs.Checked.{numberOf, badFile}
 use Rattle.definitions.specs.File.{Contents, ReadOutcome, countOf, slashingCountOf, read}
 use Rattle.definitions.specs.Close.{Call, close}
-use Rattle.listing_lines.specs.Lines.{refusedLine, orRefused, closePrinted}
+use Rattle.definitions_listing.specs.Lines.{refusedLine, orRefused, closePrinted}
 
 -- the file, read into buffers as long as its own header calls for
 abbrev pub opened : List ℕ → ReadOutcome

@@ -1,34 +1,38 @@
--- The lines of a listing, as bytes. Document 01, "The listing program".
+-- The lines of a listing, as bytes. Document 01, "The listing program", and document 02, R-1.
 use mathlib.Core.Bool.{cond}
 use mathlib.Core.List.{List, [], _∷_, _++_}
 use Prim.Native.Nat.{ℕ, suc}
 use Prim.Native.Char.{code}
 use Prim.Native.String.{String, [] as empty, _∷_ as _then_}
 use lib.Dec.{eqb}
+use lib.IntN.{subℕ}
 use Rattle.definitions.specs.Record.{Validator, decode}
 use Rattle.definitions.specs.Document.Phase0.Helpers.{«get_current_epoch»}
+use Rattle.definitions.specs.Checked.{codeOf}
 use Rattle.definitions.specs.Close.{Call, Outcome, charged}
-use Rattle.decimals.specs.Decimal.{decimal}
+use Rattle.definitions_listing.specs.Decimal.{decimal, signedDecimal}
+use Rattle.definitions_listing.specs.NetChange.{changeTests}
 
 -- the bytes of a text of ASCII characters
 abbrev pub ascii : String → List ℕ
 ascii empty = []
 ascii (c then cs) = code c ∷ ascii cs
 
--- five numbers, each behind its label, and the end of the line
+-- five numbers, each behind its label
 abbrev pub row : List ℕ → ℕ → List ℕ → ℕ → List ℕ → ℕ → List ℕ → ℕ → List ℕ → ℕ → List ℕ
 row a k b l c m d n e o =
-    (a ++ decimal k) ++ (b ++ decimal l) ++ (c ++ decimal m) ++ (d ++ decimal n) ++ (e ++ decimal o) ++ ascii "\n"
+    (a ++ decimal k) ++ (b ++ decimal l) ++ (c ++ decimal m) ++ (d ++ decimal n) ++ (e ++ decimal o)
 
 -- "epoch, current justified epoch, finalized epoch and bits after, and charged"
 abbrev pub headLine : ℕ → ℕ → ℕ → ℕ → ℕ → List ℕ
 headLine epoch justified finalized bits charged =
-    row (ascii "epoch ") epoch (ascii " justified ") justified (ascii " finalized ") finalized (ascii " bits ") bits (ascii " charged ") charged
+    row (ascii "epoch ") epoch (ascii " justified ") justified (ascii " finalized ") finalized (ascii " bits ") bits (ascii " charged ") charged ++ ascii "\n"
 
--- "index, opening balance, closing balance, and effective balance and score after the close"
+-- "index, opening balance, closing balance, and effective balance and score after the close", and closing minus opening
 abbrev pub validatorLine : ℕ → ℕ → ℕ → ℕ → ℕ → List ℕ
 validatorLine index opening closing effective score =
     row (ascii "") index (ascii " ") opening (ascii " ") closing (ascii " ") effective (ascii " ") score
+    ++ (ascii " " ++ signedDecimal (subℕ closing opening)) ++ ascii "\n"
 
 -- a line for each validator, from the one numbered `index` on
 unfoldable pub lines : ℕ → List Validator → List Validator → List ℕ
@@ -54,5 +58,11 @@ closeText c out =
     headLine («get_current_epoch» s stateSlot) (after .«current_justified_checkpoint» .epoch) (after .«finalized_checkpoint» .epoch) (after .«justification_bits») (charged s stateSlot (decode (c .registry)))
     ++ lines 0 (decode (c .registry)) (decode (out .closingRegistry))
 
+-- 02: 7 is "tested after the close", and "the listing is then only `refused 7`"
+unfoldable pub acceptedText : Call → Outcome → List ℕ
+acceptedText c out =
+    let changes = changeTests (decode (c .registry)) (decode (out .closingRegistry)) in
+    orRefused (codeOf changes) (closeText c out)
+
 abbrev pub closePrinted : Call → Outcome → List ℕ
-closePrinted c out = orRefused (out .refusal) (closeText c out)
+closePrinted c out = orRefused (out .refusal) (acceptedText c out)

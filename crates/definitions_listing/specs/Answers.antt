@@ -2,17 +2,19 @@
 use mathlib.Core.Bool.{true, _&&_}
 use mathlib.Core.List.{List}
 use Prim.Native.Nat.{ℕ}
+use lib.IntN.{ℤ, pos}
 use lib.ListN.{getD}
 use Rattle.types.specs.declared.Settings.{Settings}
 use Rattle.types.specs.declared.Finality.{Finality}
 use Rattle.definitions.specs.Record.{decode, nobody}
-use Rattle.definitions.specs.Checked.{Checked, value, refused, numberOf}
+use Rattle.definitions.specs.Checked.{Checked, value, refused, numberOf, bind}
 use Rattle.definitions.specs.Refusals.{inOrder, settingsShaped, registryShaped, sameLength, isSmall, goodSettings, goodFinality, goodRegistry, afterTests}
 use Rattle.definitions.specs.LeafRefusals.{isIndex}
 use Rattle.definitions.specs.Document.Phase0.Helpers.{«get_current_epoch»}
 use Rattle.definitions.specs.Close.{charged}
-use Rattle.listing_lines.specs.declared.numbers.Head.{Head}
-use Rattle.listing_lines.specs.declared.numbers.Line.{Line}
+use Rattle.definitions_listing.specs.declared.Head.{Head}
+use Rattle.definitions_listing.specs.declared.Line.{Line}
+use Rattle.definitions_listing.specs.NetChange.{netChange}
 
 -- The head line, of the opening's slot and registry and of the closing's finality
 
@@ -48,8 +50,8 @@ headOf s stateSlot closing opening =
 unfoldable pub lineTests : List ℕ → List ℕ → ℕ → Checked (Unit {0})
 lineTests opening closing index = inOrder (registryShaped opening && sameLength opening closing && isIndex index opening) true true
 
-abbrev pub lineNumbers : List ℕ → List ℕ → ℕ → Line
-lineNumbers opening closing index =
+abbrev pub lineNumbers : List ℕ → List ℕ → ℕ → ℤ → Line
+lineNumbers opening closing index change =
     let before = getD (decode opening) index nobody in
     let after = getD (decode closing) index nobody in
     record {
@@ -59,16 +61,29 @@ lineNumbers opening closing index =
       «closing_balance» = after .balance;
       «effective_balance» = after .«effective_balance»;
       «inactivity_score» = after .«inactivity_score»;
+      «net_change» = change;
     }
 
 abbrev pub noLine : ℕ → Line
 noLine refusal =
-    record { refusal = refusal; index = 0; «opening_balance» = 0; «closing_balance» = 0; «effective_balance» = 0; «inactivity_score» = 0 }
+    record {
+      refusal = refusal;
+      index = 0;
+      «opening_balance» = 0;
+      «closing_balance» = 0;
+      «effective_balance» = 0;
+      «inactivity_score» = 0;
+      «net_change» = pos 0;
+    }
 
 abbrev pub lineFor : Checked Line → Line
 lineFor (value l) = l
 lineFor (refused r) = noLine (numberOf r)
 
+-- 1, then 7 where the validator's net change does not fit
 abbrev pub lineOf : List ℕ → List ℕ → ℕ → Line
 lineOf opening closing index =
-    lineFor (afterTests (lineTests opening closing index) (value (lineNumbers opening closing index)))
+    let before = getD (decode opening) index nobody in
+    let after = getD (decode closing) index nobody in
+    let told = bind (netChange (before .balance) (after .balance)) (λ change. value (lineNumbers opening closing index change)) in
+    lineFor (afterTests (lineTests opening closing index) told)

@@ -3,6 +3,7 @@ use mathlib.Core.Bool.{cond}
 use mathlib.Core.List.{List, [], _∷_, _++_}
 use Prim.Native.Nat.{ℕ, zero, suc, _+_, _/_, _%_}
 use lib.Dec.{ltb}
+use lib.IntN.{ℤ, pos, negsuc}
 
 -- the ASCII code of a digit
 abbrev pub digit : ℕ → ℕ
@@ -16,3 +17,8 @@ digits (suc most) n = let front = digits most (n / 10) in cond (ltb n 10) (digit
 -- n has at most n + 1 digits
 unfoldable pub decimal : ℕ → List ℕ
 decimal n = digits (suc n) n
+
+-- "with a minus sign for a loss and 0 bare": `negsuc n` is -(n + 1)
+unfoldable pub signedDecimal : ℤ → List ℕ
+signedDecimal (pos n) = decimal n
+signedDecimal (negsuc n) = 45 ∷ decimal (suc n)

@@ -1,0 +1,2 @@
+-- The net change's figures.
+pub mod Figures
