@@ -1,27 +1,26 @@
 -- The balance of a validator from the amounts of its effective balance.
 use mathlib.Core.Path.{_≡_, refl, sym, ap, _∙_}
-use mathlib.Core.Bool.{Bool, true, false, cond}
-use mathlib.Core.List.{[], _∷_}
+use mathlib.Core.Bool.{Bool, true, false, cond, not, true≢false}
 use Prim.Native.Nat.{ℕ, _/_}
 use native.Mathlib.Omega.{arith}
+use lib.Dec.{eqb}
 use lib.ListN.{getD}
 use Rattle.types.specs.declared.Settings.{Settings}
 use Rattle.types.specs.declared.Deltas.{Deltas}
-use Rattle.types.specs.declared.Number.{Number}
-use Rattle.definitions.specs.Answers.{Says}
-use Rattle.definitions.specs.Checked.{Checked, value, bind, mul64, foldChecked}
+use Rattle.types.specs.declared.DeltasAnswer.{DeltasAnswer}
+use Rattle.types.specs.declared.DeltasAnswer.the-variants.{Value as DeltasValue, Refused as DeltasRefused}
+use Rattle.definitions.specs.Answers.{SaysDeltas, deltasAnswerFor}
+use Rattle.definitions.specs.Checked.{Checked, value, refused, overflow, bind, mul64}
 use Rattle.definitions.specs.Record.{Validator}
 use Rattle.definitions.specs.Document.Phase0.EpochProcessing.{isEligible}
 use Rattle.definitions.specs.Rust.Altair.Helpers.{«PARTICIPATION_FLAG_WEIGHTS», «WEIGHT_DENOMINATOR», FlagTotals, noDeltas, isUnslashedParticipating, «get_base_reward», hitDeltas, missDeltas, flagIndexDeltas, inactivityPenaltyDeltas}
 use Rattle.laws.proofs.Checked.{bound, value-same}
+use Rattle.arithmetic.proofs.Laws.{bind-value, bind-refused}
 use Rattle.rewards.specs.declared.Shared.{Shared}
 use Rattle.rewards.specs.Shared.{totalsOf}
-use Rattle.reward_balances.specs.Balances.{appliedBalance, rewardedBalance}
+use Rattle.rates.specs.declared.Amount.{Amount}
 use Rattle.rates.specs.declared.Rates.{Rates}
-use Rattle.rates.specs.Rated.{rewardOf, penaltyOf, Fits, Rated, byFlag, byScore}
-
-pub not-rated : (s : Settings) (h : Shared) (source target head : ℕ) {q : Rates} → q .fits ≡ 0 → Rated s h source target head q
-not-rated s h source target head e = record { told = λ t. absurd (omega (arith, e, t)) }
+use Rattle.rates.specs.Rated.{baseOf, rewardOf, penaltyOf, Told, Fits, byFlag, FlagBy, byScore}
 
 -- A hit is a reward alone, a miss a penalty alone
 
@@ -40,40 +39,91 @@ hit-reward s weight t base {d} e = e ∙ ap value (go (t .leaking) e)
         let k = bound (mul64 (t .totalActiveBalance / s .«effective_balance_increment») «WEIGHT_DENOMINATOR») _ (j .then) in
         alone _ (value-same (k .then))
 
-pub miss-penalty : (index weight base : ℕ) → (index ≡ 2 → ⊥) → {d : Deltas} → missDeltas index weight base ≡ value d → missDeltas index weight base ≡ value (penaltyOf (d .penalty))
+pub miss-penalty : (index weight base : ℕ) {d : Deltas} → missDeltas index weight base ≡ value d → missDeltas index weight base ≡ value (penaltyOf (d .penalty))
 unfolding missDeltas
-miss-penalty index weight base n {d} e =
-    let i = bound (mul64 base weight) (λ weighted. value (penaltyOf (weighted / «WEIGHT_DENOMINATOR»))) (rw (borrow.Author.Tests.ne-eqb index 2 n) at e) in
-    let k = value-same (i .then) in
-    e ∙ ap value (sym k ∙ ap (λ (y : Deltas). penaltyOf (y .penalty)) k)
+miss-penalty index weight base {d} e = e ∙ ap value (go (eqb index 2) e)
+  where
+    alone : (x : ℕ) → penaltyOf x ≡ d → d ≡ penaltyOf (d .penalty)
+    alone x k = sym k ∙ ap (λ (y : Deltas). penaltyOf (y .penalty)) k
+
+    go : (b : Bool) → cond b (value noDeltas) (bind (mul64 base weight) (λ weighted. value (penaltyOf (weighted / «WEIGHT_DENOMINATOR»)))) ≡ value d → d ≡ penaltyOf (d .penalty)
+    go true e = alone 0 (value-same e)
+    go false e = let i = bound (mul64 base weight) (λ weighted. value (penaltyOf (weighted / «WEIGHT_DENOMINATOR»))) e in alone _ (value-same (i .then))
+
+-- An amount by the base reward m, and what follows from it
+
+module _ (m : Checked ℕ) (k : ℕ → Checked Deltas) (of : ℕ → Deltas) where
+  pub told-past : bind m k ≡ refused overflow → Told (bind m k) of (record { value = 0; over = 1 })
+  told-past e = record { fits = λ z. absurd (omega (arith, z)); past = λ _. e }
+
+  pub told-fits : {base x : ℕ} → m ≡ value base → k base ≡ value (of x) → Told (bind m k) of (record { value = x; over = 0 })
+  told-fits e h = record { fits = λ _. bind-value k e ∙ h; past = λ n. absurd (n refl) }
+
+  pub no-base : m ≡ refused overflow → bind m k ≡ refused overflow
+  no-base e = bind-refused k e
+
+  pub not-fits : {base : ℕ} → m ≡ value base → k base ≡ refused overflow → bind m k ≡ refused overflow
+  not-fits e h = bind-value k e ∙ h
+
+-- One flag, by what the code found of it
+
+module _ (eligible hit : Bool) (x y : Checked Deltas) where
+  pub not-eligible : not eligible ≡ true → SaysDeltas (byFlag eligible hit x y) (DeltasValue noDeltas)
+  unfolding byFlag
+  not-eligible e = go eligible e
+    where
+      go : (b : Bool) → not b ≡ true → SaysDeltas (cond b (cond hit x y) (value noDeltas)) (DeltasValue noDeltas)
+      go true e = absurd (true≢false (sym e))
+      go false e = record { is = refl }
+
+  pub was-hit : not eligible ≡ false → hit ≡ true → {r : DeltasAnswer} → SaysDeltas x r → SaysDeltas (byFlag eligible hit x y) r
+  unfolding byFlag
+  was-hit e i {r} h = rw i (go eligible e)
+    where
+      go : (b : Bool) → not b ≡ false → SaysDeltas (cond b x (value noDeltas)) r
+      go true e = h
+      go false e = absurd (true≢false e)
+
+  pub was-missed : not eligible ≡ false → hit ≡ false → {r : DeltasAnswer} → SaysDeltas y r → SaysDeltas (byFlag eligible hit x y) r
+  unfolding byFlag
+  was-missed e i {r} h = rw i (go eligible e)
+    where
+      go : (b : Bool) → not b ≡ false → SaysDeltas (cond b y (value noDeltas)) r
+      go true e = h
+      go false e = absurd (true≢false e)
+
+pub says-amount : {m : Checked Deltas} {of : ℕ → Deltas} {a : Amount} → Told m of a → a .over ≡ 0 → SaysDeltas m (DeltasValue (of (a .value)))
+says-amount t z = record { is = ap deltasAnswerFor (sym (t .fits z)) }
+
+pub says-past : {m : Checked Deltas} {of : ℕ → Deltas} {a : Amount} → Told m of a → (a .over ≡ 0 → ⊥) → SaysDeltas m (DeltasRefused 5)
+says-past t n = record { is = ap deltasAnswerFor (sym (t .past n)) }
 
 -- a validator of that effective balance
-module _ {s : Settings} {h : Shared} {source target head : ℕ} {q : Rates} (f : Fits s h source target head q) (v : Validator) (same : q .«effective_balance» ≡ v .«effective_balance») where
-  base-is : «get_base_reward» s (h .total) v ≡ value (f .base)
-  unfolding «get_base_reward»
-  base-is = rw (← same) (f .given)
+module _ {s : Settings} {h : Shared} {source target head : ℕ} {q : Rates} (f : Fits s h source target head q) (v : Validator) (same : q .«effective_balance» ≡ v .«effective_balance») {eligible : Bool} (e : eligible ≡ isEligible (h .«previous_epoch») v) where
+  flag-is : (index increments : ℕ) {hit : Bool} → hit ≡ isUnslashedParticipating (h .«current_epoch») index (h .«previous_epoch») v → flagIndexDeltas s (h .«current_epoch») (h .«previous_epoch») index (totalsOf h increments) v ≡ byFlag eligible hit (bind (baseOf s (h .total) (q .«effective_balance»)) (hitDeltas s (getD «PARTICIPATION_FLAG_WEIGHTS» index 0) (totalsOf h increments))) (bind (baseOf s (h .total) (q .«effective_balance»)) (missDeltas index (getD «PARTICIPATION_FLAG_WEIGHTS» index 0)))
+  unfolding flagIndexDeltas «get_base_reward» byFlag
+  flag-is index increments {hit} i = rw (← e, ← i, same) (go eligible hit)
+    where
+      base : Checked ℕ
+      base = baseOf s (h .total) (v .«effective_balance»)
 
-  -- what the code found of it
-  module _ {eligible : Bool} (e : eligible ≡ isEligible (h .«previous_epoch») v) where
-    flag-is : (index increments reward penalty : ℕ) → hitDeltas s (getD «PARTICIPATION_FLAG_WEIGHTS» index 0) (totalsOf h increments) (f .base) ≡ value (rewardOf reward) → missDeltas index (getD «PARTICIPATION_FLAG_WEIGHTS» index 0) (f .base) ≡ value (penaltyOf penalty) → {hit : Bool} → hit ≡ isUnslashedParticipating (h .«current_epoch») index (h .«previous_epoch») v → flagIndexDeltas s (h .«current_epoch») (h .«previous_epoch») index (totalsOf h increments) v ≡ value (byFlag eligible hit reward penalty)
-    unfolding flagIndexDeltas bind byFlag
-    flag-is index increments reward penalty x y {hit} i = rw (← e, base-is, ← i) (go eligible hit)
-      where
-        go : (b t : Bool) → cond b (cond t (hitDeltas s (getD «PARTICIPATION_FLAG_WEIGHTS» index 0) (totalsOf h increments) (f .base)) (missDeltas index (getD «PARTICIPATION_FLAG_WEIGHTS» index 0) (f .base))) (value noDeltas) ≡ value (byFlag b t reward penalty)
-        go true true = x
-        go true false = y
-        go false t = refl
+      weight : ℕ
+      weight = getD «PARTICIPATION_FLAG_WEIGHTS» index 0
 
-    head-miss : missDeltas 2 14 (f .base) ≡ value (penaltyOf 0)
-    unfolding missDeltas
-    head-miss = refl
+      go : (b t : Bool) → cond b (bind base (λ x. cond t (hitDeltas s weight (totalsOf h increments) x) (missDeltas index weight x))) (value noDeltas) ≡ cond b (cond t (bind base (hitDeltas s weight (totalsOf h increments))) (bind base (missDeltas index weight))) (value noDeltas)
+      go true true = refl
+      go true false = refl
+      go false t = refl
 
-    penalty-is : (quotient : ℕ) {hit : Bool} → hit ≡ isUnslashedParticipating (h .«current_epoch») 1 (h .«previous_epoch») v → inactivityPenaltyDeltas s quotient (h .«current_epoch») (h .«previous_epoch») v ≡ byScore (s .«inactivity_score_bias») quotient eligible hit (q .«effective_balance») (v .«inactivity_score»)
-    unfolding inactivityPenaltyDeltas byScore
-    penalty-is quotient i = rw (← e, ← i, same)
+  pub source-says : {hit : Bool} → hit ≡ isUnslashedParticipating (h .«current_epoch») 0 (h .«previous_epoch») v → {r : DeltasAnswer} → FlagBy eligible hit (q .«source_reward») (q .«source_penalty») r → SaysDeltas (flagIndexDeltas s (h .«current_epoch») (h .«previous_epoch») 0 (totalsOf h source) v) r
+  source-says i b = rw (flag-is 0 source i) (b .of _ _ (f .sourceHit) (f .sourceMiss))
 
-    -- the three flags are known: what is left is inactivity, and the balance
-    pub balance-is : (quotient : ℕ) {a b c : Deltas} {i j k : Bool} → i ≡ isUnslashedParticipating (h .«current_epoch») 0 (h .«previous_epoch») v → a ≡ byFlag eligible i (q .«source_reward») (q .«source_penalty») → j ≡ isUnslashedParticipating (h .«current_epoch») 1 (h .«previous_epoch») v → b ≡ byFlag eligible j (q .«target_reward») (q .«target_penalty») → k ≡ isUnslashedParticipating (h .«current_epoch») 2 (h .«previous_epoch») v → c ≡ byFlag eligible k (q .«head_reward») 0 → {r : Number} → Says (bind (byScore (s .«inactivity_score_bias») quotient eligible j (q .«effective_balance») (v .«inactivity_score»)) (λ d. foldChecked appliedBalance (v .balance) (a ∷ b ∷ c ∷ d ∷ []))) r → Says (rewardedBalance s quotient (h .«current_epoch») (h .«previous_epoch») (totalsOf h source) (totalsOf h target) (totalsOf h head) v) r
-    unfolding rewardedBalance bind
-    balance-is quotient i x j y k z u =
-        rw (flag-is 0 source (q .«source_reward») (q .«source_penalty») (f .sourceHit) (f .sourceMiss) i, flag-is 1 target (q .«target_reward») (q .«target_penalty») (f .targetHit) (f .targetMiss) j, flag-is 2 head (q .«head_reward») 0 (f .headHit) head-miss k, penalty-is quotient j, ← x, ← y, ← z) u
+  pub target-says : {hit : Bool} → hit ≡ isUnslashedParticipating (h .«current_epoch») 1 (h .«previous_epoch») v → {r : DeltasAnswer} → FlagBy eligible hit (q .«target_reward») (q .«target_penalty») r → SaysDeltas (flagIndexDeltas s (h .«current_epoch») (h .«previous_epoch») 1 (totalsOf h target) v) r
+  target-says i b = rw (flag-is 1 target i) (b .of _ _ (f .targetHit) (f .targetMiss))
+
+  pub head-says : {hit : Bool} → hit ≡ isUnslashedParticipating (h .«current_epoch») 2 (h .«previous_epoch») v → {r : DeltasAnswer} → FlagBy eligible hit (q .«head_reward») (q .«head_penalty») r → SaysDeltas (flagIndexDeltas s (h .«current_epoch») (h .«previous_epoch») 2 (totalsOf h head) v) r
+  head-says i b = rw (flag-is 2 head i) (b .of _ _ (f .headHit) (f .headMiss))
+
+  pub penalty-says : (quotient : ℕ) {hit : Bool} → hit ≡ isUnslashedParticipating (h .«current_epoch») 1 (h .«previous_epoch») v → {r : DeltasAnswer} → SaysDeltas (byScore (s .«inactivity_score_bias») quotient eligible hit (q .«effective_balance») (v .«inactivity_score»)) r → SaysDeltas (inactivityPenaltyDeltas s quotient (h .«current_epoch») (h .«previous_epoch») v) r
+  unfolding inactivityPenaltyDeltas byScore
+  penalty-says quotient i k = rw (← e, ← i, ← same) k

@@ -2,8 +2,9 @@
 // two effective balances are carried along a pass: a validator with one of them costs no division but that by which its own score is
 // charged, and none where the score is 0.
 ghost use mathlib.Core.Path.{_≡_};
-ghost use mathlib.Core.Bool.{cond};
+ghost use mathlib.Core.Bool.{_&&_};
 ghost use Prim.Native.Nat.{_<_};
+ghost use lib.Dec.{eqb};
 ghost use lib.ListN.{length, getD};
 ghost use Rattle.definitions.specs.Record.{decodeOne};
 ghost use Rattle.definitions.specs.Checked.{mul64};
@@ -12,12 +13,11 @@ ghost use Rattle.definitions.specs.Rust.Altair.EpochProcessing.{rewardAndPenali
 ghost use Rattle.loops.specs.Ran.{Settles};
 ghost use Rattle.rewards.specs.Shared.{SharedBy, totalsOf};
 ghost use Rattle.reward_balances.specs.Balances.{rewardedBalance};
-ghost use Rattle.rates.specs.Rated.{baseOf, Most, Rated, MemoOf, byFlag, byScore};
+ghost use Rattle.rates.specs.Rated.{baseOf, Hits, Misses, Most, Fits, MemoOf, FlagBy, byScore};
 use arithmetic::mul64;
 use entries::entry_is_eligible;
 use entries::entry_is_participating;
 use reward_balances::all_applied;
-use reward_balances::new_balance;
 use rewards::Shared;
 use rewards::hit_deltas;
 use rewards::miss_deltas;
@@ -26,17 +26,23 @@ use types::DeltasAnswer;
 use types::Number;
 use types::Settings;
 
-// Of an eligible validator of that effective balance: the reward for each flag that it hit, the penalty for each that it missed (nothing is
-// due for a head), and the largest score by which the effective balance can be multiplied in 64 bits. Where one of the amounts leaves 64
-// bits, `fits` is 0 and no amount is told; otherwise it is 1.
+// An amount, which is wanted only of some validators: a number where `over` is 0, and else it has left 64 bits.
+pub struct Amount {
+    pub value: u64,
+    pub over: u64,
+}
+
+// Of an eligible validator of that effective balance: the reward for each flag that it hit, the penalty for each that it missed, and the
+// largest score by which the effective balance can be multiplied in 64 bits. `told` is 1 where they are those of `effective_balance`, and 0 where there are none yet.
 pub struct Rates {
     pub effective_balance: u64,
-    pub fits: u64,
-    pub source_reward: u64,
-    pub source_penalty: u64,
-    pub target_reward: u64,
-    pub target_penalty: u64,
-    pub head_reward: u64,
+    pub told: u64,
+    pub source_reward: Amount,
+    pub source_penalty: Amount,
+    pub target_reward: Amount,
+    pub target_penalty: Amount,
+    pub head_reward: Amount,
+    pub head_penalty: Amount,
     pub most_score: u64,
 }
 
@@ -66,66 +72,93 @@ fn most_score_of(balance: u64) -> u64
     18446744073709551615 / balance
 }
 
-fn no_rates(balance: u64) -> Rates
-    ensures { λ r. ⌜ (r .fits ≡ 0) × (r .«effective_balance» ≡ balance) ⌝ }
+// For a hit, by a base reward that may have left 64 bits itself.
+fn hit_amount(s: Settings, h: Shared, weight: u64, increments: u64, base: Number) -> Amount
+    requires { ⌜ SharedBy s h ⌝ }
+    ensures { λ r. ⌜ Hits s h weight increments base r ⌝ }
 {
-    Rates {
-        effective_balance: balance,
-        fits: 0,
-        source_reward: 0,
-        source_penalty: 0,
-        target_reward: 0,
-        target_penalty: 0,
-        head_reward: 0,
-        most_score: 0,
+    let Number::Value(reward) = base else {
+        return Amount { value: 0, over: 1 };
+    };
+    let DeltasAnswer::Value(deltas) = hit_deltas(s, h, weight, increments, reward) else {
+        return Amount { value: 0, over: 1 };
+    };
+    Amount {
+        value: deltas.reward,
+        over: 0,
     }
 }
 
-// A pass starts with no amounts.
+fn miss_amount(flag_index: u64, weight: u64, base: Number) -> Amount
+    ensures { λ r. ⌜ Misses «flag_index» weight base r ⌝ }
+{
+    let Number::Value(reward) = base else {
+        return Amount { value: 0, over: 1 };
+    };
+    let DeltasAnswer::Value(deltas) = miss_deltas(flag_index, weight, reward) else {
+        return Amount { value: 0, over: 1 };
+    };
+    Amount {
+        value: deltas.penalty,
+        over: 0,
+    }
+}
+
+fn rates_of(s: Settings, h: Shared, source: u64, target: u64, head: u64, balance: u64) -> Rates
+    requires { ⌜ SharedBy s h ⌝ }
+    ensures { λ r. ⌜ Fits s h source target head r ⌝ }
+    ensures { λ r. ⌜ r .«effective_balance» ≡ balance ⌝ }
+{
+    let base = base_of(s, h, balance);
+    let source_reward = hit_amount(s, h, 14, source, base);
+    let source_penalty = miss_amount(0, 14, base);
+    let target_reward = hit_amount(s, h, 26, target, base);
+    let target_penalty = miss_amount(1, 26, base);
+    let head_reward = hit_amount(s, h, 14, head, base);
+    let head_penalty = miss_amount(2, 14, base);
+    let most_score = most_score_of(balance);
+    Rates {
+        effective_balance: balance,
+        told: 1,
+        source_reward: source_reward,
+        source_penalty: source_penalty,
+        target_reward: target_reward,
+        target_penalty: target_penalty,
+        head_reward: head_reward,
+        head_penalty: head_penalty,
+        most_score: most_score,
+    }
+}
+
+// A pass starts with none.
 pub fn no_memo(s: Settings, h: Shared, source: u64, target: u64, head: u64) -> Memo
     ensures { λ r. ⌜ MemoOf s h source target head r ⌝ }
 {
-    let none = no_rates(18446744073709551615);
+    let zero = Amount { value: 0, over: 0 };
+    let none = Rates {
+        effective_balance: 0,
+        told: 0,
+        source_reward: zero,
+        source_penalty: zero,
+        target_reward: zero,
+        target_penalty: zero,
+        head_reward: zero,
+        head_penalty: zero,
+        most_score: 0,
+    };
     Memo {
         last: none,
         other: none,
     }
 }
 
-fn rates_of(s: Settings, h: Shared, source: u64, target: u64, head: u64, balance: u64) -> Rates
-    requires { ⌜ SharedBy s h ⌝ }
-    ensures { λ r. ⌜ Rated s h source target head r ⌝ }
-    ensures { λ r. ⌜ r .«effective_balance» ≡ balance ⌝ }
+fn is_of(told: u64, effective_balance: u64, balance: u64) -> bool
+    ensures { λ r. ⌜ r ≡ (eqb told 1 && eqb «effective_balance» balance) ⌝ }
 {
-    let Number::Value(base) = base_of(s, h, balance) else {
-        return no_rates(balance);
-    };
-    let DeltasAnswer::Value(source_hit) = hit_deltas(s, h, 14, source, base) else {
-        return no_rates(balance);
-    };
-    let DeltasAnswer::Value(source_miss) = miss_deltas(0, 14, base) else {
-        return no_rates(balance);
-    };
-    let DeltasAnswer::Value(target_hit) = hit_deltas(s, h, 26, target, base) else {
-        return no_rates(balance);
-    };
-    let DeltasAnswer::Value(target_miss) = miss_deltas(1, 26, base) else {
-        return no_rates(balance);
-    };
-    let DeltasAnswer::Value(head_hit) = hit_deltas(s, h, 14, head, base) else {
-        return no_rates(balance);
-    };
-    let most_score = most_score_of(balance);
-    Rates {
-        effective_balance: balance,
-        fits: 1,
-        source_reward: source_hit.reward,
-        source_penalty: source_miss.penalty,
-        target_reward: target_hit.reward,
-        target_penalty: target_miss.penalty,
-        head_reward: head_hit.reward,
-        most_score: most_score,
+    if told == 1 {
+        return effective_balance == balance;
     }
+    false
 }
 
 // The amounts of this effective balance are the last afterwards.
@@ -141,14 +174,15 @@ pub fn rates_for(
     requires { ⌜ SharedBy s h ⌝ }
     requires { ⌜ MemoOf s h source target head carried ⌝ }
     ensures { λ r. ⌜ MemoOf s h source target head r ⌝ }
+    ensures { λ r. ⌜ Fits s h source target head (r .last) ⌝ }
     ensures { λ r. ⌜ r .last .«effective_balance» ≡ balance ⌝ }
 {
     let last = carried.last;
-    if last.effective_balance == balance {
+    if is_of(last.told, last.effective_balance, balance) {
         return carried;
     }
     let other = carried.other;
-    if other.effective_balance == balance {
+    if is_of(other.told, other.effective_balance, balance) {
         return Memo {
             last: other,
             other: last,
@@ -161,25 +195,31 @@ pub fn rates_for(
     }
 }
 
-fn flag_by(eligible: bool, hit: bool, reward: u64, penalty: u64) -> Deltas
-    ensures { λ r. ⌜ r ≡ byFlag eligible hit reward penalty ⌝ }
+fn flag_by(eligible: bool, hit: bool, reward: Amount, penalty: Amount) -> DeltasAnswer
+    ensures { λ r. ⌜ FlagBy eligible hit reward penalty r ⌝ }
 {
     if !eligible {
-        return Deltas {
+        return DeltasAnswer::Value(Deltas {
             reward: 0,
             penalty: 0,
-        };
+        });
     }
     if hit {
-        return Deltas {
-            reward: reward,
+        if reward.over != 0 {
+            return DeltasAnswer::Refused(5);
+        }
+        return DeltasAnswer::Value(Deltas {
+            reward: reward.value,
             penalty: 0,
-        };
+        });
     }
-    Deltas {
+    if penalty.over != 0 {
+        return DeltasAnswer::Refused(5);
+    }
+    DeltasAnswer::Value(Deltas {
         reward: 0,
-        penalty: penalty,
-    }
+        penalty: penalty.value,
+    })
 }
 
 // For inactivity, where an eligible validator missed the target. A score of 0 costs no division.
@@ -240,30 +280,34 @@ fn balance_by(
     requires { ⌜ (0 < s .«inactivity_score_bias») × (0 < quotient) ⌝ }
     requires { ⌜ Says (mul64 (s .«inactivity_score_bias») quotient) product ⌝ }
     requires { ⌜ length (now entry) ≡ 10 ⌝ }
-    requires { ⌜ Rated s h source target head rates ⌝ }
+    requires { ⌜ Fits s h source target head rates ⌝ }
     requires { ⌜ rates .«effective_balance» ≡ getD (now entry) 0 0 ⌝ }
     ensures { λ r. ⌜ Says (rewardedBalance s quotient (h .«current_epoch») (h .«previous_epoch») (totalsOf h source) (totalsOf h target) (totalsOf h head) (decodeOne (now (entry .entry)))) r ⌝ }
 {
-    if rates.fits != 1 {
-        return new_balance(s, h, source, target, head, quotient, product, entry);
-    }
     let eligible = entry_is_eligible(h.previous_epoch, entry);
     let source_is = entry_is_participating(h.current_epoch, 0, h.previous_epoch, entry);
     let target_is = entry_is_participating(h.current_epoch, 1, h.previous_epoch, entry);
     let head_is = entry_is_participating(h.current_epoch, 2, h.previous_epoch, entry);
-    let a = flag_by(
+    let DeltasAnswer::Value(a) = flag_by(
         eligible,
         source_is,
         rates.source_reward,
         rates.source_penalty,
-    );
-    let b = flag_by(
+    ) else {
+        return Number::Refused(5);
+    };
+    let DeltasAnswer::Value(b) = flag_by(
         eligible,
         target_is,
         rates.target_reward,
         rates.target_penalty,
-    );
-    let c = flag_by(eligible, head_is, rates.head_reward, 0);
+    ) else {
+        return Number::Refused(5);
+    };
+    let DeltasAnswer::Value(c) = flag_by(eligible, head_is, rates.head_reward, rates.head_penalty)
+    else {
+        return Number::Refused(5);
+    };
     let DeltasAnswer::Value(d) = penalty_by(
         s.inactivity_score_bias,
         quotient,
@@ -294,7 +338,7 @@ pub fn entry_reward_by(
     requires { ⌜ (0 < s .«inactivity_score_bias») × (0 < quotient) ⌝ }
     requires { ⌜ Says (mul64 (s .«inactivity_score_bias») quotient) product ⌝ }
     requires { ⌜ length (now entry) ≡ 10 ⌝ }
-    requires { ⌜ Rated s h source target head rates ⌝ }
+    requires { ⌜ Fits s h source target head rates ⌝ }
     requires { ⌜ rates .«effective_balance» ≡ getD (now entry) 0 0 ⌝ }
     ensures { λ r. ⌜ Settles (rewardAndPenalize s quotient (h .«current_epoch») (h .«previous_epoch») (totalsOf h source) (totalsOf h target) (totalsOf h head)) (now (entry .entry)) (now (entry .exit)) r ⌝ }
 {

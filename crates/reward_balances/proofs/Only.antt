@@ -17,11 +17,11 @@ only-either : {A : Type 0} {x y : Checked A} (t : Bool) → OnlyOverflow x → O
 only-either true h k = h
 only-either false h k = k
 
-only-hit : (s : Settings) (weight : ℕ) (t : FlagTotals) (base : ℕ) → OnlyOverflow (hitDeltas s weight t base)
+pub only-hit : (s : Settings) (weight : ℕ) (t : FlagTotals) (base : ℕ) → OnlyOverflow (hitDeltas s weight t base)
 unfolding hitDeltas
 only-hit s weight t base = only-either (t .leaking) (only-value _) (only-bind (only-mul64 _ _) (λ w. only-bind (only-mul64 _ _) (λ n. only-bind (only-mul64 _ _) (λ d. only-value _))))
 
-only-miss : (flagIndex weight base : ℕ) → OnlyOverflow (missDeltas flagIndex weight base)
+pub only-miss : (flagIndex weight base : ℕ) → OnlyOverflow (missDeltas flagIndex weight base)
 unfolding missDeltas
 only-miss flagIndex weight base = only-either (eqb flagIndex «TIMELY_HEAD_FLAG_INDEX») (only-value _) (only-bind (only-mul64 _ _) (λ w. only-value _))
 

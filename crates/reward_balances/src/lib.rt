@@ -62,7 +62,7 @@ pub fn all_applied(balance: u64, a: Deltas, b: Deltas, c: Deltas, d: Deltas) -> 
 }
 
 // The increments of the three flags' participants are source, target and head; `product` is the bias times the quotient.
-pub fn new_balance(
+fn new_balance(
     s: Settings,
     h: Shared,
     source: u64,

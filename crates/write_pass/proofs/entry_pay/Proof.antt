@@ -35,7 +35,7 @@ entry-reward-by-requires c κs =
     let a = c .before .before .before .before .before .before .before .before .before .before .before .before .before .pre in
     let score = c .before .before .before .before .before .before .before in
     let rates = c .before .before .rates-for .ensures in
-    (a .0 .shared, ((a .0 .bias, a .0 .quotient), (a .0 .product, (score .entry-update-score .kept .1 .1 .1 .1 .0 ∙ a .1 .0, (rates .0 .last, rates .1)))))
+    (a .0 .shared, ((a .0 .bias, a .0 .quotient), (a .0 .product, (score .entry-update-score .kept .1 .1 .1 .1 .0 ∙ a .1 .0, (rates .1 .0, rates .1 .1)))))
 
 same-length-2 : tie.Need-same-length-2
 same-length-2 c = search needs

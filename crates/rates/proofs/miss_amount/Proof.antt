@@ -1,0 +1,49 @@
+use mathlib.Core.Path.{refl}
+use borrow.Author.Needs.{needs}
+use Rattle.types.specs.declared.Deltas.{Deltas}
+use Rattle.definitions.specs.Rust.Altair.Helpers.{missDeltas}
+use Rattle.arithmetic.proofs.Operations.{OnlyOverflow}
+use Rattle.arithmetic.proofs.Laws.{says-value, says-overflow}
+use Rattle.arithmetic.proofs.Answers.{tells-deltas, answers-value, answers-overflow}
+use Rattle.reward_balances.proofs.Only.{only-miss}
+use Rattle.rates.specs.Rated.{rewardOf, penaltyOf}
+use Rattle.rates.proofs.Rated.{told-past, told-fits, no-base, not-fits, miss-penalty}
+use Rattle.rates.proofs.miss_amount.Statement.{statement}
+use Rattle.rates.proofs.miss_amount.Tie as tie
+
+enum-known-base : tie.Need-enum-known-base
+enum-known-base c = search needs
+
+enum-told : tie.Need-enum-told
+enum-told c = search needs
+
+returns : tie.Need-returns
+returns c = record { of = λ m o b. told-past m _ _ (no-base m _ penaltyOf (says-overflow b (record { why = o }) (c .enum-told .given .1) .0)) }
+
+miss-deltas-requires : tie.Need-miss-deltas-requires
+miss-deltas-requires c κs = search needs
+
+enum-known-deltas : tie.Need-enum-known-deltas
+enum-known-deltas c = search needs
+
+enum-told-2 : tie.Need-enum-told-2
+enum-told-2 c = search needs
+
+returns-2 : tie.Need-returns-2
+returns-2 c = record { of = λ m o b. told-past m _ _ (not-fits m _ penaltyOf (says-value b (c .before .before .before .before .base .given .1)) (answers-overflow tells-deltas (c .before .before .miss-deltas .ensures) (only-miss _ _ _) (c .enum-told2 .given .1) .0)) }
+
+returns-3 : tie.Need-returns-3
+returns-3 c = record { of = λ m o b. told-fits m _ penaltyOf (says-value b (c .before .before .before .before .before .base .given .1)) (miss-penalty _ _ _ (answers-value tells-deltas (c .before .before .before .miss-deltas .ensures) (c .before .deltas .given .1))) }
+
+pub miss-amount-spec : {M : Type 1} → statement M
+miss-amount-spec =
+    tie.close
+    (tie.spec
+    enum-known-base
+    enum-told
+    returns
+    miss-deltas-requires
+    enum-known-deltas
+    enum-told-2
+    returns-2
+    returns-3)
