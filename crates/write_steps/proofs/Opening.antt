@@ -31,34 +31,34 @@ module _ (s : Settings) (p : Plan) (t : Course) (quota : ℕ) (vs : List Validat
   abbrev f : ℕ
   f = t .«finalized_epoch»
 
-  abbrev now : ℕ
-  now = p .shared .«current_epoch»
+  abbrev epoch : ℕ
+  epoch = p .shared .«current_epoch»
 
   -- the document's sorted queue
   abbrev lets : List Validator → List Validator
   lets queued = dequeued (t .«activation_epoch») (t .limit) f queued
 
-  let-in : (queued : List Validator) → map (seen f) queued ≡ map (seenNow s now f) vs → admits s p t quota queued ≡ lets queued
+  let-in : (queued : List Validator) → map (seen f) queued ≡ map (seenNow s epoch f) vs → admits s p t quota queued ≡ lets queued
   let-in queued e =
-      cut-kept queued cut (e ∙ opening-seen s now f vs) .same (t .«activation_epoch») (length queued) ∙ sym (dequeued-is (t .«activation_epoch») (t .limit) f queued)
+      cut-kept queued cut (e ∙ opening-seen s epoch f vs) .same (t .«activation_epoch») (length queued) ∙ sym (dequeued-is (t .«activation_epoch») (t .limit) f queued)
 
-  later : (q : ExitQueue) (paid : List Validator) → map (seenNow s now f) paid ≡ map (seenNow s now f) vs → dropped (sweep (last (moveWith s now t) (lastBy s p)) (q, quota) paid) ≡ bind (dropped (turns s p t q paid)) (λ queued. mapChecked (lastBy s p) (lets queued))
+  later : (q : ExitQueue) (paid : List Validator) → map (seenNow s epoch f) paid ≡ map (seenNow s epoch f) vs → dropped (sweep (last (moveWith s epoch t) (lastBy s p)) (q, quota) paid) ≡ bind (dropped (turns s p t q paid)) (λ queued. mapChecked (lastBy s p) (lets queued))
   unfolding bind
   later q paid e = moved-last s p t q quota paid ∙ go (turns s p t q paid) refl
     where
       go : (m : Checked (Moved ExitQueue (List Validator))) → turns s p t q paid ≡ m → bind (dropped m) (λ queued. mapChecked (lastBy s p) (admits s p t quota queued)) ≡ bind (dropped m) (λ queued. mapChecked (lastBy s p) (lets queued))
-      go (value m) h = ap (mapChecked (lastBy s p)) (let-in (m .held) (turns-seen s now f (t .limit) q paid h ∙ e))
+      go (value m) h = ap (mapChecked (lastBy s p)) (let-in (m .held) (turns-seen s epoch f (t .limit) q paid h ∙ e))
       go (refused r) h = refl
 
   -- Scores and rewards; eligibility and ejection, with a rescan of the registry at each exit; the first of the sorted queue; the last three
-  pub closing-is : {least : ℕ} {q : ExitQueue} → Tracks least vs q → dropped (sweep (writtenWith s p t) (q, quota) vs) ≡ bind (mapChecked (payOf s p) vs) (λ paid. bind (foldChecked (updateAt s now least (t .limit)) paid (range 0 (length paid))) (λ queued. mapChecked (lastBy s p) (lets queued)))
+  pub closing-is : {least : ℕ} {q : ExitQueue} → Tracks least vs q → dropped (sweep (writtenWith s p t) (q, quota) vs) ≡ bind (mapChecked (payOf s p) vs) (λ paid. bind (foldChecked (updateAt s epoch least (t .limit)) paid (range 0 (length paid))) (λ queued. mapChecked (lastBy s p) (lets queued)))
   unfolding bind
   closing-is {least} {q} tracks =
       ap dropped (swept-first (only-pay s p) (λ c v. only-bind (only-move s p t c v) (λ m. only-bind (only-last s p (m .held)) (λ w. only-value _))) (q, quota) vs)
       ∙ go (mapChecked (payOf s p) vs) refl
     where
-      go : (m : Checked (List Validator)) → mapChecked (payOf s p) vs ≡ m → dropped (bind m (sweep (last (moveWith s now t) (lastBy s p)) (q, quota))) ≡ bind m (λ paid. bind (foldChecked (updateAt s now least (t .limit)) paid (range 0 (length paid))) (λ queued. mapChecked (lastBy s p) (lets queued)))
+      go : (m : Checked (List Validator)) → mapChecked (payOf s p) vs ≡ m → dropped (bind m (sweep (last (moveWith s epoch t) (lastBy s p)) (q, quota))) ≡ bind m (λ paid. bind (foldChecked (updateAt s epoch least (t .limit)) paid (range 0 (length paid))) (λ queued. mapChecked (lastBy s p) (lets queued)))
       go (value paid) e =
-          later q paid (kept-map (payOf s p) (seenNow s now f) (pay-seen s now f p) vs e)
-          ∙ ap (λ (m : Checked (List Validator)). bind m (λ queued. mapChecked (lastBy s p) (lets queued))) (sym (followed (turns-follow s now (t .limit) least) paid q (pay-tracked s p vs paid tracks e)))
+          later q paid (kept-map (payOf s p) (seenNow s epoch f) (pay-seen s epoch f p) vs e)
+          ∙ ap (λ (m : Checked (List Validator)). bind m (λ queued. mapChecked (lastBy s p) (lets queued))) (sym (followed (turns-follow s epoch (t .limit) least) paid q (pay-tracked s p vs paid tracks e)))
       go (refused r) e = refl
