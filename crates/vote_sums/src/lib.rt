@@ -7,8 +7,8 @@ ghost use lib.Dec.{eqb};
 ghost use lib.ListN.{length};
 ghost use Rattle.definitions.specs.Answers.{Answers};
 ghost use Rattle.definitions.specs.Record.{decodeOne, decode};
-ghost use Rattle.definitions_votes.specs.Filling.{previousUnknown, currentUnknown};
-ghost use Rattle.vote_sums.specs.Sums.{voteSumsOf, addedTo, sumsFor, Counted};
+ghost use Rattle.definitions_votes.specs.Filling.{previousUnknown, currentUnknown, uniform, noneSet, filledOne};
+ghost use Rattle.vote_sums.specs.Sums.{weight, activeAt, hitsTarget, voteSumsOf, addedTo, sumsFor, Counted};
 use arithmetic::add64;
 use entries::entry_is_active;
 use entries::flag_is_set;
@@ -78,31 +78,58 @@ fn active_weight(active: bool, weight: u64) -> u64
     0
 }
 
+// What one validator adds to each sum, `set` being what its unknown flags are filled with.
+
+fn weight_in_active(current_epoch: u64, mark: u64, entry: &[u64]) -> u64
+    requires { ⌜ length (now entry) ≡ 10 ⌝ }
+    ensures { λ r. ⌜ r ≡ weight (activeAt «current_epoch») (filledOne mark (noneSet 0) (decodeOne (now (entry .entry)))) ⌝ }
+{
+    let balance = entry[0];
+    active_weight(entry_is_active(entry, current_epoch), balance)
+}
+
+fn weight_in_previous(
+    current_epoch: u64,
+    previous_epoch: u64,
+    mark: u64,
+    set: bool,
+    entry: &[u64],
+) -> u64
+    requires { ⌜ length (now entry) ≡ 10 ⌝ }
+    requires { ⌜ «previous_epoch» < «current_epoch» ⌝ }
+    ensures { λ r. ⌜ r ≡ weight (hitsTarget «current_epoch» «previous_epoch») (filledOne mark (uniform set set 0) (decodeOne (now (entry .entry)))) ⌝ }
+{
+    let balance = entry[0];
+    let slashed = entry[1];
+    let flags = entry[7];
+    let active = entry_is_active(entry, previous_epoch);
+    let hit = filled_in(previous_unknown(mark), set, flag_is_set(flags, 1));
+    weight_where(active, hit, slashed, balance)
+}
+
+fn weight_in_current(current_epoch: u64, mark: u64, set: bool, entry: &[u64]) -> u64
+    requires { ⌜ length (now entry) ≡ 10 ⌝ }
+    ensures { λ r. ⌜ r ≡ weight (hitsTarget «current_epoch» «current_epoch») (filledOne mark (uniform set set 0) (decodeOne (now (entry .entry)))) ⌝ }
+{
+    let balance = entry[0];
+    let slashed = entry[1];
+    let flags = entry[8];
+    let active = entry_is_active(entry, current_epoch);
+    let hit = filled_in(current_unknown(mark), set, flag_is_set(flags, 1));
+    weight_where(active, hit, slashed, balance)
+}
+
 fn entry_sums(current_epoch: u64, previous_epoch: u64, mark: u64, entry: &[u64]) -> VoteSums
     requires { ⌜ length (now entry) ≡ 10 ⌝ }
     requires { ⌜ «previous_epoch» < «current_epoch» ⌝ }
     ensures { λ r. ⌜ r ≡ voteSumsOf «current_epoch» «previous_epoch» mark (decodeOne (now (entry .entry))) ⌝ }
 {
-    let balance = entry[0];
-    let slashed = entry[1];
-    let before = entry[7];
-    let now = entry[8];
-    let active = entry_is_active(entry, current_epoch);
-    let was_active = entry_is_active(entry, previous_epoch);
-    let before_hit = flag_is_set(before, 1);
-    let now_hit = flag_is_set(now, 1);
-    let before_open = previous_unknown(mark);
-    let now_open = current_unknown(mark);
-    let a = filled_in(before_open, false, before_hit);
-    let b = filled_in(before_open, true, before_hit);
-    let c = filled_in(now_open, false, now_hit);
-    let d = filled_in(now_open, true, now_hit);
     VoteSums {
-        active: active_weight(active, balance),
-        previous_fewest: weight_where(was_active, a, slashed, balance),
-        previous_most: weight_where(was_active, b, slashed, balance),
-        current_fewest: weight_where(active, c, slashed, balance),
-        current_most: weight_where(active, d, slashed, balance),
+        active: weight_in_active(current_epoch, mark, entry),
+        previous_fewest: weight_in_previous(current_epoch, previous_epoch, mark, false, entry),
+        previous_most: weight_in_previous(current_epoch, previous_epoch, mark, true, entry),
+        current_fewest: weight_in_current(current_epoch, mark, false, entry),
+        current_most: weight_in_current(current_epoch, mark, true, entry),
     }
 }
 
