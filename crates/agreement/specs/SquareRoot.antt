@@ -1,4 +1,4 @@
--- "the largest integer x such that x**2 <= n"
+-- the largest integer x such that x**2 <= n
 use Prim.Native.Nat.{ℕ, _+_, _*_, _≤_, _<_}
 
 -- r is the largest number whose square is at most n

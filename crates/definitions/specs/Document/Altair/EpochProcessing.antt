@@ -1,4 +1,4 @@
--- altair/beacon-chain.md, "Epoch processing".
+-- altair/beacon-chain.md, section Epoch processing.
 use mathlib.Core.Bool.{Bool, cond, _&&_}
 use mathlib.Core.List.{List, [], _∷_, map, foldl, zipWith}
 use Prim.Native.Nat.{ℕ, _+_, _-_, _*_, _/_, min}

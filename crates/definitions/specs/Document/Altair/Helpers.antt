@@ -1,4 +1,4 @@
--- altair/beacon-chain.md, "Constants" and "Helper functions".
+-- altair/beacon-chain.md, sections Constants and Helper functions.
 use mathlib.Core.Bool.{Bool, cond, _&&_, not}
 use mathlib.Core.List.{List, [], _∷_, map}
 use Prim.Native.Nat.{ℕ, _+_, _*_, _/_, _%_, _^_}

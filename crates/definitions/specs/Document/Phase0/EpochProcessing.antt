@@ -1,4 +1,4 @@
--- phase0/beacon-chain.md, "Epoch processing", as far as Altair keeps it.
+-- phase0/beacon-chain.md, section Epoch processing, as far as Altair keeps it.
 use mathlib.Core.Bool.{Bool, cond, _&&_, _||_}
 use mathlib.Core.List.{List, [], _∷_, map, foldl}
 use Prim.Native.Nat.{ℕ, _+_, _-_, _*_, _/_, _%_, _^_, min}

@@ -1,4 +1,4 @@
--- phase0/beacon-chain.md, "Helper functions".
+-- phase0/beacon-chain.md, section Helper functions.
 use mathlib.Core.Bool.{Bool, cond, _&&_, not}
 use mathlib.Core.List.{List, map}
 use Prim.Native.Nat.{ℕ, zero, suc, _+_, _-_, _*_, _/_, _%_, max}
@@ -20,7 +20,7 @@ rootWithin zero n = 0
 rootWithin (suc fuel) zero = 0
 rootWithin (suc fuel) (suc m) = nextRoot (suc m) (rootWithin fuel (suc m / 4))
 
--- "the largest integer x such that x**2 <= n": shown in agreement, SquareRoot.antt
+-- the largest integer x such that x**2 <= n: shown in agreement, SquareRoot.antt
 unfoldable pub «integer_squareroot» : ℕ → ℕ
 «integer_squareroot» n = rootWithin n n
 
