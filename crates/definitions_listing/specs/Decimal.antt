@@ -1,4 +1,4 @@
--- A number in decimal: its digits as ASCII bytes, the most significant first, none of them a leading zero, and "0" for 0.
+-- A number in decimal: its digits as ASCII bytes, the most significant first, none of them a leading zero, and one zero for 0.
 use mathlib.Core.Bool.{cond}
 use mathlib.Core.List.{List, [], _∷_, _++_}
 use Prim.Native.Nat.{ℕ, zero, suc, _+_, _/_, _%_}
