@@ -123,6 +123,41 @@ static void the_clock(void) {
     }
 }
 
+/* votes not yet counted: what the step finalizes with any filling is listed, and with every flag known it alone */
+static void the_votes(const record *r) {
+    static uint64_t marks[NUMBERS / 10], filled[NUMBERS];
+    const size_t numbers = 10 * r->validators;
+    memcpy(filled, r->registry, 8 * numbers);
+    for (size_t i = 0; i < r->validators; i++) {
+        marks[i] = one_in(2) ? 0 : below(4);
+        if (marks[i] & ALTAIR_PREVIOUS_UNKNOWN)
+            filled[10 * i + ALTAIR_PREVIOUS_EPOCH_PARTICIPATION] ^= 2 * below(2);
+        if (marks[i] & ALTAIR_CURRENT_UNKNOWN)
+            filled[10 * i + ALTAIR_CURRENT_EPOCH_PARTICIPATION] ^= 2 * below(2);
+    }
+    const altair_votes_answer votes =
+        altair_unknown_votes(r->s, r->roots, r->roots_length, r->f, r->registry, numbers, marks, r->validators);
+    const altair_finality_answer step =
+        altair_process_justification_and_finalization(r->s, r->roots, r->roots_length, r->f, filled, numbers);
+    const uint64_t finalized = step.finality.finalized_checkpoint.epoch;
+    if (votes.refusal != 0) {
+        MUST(votes.refusal == 4 || votes.refusal == 5);
+        return;
+    }
+    MUST(step.refusal == 0 && 1 <= votes.count && votes.count <= 3);
+    bool listed = false;
+    for (size_t i = 0; i < votes.count; i++) {
+        listed = listed || votes.finalized_epochs[i] == finalized;
+        MUST(i == 0 || votes.finalized_epochs[i - 1] < votes.finalized_epochs[i]);
+    }
+    MUST(listed);
+    memset(marks, 0, 8 * r->validators);
+    const altair_votes_answer known =
+        altair_unknown_votes(r->s, r->roots, r->roots_length, r->f, filled, numbers, marks, r->validators);
+    MUST(known.refusal == 0 && known.count == 1 && known.finalized_epochs[0] == finalized);
+    MUST(known.previous_target != ALTAIR_PASSES_IN_SOME && known.current_target != ALTAIR_PASSES_IN_SOME);
+}
+
 static void the_leaves(const record *r) {
     const uint64_t slot = r->f.slot, epoch = slot / r->s.slots_per_epoch, n = odd_number(),
                    root = altair_integer_sqrt(n);
@@ -171,4 +206,5 @@ void rules_hold(const record *r) {
     the_close(r);
     the_file(r);
     the_leaves(r);
+    the_votes(r);
 }
