@@ -22,3 +22,4 @@ pub mod NoChurn
 pub mod Example
 pub mod Freedoms
 pub mod Refuses
+pub mod Stored
