@@ -1,5 +1,6 @@
 -- The settings of mainnet. Document 01, "Settings".
 use Rattle.types.specs.declared.Settings.{Settings}
+use Rattle.types.specs.declared.Bellatrix.{Bellatrix}
 
 abbrev pub mainnet : Settings
 mainnet =
@@ -24,3 +25,7 @@ mainnet =
       «min_per_epoch_churn_limit» = 4;
       «churn_limit_quotient» = 65_536;
     }
+
+-- 02, R-3: "mainnet 16777216" and "mainnet 3"
+abbrev pub mainnetBellatrix : Bellatrix
+mainnetBellatrix = record { «inactivity_penalty_quotient_bellatrix» = 16_777_216; «proportional_slashing_multiplier_bellatrix» = 3 }

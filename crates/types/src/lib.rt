@@ -71,3 +71,47 @@ pub struct FinalityAnswer {
     pub refusal: u64,
     pub finality: Finality,
 }
+
+// A total balance. `raised` is 1 where its plain sum was below one increment, so that the total was raised to it, and else 0.
+#[repr(C)]
+pub struct Total {
+    pub balance: u64,
+    pub raised: u64,
+}
+
+pub enum TotalAnswer {
+    Value(Total),
+    Refused(u64),
+}
+
+// Whether the total of the active, and of those that hit the target of the previous and of the current epoch, was raised: 1 or 0.
+#[repr(C)]
+pub struct Raised {
+    pub active: u64,
+    pub previous: u64,
+    pub current: u64,
+}
+
+// What justification and the close answer: the finality and 0 or the refusal's number as in FinalityAnswer, and what was raised, which is
+// nothing on refusal.
+#[repr(C)]
+pub struct CloseAnswer {
+    pub refusal: u64,
+    pub finality: Finality,
+    pub raised: Raised,
+}
+
+// The two numbers that Bellatrix uses in place of the Altair two.
+#[repr(C)]
+pub struct Bellatrix {
+    pub inactivity_penalty_quotient_bellatrix: u64,
+    pub proportional_slashing_multiplier_bellatrix: u64,
+}
+
+// What a close goes by: the settings, the fork (0 is Altair, 1 Bellatrix), and Bellatrix's pair, which only fork 1 reads.
+#[repr(C)]
+pub struct Rules {
+    pub settings: Settings,
+    pub fork: u64,
+    pub bellatrix: Bellatrix,
+}
