@@ -21,10 +21,10 @@ mod types;
 
 use reference::{
     calls::{LEAVES, OPERATIONS},
-    compare::{self, Report, Tally},
     generate_leaves, judge,
     random::Random,
     record::{describe, write_file, Record},
+    report::{self, Report, Tally},
 };
 use std::{
     path::Path,
@@ -112,7 +112,7 @@ fn run(count: u64, seed: u64) -> Option<Difference> {
         started.into_iter().map(|w| w.join().expect("a worker panicked")).reduce(Counts::joined)
     });
     let counts = counts.expect("at least one worker");
-    compare::table(&counts.report, seed, count);
+    report::table(&counts.report, seed, count);
     println!(
         "{} answers and {} numbers compared in {:.0} seconds by {workers} workers",
         counts.answers,
@@ -181,7 +181,7 @@ impl Counts {
     }
 
     fn one(&mut self, seed: u64, i: u64) -> Found {
-        let (kind, mut rng, mut record) = compare::drawn(seed, i);
+        let (kind, mut rng, mut record) = report::drawn(seed, i);
         // in the place of one of the queues
         if i % crowd::ONE_IN == 7 {
             record = crowd::record(&mut rng);

@@ -1,4 +1,4 @@
-//! What is asked of both sides, the Rust and the definitions: the eight steps, the close and the leaves.
+//! What is asked of the Rust and of what is held to it: the eight steps, the close and the leaves.
 use crate::record::{Finality, Record, Settings};
 
 macro_rules! operations {

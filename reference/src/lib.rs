@@ -34,8 +34,6 @@ mod state_transition;
 use error::Error;
 
 pub mod calls;
-pub mod compare;
-pub mod definitions;
 pub mod figures;
 pub mod generate;
 pub mod generate_leaves;
@@ -43,6 +41,6 @@ pub mod judge;
 pub mod random;
 pub mod record;
 pub mod refusals;
-pub mod shrink;
+pub mod report;
 pub mod stored;
 pub mod vectors;

@@ -1,12 +1,12 @@
 //! The reference's commands.
 use reference::{
     calls::{Case, Lent, Number, LEAVES, OPERATIONS},
-    compare, figures, judge, record, refusals, stored, vectors,
+    figures, judge, record, refusals, report, stored, vectors,
 };
 use std::{path::Path, process::ExitCode};
 
 const USAGE: &str = "\
-reference compare COUNT SEED             the Rust against the definitions on COUNT records
+reference check COUNT SEED               the figures of 01, and the Rust's process_epoch against its eight steps on COUNT records
 reference vectors FOLDER LEAVES RECORDS  write the stored list: its texts to a folder, its words to two files
 reference record FILE                    reading, the eight steps and the close of a record file
 reference leaf FILE NAME NUMBERS..       a leaf on a record file: the validator's number where it is lent an entry, then its
@@ -21,7 +21,7 @@ fn main() -> ExitCode {
     let args: Vec<String> = std::env::args().skip(1).collect();
     let args: Vec<&str> = args.iter().map(String::as_str).collect();
     let done = match args[..] {
-        ["compare", count, seed] => numbers(&[count, seed]).and_then(|n| compare(n[0], n[1])),
+        ["check", count, seed] => numbers(&[count, seed]).and_then(|n| check(n[0], n[1])),
         ["vectors", folder, leaves, records] => {
             vectors::write(Path::new(folder), Path::new(leaves), Path::new(records))
                 .map(|summary| print!("{summary}"))
@@ -48,7 +48,7 @@ fn read(file: &str) -> Result<Vec<u8>, String> {
     std::fs::read(file).map_err(|e| format!("{file}: {e}"))
 }
 
-fn compare(count: u64, seed: u64) -> Result<(), String> {
+fn check(count: u64, seed: u64) -> Result<(), String> {
     let figures = figures::all();
     for (name, met) in &figures {
         if !met {
@@ -57,8 +57,8 @@ fn compare(count: u64, seed: u64) -> Result<(), String> {
     }
     let met = figures.iter().filter(|f| f.1).count();
     println!("figures of document 01 that the Rust meets: {met} of {}", figures.len());
-    let report = compare::run(seed, count);
-    compare::print(&report, seed, count);
+    let report = report::run(seed, count);
+    report::print(&report, seed, count);
     if met < figures.len() || report.differences() > 0 {
         Err("there are findings".to_string())
     } else {

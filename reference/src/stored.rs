@@ -1,4 +1,4 @@
-//! The stored list: which questions and records it holds. Every answer is the Rust's, and the definitions' as well.
+//! The stored list: which questions and records it holds. Every answer is the Rust's.
 pub mod leaves;
 pub mod records;
 

@@ -2,7 +2,7 @@
 use super::SEED;
 use crate::{
     calls::{Answer, Case, Leaf, Lent, LEAVES},
-    definitions, figures, generate, generate_leaves, judge,
+    figures, generate, generate_leaves, judge,
     random::Random,
     record::{at, Finality, Settings, MAINNET, SMALL},
     refusals,
@@ -69,13 +69,6 @@ pub struct StoredCase {
     pub answer: Answer,
 }
 
-/// The Rust's answer, which the definitions must share.
-fn answered(case: &Case) -> Answer {
-    let answer = judge::answer(case);
-    assert_eq!(answer, definitions::answers::answer(case), "the Rust and the definitions differ: run the comparison");
-    answer
-}
-
 pub fn cases() -> Vec<StoredCase> {
     let table = settings();
     let mut out = Vec::new();
@@ -83,7 +76,7 @@ pub fn cases() -> Vec<StoredCase> {
         let rng = &mut Random::new(SEED ^ (leaf as u64) << 32);
         let mut kept: Vec<StoredCase> = Vec::new();
         for (settings, case) in fixed(leaf, &table) {
-            let answer = answered(&case);
+            let answer = judge::answer(&case);
             kept.push(StoredCase { case, settings, answer });
         }
         let full = |kept: &[StoredCase]| kept.len() >= ANSWERED + REFUSED * leaf.shape().refusals.len();
@@ -96,7 +89,7 @@ pub fn cases() -> Vec<StoredCase> {
             let case = generate_leaves::case(rng, leaf, &record);
             let in_table = !leaf.shape().settings || case.settings == table[settings];
             if in_table && small(&case) {
-                let answer = answered(&case);
+                let answer = judge::answer(&case);
                 if wanted(&kept, &case, &answer) {
                     kept.push(StoredCase { case, settings, answer });
                 }
