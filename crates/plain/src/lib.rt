@@ -1,7 +1,7 @@
 // The library's answers as plain numbers, for callers that have no enum: 0 and what was asked for, or a refusal's number and zeros.
 ghost use mathlib.Core.Path.{_≡_};
-ghost use lib.ListN.{length};
 ghost use Rattle.plain.specs.Plain.{plainNumber, plainTruth, plainDeltas, rootGiven};
+use roots::root_copy;
 use types::DeltasAnswer;
 use types::Number;
 use types::Truth;
@@ -75,17 +75,6 @@ pub fn plain_deltas(d: DeltasAnswer) -> PlainDeltas
             penalty: 0,
         },
     }
-}
-
-fn root_copy(part: &[u8]) -> [u8; 32]
-    requires { ⌜ length (now part) ≡ 32 ⌝ }
-    ensures { λ r. ⌜ r ≡ now (part .entry) ⌝ }
-{
-    let mut root = [0u8; 32];
-    for i in 0..32 {
-        root[i] = part[i];
-    }
-    root
 }
 
 // A lookup's number and the part of the roots that it found, which is empty where it is refused.

@@ -125,3 +125,15 @@ pub fn get_block_root(s: Settings, roots: &[u8], state_slot: u64, epoch: u64) ->
     }
     epoch_root(s, roots, epoch)
 }
+
+// A found root, as an array.
+pub fn root_copy(part: &[u8]) -> [u8; 32]
+    requires { ⌜ length (now part) ≡ 32 ⌝ }
+    ensures { λ r. ⌜ r ≡ now (part .entry) ⌝ }
+{
+    let mut root = [0u8; 32];
+    for i in 0..32 {
+        root[i] = part[i];
+    }
+    root
+}

@@ -17,6 +17,7 @@ use refusals::good_settings;
 use refusals::in_order;
 use roots::epoch_lookup;
 use roots::epoch_root;
+use roots::root_copy;
 use roots::roots_shaped;
 use types::Checkpoint;
 use types::Finality;
@@ -43,17 +44,6 @@ pub struct EpochTest {
     pub refusal: u64,
     pub passed: bool,
     pub root: [u8; 32],
-}
-
-fn root_copy(part: &[u8]) -> [u8; 32]
-    requires { ⌜ length (now part) ≡ 32 ⌝ }
-    ensures { λ r. ⌜ r ≡ now (part .entry) ⌝ }
-{
-    let mut root = [0u8; 32];
-    for i in 0..32 {
-        root[i] = part[i];
-    }
-    root
 }
 
 fn test_epoch(

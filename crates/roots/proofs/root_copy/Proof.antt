@@ -2,8 +2,8 @@ use mathlib.Core.Path.{sym}
 use Rattle.loops.proofs.Copied.{Copied, copied-none, copied-more, copied-all}
 use Prim.Native.Nat.{_-_}
 use native.Mathlib.Omega.{arith}
-use Rattle.weighing.proofs.root_copy.Statement.{statement}
-use Rattle.weighing.proofs.root_copy.Tie as tie
+use Rattle.roots.proofs.root_copy.Statement.{statement}
+use Rattle.roots.proofs.root_copy.Tie as tie
 
 abbrev Inv-loop : tie.InvT-loop
 Inv-loop part root₀ i₀ root i = Copied part i root
