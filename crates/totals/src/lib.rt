@@ -1,5 +1,5 @@
-// Totals and counts over the registry, each in one pass. get_total_balance over a membership test has two instances here: those active at an
-// epoch, and those that participate by a flag. A function without the Rust's name is for steps, which have tested the record already.
+// Totals and counts over the registry, each in one pass: of those active at an epoch, those that the eligibility rule picks, or those that
+// participate by a flag. A function without the Rust's name is for steps, which have tested the record already.
 ghost use mathlib.Core.Path.{_≡_};
 ghost use mathlib.Core.Bool.{cond};
 ghost use mathlib.Core.List.{map};
@@ -11,10 +11,10 @@ ghost use Rattle.definitions.specs.Checked.{value, sum64};
 ghost use Rattle.definitions.specs.Answers.{Says};
 ghost use Rattle.definitions.specs.Refusals.{afterTests};
 ghost use Rattle.definitions.specs.LeafRefusals.{slotRegistryTests, participationTests};
-ghost use Rattle.definitions.specs.Rust.Phase0.Helpers.{«is_active_validator», «get_active_validator_indices», «get_total_balance», «get_total_active_balance», «get_validator_churn_limit»};
-ghost use Rattle.definitions.specs.Rust.Phase0.EpochProcessing.{isEligible};
+ghost use Rattle.definitions.specs.Rust.Phase0.Helpers.{«get_active_validator_indices», «get_total_balance», «get_total_active_balance», «get_validator_churn_limit»};
 ghost use Rattle.definitions.specs.Rust.Altair.Helpers.{isUnslashedParticipating, «get_unslashed_participating_indices»};
 ghost use Rattle.definitions.specs.Close.{charged};
+ghost use Rattle.totals.specs.Members.{isMember, flagOf};
 use arithmetic::max;
 use entries::entry_is_active;
 use entries::entry_is_eligible;
@@ -26,38 +26,60 @@ use registry_refusals::slot_registry_tests;
 use types::Number;
 use types::Settings;
 
-fn active_weight(epoch: u64, entry: &[u64]) -> u64
+// Whom a total or a count is over. At `Participating` the flag's index is at most 7.
+enum Members {
+    Active {
+        epoch: u64,
+    },
+    Eligible {
+        previous_epoch: u64,
+    },
+    Participating {
+        current_epoch: u64,
+        flag_index: u64,
+        epoch: u64,
+    },
+}
+
+fn is_member(members: Members, entry: &[u64]) -> bool
     requires { ⌜ length (now entry) ≡ 10 ⌝ }
-    ensures { λ r. ⌜ r ≡ cond («is_active_validator» (decodeOne (now (entry .entry))) epoch) (decodeOne (now (entry .entry)) .«effective_balance») 0 ⌝ }
+    requires { ⌜ flagOf members ≤ 7 ⌝ }
+    ensures { λ r. ⌜ r ≡ isMember members (decodeOne (now (entry .entry))) ⌝ }
 {
-    if entry_is_active(entry, epoch) {
+    match members {
+        Members::Active { epoch } => entry_is_active(entry, epoch),
+        Members::Eligible { previous_epoch } => entry_is_eligible(previous_epoch, entry),
+        Members::Participating {
+            current_epoch,
+            flag_index,
+            epoch,
+        } => entry_is_participating(current_epoch, flag_index, epoch, entry),
+    }
+}
+
+fn member_weight(members: Members, entry: &[u64]) -> u64
+    requires { ⌜ length (now entry) ≡ 10 ⌝ }
+    requires { ⌜ flagOf members ≤ 7 ⌝ }
+    ensures { λ r. ⌜ r ≡ cond (isMember members (decodeOne (now (entry .entry)))) (decodeOne (now (entry .entry)) .«effective_balance») 0 ⌝ }
+{
+    if is_member(members, entry) {
         return entry[0];
     }
     0
 }
 
-fn participating_weight(current_epoch: u64, flag_index: u64, epoch: u64, entry: &[u64]) -> u64
-    requires { ⌜ length (now entry) ≡ 10 ⌝ }
-    requires { ⌜ «flag_index» ≤ 7 ⌝ }
-    ensures { λ r. ⌜ r ≡ cond (isUnslashedParticipating «current_epoch» «flag_index» epoch (decodeOne (now (entry .entry)))) (decodeOne (now (entry .entry)) .«effective_balance») 0 ⌝ }
-{
-    if entry_is_participating(current_epoch, flag_index, epoch, entry) {
-        return entry[0];
-    }
-    0
-}
-
-// The plain sum of the effective balances of those active at an epoch.
-pub fn active_balance(epoch: u64, registry: &[u64]) -> Number
+// The plain sum of the members' effective balances.
+fn members_balance(members: Members, registry: &[u64]) -> Number
     requires { ⌜ length (now registry) ≡ 10 * (length (now registry) / 10) ⌝ }
-    ensures { λ r. ⌜ Says (sum64 (map (λ v. v .«effective_balance») («get_active_validator_indices» (decode (now (registry .entry))) epoch))) r ⌝ }
+    requires { ⌜ flagOf members ≤ 7 ⌝ }
+    ensures { λ r. ⌜ Says (sum64 (map (λ v. v .«effective_balance») (filter (isMember members) (decode (now (registry .entry)))))) r ⌝ }
 {
     let n = registry.len() / 10;
     let mut sum: u64 = 0;
     for i in 0..n {
         let a = 10 * i;
         let b = a + 10;
-        let weight = active_weight(epoch, &registry[a..b]);
+        let weight = member_weight(members, &registry[a..b]);
         if 18446744073709551615 - sum < weight {
             return Number::Refused(5);
         }
@@ -66,29 +88,23 @@ pub fn active_balance(epoch: u64, registry: &[u64]) -> Number
     Number::Value(sum)
 }
 
-// The same of the unslashed whose flag is set, at the present or the previous epoch.
-pub fn participating_balance(
-    current_epoch: u64,
-    flag_index: u64,
-    epoch: u64,
-    registry: &[u64],
-) -> Number
+// How many they are.
+fn members_count(members: Members, registry: &[u64]) -> u64
     requires { ⌜ length (now registry) ≡ 10 * (length (now registry) / 10) ⌝ }
-    requires { ⌜ «flag_index» ≤ 7 ⌝ }
-    ensures { λ r. ⌜ Says (sum64 (map (λ v. v .«effective_balance») (filter (isUnslashedParticipating «current_epoch» «flag_index» epoch) (decode (now (registry .entry)))))) r ⌝ }
+    requires { ⌜ flagOf members ≤ 7 ⌝ }
+    ensures { λ r. ⌜ r ≡ length (filter (isMember members) (decode (now (registry .entry)))) ⌝ }
 {
     let n = registry.len() / 10;
-    let mut sum: u64 = 0;
+    let mut count: u64 = 0;
     for i in 0..n {
         let a = 10 * i;
         let b = a + 10;
-        let weight = participating_weight(current_epoch, flag_index, epoch, &registry[a..b]);
-        if 18446744073709551615 - sum < weight {
-            return Number::Refused(5);
+        if !is_member(members, &registry[a..b]) {
+            continue;
         }
-        sum += weight;
+        count += 1;
     }
-    Number::Value(sum)
+    count
 }
 
 // A total is its plain sum, and at least one increment, also over nobody.
@@ -98,15 +114,24 @@ pub fn raised(sum: u64, increment: u64) -> u64
     max(increment, sum)
 }
 
-pub fn total_active(s: Settings, epoch: u64, registry: &[u64]) -> Number
+fn members_total(s: Settings, members: Members, registry: &[u64]) -> Number
     requires { ⌜ length (now registry) ≡ 10 * (length (now registry) / 10) ⌝ }
-    ensures { λ r. ⌜ Says («get_total_balance» s («get_active_validator_indices» (decode (now (registry .entry))) epoch)) r ⌝ }
+    requires { ⌜ flagOf members ≤ 7 ⌝ }
+    ensures { λ r. ⌜ Says («get_total_balance» s (filter (isMember members) (decode (now (registry .entry))))) r ⌝ }
 {
-    let Number::Value(sum) = active_balance(epoch, registry) else {
+    let Number::Value(sum) = members_balance(members, registry) else {
         return Number::Refused(5);
     };
     let total = raised(sum, s.effective_balance_increment);
     Number::Value(total)
+}
+
+pub fn total_active(s: Settings, epoch: u64, registry: &[u64]) -> Number
+    requires { ⌜ length (now registry) ≡ 10 * (length (now registry) / 10) ⌝ }
+    ensures { λ r. ⌜ Says («get_total_balance» s («get_active_validator_indices» (decode (now (registry .entry))) epoch)) r ⌝ }
+{
+    let members = Members::Active { epoch: epoch };
+    members_total(s, members, registry)
 }
 
 pub fn total_participating(
@@ -120,12 +145,12 @@ pub fn total_participating(
     requires { ⌜ «flag_index» ≤ 7 ⌝ }
     ensures { λ r. ⌜ Says («get_total_balance» s (filter (isUnslashedParticipating «current_epoch» «flag_index» epoch) (decode (now (registry .entry))))) r ⌝ }
 {
-    let Number::Value(sum) = participating_balance(current_epoch, flag_index, epoch, registry)
-    else {
-        return Number::Refused(5);
+    let members = Members::Participating {
+        current_epoch: current_epoch,
+        flag_index: flag_index,
+        epoch: epoch,
     };
-    let total = raised(sum, s.effective_balance_increment);
-    Number::Value(total)
+    members_total(s, members, registry)
 }
 
 pub fn get_total_active_balance(s: Settings, state_slot: u64, registry: &[u64]) -> Number
@@ -157,24 +182,6 @@ pub fn get_participating_balance(
     total_participating(s, current, flag_index, epoch, registry)
 }
 
-// How many are active at an epoch.
-pub fn active_count(epoch: u64, registry: &[u64]) -> u64
-    requires { ⌜ length (now registry) ≡ 10 * (length (now registry) / 10) ⌝ }
-    ensures { λ r. ⌜ r ≡ length («get_active_validator_indices» (decode (now (registry .entry))) epoch) ⌝ }
-{
-    let n = registry.len() / 10;
-    let mut count: u64 = 0;
-    for i in 0..n {
-        let a = 10 * i;
-        let b = a + 10;
-        if !entry_is_active(&registry[a..b], epoch) {
-            continue;
-        }
-        count += 1;
-    }
-    count
-}
-
 // The churn limit by the number of the active.
 pub fn churn_by(s: Settings, active: u64) -> u64
     requires { ⌜ 0 < s .«churn_limit_quotient» ⌝ }
@@ -189,7 +196,8 @@ pub fn churn_limit(s: Settings, state_slot: u64, registry: &[u64]) -> u64
     ensures { λ r. ⌜ r ≡ «get_validator_churn_limit» s «state_slot» (decode (now (registry .entry))) ⌝ }
 {
     let epoch = current_epoch(s, state_slot);
-    let active = active_count(epoch, registry);
+    let members = Members::Active { epoch: epoch };
+    let active = members_count(members, registry);
     churn_by(s, active)
 }
 
@@ -204,24 +212,6 @@ pub fn get_validator_churn_limit(s: Settings, state_slot: u64, registry: &[u64])
     Number::Value(limit)
 }
 
-// How many the eligibility rule picks.
-fn eligible_count(previous_epoch: u64, registry: &[u64]) -> u64
-    requires { ⌜ length (now registry) ≡ 10 * (length (now registry) / 10) ⌝ }
-    ensures { λ r. ⌜ r ≡ length (filter (isEligible «previous_epoch») (decode (now (registry .entry)))) ⌝ }
-{
-    let n = registry.len() / 10;
-    let mut count: u64 = 0;
-    for i in 0..n {
-        let a = 10 * i;
-        let b = a + 10;
-        if !entry_is_eligible(previous_epoch, &registry[a..b]) {
-            continue;
-        }
-        count += 1;
-    }
-    count
-}
-
 // How many are charged: nobody at the genesis epoch, where there are no rewards and penalties.
 pub fn charged_count(s: Settings, state_slot: u64, registry: &[u64]) -> u64
     requires { ⌜ length (now registry) ≡ 10 * (length (now registry) / 10) ⌝ }
@@ -233,7 +223,10 @@ pub fn charged_count(s: Settings, state_slot: u64, registry: &[u64]) -> u64
         return 0;
     }
     let previous = previous_epoch(s, state_slot);
-    eligible_count(previous, registry)
+    let members = Members::Eligible {
+        previous_epoch: previous,
+    };
+    members_count(members, registry)
 }
 
 pub fn charged(s: Settings, state_slot: u64, registry: &[u64]) -> Number

@@ -13,15 +13,15 @@ returns c = charged-none _ _ _ (c .before .current-epoch .ensures) (omega arith)
 previous-epoch-requires : tie.Need-previous-epoch-requires
 previous-epoch-requires c κs = search needs
 
-eligible-count-requires : tie.Need-eligible-count-requires
-eligible-count-requires c κs = search needs
+members-count-requires : tie.Need-members-count-requires
+members-count-requires c κs = search needs
 
 returns-2 : tie.Need-returns-2
 returns-2 c =
     let k = c .before .before in
-    charged-some _ _ _ (k .before .current-epoch .ensures) (λ e. omega arith) (c .before .previous-epoch .ensures) (c .eligible-count .ensures)
+    charged-some _ _ _ (k .before .current-epoch .ensures) (λ e. omega arith) (c .before .previous-epoch .ensures) (c .members-count .ensures)
 
 pub charged-count-spec : {M : Type 1} → statement M
 charged-count-spec =
     tie.close
-    (tie.spec current-epoch-requires returns previous-epoch-requires eligible-count-requires returns-2)
+    (tie.spec current-epoch-requires returns previous-epoch-requires members-count-requires returns-2)

@@ -1,34 +1,14 @@
-use mathlib.Core.Path.{ap, refl}
-use Prim.Native.Nat.{max}
+use Rattle.definitions.specs.Document.Phase0.Helpers.{«get_active_validator_indices»}
 use borrow.Author.Needs.{needs}
-use Rattle.types.specs.declared.Number.the-variants.{Value}
-use Rattle.definitions.specs.Checked.{value}
-use Rattle.definitions.specs.Rust.Phase0.Helpers.{«get_total_balance»}
-use Rattle.arithmetic.proofs.Laws.{next, stop, chain}
 use Rattle.totals.proofs.total_active.Statement.{statement}
 use Rattle.totals.proofs.total_active.Tie as tie
 
-active-balance-requires : tie.Need-active-balance-requires
-active-balance-requires c κs = search needs
-
-enum-known-sum : tie.Need-enum-known-sum
-enum-known-sum c = search needs
-
-enum-told : tie.Need-enum-told
-enum-told c = search needs
+members-total-requires : tie.Need-members-total-requires
+members-total-requires c κs = search needs
 
 returns : tie.Need-returns
-unfolding «get_total_balance»
-returns c = search (needs, chain)
-
-raised-requires : tie.Need-raised-requires
-raised-requires c κs = search needs
-
-returns-2 : tie.Need-returns-2
-unfolding «get_total_balance»
-returns-2 c = next _ (c .before .before .before .before .active-balance .ensures) (c .before .before .sum .given .1) (record { is = ap Value (c .raised .ensures) })
+unfolding «get_active_validator_indices»
+returns c = c .members-total .ensures
 
 pub total-active-spec : {M : Type 1} → statement M
-total-active-spec =
-    tie.close
-    (tie.spec active-balance-requires enum-known-sum enum-told returns raised-requires returns-2)
+total-active-spec = tie.close (tie.spec members-total-requires returns)

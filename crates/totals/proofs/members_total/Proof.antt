@@ -5,11 +5,11 @@ use Rattle.types.specs.declared.Number.the-variants.{Value}
 use Rattle.definitions.specs.Checked.{value}
 use Rattle.definitions.specs.Rust.Phase0.Helpers.{«get_total_balance»}
 use Rattle.arithmetic.proofs.Laws.{next, stop, chain}
-use Rattle.totals.proofs.total_participating.Statement.{statement}
-use Rattle.totals.proofs.total_participating.Tie as tie
+use Rattle.totals.proofs.members_total.Statement.{statement}
+use Rattle.totals.proofs.members_total.Tie as tie
 
-participating-balance-requires : tie.Need-participating-balance-requires
-participating-balance-requires c κs = search needs
+members-balance-requires : tie.Need-members-balance-requires
+members-balance-requires c κs = search needs
 
 enum-known-sum : tie.Need-enum-known-sum
 enum-known-sum c = search needs
@@ -26,13 +26,13 @@ raised-requires c κs = search needs
 
 returns-2 : tie.Need-returns-2
 unfolding «get_total_balance»
-returns-2 c = next _ (c .before .before .before .before .participating-balance .ensures) (c .before .before .sum .given .1) (record { is = ap Value (c .raised .ensures) })
+returns-2 c = next _ (c .before .before .before .before .members-balance .ensures) (c .before .before .sum .given .1) (record { is = ap Value (c .raised .ensures) })
 
-pub total-participating-spec : {M : Type 1} → statement M
-total-participating-spec =
+pub members-total-spec : {M : Type 1} → statement M
+members-total-spec =
     tie.close
     (tie.spec
-    participating-balance-requires
+    members-balance-requires
     enum-known-sum
     enum-told
     returns

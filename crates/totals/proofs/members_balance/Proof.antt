@@ -1,0 +1,81 @@
+use Prim.Native.Nat.{_-_}
+use native.Mathlib.Omega.{arith}
+use Rattle.totals.specs.Members.{isMember}
+use Rattle.loops.proofs.Reading.{reading-ten}
+use Rattle.loops.proofs.Summed.{Summed, summed-none, summed-more}
+use Rattle.totals.proofs.Sums.{weight, balance-summed, balance-over}
+use Rattle.totals.proofs.members_balance.Statement.{statement}
+use Rattle.totals.proofs.members_balance.Tie as tie
+
+abbrev Inv-loop : tie.InvT-loop
+Inv-loop members registry n sum₀ i₀ sum i = Summed (weight (isMember members)) n registry i sum
+
+abbrev μ-loop : tie.MeasureT-loop
+μ-loop members registry n sum₀ i₀ sum i = n - i
+
+loop-holds : tie.Need-loop-holds Inv-loop μ-loop
+loop-holds c = summed-none _ (c .before .pre .0)
+
+mul-a : tie.Need-mul-a Inv-loop μ-loop
+mul-a c = omega arith
+
+add-b : tie.Need-add-b Inv-loop μ-loop
+add-b c = omega arith
+
+mul-member-weight : tie.Need-mul-member-weight Inv-loop μ-loop
+mul-member-weight c = omega arith
+
+sub-member-weight : tie.Need-sub-member-weight Inv-loop μ-loop
+sub-member-weight c = omega arith
+
+part-member-weight-start : tie.Need-part-member-weight-start Inv-loop μ-loop
+part-member-weight-start c = omega arith
+
+part-member-weight-end : tie.Need-part-member-weight-end Inv-loop μ-loop
+part-member-weight-end c = omega arith
+
+member-weight-requires : tie.Need-member-weight-requires Inv-loop μ-loop
+member-weight-requires c κs = (reading-ten (c .before .before .loop .inv .at) (c .before .loop-test .taken), c .before .before .before .before .pre .1)
+
+sub-if1 : tie.Need-sub-if1 Inv-loop μ-loop
+sub-if1 c = omega arith
+
+returns : tie.Need-returns Inv-loop μ-loop
+returns c = balance-over _ (c .before .before .before .before .loop .inv) (c .before .before .before .loop-test .taken) (c .before .member-weight .ensures) (omega arith)
+
+add-sum : tie.Need-add-sum Inv-loop μ-loop
+add-sum c = omega arith
+
+add-i : tie.Need-add-i Inv-loop μ-loop
+add-i c = omega arith
+
+loop-less : tie.Need-loop-less Inv-loop μ-loop
+loop-less c = omega arith
+
+loop-again : tie.Need-loop-again Inv-loop μ-loop
+loop-again c = summed-more (c .before .before .before .before .loop .inv) (c .before .before .before .loop-test .taken) (c .before .member-weight .ensures) (omega arith) (omega arith)
+
+returns-2 : tie.Need-returns-2 Inv-loop μ-loop
+returns-2 c = balance-summed _ (c .before .loop .inv) (c .loop-test .left)
+
+pub members-balance-spec : {M : Type 1} → statement M
+members-balance-spec =
+    tie.close
+    (tie.spec
+    Inv-loop
+    μ-loop
+    loop-holds
+    mul-a
+    add-b
+    mul-member-weight
+    sub-member-weight
+    part-member-weight-start
+    part-member-weight-end
+    member-weight-requires
+    sub-if1
+    returns
+    add-sum
+    add-i
+    loop-less
+    loop-again
+    returns-2)

@@ -1,0 +1,2 @@
+-- Whom totals and counts are over.
+pub mod Members
