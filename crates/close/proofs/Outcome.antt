@@ -24,13 +24,13 @@ module _ (c : Call) {x : ℕ} (e : x ≡ codeOf (closeTests c)) where
       same-outcome (rw (p .is) (p .number)) (rw (p .is)) (rw (p .is)) (rw (p .is))
 
   module _ (z : x ≡ 0) {registry slashings : List ℕ} {r : FinalityAnswer} (w : Worked (c .settings) (stateOf c) registry slashings r) where
-    -- a step is refused, and the opening put back
-    pub steps-refused : {xs ys : List ℕ} → (r .refusal ≡ 0 → ⊥) → xs ≡ c .registry → ys ≡ c .slashings → outcome r xs ys ≡ close c
+    -- a step is refused, and the opening put back, in an answer of that number and the opening's finality
+    pub steps-refused : {answer : FinalityAnswer} {xs ys : List ℕ} → (r .refusal ≡ 0 → ⊥) → answer .refusal ≡ r .refusal → (r .finality ≡ c .finality → answer .finality ≡ c .finality) → xs ≡ c .registry → ys ≡ c .slashings → outcome answer xs ys ≡ close c
     unfolding close closed afterTests bind closingBuffer
-    steps-refused y a b =
+    steps-refused y number kept a b =
         let t = passed (closeTests c) e z in
         let p = code-refused («process_epoch» (c .settings) (stateOf c)) (w .code) y in
-        same-outcome (rw t (w .code)) (rw t (w .finality)) (rw (t, p .is) a) (rw (t, p .is) b)
+        same-outcome (rw t (number ∙ w .code)) (rw (t, p .is) (kept (rw (p .is) at (w .finality)))) (rw (t, p .is) a) (rw (t, p .is) b)
 
     pub steps-done : r .refusal ≡ 0 → outcome r registry slashings ≡ close c
     unfolding close closed afterTests bind closingBuffer

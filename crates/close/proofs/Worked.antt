@@ -92,10 +92,10 @@ module _ (s : Settings) (f : Finality) (xs slashings roots : List ℕ) {r : Fina
     worked-refused y =
         stopped s _ (bind-refused _ (eight-steps s (stateNow f xs slashings roots) (gave _ f h z)) (code-refused _ (ran .code) y)) refl
 
-    -- none is
-    pub worked-done : {zs : List ℕ} → q ≡ 0 → zs ≡ resetSlashings s (r .finality .slot) slashings → Worked s (stateNow f xs slashings roots) left zs r
+    -- none is: an answer of number 0 with what justification gave
+    pub worked-done : {zs : List ℕ} {answer : FinalityAnswer} → q ≡ 0 → zs ≡ resetSlashings s (r .finality .slot) slashings → answer .refusal ≡ 0 → answer .finality ≡ r .finality → Worked s (stateNow f xs slashings roots) left zs answer
     unfolding bind
-    worked-done y a =
+    worked-done y a number same =
         let w = ran-gave ran y in
         done s _ (withValidators (decode left) (reset s (stateNow (r .finality) xs slashings roots)))
-        (eight-steps s (stateNow f xs slashings roots) (gave _ f h z) ∙ rw w) z refl (ran .held _ w) a
+        (eight-steps s (stateNow f xs slashings roots) (gave _ f h z) ∙ rw w) number same (ran .held _ w) a

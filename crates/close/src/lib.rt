@@ -143,7 +143,10 @@ fn run_steps(
     }
     copy(slashings, closing_slashings);
     slashings_reset_core(s, weighed.slot, closing_slashings);
-    justified
+    FinalityAnswer {
+        refusal: 0,
+        finality: weighed,
+    }
 }
 
 // Once the tests have passed but for that of the entries. Where a step is refused, the opening is put back. `kept` has room for what the
@@ -180,10 +183,11 @@ fn close_tested(
         closing_registry,
         closing_slashings,
     );
-    if answer.refusal != 0 {
-        copy(registry, closing_registry);
-        copy(slashings, closing_slashings);
+    if answer.refusal == 0 {
+        return answer;
     }
+    copy(registry, closing_registry);
+    copy(slashings, closing_slashings);
     answer
 }
 

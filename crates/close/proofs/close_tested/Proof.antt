@@ -43,18 +43,12 @@ same-length : tie.Need-same-length
 same-length c = search needs
 
 returns : tie.Need-returns
-returns c = tests-refused (call (c .before .before .before .before .before .before .before .before .before .before .before .before .before)) (tested (c .before .before .before)) (c .if1 .taken)
+returns c = tests-refused (call (c .before .before .before .before .before .before .before .before .before .before .before .before .before)) (tested (c .before .before .before)) (λ z. omega (arith, c .if1 .taken))
 
 run-steps-requires : tie.Need-run-steps-requires
 run-steps-requires c κs =
     let p = was-lent (c .before .before .before .before .before .before .before .before .before .before .before .before .before .before .before .before) in
     (p .opening, ((p .closingRegistry, p .closingSlashings), rw (← c .before .before .before .before .before .before .before .before .before .current-epoch .ensures, ← c .before .before .before .before .before .before .before .before .previous-epoch .ensures) (c .before .before .before .before .before .before .survey-registry .ensures)))
-
-copy-requires : tie.Need-copy-requires
-copy-requires c κs = omega (arith, was-lent (c .before .before .before .before .before .before .before .before .before .before .before .before .before .before .before .before .before .before .before .before .before .before .before .before) .closingRegistry, c .before .before .before .before .before .before .closing-registry .given)
-
-copy-requires-2 : tie.Need-copy-requires-2
-copy-requires-2 c κs = omega (arith, was-lent (c .before .before .before .before .before .before .before .before .before .before .before .before .before .before .before .before .before .before .before .before .before .before .before .before .before .before .before .before) .closingSlashings, c .before .before .before .before .before .before .before .before .closing-slashings .given)
 
 same-length-2 : tie.Need-same-length-2
 same-length-2 c = search needs
@@ -66,7 +60,13 @@ same-length-4 : tie.Need-same-length-4
 same-length-4 c = search needs
 
 returns-2 : tie.Need-returns-2
-returns-2 c = steps-refused (call (c .before .before .before .before .before .before .before .before .before .before .before .before .before .before .before .before .before .before .before .before .before .before .before .before .before .before .before .before .before .before .before)) (tested (c .before .before .before .before .before .before .before .before .before .before .before .before .before .before .before .before .before .before .before .before .before)) (c .before .before .before .before .before .before .before .before .before .before .before .before .before .before .before .before .before .before .if1 .left) (c .before .before .before .before .before .before .before .before .before .before .before .before .before .before .run-steps .ensures) (c .before .before .before .before .before .before .before .before .if2 .taken) (c .before .before .before .before .before .before .copy .ensures) (c .before .before .copy2 .ensures)
+returns-2 c = steps-done (call (c .before .before .before .before .before .before .before .before .before .before .before .before .before .before .before .before .before .before .before .before .before .before .before)) (tested (c .before .before .before .before .before .before .before .before .before .before .before .before .before)) (omega (arith, c .before .before .before .before .before .before .before .before .before .before .if1 .left)) (c .before .before .before .before .before .before .run-steps .ensures) (omega (arith, c .if2 .taken))
+
+copy-requires : tie.Need-copy-requires
+copy-requires c κs = omega (arith, was-lent (c .before .before .before .before .before .before .before .before .before .before .before .before .before .before .before .before .before .before .before .before .before .before .before .before) .closingRegistry, c .before .before .before .before .before .before .closing-registry .given)
+
+copy-requires-2 : tie.Need-copy-requires-2
+copy-requires-2 c κs = omega (arith, was-lent (c .before .before .before .before .before .before .before .before .before .before .before .before .before .before .before .before .before .before .before .before .before .before .before .before .before .before .before .before) .closingSlashings, c .before .before .before .before .before .before .before .before .closing-slashings .given)
 
 same-length-5 : tie.Need-same-length-5
 same-length-5 c = search needs
@@ -78,7 +78,9 @@ same-length-7 : tie.Need-same-length-7
 same-length-7 c = search needs
 
 returns-3 : tie.Need-returns-3
-returns-3 c = steps-done (call (c .before .before .before .before .before .before .before .before .before .before .before .before .before .before .before .before .before .before .before .before .before .before .before)) (tested (c .before .before .before .before .before .before .before .before .before .before .before .before .before)) (c .before .before .before .before .before .before .before .before .before .before .if1 .left) (c .before .before .before .before .before .before .run-steps .ensures) (c .if2 .left)
+returns-3 c =
+    let worked = c .before .before .before .before .before .before .before .before .before .before .before .before .before .before in
+    steps-refused (call (worked .before .before .before .before .before .before .before .before .before .before .before .before .before .before .before .before .before)) (tested (worked .before .before .before .before .before .before .before)) (omega (arith, worked .before .before .before .before .if1 .left)) (worked .run-steps .ensures) (λ z. omega (arith, c .before .before .before .before .before .before .before .before .if2 .left)) refl (λ kept. search needs) (c .before .before .before .before .before .before .copy .ensures) (c .before .before .copy2 .ensures)
 
 pub close-tested-spec : {M : Type 1} → statement M
 close-tested-spec =
@@ -90,12 +92,12 @@ close-tested-spec =
     same-length
     returns
     run-steps-requires
-    copy-requires
-    copy-requires-2
     same-length-2
     same-length-3
     same-length-4
     returns-2
+    copy-requires
+    copy-requires-2
     same-length-5
     same-length-6
     same-length-7

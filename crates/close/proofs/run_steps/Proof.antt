@@ -1,11 +1,12 @@
-use mathlib.Core.Path.{_≡_, ap, _∙_}
+use mathlib.Core.Path.{_≡_, refl, ap, _∙_}
+use native.Mathlib.Omega.{arith}
 use borrow.Author.Needs.{needs}
 use lib.ListN.{length}
 use Rattle.definitions.specs.Record.{decode}
 use Rattle.definitions.specs.Answers.{finalityAnswerFor}
 use Rattle.definitions.specs.Rust.Phase0.EpochProcessing.{resetSlashings}
 use Rattle.definitions.specs.Rust.Altair.EpochProcessing.{«process_justification_and_finalization»}
-use Rattle.refusals.proofs.Laws.{small}
+use Rattle.refusals.proofs.Laws.{small, good-finality}
 use Rattle.close.proofs.Justified.{given-found}
 use Rattle.close.proofs.Worked.{slot-kept, finalized-small, worked-unjustified, worked-refused, worked-done}
 use Rattle.close.proofs.run_steps.Statement.{statement}
@@ -20,6 +21,10 @@ justified c =
     let a = start c in
     c .justification-core .ensures .of (decode (a .args .registry .now)) (given-found (a .args .s) (a .args .finality .slot) (a .args .registry .now) (a .pre .1 .1) (c .before .before .before .total-of .ensures) (c .before .before .total-of2 .ensures) (c .before .total-of3 .ensures))
 
+-- it gave a finality; the test may stand either way round
+given : (c : tie.Else1) → c .before .before .justification-core .result .refusal ≡ 0
+given c = omega (arith, c .if1 .left)
+
 total-of-requires : tie.Need-total-of-requires
 total-of-requires c κs = search needs
 
@@ -33,21 +38,22 @@ justification-core-requires : tie.Need-justification-core-requires
 justification-core-requires c κs = c .before .before .before .before .before .before .before .before .before .before .before .pre .0 .weighs
 
 returns : tie.Need-returns
-returns c = worked-unjustified _ _ _ _ _ (justified (c .before .before)) (c .if1 .taken)
+returns c = worked-unjustified _ _ _ _ _ (justified (c .before .before)) (λ z. omega (arith, c .if1 .taken))
 
 write-registry-requires : tie.Need-write-registry-requires
 write-registry-requires c κs =
     let j = c .before .before .before .before .before in
     let a = start j in
-    let slot = slot-kept _ _ _ (a .args .slashings .now) _ (justified j) (c .before .before .before .if1 .left) in
-    let finalized = finalized-small _ _ _ (a .args .slashings .now) _ (justified j) (c .before .before .before .if1 .left) (a .pre .0 .finality) in
-    ((a .pre .0 .settings .good, rw slot (small _ (a .pre .0 .settings .small)), finalized), ((a .pre .0 .registry, a .pre .1 .0 .0), rw slot (a .pre .1 .1)))
+    let slot = slot-kept _ _ _ (a .args .slashings .now) _ (justified j) (given (c .before .before .before)) in
+    let finalized = finalized-small _ _ _ (a .args .slashings .now) _ (justified j) (given (c .before .before .before)) (a .pre .0 .finality) in
+    let opening = good-finality (a .args .finality) (a .pre .0 .finality) in
+    ((a .pre .0 .settings .good, rw slot (small _ (a .pre .0 .settings .small)), omega (arith, finalized, opening .finalized)), ((a .pre .0 .registry, a .pre .1 .0 .0), rw slot (a .pre .1 .1)))
 
 same-length : tie.Need-same-length
 same-length c = search needs
 
 returns-2 : tie.Need-returns-2
-returns-2 c = worked-refused _ _ _ _ _ (justified (c .before .before .before .before .before .before .before .before .before)) (c .before .before .before .before .before .before .before .if1 .left) (c .before .before .before .write-registry .ensures) (c .if2 .taken)
+returns-2 c = worked-refused _ _ _ _ _ (justified (c .before .before .before .before .before .before .before .before .before)) (given (c .before .before .before .before .before .before .before)) (c .before .before .before .write-registry .ensures) (λ z. omega (arith, c .if2 .taken))
 
 copy-requires : tie.Need-copy-requires
 copy-requires c κs = c .before .before .before .before .before .before .before .before .before .before .before .before .before .before .before .before .before .before .before .before .before .before .pre .1 .0 .1
@@ -56,7 +62,7 @@ slashings-reset-core-requires : tie.Need-slashings-reset-core-requires
 slashings-reset-core-requires c κs =
     let j = c .before .before .before .before .before .before .before .before .before .before .before .before .before .before in
     let a = start j in
-    let slot = slot-kept _ _ _ (a .args .slashings .now) _ (justified j) (c .before .before .before .before .before .before .before .before .before .before .before .before .if1 .left) in
+    let slot = slot-kept _ _ _ (a .args .slashings .now) _ (justified j) (given (c .before .before .before .before .before .before .before .before .before .before .before .before)) in
     (ap length (c .before .before .before .copy .ensures) ∙ a .pre .0 .slashings, rw slot (a .pre .0 .settings))
 
 same-length-2 : tie.Need-same-length-2
@@ -67,8 +73,12 @@ same-length-3 c = search needs
 
 returns-3 : tie.Need-returns-3
 returns-3 c =
-    worked-done _ _ _ _ _ (justified (c .before .before .before .before .before .before .before .before .before .before .before .before .before .before .before .before .before)) (c .before .before .before .before .before .before .before .before .before .before .before .before .before .before .before .if1 .left) (c .before .before .before .before .before .before .before .before .before .before .before .write-registry .ensures) (c .before .before .before .before .before .before .before .before .if2 .left)
-    (c .before .before .slashings-reset-core .ensures ∙ ap (resetSlashings _ _) (c .before .before .before .before .before .before .copy .ensures))
+    let reset : tie.After-slashings-reset-core = search needs in
+    let done = reset .before .before .before .before .before .before in
+    let e = done .before .before .before .before .before .before .before in
+    worked-done _ _ _ _ _ (justified (e .before .before)) (given e) (done .before .before .before .write-registry .ensures) (omega (arith, done .if2 .left))
+    (reset .slashings-reset-core .ensures ∙ ap (resetSlashings _ _) (reset .before .before .before .before .copy .ensures))
+    (omega (arith, given e)) refl
 
 pub run-steps-spec : {M : Type 1} → statement M
 run-steps-spec =
