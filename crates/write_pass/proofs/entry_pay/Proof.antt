@@ -1,4 +1,5 @@
 use mathlib.Core.Path.{_∙_}
+use native.Mathlib.Omega.{arith}
 use Rattle.write_pass.proofs.Entry.{pays-none, pays-some}
 use Rattle.sweeps.proofs.Runs.{settles-runs, runs-then, runs-stop}
 use borrow.Author.Needs.{needs}
@@ -8,7 +9,7 @@ use Rattle.write_pass.proofs.entry_pay.Tie as tie
 returns : tie.Need-returns
 returns c =
     let a = c .before .before .before .before in
-    record { runs = pays-none (a .args .s) (a .args .p) (a .pre .1 .0) (c .if1 .taken); memo = a .pre .1 .1 }
+    record { runs = pays-none (a .args .s) (a .args .p) (a .pre .1 .0) (omega (arith, c .if1 .taken)); memo = a .pre .1 .1 }
 
 entry-update-score-requires : tie.Need-entry-update-score-requires
 entry-update-score-requires c κs = search needs
@@ -20,7 +21,7 @@ returns-2 : tie.Need-returns-2
 returns-2 c =
     let a = c .before .before .before .before .before .before .before .before .before in
     record {
-      runs = pays-some (a .args .s) (a .args .p) (c .before .before .before .before .before .if1 .left) (runs-stop _ (settles-runs (c .before .before .before .entry-update-score .ensures)) (c .if2 .taken));
+      runs = pays-some (a .args .s) (a .args .p) (λ z. omega (arith, c .before .before .before .before .before .if1 .left)) (runs-stop _ (settles-runs (c .before .before .before .entry-update-score .ensures)) (λ z. omega (arith, c .if2 .taken)));
       memo = a .pre .1 .1;
     }
 
@@ -44,7 +45,7 @@ returns-3 : tie.Need-returns-3
 returns-3 c =
     let a = c .before .before .before .before .before .before .before .before .before .before .before .before .before .before .before .before in
     record {
-      runs = pays-some (a .args .s) (a .args .p) (c .before .before .before .before .before .before .before .before .before .before .before .before .if1 .left) (runs-then _ (settles-runs (c .before .before .before .before .before .before .before .before .before .before .entry-update-score .ensures)) (c .before .before .before .before .before .before .before .if2 .left) (settles-runs (c .before .before .entry-reward-by .ensures)));
+      runs = pays-some (a .args .s) (a .args .p) (λ z. omega (arith, c .before .before .before .before .before .before .before .before .before .before .before .before .if1 .left)) (runs-then _ (settles-runs (c .before .before .before .before .before .before .before .before .before .before .entry-update-score .ensures)) (omega (arith, c .before .before .before .before .before .before .before .if2 .left)) (settles-runs (c .before .before .entry-reward-by .ensures)));
       memo = c .before .before .before .before .before .rates-for .ensures .0;
     }
 
