@@ -46,7 +46,7 @@ returns-2 c =
     let q = k .before .before .before .before .before in
     let t = q .before .before in
     let a = t .before .before .before .before .before in
-    step-restored («process_registry_updates» (a .args .s) (a .args .state-slot) (a .args .finalized-epoch)) _ (t .before .registry-tests .ensures) (t .if1 .left) refl (k .update-registry .ensures) (c .before .before .before .before .if2 .taken) (c .before .before .copy2 .ensures)
+    step-restored («process_registry_updates» (a .args .s) (a .args .state-slot) (a .args .finalized-epoch)) _ (t .before .registry-tests .ensures) (t .if1 .left) refl (k .update-registry .ensures) (λ z. omega (arith, c .before .before .before .before .if2 .taken)) (c .before .before .copy2 .ensures)
 
 same-length-3 : tie.Need-same-length-3
 same-length-3 c = search needs
@@ -57,7 +57,7 @@ returns-3 c =
     let q = k .before .before .before .before .before in
     let t = q .before .before in
     let a = t .before .before .before .before .before in
-    step-done («process_registry_updates» (a .args .s) (a .args .state-slot) (a .args .finalized-epoch)) _ (t .before .registry-tests .ensures) (t .if1 .left) refl (k .update-registry .ensures) (c .if2 .left)
+    step-done («process_registry_updates» (a .args .s) (a .args .state-slot) (a .args .finalized-epoch)) _ (t .before .registry-tests .ensures) (t .if1 .left) refl (k .update-registry .ensures) (omega (arith, c .if2 .left))
 
 pub process-registry-updates-spec : {M : Type 1} → statement M
 process-registry-updates-spec =

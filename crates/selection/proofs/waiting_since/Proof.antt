@@ -1,4 +1,5 @@
 use mathlib.Core.Path.{sym, _∙_}
+use native.Mathlib.Omega.{arith}
 use borrow.Author.Tests.{eq-eqb, ne-eqb}
 use Rattle.selection.specs.Keep.{waitingSince}
 use borrow.Author.Needs.{needs}
@@ -26,7 +27,7 @@ add-result c = search needs
 
 returns-2 : tie.Need-returns-2
 unfolding waitingSince
-returns-2 c = let i = c .before .before .before .before in rw (eq-eqb _ _ (i .if1 .left), sym (c .before .becomes-eligible .ensures) ∙ c .if2 .taken)
+returns-2 c = let i = c .before .before .before .before in rw (eq-eqb _ _ (i .if1 .left), sym (c .before .becomes-eligible .ensures) ∙ c .if2 .taken) (omega arith)
 
 shared-slice-read-result : tie.Need-shared-slice-read-result
 shared-slice-read-result c = search needs
