@@ -9,6 +9,7 @@ ghost use Rattle.definitions.specs.Refusals.{goodSettings, effectiveBalanceTest
 ghost use Rattle.definitions.specs.Rust.Phase0.EpochProcessing.{updateEffectiveBalance, «process_effective_balance_updates»};
 ghost use Rattle.loops.specs.Ran.{Settles, Ran};
 ghost use Rattle.buffers.specs.Closes.{Closes};
+ghost use Rattle.effective_balances.specs.Thresholds.{thresholdsOf, SaysThresholds};
 use arithmetic::add64;
 use arithmetic::min;
 use arithmetic::mul64;
@@ -16,6 +17,35 @@ use buffers::copy;
 use registry_refusals::settings_registry_tests;
 use types::Number;
 use types::Settings;
+
+// How far a balance may lie below and above the effective balance before that follows it.
+pub struct Thresholds {
+    pub downward: u64,
+    pub upward: u64,
+}
+
+pub enum ThresholdsAnswer {
+    Value(Thresholds),
+    Refused(u64),
+}
+
+pub fn hysteresis(s: Settings) -> ThresholdsAnswer
+    requires { ⌜ 0 < s .«hysteresis_quotient» ⌝ }
+    ensures { λ r. ⌜ SaysThresholds (thresholdsOf s) r ⌝ }
+{
+    let increment = s.effective_balance_increment / s.hysteresis_quotient;
+    let Number::Value(downward) = mul64(increment, s.hysteresis_downward_multiplier) else {
+        return ThresholdsAnswer::Refused(5);
+    };
+    let Number::Value(upward) = mul64(increment, s.hysteresis_upward_multiplier) else {
+        return ThresholdsAnswer::Refused(5);
+    };
+    let thresholds = Thresholds {
+        downward: downward,
+        upward: upward,
+    };
+    ThresholdsAnswer::Value(thresholds)
+}
 
 // Rounded down to an increment, and at most the maximum.
 fn rounded(s: Settings, balance: u64) -> u64
@@ -73,14 +103,10 @@ pub fn effective_balances_core(s: Settings, registry: &mut [u64]) -> u64
     requires { ⌜ (length (now registry) ≡ 10 * (length (now registry) / 10)) × (goodSettings s ≡ true) ⌝ }
     ensures { λ r. ⌜ Ran («process_effective_balance_updates» s (decode (now (registry .entry)))) (now (registry .exit)) r ⌝ }
 {
-    let increment = s.effective_balance_increment / s.hysteresis_quotient;
-    let Number::Value(downward) = mul64(increment, s.hysteresis_downward_multiplier) else {
+    let ThresholdsAnswer::Value(thresholds) = hysteresis(s) else {
         return 5;
     };
-    let Number::Value(upward) = mul64(increment, s.hysteresis_upward_multiplier) else {
-        return 5;
-    };
-    update_all(s, downward, upward, registry)
+    update_all(s, thresholds.downward, thresholds.upward, registry)
 }
 
 fn effective_balance_tests(s: Settings, opening: &[u64], closing: &[u64]) -> u64

@@ -9,15 +9,13 @@ ghost use Rattle.definitions.specs.Refusals.{afterTests};
 ghost use Rattle.definitions.specs.LeafRefusals.{flagDeltasTests};
 ghost use Rattle.definitions.specs.Rust.Altair.Helpers.{flagIndexDeltas, «get_flag_index_deltas»};
 ghost use Rattle.flag_rewards.specs.Totals.{flagTotalsOf};
-use arithmetic::mul64;
-use base_rewards::base_reward_per_increment;
 use base_rewards::entry_base_reward;
 use finality::inactivity_leak;
 use finalized::finalized_registry_tests;
 use leaf_refusals::current_epoch;
 use leaf_refusals::previous_epoch;
-use rewards::Shared;
 use rewards::flag_deltas;
+use rewards::shared_numbers;
 use totals::total_active;
 use totals::total_participating;
 use types::DeltasAnswer;
@@ -42,16 +40,8 @@ fn entry_flag_deltas(
     requires { ⌜ length (now entry) ≡ 10 ⌝ }
     ensures { λ r. ⌜ SaysDeltas (flagIndexDeltas s «current_epoch» «previous_epoch» «flag_index» (flagTotalsOf s participating total leaking) (decodeOne (now (entry .entry)))) r ⌝ }
 {
-    let per_increment = base_reward_per_increment(s, total);
-    let denominator = mul64(total / s.effective_balance_increment, 64);
-    let shared = Shared {
-        current_epoch: current_epoch,
-        previous_epoch: previous_epoch,
-        total: total,
-        leaking: leaking,
-        per_increment: per_increment,
-        denominator: denominator,
-    };
+    let shared = shared_numbers(s, current_epoch, previous_epoch, total, leaking);
+    let per_increment = shared.per_increment;
     let base = entry_base_reward(s, total, per_increment, entry);
     let increments = participating / s.effective_balance_increment;
     flag_deltas(s, shared, flag_index, increments, base, entry)

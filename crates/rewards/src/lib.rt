@@ -9,8 +9,9 @@ ghost use Rattle.definitions.specs.Answers.{Says, SaysDeltas};
 ghost use Rattle.definitions.specs.Refusals.{afterTests};
 ghost use Rattle.definitions.specs.LeafRefusals.{slotEntryTests};
 ghost use Rattle.definitions.specs.Rust.Altair.Helpers.{«PARTICIPATION_FLAG_WEIGHTS», «get_base_reward», hitDeltas, missDeltas, flagIndexDeltas, inactivityPenaltyDeltas, «get_inactivity_penalty_deltas»};
-ghost use Rattle.rewards.specs.Shared.{SharedBy, totalsOf};
+ghost use Rattle.rewards.specs.Shared.{SharedBy, Shares, totalsOf};
 use arithmetic::mul64;
+use base_rewards::base_reward_per_increment;
 use entries::entry_is_eligible;
 use entries::entry_is_participating;
 use leaf_refusals::current_epoch;
@@ -30,6 +31,28 @@ pub struct Shared {
     pub leaking: bool,
     pub per_increment: Number,
     pub denominator: Number,
+}
+
+pub fn shared_numbers(
+    s: Settings,
+    current_epoch: u64,
+    previous_epoch: u64,
+    total: u64,
+    leaking: bool,
+) -> Shared
+    requires { ⌜ (0 < s .«effective_balance_increment») × (s .«effective_balance_increment» ≤ total) ⌝ }
+    ensures { λ r. ⌜ Shares s «current_epoch» «previous_epoch» total leaking r ⌝ }
+{
+    let per_increment = base_reward_per_increment(s, total);
+    let denominator = mul64(total / s.effective_balance_increment, 64);
+    Shared {
+        current_epoch: current_epoch,
+        previous_epoch: previous_epoch,
+        total: total,
+        leaking: leaking,
+        per_increment: per_increment,
+        denominator: denominator,
+    }
 }
 
 // For a hit: nothing in a leak.

@@ -13,7 +13,6 @@ ghost use Rattle.buffers.specs.Closes.{Closes};
 ghost use Rattle.rewards.specs.Shared.{SharedBy, totalsOf};
 ghost use Rattle.flag_rewards.specs.Totals.{flagTotalsOf};
 use arithmetic::mul64;
-use base_rewards::base_reward_per_increment;
 use buffers::copy;
 use finality::inactivity_leak;
 use finalized::registry_tests;
@@ -21,6 +20,7 @@ use leaf_refusals::current_epoch;
 use leaf_refusals::previous_epoch;
 use reward_balances::entry_reward;
 use rewards::Shared;
+use rewards::shared_numbers;
 use totals::total_active;
 use totals::total_participating;
 use types::Number;
@@ -83,16 +83,7 @@ fn reward_registry(
     ensures { λ r. ⌜ Ran (mapChecked (rewardAndPenalize s quotient «current_epoch» «previous_epoch» (flagTotalsOf s source total leaking) (flagTotalsOf s target total leaking) (flagTotalsOf s head total leaking)) (decode (now (registry .entry)))) (now (registry .exit)) r ⌝ }
 {
     let increment = s.effective_balance_increment;
-    let per_increment = base_reward_per_increment(s, total);
-    let denominator = mul64(total / increment, 64);
-    let shared = Shared {
-        current_epoch: current_epoch,
-        previous_epoch: previous_epoch,
-        total: total,
-        leaking: leaking,
-        per_increment: per_increment,
-        denominator: denominator,
-    };
+    let shared = shared_numbers(s, current_epoch, previous_epoch, total, leaking);
     let product = mul64(s.inactivity_score_bias, quotient);
     reward_all(
         s,

@@ -13,6 +13,7 @@ ghost use Rattle.definitions.specs.Rust.Altair.EpochProcessing.{slash, «proces
 ghost use Rattle.agreement.specs.Bounds.{Passed};
 ghost use Rattle.loops.specs.Ran.{Settles, Ran};
 ghost use Rattle.buffers.specs.Closes.{Closes};
+ghost use Rattle.slashings.specs.Adjusted.{adjustedBalance};
 use arithmetic::add64;
 use arithmetic::min;
 use arithmetic::mul64;
@@ -27,7 +28,8 @@ use totals::total_active;
 use types::Number;
 use types::Settings;
 
-pub fn slashed_balance(slashings: &[u64]) -> Number
+// What was slashed, over the lent epochs.
+fn slashed_balance(slashings: &[u64]) -> Number
     ensures { λ r. ⌜ Says (sum64 (now (slashings .entry))) r ⌝ }
 {
     let n = slashings.len();
@@ -40,6 +42,20 @@ pub fn slashed_balance(slashings: &[u64]) -> Number
         sum += amount;
     }
     Number::Value(sum)
+}
+
+// Times the multiplier, and at most the total: the balance by which penalties go.
+pub fn adjusted_balance(multiplier: u64, total: u64, slashings: &[u64]) -> Number
+    ensures { λ r. ⌜ Says (adjustedBalance multiplier total (now (slashings .entry))) r ⌝ }
+{
+    let Number::Value(slashed) = slashed_balance(slashings) else {
+        return Number::Refused(5);
+    };
+    let Number::Value(product) = mul64(slashed, multiplier) else {
+        return Number::Refused(5);
+    };
+    let adjusted = min(product, total);
+    Number::Value(adjusted)
 }
 
 // The epoch is compared only where the validator is slashed, and the penalty worked out only where it is due.
@@ -98,13 +114,9 @@ pub fn slashings_core(
     let Number::Value(total) = total_active(s, epoch, registry) else {
         return 5;
     };
-    let Number::Value(slashed) = slashed_balance(slashings) else {
+    let Number::Value(adjusted) = adjusted_balance(multiplier, total, slashings) else {
         return 5;
     };
-    let Number::Value(product) = mul64(slashed, multiplier) else {
-        return 5;
-    };
-    let adjusted = min(product, total);
     slash_all(s, epoch, total, adjusted, registry)
 }
 

@@ -3,7 +3,7 @@
 use mathlib.Core.Path.{_≡_, refl, sym, ap, _∙_}
 use mathlib.Core.Bool.{Bool, true, false, cond, _&&_, not}
 use mathlib.Core.List.{List, [], _∷_, map}
-use Prim.Native.Nat.{ℕ, _+_, _-_, _/_, _^_, _≤_, _<_}
+use Prim.Native.Nat.{ℕ, _+_, _-_, _/_, _^_, _≤_, _<_, min}
 use native.Mathlib.Omega.{arith}
 use borrow.Author.Tests.{lt-ltb, eq-eqb, ne-eqb, eqb-true, ltb-true}
 use lib.Dec.{ltb, eqb}
@@ -31,10 +31,14 @@ use Rattle.refusals.proofs.All.{both}
 use Rattle.loops.proofs.Filtered.{sum-filter, sum64-filter}
 use Rattle.registry.proofs.Epochs.{Epochs}
 use Rattle.registry.proofs.Total.{total-kept}
+use Rattle.slashings.specs.Adjusted.{adjustedBalance}
+use Rattle.slashings.proofs.Adjusted.{slashings-by}
+use Rattle.effective_balances.specs.Thresholds.{thresholdsOf}
+use Rattle.effective_balances.proofs.Step.{updates-by}
 use Rattle.survey.specs.declared.Sums.{Sums}
 use Rattle.survey.specs.Sums.{weight, activeAt, balanceOf, PlainSums}
 use Rattle.write_steps.specs.RegistrySteps.{registrySteps}
-use Rattle.write_steps.specs.Numbers.{leakOf, slashedProduct}
+use Rattle.write_steps.specs.Numbers.{leakOf}
 use Rattle.write_steps.proofs.Leak.{leak-none, leak-some}
 use Rattle.write_steps.proofs.Kept.{bare, Keeps, score-keeps, reward-keeps, kept-map}
 
@@ -78,9 +82,8 @@ pub record Accepted (s : Settings) (slot fin : ℕ) (slashings : List ℕ) (vs :
   pub sums : Sums
   pub plain : PlainSums («get_current_epoch» s slot) («get_previous_epoch» s slot) vs sums
   pub leak : Gave (leakOf s slot fin)
-  pub product : Gave (slashedProduct (s .«proportional_slashing_multiplier_altair») slashings)
-  pub downward : Gave (mul64 (s .«effective_balance_increment» / s .«hysteresis_quotient») (s .«hysteresis_downward_multiplier»))
-  pub upward : Gave (mul64 (s .«effective_balance_increment» / s .«hysteresis_quotient») (s .«hysteresis_upward_multiplier»))
+  pub adjusted : (total : ℕ) → Gave (adjustedBalance (s .«proportional_slashing_multiplier_altair») total slashings)
+  pub thresholds : Gave (thresholdsOf s)
 
 -- sums of those that pass a test
 
@@ -205,9 +208,17 @@ module _ (s : Settings) (slot fin : ℕ) (vs : List Validator) where
       let of : (index : ℕ) → Gave (balanceOf (participating s slot index) vs) = λ index. part (participating s slot index) (activeAt current) (is-active index («get_previous_epoch» s slot) e) vs g in
       record { source = of 0; target = of 1; head = of 2 }
 
+-- whether the adjusted balance is a number does not depend on the total
+adjusted-any : (multiplier total other : ℕ) (ys : List ℕ) {x : ℕ} → adjustedBalance multiplier total ys ≡ value x → Gave (adjustedBalance multiplier other ys)
+unfolding adjustedBalance
+adjusted-any multiplier total other ys e =
+    let a = bound (sum64 ys) (λ slashed. bind (mul64 slashed multiplier) (λ product. value (min product total))) e in
+    let b = bound (mul64 (a .first) multiplier) (λ product. value (min product total)) (a .then) in
+    record { gift = min (b .first) other; gave = bind-value (λ slashed. bind (mul64 slashed multiplier) (λ product. value (min product other))) (a .gave) ∙ bind-value (λ product. value (min product other)) (b .gave) }
+
 module _ (s : Settings) (slot fin : ℕ) (ep : Epochs s slot) (ys : List ℕ) where
   pub accepted : (vs : List Validator) {ws : List Validator} → registrySteps s slot fin ys vs ≡ value ws → Accepted s slot fin ys vs
-  unfolding registrySteps slashedProduct «process_slashings» «process_effective_balance_updates» «get_total_active_balance» «get_active_validator_indices» «is_active_validator» isUnslashedParticipating
+  unfolding registrySteps «get_total_active_balance» «get_active_validator_indices» «is_active_validator» isUnslashedParticipating
   accepted vs h =
       let quotient = s .«inactivity_penalty_quotient_altair» in
       let now = «get_current_epoch» s slot in
@@ -216,24 +227,21 @@ module _ (s : Settings) (slot fin : ℕ) (ep : Epochs s slot) (ys : List ℕ) wh
       let c = bound («process_registry_updates» s slot fin (b .first)) _ (b .then) in
       let d = bound («process_slashings» s (s .«proportional_slashing_multiplier_altair») slot ys (c .first)) _ (c .then) in
       let e = bound («process_effective_balance_updates» s (d .first)) _ (d .then) in
-      let total = bound («get_total_active_balance» s slot (c .first)) _ (d .gave) in
-      let slashed = bound (sum64 ys) _ (total .then) in
-      let product = bound (mul64 (slashed .first) (s .«proportional_slashing_multiplier_altair»)) _ (slashed .then) in
-      let down = bound (mul64 (s .«effective_balance_increment» / s .«hysteresis_quotient») (s .«hysteresis_downward_multiplier»)) _ (e .gave) in
-      let up = bound (mul64 (s .«effective_balance_increment» / s .«hysteresis_quotient») (s .«hysteresis_upward_multiplier»)) _ (down .then) in
+      let total = bound («get_total_active_balance» s slot (c .first)) _ (sym (slashings-by s (s .«proportional_slashing_multiplier_altair») slot ys (c .first)) ∙ d .gave) in
+      let adjusted = bound (adjustedBalance (s .«proportional_slashing_multiplier_altair») (total .first) ys) _ (total .then) in
+      let thresholds = bound (thresholdsOf s) _ (sym (updates-by s (d .first)) ∙ e .gave) in
       let paid : Gave (balanceOf (activeAt now) (b .first)) = total-gave s _ (sym (total-kept s slot fin ep (b .first) (c .gave)) ∙ total .gave) in
       let scored : Gave (balanceOf (activeAt now) (a .first)) = same-sum (activeAt now) (a .first) (b .first) (rewards-keep (weight (activeAt now)) (λ v. refl) s quotient slot fin (a .first) (b .gave)) paid in
       let active : Gave (balanceOf (activeAt now) vs) = same-sum (activeAt now) vs (a .first) (scores-keep (weight (activeAt now)) (λ v. refl) s slot fin vs (a .gave)) scored in
       go (eqb now 0) refl vs (a .first) (b .first) (a .gave) (b .gave) active
-      (record { gift = product .first; gave = bind-value (λ x. mul64 x (s .«proportional_slashing_multiplier_altair»)) (slashed .gave) ∙ product .gave })
-      (record { gift = down .first; gave = down .gave })
-      (record { gift = up .first; gave = up .gave })
+      (λ other. adjusted-any (s .«proportional_slashing_multiplier_altair») (total .first) other ys (adjusted .gave))
+      (record { gift = thresholds .first; gave = thresholds .gave })
     where
       back : (index : ℕ) (vs scored : List Validator) → «process_inactivity_updates» s slot fin vs ≡ value scored → Gave (balanceOf (participating s slot index) scored) → Gave (balanceOf (participating s slot index) vs)
       back index vs scored e g = same-sum (participating s slot index) vs scored (scores-keep (weight (participating s slot index)) (λ v. refl) s slot fin vs e) g
 
-      go : (t : Bool) → eqb («get_current_epoch» s slot) 0 ≡ t → (vs scored paid : List Validator) → «process_inactivity_updates» s slot fin vs ≡ value scored → «process_rewards_and_penalties» s (s .«inactivity_penalty_quotient_altair») slot fin scored ≡ value paid → Gave (balanceOf (activeAt («get_current_epoch» s slot)) vs) → Gave (slashedProduct (s .«proportional_slashing_multiplier_altair») ys) → Gave (mul64 (s .«effective_balance_increment» / s .«hysteresis_quotient») (s .«hysteresis_downward_multiplier»)) → Gave (mul64 (s .«effective_balance_increment» / s .«hysteresis_quotient») (s .«hysteresis_upward_multiplier»)) → Accepted s slot fin ys vs
-      go true t vs scored paid e f g product down up =
+      go : (t : Bool) → eqb («get_current_epoch» s slot) 0 ≡ t → (vs scored paid : List Validator) → «process_inactivity_updates» s slot fin vs ≡ value scored → «process_rewards_and_penalties» s (s .«inactivity_penalty_quotient_altair») slot fin scored ≡ value paid → Gave (balanceOf (activeAt («get_current_epoch» s slot)) vs) → ((total : ℕ) → Gave (adjustedBalance (s .«proportional_slashing_multiplier_altair») total ys)) → Gave (thresholdsOf s) → Accepted s slot fin ys vs
+      go true t vs scored paid e f g adjusted thresholds =
           let z = eqb-true _ _ t in
           let flags = genesis s slot fin vs z g in
           let target = part (isUnslashedParticipating («get_current_epoch» s slot) 1 («get_current_epoch» s slot)) (activeAt («get_current_epoch» s slot)) (is-active s slot fin vs 1 _ refl) vs g in
@@ -241,11 +249,10 @@ module _ (s : Settings) (slot fin : ℕ) (ep : Epochs s slot) (ys : List ℕ) wh
             sums = record { active = g .gift; source = flags .source .gift; target = flags .target .gift; head = flags .head .gift; «current_target» = target .gift };
             plain = record { active = g .gave; source = flags .source .gave; target = flags .target .gave; head = flags .head .gave; «current_target» = target .gave };
             leak = record { gift = false; gave = leak-none s slot fin z };
-            product = product;
-            downward = down;
-            upward = up;
+            adjusted = adjusted;
+            thresholds = thresholds;
           }
-      go false t vs scored paid e f g product down up =
+      go false t vs scored paid e f g adjusted thresholds =
           let n : «get_current_epoch» s slot ≡ 0 → ⊥ = λ z. mathlib.Core.Bool.true≢false (sym (eq-eqb _ 0 z) ∙ t) in
           let told = asked s slot fin scored _ n f in
           let source = back 0 vs scored e (told .0 .source) in
@@ -256,9 +263,8 @@ module _ (s : Settings) (slot fin : ℕ) (ep : Epochs s slot) (ys : List ℕ) wh
             sums = record { active = g .gift; source = source .gift; target = hit .gift; head = head .gift; «current_target» = target .gift };
             plain = record { active = g .gave; source = source .gave; target = hit .gave; head = head .gave; «current_target» = target .gave };
             leak = record { gift = told .1 .gift; gave = leak-some s slot fin n ∙ told .1 .gave };
-            product = product;
-            downward = down;
-            upward = up;
+            adjusted = adjusted;
+            thresholds = thresholds;
           }
 
   -- so that what is not accepted is refused by 5

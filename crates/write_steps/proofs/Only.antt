@@ -1,7 +1,6 @@
 -- Every refusal of what the pass does to one validator is 5.
 use mathlib.Core.Path.{_≡_, refl}
 use mathlib.Core.Bool.{Bool}
-use mathlib.Core.List.{List}
 use Prim.Native.Nat.{ℕ}
 use lib.Dec.{ltb, eqb}
 use Rattle.types.specs.declared.Settings.{Settings}
@@ -12,7 +11,7 @@ use Rattle.definitions.specs.Rust.Phase0.EpochProcessing.{isEligible, updateEff
 use Rattle.definitions.specs.Rust.Phase0.Helpers.{«get_current_epoch»}
 use Rattle.definitions.specs.Rust.Altair.Helpers.{FlagTotals}
 use Rattle.definitions.specs.Rust.Altair.EpochProcessing.{updateInactivityScore, rewardAndPenalize, isSlashingDue, slashingPenalty, slash}
-use Rattle.arithmetic.proofs.Operations.{OnlyOverflow, only-value, only-add64, only-mul64, only-sum64, only-bind}
+use Rattle.arithmetic.proofs.Operations.{OnlyOverflow, only-value, only-add64, only-mul64, only-bind}
 use Rattle.finality.proofs.Passed as finality
 use Rattle.inactivity.proofs.Scores.{only-moved}
 use Rattle.reward_balances.specs.Balances.{rewardedBalance}
@@ -26,7 +25,7 @@ use Rattle.registry.specs.Updates.{turnBy}
 use Rattle.write_pass.specs.declared.Plan.{Plan}
 use Rattle.write_pass.specs.Planned.{lastBy}
 use Rattle.write_pass.specs.Written.{payOf, turnWith}
-use Rattle.write_steps.specs.Numbers.{leakOf, slashedProduct}
+use Rattle.write_steps.specs.Numbers.{leakOf}
 
 -- scores and rewards
 
@@ -74,11 +73,7 @@ only-update s downward upward v =
 pub only-last : (s : Settings) (p : Plan) (v : Validator) → OnlyOverflow (lastBy s p v)
 only-last s p v = only-bind (only-slash _ _ _ _ v) (λ w. only-bind (only-update s _ _ w) (λ u. only-value _))
 
--- the shared numbers
-
-pub only-product : (multiplier : ℕ) (slashings : List ℕ) → OnlyOverflow (slashedProduct multiplier slashings)
-unfolding slashedProduct
-only-product multiplier slashings = only-bind (only-sum64 _) (λ slashed. only-mul64 _ _)
+-- the leak
 
 pub only-leak : (s : Settings) (slot fin : ℕ) → OnlyOverflow (leakOf s slot fin)
 unfolding leakOf

@@ -2,7 +2,7 @@
 use mathlib.Core.Path.{_≡_, refl, sym, ap, subst, _∙_}
 use mathlib.Core.Bool.{Bool, true, false, cond}
 use mathlib.Core.List.{List, [], _∷_, map}
-use Prim.Native.Nat.{ℕ, _+_, _/_, _≤_, _<_, min, max}
+use Prim.Native.Nat.{ℕ, _+_, _/_, _≤_, _<_, max}
 use native.Mathlib.Omega.{arith}
 use borrow.Author.Tests.{eqb-true, eq-eqb, ne-eqb}
 use lib.Dec.{eqb}
@@ -11,12 +11,11 @@ use Rattle.types.specs.declared.Settings.{Settings}
 use Rattle.types.specs.declared.Number.{Number}
 use Rattle.definitions.specs.Lists.{range, sum}
 use Rattle.definitions.specs.Record.{Validator, «FAR_FUTURE_EPOCH»}
-use Rattle.definitions.specs.Checked.{Checked, value, refused, bind, mul64, sum64, mapChecked, foldChecked}
+use Rattle.definitions.specs.Checked.{Checked, value, refused, bind, mapChecked, foldChecked}
 use Rattle.definitions.specs.Document.Phase0.EpochProcessing.{dequeued}
 use Rattle.definitions.specs.Rust.Phase0.Helpers.{«get_current_epoch», «get_previous_epoch», «is_active_validator», «get_active_validator_indices», «get_total_active_balance», «get_validator_churn_limit»}
 use Rattle.definitions.specs.Rust.Phase0.EpochProcessing.{«is_in_inactivity_leak», «process_registry_updates»}
 use Rattle.definitions.specs.Rust.Altair.EpochProcessing.{«process_inactivity_updates», «process_rewards_and_penalties»}
-use Rattle.laws.proofs.Checked.{bound}
 use Rattle.loops.specs.Ran.{Ran}
 use Rattle.loops.proofs.Filtered.{length-filter}
 use Rattle.registry.specs.Updates.{leastExit, updateAt}
@@ -26,6 +25,9 @@ use Rattle.registry.proofs.Total.{total-kept}
 use Rattle.queue.specs.Cut.{CutAt, eligibleNow}
 use Rattle.exit_queue.specs.declared.ExitQueue.{ExitQueue}
 use Rattle.exit_queue.specs.Queue.{Tracks}
+use Rattle.slashings.specs.Adjusted.{adjustedBalance}
+use Rattle.effective_balances.specs.declared.Thresholds.{Thresholds}
+use Rattle.effective_balances.specs.Thresholds.{thresholdsOf}
 use Rattle.survey.specs.declared.Sums.{Sums}
 use Rattle.survey.specs.Sums.{Totals}
 use Rattle.sweeps.specs.Sweep.{sweep, dropped}
@@ -34,7 +36,7 @@ use Rattle.write_pass.specs.Planned.{paidBy, lastBy}
 use Rattle.write_pass.specs.declared.Course.{Course}
 use Rattle.write_pass.specs.Written.{payOf, writtenWith}
 use Rattle.write_steps.specs.RegistrySteps.{registrySteps, lastSteps}
-use Rattle.write_steps.specs.Numbers.{slashedProduct, leakOf, planOf, Found}
+use Rattle.write_steps.specs.Numbers.{leakOf, planOf, Found}
 use Rattle.write_steps.proofs.Leak.{leak-some}
 use Rattle.write_steps.proofs.Kept.{kept-map, totals-kept}
 use Rattle.write_steps.proofs.Rewards.{no-scores, no-rewards, one-pass}
@@ -61,7 +63,7 @@ grouped : (s : Settings) (stateSlot finalizedEpoch : ℕ) (slashings : List ℕ)
 unfolding registrySteps lastSteps
 grouped s stateSlot finalizedEpoch slashings vs = sym (in-turn _ _ _)
 
-module _ (s : Settings) (slot fin : ℕ) (ep : Epochs s slot) (totals : Sums) (leaking : Bool) (a b c : Number) (slashed product downward upward : ℕ) where
+module _ (s : Settings) (slot fin : ℕ) (ep : Epochs s slot) (totals : Sums) (leaking : Bool) (a b c : Number) (adjusted : ℕ) (thresholds : Thresholds) where
   abbrev current : ℕ
   current = «get_current_epoch» s slot
 
@@ -71,14 +73,11 @@ module _ (s : Settings) (slot fin : ℕ) (ep : Epochs s slot) (totals : Sums) (l
   abbrev quotient : ℕ
   quotient = s .«inactivity_penalty_quotient_altair»
 
-  abbrev increment : ℕ
-  increment = s .«effective_balance_increment»
-
   abbrev multiplier : ℕ
   multiplier = s .«proportional_slashing_multiplier_altair»
 
   abbrev pub plan : Plan
-  plan = planOf s current previous leaking totals a b c (min product (totals .active)) downward upward
+  plan = planOf s current previous leaking totals a b c adjusted (thresholds .downward) (thresholds .upward)
 
   pays : (vs : List Validator) → Totals s current previous vs totals → ((current ≡ 0 → ⊥) → «is_in_inactivity_leak» s slot fin ≡ value leaking) → bind («process_inactivity_updates» s slot fin vs) («process_rewards_and_penalties» s quotient slot fin) ≡ mapChecked (payOf s plan) vs
   unfolding bind
@@ -107,10 +106,10 @@ module _ (s : Settings) (slot fin : ℕ) (ep : Epochs s slot) (totals : Sums) (l
       go (value queued) e = ap (λ (k : ℕ). value (dequeued (leastExit s current) k fin queued)) (limit-kept s slot (ep .least) (ep .small) (omega arith) limit paid (range 0 (length paid)) e ∙ churn)
       go (refused r) e = refl
 
-  module _ (slashings : List ℕ) (sums : sum64 slashings ≡ value slashed) (times : mul64 slashed multiplier ≡ value product) (down : mul64 (increment / s .«hysteresis_quotient») (s .«hysteresis_downward_multiplier») ≡ value downward) (up : mul64 (increment / s .«hysteresis_quotient») (s .«hysteresis_upward_multiplier») ≡ value upward) where
+  module _ (slashings : List ℕ) (times : adjustedBalance multiplier (totals .active) slashings ≡ value adjusted) (limits : thresholdsOf s ≡ value thresholds) where
     lastly : (updated : List Validator) → «get_total_active_balance» s slot updated ≡ value (totals .active) → lastSteps s multiplier slot slashings updated ≡ mapChecked (lastBy s plan) updated
     unfolding bind
-    lastly updated h = as-one s multiplier slot (totals .active) slashings updated h ∙ rw (sums, times, down, up)
+    lastly updated h = as-one s multiplier slot (totals .active) slashings updated h ∙ rw (times, limits)
 
     pub steps-are : (t : Course) (q : ExitQueue) (quota : ℕ) (vs : List Validator) → Totals s current previous vs totals → ((current ≡ 0 → ⊥) → «is_in_inactivity_leak» s slot fin ≡ value leaking) → t .«finalized_epoch» ≡ fin → t .«activation_epoch» ≡ leastExit s current → «get_validator_churn_limit» s slot vs ≡ t .limit → Tracks (leastExit s current) vs q → CutAt (t .limit) (t .«finalized_epoch») (eligibleNow s current vs) (t .bound) quota → registrySteps s slot fin slashings vs ≡ dropped (sweep (writtenWith s plan t) (q, quota) vs)
     unfolding bind «get_total_active_balance»
@@ -136,9 +135,7 @@ module _ (s : Settings) (slot fin : ℕ) (ep : Epochs s slot) (totals : Sums) (l
 
 -- The same of what the code has: the numbers as they were told
 module _ {s : Settings} {slot fin : ℕ} (ep : Epochs s slot) (slashings : List ℕ) {vs : List Validator} where
-  pub steps-run : {t : Sums} {q : ExitQueue} (course : Course) {quota : ℕ} → Found s slot fin vs t (course .limit) q (course .bound) quota → course .«finalized_epoch» ≡ fin → course .«activation_epoch» ≡ leastExit s («get_current_epoch» s slot) → {leaking : Bool} → leakOf s slot fin ≡ value leaking → {product : ℕ} → slashedProduct (s .«proportional_slashing_multiplier_altair») slashings ≡ value product → {downward upward : ℕ} → mul64 (s .«effective_balance_increment» / s .«hysteresis_quotient») (s .«hysteresis_downward_multiplier») ≡ value downward → mul64 (s .«effective_balance_increment» / s .«hysteresis_quotient») (s .«hysteresis_upward_multiplier») ≡ value upward → {p : Plan} → p ≡ planOf s («get_current_epoch» s slot) («get_previous_epoch» s slot) leaking t (p .shared .«per_increment») (p .shared .denominator) (p .product) (min product (t .active)) downward upward → {xs : List ℕ} {r : ℕ} → Ran (dropped (sweep (writtenWith s p course) (q, quota) vs)) xs r → Ran (registrySteps s slot fin slashings vs) xs r
-  unfolding slashedProduct
-  steps-run {t} {q} course {quota} found isFin isLeast {leaking} leak {product} times {downward} {upward} down up {p} is {xs} {r} ran =
-      let m = bound (sum64 slashings) _ times in
-      let are = steps-are s slot fin ep t leaking (p .shared .«per_increment») (p .shared .denominator) (p .product) (m .first) product downward upward slashings (m .gave) (m .then) down up course q quota vs (found .totals) (λ n. sym (leak-some s slot fin n) ∙ leak) isFin isLeast (found .churn) (found .queue) (rw isFin (found .cut)) in
+  pub steps-run : {t : Sums} {q : ExitQueue} (course : Course) {quota : ℕ} → Found s slot fin vs t (course .limit) q (course .bound) quota → course .«finalized_epoch» ≡ fin → course .«activation_epoch» ≡ leastExit s («get_current_epoch» s slot) → {leaking : Bool} → leakOf s slot fin ≡ value leaking → {adjusted : ℕ} → adjustedBalance (s .«proportional_slashing_multiplier_altair») (t .active) slashings ≡ value adjusted → {thresholds : Thresholds} → thresholdsOf s ≡ value thresholds → {p : Plan} → p ≡ planOf s («get_current_epoch» s slot) («get_previous_epoch» s slot) leaking t (p .shared .«per_increment») (p .shared .denominator) (p .product) adjusted (thresholds .downward) (thresholds .upward) → {xs : List ℕ} {r : ℕ} → Ran (dropped (sweep (writtenWith s p course) (q, quota) vs)) xs r → Ran (registrySteps s slot fin slashings vs) xs r
+  steps-run {t} {q} course {quota} found isFin isLeast {leaking} leak {adjusted} times {thresholds} limits {p} is {xs} {r} ran =
+      let are = steps-are s slot fin ep t leaking (p .shared .«per_increment») (p .shared .denominator) (p .product) adjusted thresholds slashings times limits course q quota vs (found .totals) (λ n. sym (leak-some s slot fin n) ∙ leak) isFin isLeast (found .churn) (found .queue) (rw isFin (found .cut)) in
       subst (λ k. Ran k xs r) (ap (λ (p : Plan). dropped (sweep (writtenWith s p course) (q, quota) vs)) is ∙ sym are) ran

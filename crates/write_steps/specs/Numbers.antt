@@ -7,7 +7,7 @@ use lib.Dec.{eqb}
 use Rattle.types.specs.declared.Settings.{Settings}
 use Rattle.types.specs.declared.Number.{Number}
 use Rattle.definitions.specs.Record.{Validator}
-use Rattle.definitions.specs.Checked.{Checked, value, bind, mul64, sum64}
+use Rattle.definitions.specs.Checked.{Checked, value}
 use Rattle.definitions.specs.Rust.Phase0.Helpers.{«get_current_epoch», «get_previous_epoch», «get_validator_churn_limit»}
 use Rattle.definitions.specs.Rust.Phase0.EpochProcessing.{«is_in_inactivity_leak»}
 use Rattle.queue.specs.Cut.{CutAt, eligibleNow}
@@ -22,10 +22,6 @@ use Rattle.write_pass.specs.Planned.{Planned}
 -- no delay is evaluated at the genesis epoch
 unfoldable pub leakOf : Settings → ℕ → ℕ → Checked Bool
 leakOf s slot finalizedEpoch = cond (eqb («get_current_epoch» s slot) 0) (value false) («is_in_inactivity_leak» s slot finalizedEpoch)
-
--- the sum of the slashings times the multiplier
-unfoldable pub slashedProduct : ℕ → List ℕ → Checked ℕ
-slashedProduct multiplier slashings = bind (sum64 slashings) (λ slashed. mul64 slashed multiplier)
 
 -- the three that may have left 64 bits and be wanted by nobody are perIncrement, denominator and product
 abbrev pub planOf : Settings → ℕ → ℕ → Bool → Sums → Number → Number → Number → ℕ → ℕ → ℕ → Plan

@@ -5,25 +5,25 @@ ghost use mathlib.Core.Bool.{true};
 ghost use Prim.Native.Nat.{_*_, _/_, _^_, _<_, _≤_};
 ghost use lib.ListN.{length};
 ghost use Rattle.definitions.specs.Record.{decode};
-ghost use Rattle.definitions.specs.Answers.{Says, SaysTruth};
+ghost use Rattle.definitions.specs.Answers.{SaysTruth};
 ghost use Rattle.definitions.specs.Refusals.{goodSettings};
 ghost use Rattle.definitions.specs.Rust.Phase0.Helpers.{«get_current_epoch», «get_previous_epoch»};
 ghost use Rattle.loops.specs.Ran.{Ran};
 ghost use Rattle.survey.specs.Found.{Finds};
 ghost use Rattle.write_steps.specs.RegistrySteps.{registrySteps};
-ghost use Rattle.write_steps.specs.Numbers.{leakOf, slashedProduct, Makes, Found};
-use arithmetic::min;
+ghost use Rattle.write_steps.specs.Numbers.{leakOf, Makes, Found};
 use arithmetic::mul64;
-use base_rewards::base_reward_per_increment;
+use effective_balances::ThresholdsAnswer;
+use effective_balances::hysteresis;
 use exit_queue::ExitQueue;
 use exit_queue::start_pair;
 use finality::inactivity_leak;
 use leaf_refusals::current_epoch;
 use leaf_refusals::previous_epoch;
 use queue_cut::cut_queue;
-use rewards::Shared;
+use rewards::shared_numbers;
 use selection::Cut;
-use slashings::slashed_balance;
+use slashings::adjusted_balance;
 use survey::Findings;
 use survey::Sums;
 use survey::all_fit;
@@ -47,15 +47,6 @@ fn leak_of(s: Settings, current: u64, state_slot: u64, finalized_epoch: u64) -> 
     inactivity_leak(s, state_slot, finalized_epoch)
 }
 
-fn slashed_product(multiplier: u64, slashings: &[u64]) -> Number
-    ensures { λ r. ⌜ Says (slashedProduct multiplier (now (slashings .entry))) r ⌝ }
-{
-    let Number::Value(slashed) = slashed_balance(slashings) else {
-        return Number::Refused(5);
-    };
-    mul64(slashed, multiplier)
-}
-
 fn make_plan(
     s: Settings,
     current_epoch: u64,
@@ -72,23 +63,16 @@ fn make_plan(
 {
     let increment = s.effective_balance_increment;
     let quotient = s.inactivity_penalty_quotient_altair;
-    let total = totals.active;
-    let per_increment = base_reward_per_increment(s, total);
-    let denominator = mul64(total / increment, 64);
-    let shared = Shared {
-        current_epoch: current_epoch,
-        previous_epoch: previous_epoch,
-        total: total,
-        leaking: leaking,
-        per_increment: per_increment,
-        denominator: denominator,
-    };
+    let source = totals.source / increment;
+    let target = totals.target / increment;
+    let head = totals.head / increment;
+    let shared = shared_numbers(s, current_epoch, previous_epoch, totals.active, leaking);
     let product = mul64(s.inactivity_score_bias, quotient);
     Plan {
         shared: shared,
-        source: totals.source / increment,
-        target: totals.target / increment,
-        head: totals.head / increment,
+        source: source,
+        target: target,
+        head: head,
         quotient: quotient,
         product: product,
         adjusted: adjusted,
@@ -120,20 +104,16 @@ fn write_found(
     let Truth::Value(leaking) = leak_of(s, current, state_slot, finalized_epoch) else {
         return 5;
     };
-    let Number::Value(product) = slashed_product(
+    let Number::Value(adjusted) = adjusted_balance(
         s.proportional_slashing_multiplier_altair,
+        totals.active,
         slashings,
     ) else {
         return 5;
     };
-    let increment = s.effective_balance_increment / s.hysteresis_quotient;
-    let Number::Value(downward) = mul64(increment, s.hysteresis_downward_multiplier) else {
+    let ThresholdsAnswer::Value(thresholds) = hysteresis(s) else {
         return 5;
     };
-    let Number::Value(upward) = mul64(increment, s.hysteresis_upward_multiplier) else {
-        return 5;
-    };
-    let adjusted = min(product, totals.active);
     let p = make_plan(
         s,
         current,
@@ -141,8 +121,8 @@ fn write_found(
         leaking,
         totals,
         adjusted,
-        downward,
-        upward,
+        thresholds.downward,
+        thresholds.upward,
     );
     let course = Course {
         limit: limit,
