@@ -5,8 +5,7 @@ ghost use Prim.Native.Nat.{_-_, _*_, _≤_};
 ghost use lib.ListN.{length};
 ghost use Rattle.definitions.specs.Record.{decodeOne, encodeOne, decode, encode};
 ghost use Rattle.queue.specs.Cut.{queuedAt, admitOne, admitted};
-
-const FAR_FUTURE_EPOCH: u64 = 18446744073709551615;
+use entries::entry_is_eligible_for_activation;
 
 // One validator: what is left of the quota after it.
 pub fn admit_entry(
@@ -20,13 +19,10 @@ pub fn admit_entry(
     ensures { λ _. ⌜ now (entry .exit) ≡ encodeOne (admitOne epoch «finalized_epoch» bound left (decodeOne (now (entry .entry)))) ⌝ }
     ensures { λ r. ⌜ r ≡ left - cond (queuedAt «finalized_epoch» bound (decodeOne (now (entry .entry)))) 1 0 ⌝ }
 {
+    if !entry_is_eligible_for_activation(finalized_epoch, entry) {
+        return left;
+    }
     let since = entry[2];
-    if finalized_epoch < since {
-        return left;
-    }
-    if entry[3] != FAR_FUTURE_EPOCH {
-        return left;
-    }
     if bound < since {
         return left;
     }
