@@ -1,6 +1,6 @@
 -- Demand 2 and the table of refusals of the steps that have a closing buffer.
 use mathlib.Core.Path.{_≡_, refl, sym, ap, _∙_}
-use mathlib.Core.Bool.{Bool, true, false}
+use mathlib.Core.Bool.{Bool, true, false, _&&_}
 use mathlib.Core.List.{List, [], _∷_}
 use mathlib.Core.Logic.{_⊎_, inl, inr, ⊎-elim}
 use Prim.Native.Nat.{ℕ}
@@ -10,7 +10,8 @@ use Rattle.definitions.specs.Record.{Validator, BeaconState, encode, decode}
 use Rattle.definitions.specs.Updates.{withValidators, withSlashings}
 use Rattle.definitions.specs.Checked.{Refusal, badShape, badRecord, overflow, Checked, value, refused, bind, numberOf}
 use Rattle.definitions.specs.Refusals.{inOrder, afterTests, closingBuffer, registryTests, slashingsTests, effectiveBalanceTests, slashingsResetTests, rotationTests}
-use Rattle.definitions.specs.Rust.Phase0.EpochProcessing.{resetSlashings}
+use Rattle.definitions.specs.RegisterOrder.{registryUpdatesTo, registryToTests}
+use Rattle.definitions.specs.Rust.Phase0.EpochProcessing.{«process_registry_updates», resetSlashings}
 use Rattle.definitions.specs.Rust.Altair.EpochProcessing as rust
 use Rattle.definitions.specs.Close.{onValidators, finalizedEpochOf, Step, inactivityStep, rewardsStep, registryStep, slashingsStep, effectiveBalancesStep, slashingsResetStep, participationFlagsStep, step}
 use Rattle.agreement.specs.Agreement.{documentStep}
@@ -18,7 +19,10 @@ use Rattle.agreement.specs.Bounds.{Passed}
 use Rattle.agreement.specs.Restored.{OneOf}
 use Rattle.buffers.specs.Closes.{Closes}
 use Rattle.completeness.specs.DocumentIn64Bits as in64
-use Rattle.completeness.specs.Calls.{registryOf, slashingsOf, ByNumber, StepCall, StepCalls}
+use Rattle.completeness.specs.Calls.{registryOf, slashingsOf, ByNumber, StepCall, StepCalls, stoppedOf, StoppedCalls}
+use Rattle.laws.proofs.Checked.{not-value}
+use Rattle.queue.specs.Stopped.{keptFrom}
+use Rattle.queue.proofs.Stopped.{stopped}
 use Rattle.agreement.proofs.Agrees.{Agrees, Overflow, not-refused}
 use Rattle.agreement.proofs.Bounds.{tests-passed}
 use Rattle.agreement.proofs.Inactivity.{inactivity}
@@ -98,13 +102,13 @@ one-or-three true true q e = absurd (not-refused e)
 on-registry : (st : BeaconState) (tests : Checked (Unit {0})) (work : Checked (List Validator)) {opening closing after : List ℕ} {r : ℕ} → Closes encode tests work opening closing after r → Closes registryOf tests (onValidators st work) opening closing after r
 on-registry st tests work h = widen encode registryOf (λ vs. withValidators vs st) (λ vs. refl) tests work h
 
-module _ (s : Settings) (st : BeaconState) {opening closing after : List ℕ} {r : ℕ} where
+module _ (s : Settings) (st : BeaconState) (contents : BeaconState → List ℕ) {opening closing after : List ℕ} {r : ℕ} where
   -- which refuses with 5 alone
-  step-call : (k : Step) (a b d : Bool) → Agrees Overflow (step s st k) (documentStep s st k) → (k ≡ registryStep → inOrder a b d ≡ value tt → Passed s (st .finality .slot)) → Closes registryOf (inOrder a b d) (step s st k) opening closing after r → StepCall s st k registryOf (0 ∷ 1 ∷ 2 ∷ 3 ∷ 5 ∷ []) (inOrder a b d) opening closing after r
+  step-call : (k : Step) (a b d : Bool) → Agrees Overflow (step s st k) (documentStep s st k) → (k ≡ registryStep → inOrder a b d ≡ value tt → Passed s (st .finality .slot)) → Closes contents (inOrder a b d) (step s st k) opening closing after r → StepCall s st k contents (0 ∷ 1 ∷ 2 ∷ 3 ∷ 5 ∷ []) (inOrder a b d) opening closing after r
   step-call k a b d h p c =
       record {
-        byNumber = by-number registryOf (inl refl) five (inOrder a b d) (step s st k) (three a b d) h c;
-        complete = step-complete registryOf (inOrder a b d) (step s st k) (in64.step s st k) (λ t. complete-step s st k (λ e. p e t)) c;
+        byNumber = by-number contents (inl refl) five (inOrder a b d) (step s st k) (three a b d) h c;
+        complete = step-complete contents (inOrder a b d) (step s st k) (in64.step s st k) (λ t. complete-step s st k (λ e. p e t)) c;
       }
 
 -- registry alone asks for the bounds, and this step is another
@@ -141,11 +145,38 @@ pub step-calls : (s : Settings) (st : BeaconState) (opening closing after : List
 unfolding registryTests slashingsTests effectiveBalanceTests step
 step-calls s st opening closing after r =
     record {
-      inactivity = λ e h. step-call s st inactivityStep _ _ _ (inactivity s st) (λ _ t. tests-passed s .registry (st .finality .slot) (finalizedEpochOf st) opening closing t .0) (on-registry st _ _ (rw e at h));
-      rewards = λ e h. step-call s st rewardsStep _ _ _ (rewards s st) (λ _ t. tests-passed s .registry (st .finality .slot) (finalizedEpochOf st) opening closing t .0) (on-registry st _ _ (rw e at h));
-      registry = λ e h. step-call s st registryStep _ _ _ (registry s st) (λ _ t. tests-passed s .registry (st .finality .slot) (finalizedEpochOf st) opening closing t .0) (on-registry st _ _ (rw e at h));
-      slashings = λ e h. step-call s st slashingsStep _ _ _ (slashings s st) (λ _ t. tests-passed s .slashings (st .finality .slot) (st .slashings) opening closing t) (on-registry st _ _ (rw e at h));
-      effectiveBalances = λ e h. step-call s st effectiveBalancesStep _ _ _ (effective-balances s st) (λ k _. other k) (on-registry st _ _ (rw e at h));
+      inactivity = λ e h. step-call s st registryOf inactivityStep _ _ _ (inactivity s st) (λ _ t. tests-passed s .registry (st .finality .slot) (finalizedEpochOf st) opening closing t .0) (on-registry st _ _ (rw e at h));
+      rewards = λ e h. step-call s st registryOf rewardsStep _ _ _ (rewards s st) (λ _ t. tests-passed s .registry (st .finality .slot) (finalizedEpochOf st) opening closing t .0) (on-registry st _ _ (rw e at h));
+      registry = λ e h. step-call s st registryOf registryStep _ _ _ (registry s st) (λ _ t. tests-passed s .registry (st .finality .slot) (finalizedEpochOf st) opening closing t .0) (on-registry st _ _ (rw e at h));
+      slashings = λ e h. step-call s st registryOf slashingsStep _ _ _ (slashings s st) (λ _ t. tests-passed s .slashings (st .finality .slot) (st .slashings) opening closing t) (on-registry st _ _ (rw e at h));
+      effectiveBalances = λ e h. step-call s st registryOf effectiveBalancesStep _ _ _ (effective-balances s st) (λ k _. other k) (on-registry st _ _ (rw e at h));
       slashingsReset = reset-call s st;
       participationFlags = flags-call s st;
     }
+
+-- The registry step with a stop
+
+-- what is made of the work at its end belongs to what the buffer holds
+inside : {A : Type 0} (contents : A → List ℕ) (k : A → A) (tests : Checked (Unit {0})) (work : Checked A) {opening closing after : List ℕ} {r : ℕ} → Closes contents tests (bind work (λ a. value (k a))) opening closing after r → Closes (λ a. contents (k a)) tests work opening closing after r
+unfolding bind afterTests closingBuffer
+inside contents k (refused q) work h = record { number = h .number; buffer = h .buffer }
+inside contents k (value u) (refused q) h = record { number = h .number; buffer = h .buffer }
+inside contents k (value u) (value a) h = record { number = h .number; buffer = h .buffer }
+
+-- one test fewer
+fewer : (shaped more b d : Bool) → inOrder (shaped && more) b d ≡ value tt → inOrder shaped b d ≡ value tt
+unfolding inOrder
+fewer true true b d t = t
+fewer true false b d t = absurd (not-value t)
+fewer false more b d t = t
+
+pub stopped-calls : StoppedCalls
+unfolding registryToTests registryTests step
+stopped-calls stop s st opening closing after r e h =
+    let slot = st .finality .slot in
+    let finalized = finalizedEpochOf st in
+    let vs = st .validators in
+    let told = stopped s slot finalized vs .stopped stop in
+    let kept = inside encode (keptFrom stop vs) _ («process_registry_updates» s slot finalized vs) (rw told at (rw e at h)) in
+    step-call s st (stoppedOf stop vs) registryStep _ _ _ (registry s st) (λ _ t. tests-passed s .registry slot finalized opening closing (fewer _ _ _ _ t) .0)
+    (widen (λ ws. encode (keptFrom stop vs ws)) (stoppedOf stop vs) (λ ws. withValidators ws st) (λ ws. refl) _ _ kept)

@@ -1,13 +1,13 @@
--- Two wrong statements, shut out: that on 3 the closing buffers hold the opening, as on 4 and 5; and that the activation queue goes by
--- the validators' numbers alone.
+-- Wrong statements, shut out: that on 3 the closing buffers hold the opening, as on 4 and 5; that the activation queue goes by the
+-- validators' numbers alone; that with a stop those ahead are counted below it alone, or once others have been activated.
 use mathlib.Core.Path.{_≡_, refl, ap}
 use mathlib.Core.Bool.{Bool, cond, _&&_}
-use mathlib.Core.List.{List, [], _∷_, map}
+use mathlib.Core.List.{List, [], _∷_, map, foldl}
 use mathlib.Core.Logic.{inl}
 use Prim.Native.Nat.{ℕ}
 use native.Mathlib.Omega.{arith}
 use lib.Dec.{ltb}
-use lib.ListN.{length, getD, replicate}
+use lib.ListN.{length, getD, set, take, replicate}
 use Rattle.types.specs.declared.Checkpoint.{Checkpoint}
 use Rattle.definitions.specs.Lists.{all, filter, range, insert, sorted}
 use Rattle.definitions.specs.Record.{Validator, «FAR_FUTURE_EPOCH», decodeOne, decode, decodeFirst, nobody}
@@ -16,6 +16,7 @@ use Rattle.definitions.specs.Checked.{bind}
 use Rattle.definitions.specs.Refusals.{inOrder, settingsShaped, registryShaped, goodSettings, goodFinality, goodRegistry, afterTests, closingBuffer}
 use Rattle.definitions.specs.Document.Phase0.Helpers.{«is_eligible_for_activation»}
 use Rattle.definitions.specs.Document.Phase0.EpochProcessing.{activationQueue, dequeued}
+use Rattle.definitions.specs.RegisterOrder.{ahead, mapBelow, activatedAt, activated}
 use Rattle.definitions.specs.Close.{Call, closeTests, closed, close}
 use Rattle.agreement.specs.Restored.{OneOf, Opening}
 use Rattle.completeness.specs.Records.{least}
@@ -60,4 +61,27 @@ pub not-by-number : ((epoch limit finalizedEpoch : ℕ) (vs : List Validator) �
 unfolding dequeued activationQueue «is_eligible_for_activation» filter range sorted insert
 not-by-number h =
     let e : _≡_ {A = ℕ} 9 «FAR_FUTURE_EPOCH» = ap (λ vs. getD vs 0 nobody .«activation_epoch») (h 9 1 2 (waiting 2 ∷ waiting 1 ∷ [])) in
+    omega arith
+
+-- R-6: those ahead are counted among those below the stop
+abbrev countedBelow : ℕ → ℕ → ℕ → ℕ → List Validator → List Validator
+countedBelow epoch limit finalizedEpoch stop vs = mapBelow stop (activatedAt epoch limit finalizedEpoch (take stop vs)) vs
+
+-- the first is behind the second, which is not below the stop
+pub not-counted-below : ((epoch limit finalizedEpoch stop : ℕ) (vs : List Validator) → countedBelow epoch limit finalizedEpoch stop vs ≡ activated epoch limit finalizedEpoch stop vs) → ⊥
+unfolding activated activatedAt ahead mapBelow «is_eligible_for_activation» filter range
+not-counted-below h =
+    let e : _≡_ {A = ℕ} 9 «FAR_FUTURE_EPOCH» = ap (λ vs. getD vs 0 nobody .«activation_epoch») (h 9 1 2 1 (waiting 2 ∷ waiting 1 ∷ [])) in
+    omega arith
+
+-- those ahead are counted on the registry as it then stands
+abbrev countedAfter : ℕ → ℕ → ℕ → ℕ → List Validator → List Validator
+countedAfter epoch limit finalizedEpoch stop vs =
+    foldl (λ us i. set us i (activatedAt epoch limit finalizedEpoch us i (getD us i nobody))) vs (range 0 stop)
+
+-- once the first is activated nobody is ahead of the second
+pub not-counted-after : ((epoch limit finalizedEpoch stop : ℕ) (vs : List Validator) → countedAfter epoch limit finalizedEpoch stop vs ≡ activated epoch limit finalizedEpoch stop vs) → ⊥
+unfolding activated activatedAt ahead mapBelow «is_eligible_for_activation» filter range
+not-counted-after h =
+    let e : _≡_ {A = ℕ} 9 «FAR_FUTURE_EPOCH» = ap (λ vs. getD vs 1 nobody .«activation_epoch») (h 9 1 2 2 (waiting 1 ∷ waiting 1 ∷ [])) in
     omega arith

@@ -1,23 +1,26 @@
 -- Demand 2 of every exported call, and document 01's table of "What is returned" by number, in the terms that the contracts cite: the
--- close (definitions, Close.antt), the seven steps with a closing buffer (buffers, Closes.antt), justification, and files.
+-- close (definitions, Close.antt), the seven steps with a closing buffer (buffers, Closes.antt), the registry step with a stop, justification,
+-- and files.
 use mathlib.Core.Path.{_≡_}
 use mathlib.Core.List.{List, [], _∷_}
 use mathlib.Core.Logic.{_⊎_}
 use Prim.Native.Nat.{ℕ}
 use Rattle.types.specs.declared.Settings.{Settings}
 use Rattle.types.specs.declared.FinalityAnswer.{FinalityAnswer}
-use Rattle.definitions.specs.Record.{BeaconState, encode, decode}
+use Rattle.definitions.specs.Record.{Validator, BeaconState, encode, decode}
 use Rattle.definitions.specs.Checked.{Checked, value, codeOf, settle}
 use Rattle.definitions.specs.Answers.{finalityAnswerFor}
 use Rattle.definitions.specs.Refusals.{afterTests, closingBuffer, justificationTests, registryTests, slashingsTests, effectiveBalanceTests, slashingsResetTests, rotationTests}
 use Rattle.definitions.specs.Document.Altair.EpochProcessing as Document
 use Rattle.definitions.specs.Rust.Phase0.EpochProcessing.{«process_registry_updates», «process_effective_balance_updates», resetSlashings}
 use Rattle.definitions.specs.Rust.Altair.EpochProcessing.{«process_justification_and_finalization», «process_inactivity_updates», «process_rewards_and_penalties», «process_slashings», «process_participation_flag_updates»}
+use Rattle.definitions.specs.RegisterOrder.{registryUpdatesTo, registryToTests}
 use Rattle.definitions.specs.Close.{finalizedEpochOf, Step, justificationStep, inactivityStep, rewardsStep, registryStep, slashingsStep, effectiveBalancesStep, slashingsResetStep, participationFlagsStep, Call, stateOf, closeTests, Outcome}
 use Rattle.definitions.specs.File.{Contents, writeTests, read}
 use Rattle.agreement.specs.Agreement.{documentStep}
 use Rattle.agreement.specs.Restored.{OneOf}
 use Rattle.buffers.specs.Closes.{Closes}
+use Rattle.queue.specs.Stopped.{keptFrom}
 use Rattle.completeness.specs.DocumentIn64Bits as In64Bits
 use Rattle.completeness.specs.Complete.{StepParts, CloseParts}
 
@@ -74,6 +77,13 @@ pub record StepCalls (s : Settings) (st : BeaconState) (opening closing after : 
   pub effectiveBalances : decode opening ≡ st .validators → let tests = effectiveBalanceTests s opening closing in Closes encode tests («process_effective_balance_updates» s (decode opening)) opening closing after r → StepCall s st effectiveBalancesStep registryOf (0 ∷ 1 ∷ 2 ∷ 3 ∷ 5 ∷ []) tests opening closing after r
   pub slashingsReset : let tests = slashingsResetTests s (st .finality .slot) (st .slashings) closing in Closes (λ xs. xs) tests (value (resetSlashings s (st .finality .slot) (st .slashings))) (st .slashings) closing after r → StepCall s st slashingsResetStep slashingsOf (0 ∷ 1 ∷ 2 ∷ 3 ∷ []) tests (st .slashings) closing after r
   pub participationFlags : decode opening ≡ st .validators → let tests = rotationTests opening closing in Closes encode tests (value («process_participation_flag_updates» (decode opening))) opening closing after r → StepCall s st participationFlagsStep registryOf (0 ∷ 1 ∷ 3 ∷ []) tests opening closing after r
+
+-- The registry step with a stop (02, R-6): what the document's step gives, from the stop up with the activation epochs of vs
+abbrev pub stoppedOf : ℕ → List Validator → BeaconState → List ℕ
+stoppedOf stop vs st = encode (keptFrom stop vs (st .validators))
+
+abbrev pub StoppedCalls : Type 0
+StoppedCalls = (stop : ℕ) (s : Settings) (st : BeaconState) (opening closing after : List ℕ) (r : ℕ) → decode opening ≡ st .validators → let tests = registryToTests stop s (st .finality .slot) (finalizedEpochOf st) opening closing in Closes encode tests (registryUpdatesTo stop s (st .finality .slot) (finalizedEpochOf st) (decode opening)) opening closing after r → StepCall s st registryStep (stoppedOf stop (st .validators)) (0 ∷ 1 ∷ 2 ∷ 3 ∷ 5 ∷ []) tests opening closing after r
 
 -- Justification has no buffer; its operations stand where the document has them
 pub record JustificationCall (s : Settings) (st : BeaconState) (answer : FinalityAnswer) : Type 0 where

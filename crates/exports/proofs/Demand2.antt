@@ -10,12 +10,13 @@ use denote.Ref.{now}
 use Rattle.types.specs.declared.Settings.{Settings}
 use Rattle.definitions.specs.Record.{BeaconState, decode}
 use Rattle.definitions.specs.Refusals.{registryTests, slashingsTests, effectiveBalanceTests, slashingsResetTests, rotationTests}
+use Rattle.definitions.specs.RegisterOrder.{registryToTests}
 use Rattle.definitions.specs.Close.{Step, inactivityStep, rewardsStep, registryStep, slashingsStep, effectiveBalancesStep, slashingsResetStep, participationFlagsStep, finalizedEpochOf}
 use Rattle.close.proofs.close.Kinds as closeKinds
 use Rattle.close.proofs.Contract.{callOf, outcomeOf}
-use Rattle.completeness.specs.Calls.{CloseCall, StepCall, JustificationCall, registryOf, slashingsOf}
+use Rattle.completeness.specs.Calls.{CloseCall, StepCall, JustificationCall, registryOf, slashingsOf, stoppedOf}
 use Rattle.completeness.proofs.CloseCalls.{close-call}
-use Rattle.completeness.proofs.StepCalls.{step-calls}
+use Rattle.completeness.proofs.StepCalls.{step-calls, stopped-calls}
 use Rattle.completeness.proofs.OtherCalls.{justification-calls}
 use Rattle.exports.proofs.whole.altair_close.Reads as whole
 use Rattle.exports.proofs.steps.altair_process_justification_and_finalization.Kinds as justificationKinds
@@ -24,6 +25,8 @@ use Rattle.exports.proofs.steps.altair_process_inactivity_updates.Kinds
 use Rattle.exports.proofs.steps.altair_process_inactivity_updates.Reads as inactivity
 use Rattle.exports.proofs.steps.altair_process_rewards_and_penalties.Reads as rewards
 use Rattle.exports.proofs.steps.altair_process_registry_updates.Reads as registry
+use Rattle.exports.proofs.steps.altair_process_registry_updates_to.Kinds as stoppedKinds
+use Rattle.exports.proofs.steps.altair_process_registry_updates_to.Reads as stopped
 use Rattle.exports.proofs.steps.altair_process_slashings.Kinds as slashingsKinds
 use Rattle.exports.proofs.steps.altair_process_slashings.Reads as slashings
 use Rattle.exports.proofs.steps.altair_process_effective_balance_updates.Kinds as balancesKinds
@@ -57,6 +60,10 @@ demand2-rewards κs a r e h st p q d = step-calls (a .0) st _ _ _ r .rewards d (
 
 pub demand2-registry : Finalized registryStep registry.Learnt
 demand2-registry κs a r e h st p q d = step-calls (a .0) st _ _ _ r .registry d (rw (p, q) at h)
+
+-- with a stop: from it up activation epochs are the opening's, all else is the document's
+pub demand2-registry-to : (κs : Lfts 2) (a : Dens κs stoppedKinds.ps) (r : resT stoppedKinds.r κs .Denot) (e : AtExit (endedOf 2 stoppedKinds.ps stoppedKinds.r) κs) → stopped.Learnt κs a r e → let opening = now (a .1 .1 .1 .1 .0) in let closing = now (a .1 .1 .1 .1 .1 .0) in (st : BeaconState) → a .1 .1 .0 ≡ st .finality .slot → a .1 .1 .1 .0 ≡ finalizedEpochOf st → decode opening ≡ st .validators → StepCall (a .1 .0) st registryStep (stoppedOf (a .0) (st .validators)) withoutFour (registryToTests (a .0) (a .1 .0) (st .finality .slot) (finalizedEpochOf st) opening closing) opening closing (now (e .1 .1 .1 .1 .1 .0)) r
+demand2-registry-to κs a r e h st p q d = stopped-calls (a .0) (a .1 .0) st _ _ _ r d (rw (p, q) at h)
 
 pub demand2-slashings : (κs : Lfts 3) (a : Dens κs slashingsKinds.ps) (r : resT slashingsKinds.r κs .Denot) (e : AtExit (endedOf 3 slashingsKinds.ps slashingsKinds.r) κs) → slashings.Learnt κs a r e → let opening = now (a .1 .1 .1 .0) in let closing = now (a .1 .1 .1 .1 .0) in (st : BeaconState) → a .1 .0 ≡ st .finality .slot → now (a .1 .1 .0) ≡ st .slashings → decode opening ≡ st .validators → StepCall (a .0) st slashingsStep registryOf withoutFour (slashingsTests (a .0) (st .finality .slot) (st .slashings) opening closing) opening closing (now (e .1 .1 .1 .1 .0)) r
 demand2-slashings κs a r e h st p q d = step-calls (a .0) st _ _ _ r .slashings d (rw (p, q) at h)

@@ -1,4 +1,4 @@
-// The eight steps.
+// The eight steps, and the registry step with a stop.
 ghost use mathlib.Core.Path.{_≡_};
 ghost use mathlib.Core.List.{List};
 ghost use Prim.Native.Nat.{ℕ};
@@ -6,6 +6,7 @@ ghost use Rattle.definitions.specs.Record.{decode, encode};
 ghost use Rattle.definitions.specs.Checked.{value};
 ghost use Rattle.definitions.specs.Answers.{finalityAnswerFor};
 ghost use Rattle.definitions.specs.Refusals.{afterTests, justificationTests, registryTests, slashingsTests, effectiveBalanceTests, slashingsResetTests, rotationTests};
+ghost use Rattle.definitions.specs.RegisterOrder.{registryUpdatesTo, registryToTests};
 ghost use Rattle.definitions.specs.Rust.Phase0.EpochProcessing.{«process_registry_updates», «process_effective_balance_updates», resetSlashings};
 ghost use Rattle.definitions.specs.Rust.Altair.EpochProcessing.{«process_justification_and_finalization», «process_inactivity_updates», «process_rewards_and_penalties», «process_slashings», «process_participation_flag_updates»};
 ghost use Rattle.buffers.specs.Closes.{Closes};
@@ -62,6 +63,24 @@ pub extern "C" fn altair_process_registry_updates(
     ensures { λ r. ⌜ Closes encode (registryTests s «state_slot» «finalized_epoch» (now (opening .entry)) (now (closing .entry))) («process_registry_updates» s «state_slot» «finalized_epoch» (decode (now (opening .entry)))) (now (opening .entry)) (now (closing .entry)) (now (closing .exit)) r ⌝ }
 {
     registry::process_registry_updates(s, state_slot, finalized_epoch, opening, closing)
+}
+
+#[no_mangle]
+pub extern "C" fn altair_process_registry_updates_to(
+    stop: usize,
+    s: Settings,
+    state_slot: u64,
+    finalized_epoch: u64,
+    opening: &[u64],
+    closing: &mut [u64],
+) -> u64
+    ensures { λ r. ⌜
+        Closes encode
+        (registryToTests stop s «state_slot» «finalized_epoch» (now (opening .entry)) (now (closing .entry)))
+        (registryUpdatesTo stop s «state_slot» «finalized_epoch» (decode (now (opening .entry))))
+        (now (opening .entry)) (now (closing .entry)) (now (closing .exit)) r ⌝ }
+{
+    registry::process_registry_updates_to(stop, s, state_slot, finalized_epoch, opening, closing)
 }
 
 #[no_mangle]

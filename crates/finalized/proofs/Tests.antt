@@ -2,13 +2,15 @@
 -- their code gave.
 use mathlib.Core.Bool.{true, _&&_}
 use mathlib.Core.List.{List}
-use mathlib.Core.Path.{_≡_, sym, _∙_}
-use Prim.Native.Nat.{ℕ, _^_, _<_}
-use borrow.Author.Tests.{eq-eqb, ne-eqb, eqb-true}
+use mathlib.Core.Path.{_≡_, sym, ap, _∙_}
+use Prim.Native.Nat.{ℕ, _/_, _^_, _≤_, _<_}
+use borrow.Author.Tests.{eq-eqb, ne-eqb, eqb-true, le-leb, lt-leb, leb-true}
+use lib.Dec.{leb}
 use lib.ListN.{length}
 use Rattle.types.specs.declared.Settings.{Settings}
 use Rattle.definitions.specs.Checked.{codeOf}
 use Rattle.definitions.specs.Refusals.{inOrder, settingsShaped, registryShaped, sameLength, isSmall, goodSettings, goodRegistry, registryTests}
+use Rattle.definitions.specs.RegisterOrder.{registryToTests}
 use Rattle.agreement.specs.Bounds.{Passed}
 use Rattle.refusals.proofs.All.{both}
 use Rattle.refusals.proofs.Laws.{in-order, small, RegistryShape, registry-shaped}
@@ -51,3 +53,26 @@ module _ (s : Settings) (stateSlot finalizedEpoch : ℕ) (opening closing : List
       let p = in-order (shape && sameLength opening closing) (goodSettings s) (isSmall stateSlot && isSmall finalizedEpoch && goodRegistry opening) (sym e ∙ z) in
       let q = both shape (sameLength opening closing) (p .first) in
       record { opened = finalized-passed s stateSlot finalizedEpoch opening (q .first) (p .second) (p .third); same = eqb-true (length closing) (length opening) (q .second) }
+
+-- With a stop
+module _ (stop : ℕ) (s : Settings) (stateSlot finalizedEpoch : ℕ) (opening closing : List ℕ) where
+  pub above : length opening / 10 < stop → 1 ≡ codeOf (registryToTests stop s stateSlot finalizedEpoch opening closing)
+  unfolding registryToTests inOrder
+  above l = rw (lt-leb stop (length opening / 10) l, and-false)
+
+  -- a stop within the registry tests no more than the step
+  pub within : stop ≤ length opening / 10 → registryToTests stop s stateSlot finalizedEpoch opening closing ≡ registryTests s stateSlot finalizedEpoch opening closing
+  unfolding registryToTests registryTests
+  within l = rw (le-leb stop (length opening / 10) l, and-true)
+
+  pub record RegistryToPassed : Type 0 where
+    pub passed : RegistryPassed s stateSlot finalizedEpoch opening closing
+    pub stops : stop ≤ length opening / 10
+
+  pub registry-to-passed : {x : ℕ} → x ≡ codeOf (registryToTests stop s stateSlot finalizedEpoch opening closing) → x ≡ 0 → RegistryToPassed
+  unfolding registryToTests
+  registry-to-passed e z =
+      let shape = settingsShaped s && registryShaped opening && sameLength opening closing in
+      let p = in-order (shape && leb stop (length opening / 10)) (goodSettings s) (isSmall stateSlot && isSmall finalizedEpoch && goodRegistry opening) (sym e ∙ z) in
+      let l = leb-true stop (length opening / 10) (both shape (leb stop (length opening / 10)) (p .first) .second) in
+      record { passed = registry-passed s stateSlot finalizedEpoch opening closing (e ∙ ap codeOf (within l)) z; stops = l }

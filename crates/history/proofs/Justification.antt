@@ -17,7 +17,7 @@ use Rattle.definitions.specs.Rust.Altair.EpochProcessing.{«process_justificati
 use Rattle.laws.proofs.Checked.{value-same, bound}
 use Rattle.history.proofs.Shape.{CurrentMoved, FinalizedMoved, Moved}
 use Rattle.history.proofs.Counting.{T-right}
-use Rattle.history.proofs.Steps.{either}
+use Rattle.queue.proofs.Stopped.{either}
 
 -- the four tests, of which a later one overrides
 overriding : {e : ℕ} {o : Finality} {x y : Checkpoint} (b : Bool) → (T b → FinalizedMoved e o y) → FinalizedMoved e o x → FinalizedMoved e o (cond b y x)

@@ -22,8 +22,9 @@ use Rattle.laws.proofs.Checked.{value-same, bound, add64-value}
 use Rattle.history.proofs.Waiting.{eligibilityAt, activationAt}
 use Rattle.history.proofs.Shape.{Marked, Registered}
 use Rattle.history.proofs.Counting.{T-left}
-use Rattle.history.proofs.Steps.{epochs, Spared, spared-given, spared-number, spared-eligibility, spared-activation, either}
+use Rattle.history.proofs.Steps.{epochs, Spared, spared-given, spared-number, spared-eligibility, spared-activation}
 use Rattle.queue.proofs.Dequeued.{length-dequeued}
+use Rattle.queue.proofs.Stopped.{either}
 use Rattle.history.proofs.Queue.{dequeued-eligibility, dequeued-activation}
 
 -- the loop's turn at i: that entry's eligibility epoch is kept or written

@@ -17,6 +17,7 @@ use Rattle.definitions.specs.Rust.Phase0.EpochProcessing.{isEligible, updateEff
 use Rattle.definitions.specs.Rust.Altair.Helpers.{FlagTotals}
 use Rattle.definitions.specs.Rust.Altair.EpochProcessing.{updateInactivityScore, «process_inactivity_updates», applyDelta, rewardAndPenalize, «process_rewards_and_penalties», slash, «process_slashings», «process_participation_flag_updates»}
 use Rattle.laws.proofs.Checked.{value-same, bound}
+use Rattle.queue.proofs.Stopped.{either}
 use Rattle.history.proofs.Waiting.{eligibilityAt, activationAt}
 
 -- the two epochs of a validator
@@ -60,11 +61,6 @@ spared-map f h (v ∷ vs) {ws} p =
     let a = bound _ _ p in
     let b = bound _ _ (a .then) in
     record { same = ap (map epochs) (sym (value-same (b .then))) ∙ ap₂ _∷_ (h v (a .first) (a .gave)) (spared-map f h vs (b .gave) .same) }
-
--- what a condition chooses between
-pub either : {A : Type 0} (P : A → Type 0) (b : Bool) {x y : Checked A} {z : A} → (x ≡ value z → P z) → (y ≡ value z → P z) → cond b x y ≡ value z → P z
-either P true f g p = f p
-either P false f g p = g p
 
 -- the value given outright
 outright : {v w : Validator} → value v ≡ value w → epochs w ≡ epochs v

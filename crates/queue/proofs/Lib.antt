@@ -5,3 +5,4 @@ pub mod Dequeued
 pub mod Counts
 pub mod Cuts
 pub mod Eligible
+pub mod Stopped

@@ -1,3 +1,4 @@
 -- The activation queue without a sorted list.
 pub mod Queue
 pub mod Cut
+pub mod Stopped

@@ -5,3 +5,4 @@ pub mod Turns
 pub mod Step
 pub mod Total
 pub mod Seen
+pub mod Stops

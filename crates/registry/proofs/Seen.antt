@@ -14,14 +14,14 @@ use Rattle.definitions.specs.Record.{Validator, encode, decode, nobody}
 use Rattle.definitions.specs.Updates.{withExit}
 use Rattle.definitions.specs.Checked.{Checked, value, refused, bind, foldChecked}
 use Rattle.definitions.specs.Document.Phase0.Helpers.{«is_eligible_for_activation»}
-use Rattle.definitions.specs.Document.Phase0.EpochProcessing.{queueEligible, isEjected, dequeued}
+use Rattle.definitions.specs.Document.Phase0.EpochProcessing.{queueEligible, isEjected}
 use Rattle.laws.proofs.Checked.{bound, value-same}
 use Rattle.queue.specs.Cut.{count, queuedBefore, CutAt, eligibleNow}
 use Rattle.queue.proofs.Filter.{flag, count-none, count-more}
 use Rattle.exits.specs.Exits.{exitAt}
 use Rattle.exits.proofs.Counts.{Exited, exit-gave}
 use Rattle.queue.proofs.Cuts.{cut-cuts}
-use Rattle.queue.proofs.Dequeued.{dequeued-is}
+use Rattle.queue.specs.Queue.{activated}
 use Rattle.queue.specs.Cut.{admitted}
 use Rattle.loops.specs.Ran.{Ran}
 use Rattle.loops.proofs.Ran.{ran-value, ran-gave, ran-next, ran-stop}
@@ -105,14 +105,13 @@ module _ (s : Settings) (epoch least churn f : ℕ) (vs : List Validator) {ws : 
   }
 
 -- The code's ways through the turns and the activation, once the loop has left ys and answered r
-module _ (s : Settings) (epoch limit f : ℕ) (xs : List ℕ) {ys : List ℕ} {r : ℕ} (h : Ran (foldChecked (updateAt s epoch (leastExit s epoch) limit) (decode xs) (range 0 (length (decode xs)))) ys r) where
-  pub updates-stop : {zs : List ℕ} → (r ≡ 0 → ⊥) → Ran (updatesBy s epoch limit f (decode xs)) zs r
+module _ (stop : ℕ) (s : Settings) (epoch limit f : ℕ) (xs : List ℕ) {ys : List ℕ} {r : ℕ} (h : Ran (foldChecked (updateAt s epoch (leastExit s epoch) limit) (decode xs) (range 0 (length (decode xs)))) ys r) where
+  pub updates-stop : {zs : List ℕ} → (r ≡ 0 → ⊥) → Ran (updatesBy stop s epoch limit f (decode xs)) zs r
   unfolding updatesBy
   updates-stop z = ran-stop h _ z
 
-  pub updates-end : {zs : List ℕ} {bound quota n : ℕ} → r ≡ 0 → n ≡ length (decode ys) → CutAt limit f (eligibleNow s epoch (decode xs)) bound quota → zs ≡ encode (admitted (leastExit s epoch) f bound quota n (decode ys)) → Ran (updatesBy s epoch limit f (decode xs)) zs 0
-  unfolding updatesBy
-  updates-end {zs} {bound} {quota} z l c e =
+  pub updates-end : {zs : List ℕ} {bound quota : ℕ} → r ≡ 0 → CutAt limit f (eligibleNow s epoch (decode xs)) bound quota → zs ≡ encode (admitted (leastExit s epoch) f bound quota stop (decode ys)) → Ran (updatesBy stop s epoch limit f (decode xs)) zs 0
+  unfolding updatesBy activated
+  updates-end {zs} {bound} {quota} z c e =
       let cut = cut-cuts (cut-turned s epoch (leastExit s epoch) limit f (decode xs) (ran-gave h z) c) in
-      let same = cut .same (leastExit s epoch) (length (decode ys)) ∙ sym (dequeued-is (leastExit s epoch) limit f (decode ys)) in
-      ran-next h _ z (ran-value (e ∙ rw l (ap encode same)))
+      ran-next h _ z (ran-value (e ∙ ap encode (cut .same (leastExit s epoch) stop)))

@@ -8,7 +8,8 @@ use Rattle.types.specs.declared.Settings.{Settings}
 use Rattle.definitions.specs.Lists.{range}
 use Rattle.definitions.specs.Record.{Validator, nobody}
 use Rattle.definitions.specs.Checked.{Checked, value, bind, foldChecked}
-use Rattle.definitions.specs.Document.Phase0.EpochProcessing.{queueEligible, isEjected, dequeued}
+use Rattle.definitions.specs.Document.Phase0.EpochProcessing.{queueEligible, isEjected}
+use Rattle.definitions.specs.RegisterOrder.{activated}
 use Rattle.exits.specs.Exits.{exitAt}
 use Rattle.exit_queue.specs.declared.ExitQueue.{ExitQueue}
 use Rattle.exit_queue.specs.Queue.{exitBy}
@@ -28,8 +29,8 @@ turnBy s epoch limit q v =
     let queued = queueEligible s epoch v in
     cond (isEjected s epoch queued) (exitBy limit (s .«min_validator_withdrawability_delay») q queued) (value queued)
 
--- the step by these numbers: the turns, then activation
-unfoldable pub updatesBy : Settings → ℕ → ℕ → ℕ → List Validator → Checked (List Validator)
-updatesBy s epoch limit finalizedEpoch vs =
+-- the step with a stop, by these numbers: every turn, then activation below the stop
+unfoldable pub updatesBy : ℕ → Settings → ℕ → ℕ → ℕ → List Validator → Checked (List Validator)
+updatesBy stop s epoch limit finalizedEpoch vs =
     bind (foldChecked (updateAt s epoch (leastExit s epoch) limit) vs (range 0 (length vs))) (λ queued.
-    value (dequeued (leastExit s epoch) limit finalizedEpoch queued))
+    value (activated (leastExit s epoch) limit finalizedEpoch stop queued))

@@ -1,13 +1,14 @@
-// process_registry_updates: eligibility and ejection in register order, then activation. Passes over the registry: one for the tests, the
-// copy, the survey, what the cut of the activation queue needs, one for the turns and one for activation.
+// process_registry_updates: eligibility and ejection in register order, then activation from validator 0 up, to a stop. Passes over the
+// registry: one for the tests, the copy, the survey, what the cut of the activation queue needs, one for the turns and one for activation.
 ghost use mathlib.Core.Path.{_≡_};
 ghost use mathlib.Core.Bool.{true};
-ghost use Prim.Native.Nat.{_*_, _/_, _^_, _<_};
+ghost use Prim.Native.Nat.{_*_, _/_, _^_, _≤_, _<_};
 ghost use lib.ListN.{length};
 ghost use Rattle.definitions.specs.Lists.{range};
 ghost use Rattle.definitions.specs.Record.{decodeOne, encodeOne, decode, encode};
 ghost use Rattle.definitions.specs.Checked.{foldChecked};
 ghost use Rattle.definitions.specs.Refusals.{goodSettings, registryTests};
+ghost use Rattle.definitions.specs.RegisterOrder.{registryUpdatesTo, registryToTests};
 ghost use Rattle.definitions.specs.Document.Phase0.EpochProcessing.{queueEligible, isEjected};
 ghost use Rattle.definitions.specs.Rust.Phase0.EpochProcessing.{«process_registry_updates»};
 ghost use Rattle.loops.specs.Ran.{Ran};
@@ -25,7 +26,7 @@ use exit_queue::ExitQueue;
 use exit_queue::Turn;
 use exit_queue::exit_entry;
 use exit_queue::start_pair;
-use finalized::registry_tests;
+use finalized::registry_to_tests;
 use leaf_refusals::current_epoch;
 use leaf_refusals::previous_epoch;
 use queue_cut::cut_queue;
@@ -85,7 +86,10 @@ fn update_all(
     n: usize,
 ) -> u64
     requires { ⌜ (length (now registry) ≡ 10 * n) × (epoch < 2 ^ 48) × Tracks (leastExit s epoch) (decode (now registry)) first ⌝ }
-    ensures { λ r. ⌜ Ran (foldChecked (updateAt s epoch (leastExit s epoch) limit) (decode (now (registry .entry))) (range 0 (length (decode (now (registry .entry)))))) (now (registry .exit)) r ⌝ }
+    ensures { λ r. ⌜
+        Ran
+        (foldChecked (updateAt s epoch (leastExit s epoch) limit) (decode (now (registry .entry))) (range 0 (length (decode (now (registry .entry))))))
+        (now (registry .exit)) r ⌝ }
 {
     let mut queue = first;
     for i in 0..n {
@@ -101,8 +105,9 @@ fn update_all(
     0
 }
 
-// By the numbers that were found: the churn limit, the exit queue's pair and the cut of the activation queue.
+// By the numbers that were found: the churn limit, the exit queue's pair and the cut of the activation queue. The stop is activation's alone.
 fn update_by(
+    stop: usize,
     s: Settings,
     epoch: u64,
     limit: u64,
@@ -112,9 +117,10 @@ fn update_by(
     registry: &mut [u64],
 ) -> u64
     requires { ⌜ (length (now registry) ≡ 10 * (length (now registry) / 10)) × (epoch < 2 ^ 48) × (s .«max_seed_lookahead» < 2 ^ 48) ⌝ }
+    requires { ⌜ stop ≤ length (now registry) / 10 ⌝ }
     requires { ⌜ Tracks (leastExit s epoch) (decode (now registry)) queue ⌝ }
     requires { ⌜ CutAt limit «finalized_epoch» (eligibleNow s epoch (decode (now registry))) (cut .bound) (cut .quota) ⌝ }
-    ensures { λ r. ⌜ Ran (updatesBy s epoch limit «finalized_epoch» (decode (now (registry .entry)))) (now (registry .exit)) r ⌝ }
+    ensures { λ r. ⌜ Ran (updatesBy stop s epoch limit «finalized_epoch» (decode (now (registry .entry)))) (now (registry .exit)) r ⌝ }
 {
     let n = registry.len() / 10;
     let least = epoch + 1 + s.max_seed_lookahead;
@@ -122,12 +128,21 @@ fn update_by(
     if refusal != 0 {
         return refusal;
     }
-    admit_below(registry, n, n, finalized_epoch, cut.bound, cut.quota, least);
+    admit_below(
+        registry,
+        n,
+        stop,
+        finalized_epoch,
+        cut.bound,
+        cut.quota,
+        least,
+    );
     0
 }
 
 // The closing registry is a copy of the opening one, of which all that the step asks is surveyed in one pass.
 fn update_registry(
+    stop: usize,
     s: Settings,
     state_slot: u64,
     finalized_epoch: u64,
@@ -138,8 +153,9 @@ fn update_registry(
     requires { ⌜ goodSettings s ≡ true ⌝ }
     requires { ⌜ («state_slot» < 2 ^ 48) × («finalized_epoch» < 2 ^ 48) ⌝ }
     requires { ⌜ (length (now opening) ≡ 10 * (length (now opening) / 10)) × (now closing ≡ now opening) ⌝ }
+    requires { ⌜ stop ≤ length (now opening) / 10 ⌝ }
     requires { ⌜ (length (now kept) ≡ 64) × Blank (now kept) ⌝ }
-    ensures { λ r. ⌜ Ran («process_registry_updates» s «state_slot» «finalized_epoch» (decode (now (opening .entry)))) (now (closing .exit)) r ⌝ }
+    ensures { λ r. ⌜ Ran (registryUpdatesTo stop s «state_slot» «finalized_epoch» (decode (now (opening .entry)))) (now (closing .exit)) r ⌝ }
 {
     let epoch = current_epoch(s, state_slot);
     let previous = previous_epoch(s, state_slot);
@@ -148,25 +164,32 @@ fn update_registry(
     let cut = cut_queue(s, epoch, opening, &kept[..], finalized_epoch, limit);
     let least = epoch + 1 + s.max_seed_lookahead;
     let queue = start_pair(found.queue, least);
-    update_by(s, epoch, limit, queue, cut, finalized_epoch, closing)
+    update_by(stop, s, epoch, limit, queue, cut, finalized_epoch, closing)
 }
 
-pub fn process_registry_updates(
+// From validator `stop` up activation epochs stay.
+pub fn process_registry_updates_to(
+    stop: usize,
     s: Settings,
     state_slot: u64,
     finalized_epoch: u64,
     opening: &[u64],
     closing: &mut [u64],
 ) -> u64
-    ensures { λ r. ⌜ Closes encode (registryTests s «state_slot» «finalized_epoch» (now (opening .entry)) (now (closing .entry))) («process_registry_updates» s «state_slot» «finalized_epoch» (decode (now (opening .entry)))) (now (opening .entry)) (now (closing .entry)) (now (closing .exit)) r ⌝ }
+    ensures { λ r. ⌜
+        Closes encode
+        (registryToTests stop s «state_slot» «finalized_epoch» (now (opening .entry)) (now (closing .entry)))
+        (registryUpdatesTo stop s «state_slot» «finalized_epoch» (decode (now (opening .entry))))
+        (now (opening .entry)) (now (closing .entry)) (now (closing .exit)) r ⌝ }
 {
-    let refusal = registry_tests(s, state_slot, finalized_epoch, opening, closing);
+    let refusal = registry_to_tests(stop, s, state_slot, finalized_epoch, opening, closing);
     if refusal != 0 {
         return refusal;
     }
     copy(opening, closing);
     let mut kept = [18446744073709551615u64; 64];
     let done = update_registry(
+        stop,
         s,
         state_slot,
         finalized_epoch,
@@ -178,4 +201,22 @@ pub fn process_registry_updates(
         copy(opening, closing);
     }
     done
+}
+
+// The stop behind the last validator.
+pub fn process_registry_updates(
+    s: Settings,
+    state_slot: u64,
+    finalized_epoch: u64,
+    opening: &[u64],
+    closing: &mut [u64],
+) -> u64
+    ensures { λ r. ⌜
+        Closes encode
+        (registryTests s «state_slot» «finalized_epoch» (now (opening .entry)) (now (closing .entry)))
+        («process_registry_updates» s «state_slot» «finalized_epoch» (decode (now (opening .entry))))
+        (now (opening .entry)) (now (closing .entry)) (now (closing .exit)) r ⌝ }
+{
+    let n = opening.len() / 10;
+    process_registry_updates_to(n, s, state_slot, finalized_epoch, opening, closing)
 }

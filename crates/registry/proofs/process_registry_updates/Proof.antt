@@ -1,78 +1,16 @@
-use mathlib.Core.Path.{refl}
-use native.Mathlib.Omega.{arith}
-use Rattle.definitions.specs.Record.{encode}
-use Rattle.definitions.specs.Rust.Phase0.EpochProcessing.{«process_registry_updates»}
-use Rattle.buffers.proofs.Closes.{closes-refused, step-done, step-restored}
-use Rattle.refusals.proofs.Laws.{small}
-use Rattle.finalized.proofs.Tests.{registry-passed}
-use Rattle.selection.proofs.Picking.{blank-length, blank-part}
+use Rattle.registry.proofs.Stops.{closes-whole}
 use borrow.Author.Needs.{needs}
 use Rattle.registry.proofs.process_registry_updates.Statement.{statement}
 use Rattle.registry.proofs.process_registry_updates.Tie as tie
 
-registry-tests-requires : tie.Need-registry-tests-requires
-registry-tests-requires c κs = search needs
+process-registry-updates-to-requires : tie.Need-process-registry-updates-to-requires
+process-registry-updates-to-requires c κs = search needs
 
 same-length : tie.Need-same-length
 same-length c = search needs
 
 returns : tie.Need-returns
-returns c = closes-refused encode _ (c .before .registry-tests .ensures) _ (c .if1 .taken)
-
-copy-requires : tie.Need-copy-requires
-copy-requires c κs = let p = registry-passed _ _ _ _ _ (c .before .before .registry-tests .ensures) (c .before .if1 .left) in p .same
-
-sub-update-registry : tie.Need-sub-update-registry
-sub-update-registry c = search needs
-
-part-kept-start : tie.Need-part-kept-start
-part-kept-start c = search needs
-
-part-kept-end : tie.Need-part-kept-end
-part-kept-end c = search needs
-
-update-registry-requires : tie.Need-update-registry-requires
-update-registry-requires c κs = let p = registry-passed _ _ _ _ _ (c .before .before .before .before .before .before .before .registry-tests .ensures) (c .before .before .before .before .before .before .if1 .left) in (p .opened .settings .good, ((small _ (p .opened .settings .small), p .opened .finalized), ((p .opened .shape .long, c .before .before .before .before .copy .ensures), (blank-length 64 64 (omega arith), blank-part 64 64 (omega arith) (omega arith)))))
-
-copy-requires-2 : tie.Need-copy-requires-2
-copy-requires-2 c κs = let p = registry-passed _ _ _ _ _ (c .before .before .before .before .before .before .before .before .before .before .before .before .before .registry-tests .ensures) (c .before .before .before .before .before .before .before .before .before .before .before .before .if1 .left) in omega (arith, p .same)
-
-same-length-2 : tie.Need-same-length-2
-same-length-2 c = search needs
-
-returns-2 : tie.Need-returns-2
-returns-2 c =
-    let k = c .before .before .before .before .before .before .before .before in
-    let q = k .before .before .before .before .before in
-    let t = q .before .before in
-    let a = t .before .before .before .before .before in
-    step-restored («process_registry_updates» (a .args .s) (a .args .state-slot) (a .args .finalized-epoch)) _ (t .before .registry-tests .ensures) (t .if1 .left) refl (k .update-registry .ensures) (λ z. omega (arith, c .before .before .before .before .if2 .taken)) (c .before .before .copy2 .ensures)
-
-same-length-3 : tie.Need-same-length-3
-same-length-3 c = search needs
-
-returns-3 : tie.Need-returns-3
-returns-3 c =
-    let k = c .before .before .before .before in
-    let q = k .before .before .before .before .before in
-    let t = q .before .before in
-    let a = t .before .before .before .before .before in
-    step-done («process_registry_updates» (a .args .s) (a .args .state-slot) (a .args .finalized-epoch)) _ (t .before .registry-tests .ensures) (t .if1 .left) refl (k .update-registry .ensures) (omega (arith, c .if2 .left))
+returns c = closes-whole _ _ _ _ _ (c .before .before .process-registry-updates-to .ensures)
 
 pub process-registry-updates-spec : {M : Type 1} → statement M
-process-registry-updates-spec =
-    tie.close
-    (tie.spec
-    registry-tests-requires
-    same-length
-    returns
-    copy-requires
-    sub-update-registry
-    part-kept-start
-    part-kept-end
-    update-registry-requires
-    copy-requires-2
-    same-length-2
-    returns-2
-    same-length-3
-    returns-3)
+process-registry-updates-spec = tie.close (tie.spec process-registry-updates-to-requires same-length returns)

@@ -1,6 +1,3 @@
-use mathlib.Core.Path.{sym}
-use native.Mathlib.Omega.{arith}
-use Rattle.laws.proofs.Encode.{length-decode}
 use Rattle.registry.proofs.Seen.{updates-stop, updates-end}
 use borrow.Author.Needs.{needs}
 use Rattle.registry.proofs.update_by.Statement.{statement}
@@ -19,7 +16,7 @@ same-length : tie.Need-same-length
 same-length c = search needs
 
 returns : tie.Need-returns
-returns c = updates-stop _ _ _ _ _ (c .before .before .before .update-all .ensures) (c .if1 .taken)
+returns c = updates-stop _ _ _ _ _ _ (c .before .before .before .update-all .ensures) (c .if1 .taken)
 
 admit-below-requires : tie.Need-admit-below-requires
 admit-below-requires c κs = search needs
@@ -28,7 +25,7 @@ same-length-2 : tie.Need-same-length-2
 same-length-2 c = search needs
 
 returns-2 : tie.Need-returns-2
-returns-2 c = let i = c .before .before .before .before in let u = i .before .before .before in updates-end _ _ _ _ _ (u .update-all .ensures) (i .if1 .left) (sym (length-decode _ _ (omega (arith, u .update-all .kept)))) (u .before .before .before .before .pre .1 .1) (c .before .before .admit-below .ensures)
+returns-2 c = let i = c .before .before .before .before in let u = i .before .before .before in updates-end _ _ _ _ _ _ (u .update-all .ensures) (i .if1 .left) (u .before .before .before .before .pre .1 .1 .1) (c .before .before .admit-below .ensures)
 
 pub update-by-spec : {M : Type 1} → statement M
 update-by-spec =

@@ -15,7 +15,7 @@ previous-epoch-requires : tie.Need-previous-epoch-requires
 previous-epoch-requires c κs = good-settings _ (c .before .before .before .before .pre .0) .positive .«slots_per_epoch»
 
 survey-registry-requires : tie.Need-survey-registry-requires
-survey-registry-requires c κs = let s = c .before .before .before .before .before .before in let p = epochs _ _ (s .pre .0) (s .pre .1 .0 .0) in (s .pre .1 .1 .0 .0, (omega (arith, p .small, c .before .before .current-epoch .ensures), s .pre .1 .1 .1))
+survey-registry-requires c κs = let s = c .before .before .before .before .before .before in let p = epochs _ _ (s .pre .0) (s .pre .1 .0 .0) in (s .pre .1 .1 .0 .0, (omega (arith, p .small, c .before .before .current-epoch .ensures), s .pre .1 .1 .1 .1))
 
 churn-by-requires : tie.Need-churn-by-requires
 churn-by-requires c κs = good-settings _ (c .before .before .before .before .before .before .before .before .before .pre .0) .positive .«churn_limit_quotient»
@@ -33,7 +33,7 @@ start-pair-requires : tie.Need-start-pair-requires
 start-pair-requires c κs = search needs
 
 update-by-requires : tie.Need-update-by-requires
-update-by-requires c κs = let s = c .before .before .before .before .before .before .before .before .before .before .before .before .before .before .before in let e = c .before .before .before .before .before .before .before .before .before .before .before in let p = epochs _ _ (s .pre .0) (s .pre .1 .0 .0) in let q = good-settings _ (s .pre .0) .small .«max_seed_lookahead» in rw (s .pre .1 .1 .0 .1) ((s .pre .1 .1 .0 .0, omega (arith, p .small, e .current-epoch .ensures), q), (rw (c .before .start-pair .ensures) (tracks-start (omega (arith, p .fits, e .current-epoch .ensures)) (c .before .before .before .before .before .before .before .before .survey-registry .ensures .queue)), c .before .before .before .cut-queue .ensures))
+update-by-requires c κs = let s = c .before .before .before .before .before .before .before .before .before .before .before .before .before .before .before in let e = c .before .before .before .before .before .before .before .before .before .before .before in let p = epochs _ _ (s .pre .0) (s .pre .1 .0 .0) in let q = good-settings _ (s .pre .0) .small .«max_seed_lookahead» in rw (s .pre .1 .1 .0 .1) ((s .pre .1 .1 .0 .0, omega (arith, p .small, e .current-epoch .ensures), q), (s .pre .1 .1 .1 .0, (rw (c .before .start-pair .ensures) (tracks-start (omega (arith, p .fits, e .current-epoch .ensures)) (c .before .before .before .before .before .before .before .before .survey-registry .ensures .queue)), c .before .before .before .cut-queue .ensures)))
 
 same-length : tie.Need-same-length
 same-length c = search needs
@@ -42,7 +42,7 @@ same-length-2 : tie.Need-same-length-2
 same-length-2 c = search needs
 
 returns : tie.Need-returns
-returns c = let s = c .before .before .before .before .before .before .before .before .before .before .before .before .before .before .before .before .before .before in let e = c .before .before .before .before .before .before .before .before .before .before .before .before .before .before in let p = epochs _ _ (s .pre .0) (s .pre .1 .0 .0) in let limit = counted-limit _ _ _ (e .current-epoch .ensures) (c .before .before .before .before .before .before .before .before .before .before .before .survey-registry .ensures .number) (c .before .before .before .before .before .before .before .before .churn-by .ensures) in rw (step-by _ _ _ _ p (e .current-epoch .ensures) limit) (rw (s .pre .1 .1 .0 .1) at (c .before .before .update-by .ensures))
+returns c = let s = c .before .before .before .before .before .before .before .before .before .before .before .before .before .before .before .before .before .before in let e = c .before .before .before .before .before .before .before .before .before .before .before .before .before .before in let p = epochs _ _ (s .pre .0) (s .pre .1 .0 .0) in let limit = counted-limit _ _ _ (e .current-epoch .ensures) (c .before .before .before .before .before .before .before .before .before .before .before .survey-registry .ensures .number) (c .before .before .before .before .before .before .before .before .churn-by .ensures) in rw (step-by _ _ _ _ _ p (e .current-epoch .ensures) limit) (rw (s .pre .1 .1 .0 .1) at (c .before .before .update-by .ensures))
 
 pub update-registry-spec : {M : Type 1} → statement M
 update-registry-spec =
