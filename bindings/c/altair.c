@@ -105,6 +105,15 @@ CHECKED_BY_FINALITY(process_inactivity_updates)
 CHECKED_BY_FINALITY(process_rewards_and_penalties)
 CHECKED_BY_FINALITY(process_registry_updates)
 
+uint64_t altair_checked_process_registry_updates_to(uint64_t stop, altair_settings settings, uint64_t state_slot,
+                                                    uint64_t finalized_epoch, const uint64_t *opening,
+                                                    size_t opening_length, uint64_t *closing, size_t closing_length) {
+    if (!APART(READ(opening), WRITTEN(closing)))
+        return ALTAIR_BAD_SHAPE;
+    return altair_process_registry_updates_to(stop, settings, state_slot, finalized_epoch, opening, opening_length,
+                                              closing, closing_length);
+}
+
 uint64_t altair_checked_process_slashings(altair_settings settings, uint64_t state_slot, const uint64_t *slashings,
                                           size_t slashings_length, const uint64_t *opening, size_t opening_length,
                                           uint64_t *closing, size_t closing_length) {

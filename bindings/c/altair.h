@@ -315,6 +315,12 @@ uint64_t altair_process_registry_updates(altair_settings settings, uint64_t stat
                                          const uint64_t *opening, size_t opening_length, uint64_t *closing,
                                          size_t closing_length);
 
+/* The same with a stop, a validator's number, or N: from it up activation epochs stay. Answers 0, or 1, 2, 3 or 5; 1 also above N.
+ * closing holds the registry as above, from the stop up with the opening's activation epochs; after a refusal as above. */
+uint64_t altair_process_registry_updates_to(uint64_t stop, altair_settings settings, uint64_t state_slot,
+                                            uint64_t finalized_epoch, const uint64_t *opening, size_t opening_length,
+                                            uint64_t *closing, size_t closing_length);
+
 /* Answers 0, or 1, 2, 3 or 5.
  * closing holds the registry less the slashing penalties; after 1, 2 and 3 what it held before, after 5 the opening's numbers. */
 uint64_t altair_process_slashings(altair_settings settings, uint64_t state_slot, const uint64_t *slashings,
@@ -559,6 +565,10 @@ uint64_t altair_checked_process_rewards_and_penalties(altair_settings settings, 
 uint64_t altair_checked_process_registry_updates(altair_settings settings, uint64_t state_slot,
                                                  uint64_t finalized_epoch, const uint64_t *opening,
                                                  size_t opening_length, uint64_t *closing, size_t closing_length);
+
+uint64_t altair_checked_process_registry_updates_to(uint64_t stop, altair_settings settings, uint64_t state_slot,
+                                                    uint64_t finalized_epoch, const uint64_t *opening,
+                                                    size_t opening_length, uint64_t *closing, size_t closing_length);
 
 uint64_t altair_checked_process_slashings(altair_settings settings, uint64_t state_slot, const uint64_t *slashings,
                                           size_t slashings_length, const uint64_t *opening, size_t opening_length,

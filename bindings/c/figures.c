@@ -263,6 +263,23 @@ static void the_steps(void) {
     SAME(altair_process_registry_updates(mainnet, 127, 1, opening, FIVE, closing, FIVE - ENTRY), 1);
     SAME(closing[0], 99);
 
+    /* validator 0 waits since a later epoch than 1 and 3; from the stop up nobody is activated, and each is still counted */
+    opening[ALTAIR_ACTIVATION_ELIGIBILITY_EPOCH] = 1;
+    opening[ALTAIR_ACTIVATION_EPOCH] = opening[3 * ENTRY + ALTAIR_ACTIVATION_EPOCH] = FAR;
+    opening[4 * ENTRY] = 16 * ETH;
+    altair_settings two_at_a_time = mainnet;
+    two_at_a_time.min_per_epoch_churn_limit = 2;
+    for (uint64_t stop = 0; stop <= 5; stop++) {
+        SAME(altair_process_registry_updates_to(stop, two_at_a_time, 127, 1, opening, FIVE, closing, FIVE), 0);
+        SAME(closing[ALTAIR_ACTIVATION_EPOCH], FAR);
+        SAME(closing[ENTRY + ALTAIR_ACTIVATION_EPOCH], stop > 1 ? 8 : FAR);
+        SAME(closing[3 * ENTRY + ALTAIR_ACTIVATION_EPOCH], stop > 3 ? 8 : FAR);
+        SAME(closing[4 * ENTRY + ALTAIR_EXIT_EPOCH], 8);
+    }
+    closing[0] = 99;
+    SAME(altair_process_registry_updates_to(6, two_at_a_time, 127, 1, opening, FIVE, closing, FIVE), 1);
+    SAME(closing[0], 99);
+
     fill(opening, 5);
     slashings[3] = 32 * ETH;
     opening[ALTAIR_SLASHED] = 1;

@@ -65,6 +65,11 @@ step!(registry, altair_process_registry_updates, slot: u64, finalized: u64);
 step!(effective_balances, altair_process_effective_balance_updates,);
 step!(slashings_reset, altair_process_slashings_reset, slot: u64);
 
+pub fn registry_to(stop: u64, s: &Settings, slot: u64, finalized: u64, opening: &[u64], closing: &mut [u64]) -> u64 {
+    let (a, n, b, m) = (opening.as_ptr(), opening.len(), closing.as_mut_ptr(), closing.len());
+    unsafe { raw::altair_process_registry_updates_to(stop, convert::settings(s), slot, finalized, a, n, b, m) }
+}
+
 pub fn slashings(s: &Settings, slot: u64, slashings: &[u64], opening: &[u64], closing: &mut [u64]) -> u64 {
     let (a, n, b, m) = (opening.as_ptr(), opening.len(), closing.as_mut_ptr(), closing.len());
     let (l, k) = (slashings.as_ptr(), slashings.len());

@@ -1,5 +1,5 @@
 //! The library's archive against the Rust of ethereum-consensus, in one process, on generated records: the close, each of the eight
-//! steps, every leaf, and reading and writing a file. Every number that comes back or is left in a lent buffer is compared. The
+//! steps, the registry step with every stop, every leaf, and reading and writing a file. Every number that comes back or is left in a lent buffer is compared. The
 //! listing's lines, of which the Rust knows nothing, are held to a model.
 use reference::record;
 mod convert;
@@ -20,7 +20,7 @@ mod steps;
 mod types;
 
 use reference::{
-    calls::{LEAVES, OPERATIONS},
+    calls::{Call, Operation, Outcome, LEAVES, OPERATIONS},
     generate_leaves, judge,
     random::Random,
     record::{describe, write_file, Record},
@@ -119,6 +119,7 @@ fn run(count: u64, seed: u64) -> Option<Difference> {
         counts.numbers,
         start.elapsed().as_secs_f64()
     );
+    println!("{} of them registry steps with a stop", counts.stops);
     println!("{} lines and net changes held to the model, {} of them refused with 7", counts.lines, counts.wide);
     first.into_inner().expect("a worker panicked")
 }
@@ -139,6 +140,7 @@ struct Counts {
     report: Report,
     answers: u64,
     numbers: u64,
+    stops: u64,
     lines: u64,
     wide: u64,
 }
@@ -146,7 +148,7 @@ struct Counts {
 impl Default for Counts {
     fn default() -> Self {
         let report = Report { leaves: vec![Tally::default(); LEAVES.len()], ..Report::default() };
-        Counts { report, answers: 0, numbers: 0, lines: 0, wide: 0 }
+        Counts { report, answers: 0, numbers: 0, stops: 0, lines: 0, wide: 0 }
     }
 }
 
@@ -162,6 +164,7 @@ impl Counts {
         operations.chain(closes).chain(leaves).chain([(&mut a.files, &b.files)]).for_each(|(a, b)| a.add(b));
         self.answers += other.answers;
         self.numbers += other.numbers;
+        self.stops += other.stops;
         self.lines += other.lines;
         self.wide += other.wide;
         self
@@ -203,6 +206,9 @@ impl Counts {
                 closed = (rust.refusal == 0).then(|| rust.registry.clone());
             }
             self.numbers += (18 + rust.registry.len() + rust.slashings.len()) as u64;
+            if operation == Operation::Registry {
+                self.stops(rng, &call, &rust)?;
+            }
             let asked = || {
                 let buffers = (&call.closing_registry, &call.closing_slashings);
                 format!("{} into {buffers:?}", operation.name())
@@ -213,6 +219,17 @@ impl Counts {
             return Err("the opening was written to".to_string());
         }
         closed.map_or(Ok(()), |closed| self.listing(rng, &record.registry, &closed))
+    }
+
+    fn stops(&mut self, rng: &mut Random, call: &Call, step: &Outcome) -> Result<(), String> {
+        for stop in steps::stops(rng, &call.record) {
+            let rust = steps::stopped_called_for(call, step, stop);
+            self.stops += 1;
+            self.numbers += 1 + rust.1.len() as u64;
+            let asked = || format!("the registry step to stop {stop} into {:?}", call.closing_registry);
+            self.same(asked, rust, steps::stopped(call, stop))?;
+        }
+        Ok(())
     }
 
     fn listing(&mut self, rng: &mut Random, opening: &[u64], closed: &[u64]) -> Result<(), String> {

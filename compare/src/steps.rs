@@ -3,7 +3,7 @@ use crate::library;
 use reference::{
     calls::{Call, Operation, Outcome},
     random::Random,
-    record::Record,
+    record::{of, Record},
 };
 
 const MARGIN: usize = 32;
@@ -62,4 +62,36 @@ pub fn outcome(c: &Call, operation: Operation) -> Outcome {
         Operation::ParticipationFlags => (library::participation_flags(opening, closing), *f),
     };
     Outcome { refusal, finality, registry: registry.after(), slashings: slashings.after() }
+}
+
+/// The stops that are tried: every one of a small record and the one behind them all, a few of a large one.
+pub fn stops(rng: &mut Random, record: &Record) -> Vec<u64> {
+    let n = record.registry.len() / 10;
+    match n {
+        0..=40 => (0..=n as u64 + 1).collect(),
+        _ => [rng.index(n), rng.index(n), n, n + 1].map(|stop| stop as u64).to_vec(),
+    }
+}
+
+/// The registry step with a stop, by the Rust's step: its activation epochs below the stop, the opening's from it up.
+pub fn stopped_called_for(c: &Call, step: &Outcome, stop: u64) -> (u64, Vec<u64>) {
+    let opening = &c.record.registry;
+    if stop as usize > opening.len() / 10 {
+        return (1, c.closing_registry.clone());
+    }
+    let mut registry = step.registry.clone();
+    if step.refusal == 0 {
+        for i in (10 * stop as usize..registry.len()).step_by(10) {
+            registry[i + of::ACTIVATION] = opening[i + of::ACTIVATION];
+        }
+    }
+    (step.refusal, registry)
+}
+
+pub fn stopped(c: &Call, stop: u64) -> (u64, Vec<u64>) {
+    let (s, f) = (&c.record.settings, &c.record.finality);
+    let mut registry = Watched::around(&c.closing_registry);
+    let opening = &c.record.registry;
+    let refusal = library::registry_to(stop, s, f.slot, f.finalized.epoch, opening, registry.lent());
+    (refusal, registry.after())
 }

@@ -3,8 +3,8 @@
  * Buffers: R a registry, V one validator, S slashings, B roots, F a file, P a registry of which only the length is
  * tested, M marks, Q the first buffer's numbers with other balances. Behind '>' those that are written: R, S, F; r, v a registry and a
  * validator changed in place. Numbers that are tested: s the settings, f the finality, t the slot, z the finalized
- * epoch, i an index, g a flag index of 0 to 2, G one of 0 to 7, e a participation epoch, d a total to divide by, c the
- * clock, w a second, which is c->number. */
+ * epoch, i an index, o a stop, which is c->index, g a flag index of 0 to 2, G one of 0 to 7, e a participation epoch,
+ * d a total to divide by, c the clock, w a second, which is c->number. */
 #include "fuzz.h"
 
 #include <string.h>
@@ -28,6 +28,8 @@
     X(process_inactivity_updates, NUMBER, uint64_t, "R>R", "stz", "5", c->s, c->slot, c->finalized, IN(0), OUT(0))     \
     X(process_rewards_and_penalties, NUMBER, uint64_t, "R>R", "stz", "5", c->s, c->slot, c->finalized, IN(0), OUT(0))  \
     X(process_registry_updates, NUMBER, uint64_t, "R>R", "stz", "5", c->s, c->slot, c->finalized, IN(0), OUT(0))       \
+    X(process_registry_updates_to, NUMBER, uint64_t, "R>R", "ostz", "5", c->index, c->s, c->slot, c->finalized, IN(0), \
+      OUT(0))                                                                                                          \
     X(process_slashings, NUMBER, uint64_t, "SR>R", "st", "5", c->s, c->slot, IN(0), IN(1), OUT(0))                     \
     X(process_effective_balance_updates, NUMBER, uint64_t, "R>R", "s", "5", c->s, IN(0), OUT(0))                       \
     X(process_slashings_reset, NUMBER, uint64_t, "S>S", "st", "", c->s, c->slot, IN(0), OUT(0))                        \
@@ -83,6 +85,8 @@
       OUT(0))                                                                                                          \
     X(checked_process_registry_updates, NUMBER, uint64_t, "R>R", "stz", "5", c->s, c->slot, c->finalized, IN(0),       \
       OUT(0))                                                                                                          \
+    X(checked_process_registry_updates_to, NUMBER, uint64_t, "R>R", "ostz", "5", c->index, c->s, c->slot,              \
+      c->finalized, IN(0), OUT(0))                                                                                     \
     X(checked_process_slashings, NUMBER, uint64_t, "SR>R", "st", "5", c->s, c->slot, IN(0), IN(1), OUT(0))             \
     X(checked_process_effective_balance_updates, NUMBER, uint64_t, "R>R", "s", "5", c->s, IN(0), OUT(0))               \
     X(checked_process_slashings_reset, NUMBER, uint64_t, "S>S", "st", "", c->s, c->slot, IN(0), OUT(0))                \

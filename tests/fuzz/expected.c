@@ -154,9 +154,9 @@ uint64_t expected(const row *row, const lent *c) {
             good = good && c->out[i].length == c->in[(const char *)memchr(read, written[i], reads) - read].length;
         else
             good = good && shaped(written[i], c->out[i], c, validators);
-    if (!good || (tests(row, 'i') && c->index >= validators) || (tests(row, 'g') && c->flag_index > 2) ||
-        (tests(row, 'G') && c->flag_index > 7) || (tests(row, 'd') && c->totals[0] == 0) ||
-        (tests(row, 'e') && !participation_epoch(c)))
+    if (!good || (tests(row, 'i') && c->index >= validators) || (tests(row, 'o') && c->index > validators) ||
+        (tests(row, 'g') && c->flag_index > 2) || (tests(row, 'G') && c->flag_index > 7) ||
+        (tests(row, 'd') && c->totals[0] == 0) || (tests(row, 'e') && !participation_epoch(c)))
         return 1;
     if (tests(row, 's') && !good_settings(&c->s))
         return 2;

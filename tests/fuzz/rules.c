@@ -38,6 +38,20 @@ static uint64_t steps(const record *r, altair_finality *finality, uint64_t *regi
     return 0;
 }
 
+/* The registry step with a stop: the step's numbers, but from the stop up the opening's activation epochs. */
+static void the_stop(const record *r) {
+    static uint64_t whole[NUMBERS], stopped[NUMBERS];
+    const size_t numbers = 10 * r->validators, stop = below(r->validators + 1);
+    const uint64_t slot = r->f.slot, finalized = r->f.finalized_checkpoint.epoch;
+    const uint64_t number =
+        altair_process_registry_updates(r->s, slot, finalized, r->registry, numbers, whole, numbers);
+    for (size_t i = 10 * stop; i < numbers; i += 10)
+        whole[i + ALTAIR_ACTIVATION_EPOCH] = r->registry[i + ALTAIR_ACTIVATION_EPOCH];
+    MUST(altair_process_registry_updates_to(stop, r->s, slot, finalized, r->registry, numbers, stopped, numbers) ==
+         number);
+    MUST(memcmp(whole, stopped, 8 * numbers) == 0);
+}
+
 /* closing minus opening in 128 bits */
 static altair_change_answer changed(uint64_t opening, uint64_t closing) {
     const __int128 change = (__int128)closing - opening;
@@ -204,6 +218,7 @@ void rules_hold(const record *r) {
     if (altair_listing_head(r->s, r->f.slot, r->f, r->registry, 10 * r->validators).refusal != 0)
         return;
     the_close(r);
+    the_stop(r);
     the_file(r);
     the_leaves(r);
     the_votes(r);

@@ -144,6 +144,8 @@ SIGNATURES = {
                                                opening=REGISTRY, closing=written_registry("opening")),
     "process_registry_updates": Signature(WRITTEN, settings=SETTINGS, state_slot=NUMBER, finalized_epoch=NUMBER,
                                           opening=REGISTRY, closing=written_registry("opening")),
+    "process_registry_updates_to": Signature(WRITTEN, stop=NUMBER, settings=SETTINGS, state_slot=NUMBER, finalized_epoch=NUMBER,
+                                             opening=REGISTRY, closing=written_registry("opening")),
     "process_slashings": Signature(WRITTEN, settings=SETTINGS, state_slot=NUMBER, slashings=SLASHINGS, opening=REGISTRY,
                                    closing=written_registry("opening")),
     "process_effective_balance_updates": Signature(WRITTEN, settings=SETTINGS, opening=REGISTRY,

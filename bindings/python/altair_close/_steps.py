@@ -22,6 +22,11 @@ def process_registry_updates(settings, state_slot, finalized_epoch, opening, *, 
     return _call("process_registry_updates", settings, state_slot, finalized_epoch, opening, out)
 
 
+def process_registry_updates_to(stop, settings, state_slot, finalized_epoch, opening, *, out=None):
+    """The same with a stop: from that validator number up activation epochs stay."""
+    return _call("process_registry_updates_to", stop, settings, state_slot, finalized_epoch, opening, out)
+
+
 def process_slashings(settings, state_slot, slashings, opening, *, out=None):
     """The registry less the slashing penalties."""
     return _call("process_slashings", settings, state_slot, slashings, opening, out)

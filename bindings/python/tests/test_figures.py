@@ -148,6 +148,9 @@ class Figures(unittest.TestCase):
         self.assertEqual(paid[BALANCE], 32 * ETH + 1120000 + 2080000 + 1120000)
         waiting = changed(registry, at=1, activation_epoch=FAR)
         self.assertEqual(list(process_registry_updates(MAINNET, 127, 1, waiting)), changed(waiting, at=1, activation_epoch=8))
+        self.assertEqual(list(process_registry_updates_to(2, MAINNET, 127, 1, waiting)), changed(waiting, at=1, activation_epoch=8))
+        self.assertEqual(list(process_registry_updates_to(1, MAINNET, 127, 1, waiting)), waiting)
+        self.refused(1, process_registry_updates_to, 6, MAINNET, 127, 1, waiting)
         slashings = [0] * 8192
         slashings[3] = 32 * ETH
         slashed = changed(registry, slashed=1, withdrawable_epoch=3 + 8192 // 2)

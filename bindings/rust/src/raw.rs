@@ -254,6 +254,16 @@ extern "C" {
         closing: *mut u64,
         closing_length: usize,
     ) -> u64;
+    pub fn altair_process_registry_updates_to(
+        stop: u64,
+        settings: Settings,
+        state_slot: u64,
+        finalized_epoch: u64,
+        opening: *const u64,
+        opening_length: usize,
+        closing: *mut u64,
+        closing_length: usize,
+    ) -> u64;
     pub fn altair_process_slashings(
         settings: Settings,
         state_slot: u64,

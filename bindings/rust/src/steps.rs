@@ -92,6 +92,42 @@ pub fn process_registry_updates(
     by_finality(raw::altair_process_registry_updates, settings, state_slot, finalized_epoch, opening, closing)
 }
 
+/// The registry after queueing, ejecting and activating, with a stop: from that validator number up activation epochs stay,
+/// all else is as without one. A stop above the number of validators is refused.
+///
+/// ```
+/// use altair_close::*;
+/// let mut waiting = validator::new(32_000_000_000);
+/// waiting[validator::ACTIVATION_EPOCH] = u64::MAX;
+/// let (opening, mut closing) = (waiting.repeat(2), [0; 20]);
+/// process_registry_updates_to(1, &Settings::MAINNET, 127, 1, &opening, &mut closing)?;
+/// assert_eq!(closing[validator::ACTIVATION_EPOCH], 8);
+/// assert_eq!(closing[10 + validator::ACTIVATION_EPOCH], u64::MAX);
+/// # Ok::<(), Refusal>(())
+/// ```
+pub fn process_registry_updates_to(
+    stop: u64,
+    settings: &Settings,
+    state_slot: u64,
+    finalized_epoch: u64,
+    opening: &[u64],
+    closing: &mut [u64],
+) -> Result<(), Refusal> {
+    let number = unsafe {
+        raw::altair_process_registry_updates_to(
+            stop,
+            *settings,
+            state_slot,
+            finalized_epoch,
+            opening.as_ptr(),
+            opening.len(),
+            closing.as_mut_ptr(),
+            closing.len(),
+        )
+    };
+    Refusal::or(number, ())
+}
+
 /// The registry less the slashing penalties.
 pub fn process_slashings(
     settings: &Settings,

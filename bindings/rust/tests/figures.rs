@@ -163,6 +163,11 @@ fn the_steps() {
     let before = closing.clone();
     assert_eq!(process_registry_updates(&MAINNET, 127, 1, &opening, &mut closing[LENGTH..]), Err(Refusal::Shape));
     assert_eq!(closing, before);
+    assert_eq!(process_registry_updates_to(5, &MAINNET, 127, 1, &opening, &mut closing), Ok(()));
+    assert_eq!(closing, before);
+    assert_eq!(process_registry_updates_to(6, &MAINNET, 127, 1, &opening, &mut closing), Err(Refusal::Shape));
+    assert_eq!(process_registry_updates_to(1, &MAINNET, 127, 1, &opening, &mut closing), Ok(()));
+    assert_eq!(closing, opening);
 
     let mut opening = hit().repeat(5);
     let mut slashings = vec![0; 8192];
