@@ -62,11 +62,19 @@ same-length-4 c = search needs
 returns-2 : tie.Need-returns-2
 returns-2 c = steps-done (call (c .before .before .before .before .before .before .before .before .before .before .before .before .before .before .before .before .before .before .before .before .before .before .before)) (tested (c .before .before .before .before .before .before .before .before .before .before .before .before .before)) (omega (arith, c .before .before .before .before .before .before .before .before .before .before .if1 .left)) (c .before .before .before .before .before .before .run-steps .ensures) (omega (arith, c .if2 .taken))
 
+-- a step was refused; its places are found by their types, so that other arguments of what follows do not move them
+abbrev refused : tie.Else2 → tie.Start
+refused e = e .before .before .before .before .before .before .before .before .before .before .before .before .before .before .before .before .before .before .before .before .before .before .before
+
 copy-requires : tie.Need-copy-requires
-copy-requires c κs = omega (arith, was-lent (c .before .before .before .before .before .before .before .before .before .before .before .before .before .before .before .before .before .before .before .before .before .before .before .before) .closingRegistry, c .before .before .before .before .before .before .closing-registry .given)
+copy-requires c κs =
+    let e : tie.Else2 = search needs in
+    omega (arith, was-lent (refused e) .closingRegistry, e .before .before .before .before .before .closing-registry .given)
 
 copy-requires-2 : tie.Need-copy-requires-2
-copy-requires-2 c κs = omega (arith, was-lent (c .before .before .before .before .before .before .before .before .before .before .before .before .before .before .before .before .before .before .before .before .before .before .before .before .before .before .before .before) .closingSlashings, c .before .before .before .before .before .before .before .before .closing-slashings .given)
+copy-requires-2 c κs =
+    let e : tie.Else2 = search needs in
+    omega (arith, was-lent (refused e) .closingSlashings, e .before .before .before .closing-slashings .given)
 
 same-length-5 : tie.Need-same-length-5
 same-length-5 c = search needs
@@ -79,8 +87,11 @@ same-length-7 c = search needs
 
 returns-3 : tie.Need-returns-3
 returns-3 c =
-    let worked = c .before .before .before .before .before .before .before .before .before .before .before .before .before .before in
-    steps-refused (call (worked .before .before .before .before .before .before .before .before .before .before .before .before .before .before .before .before .before)) (tested (worked .before .before .before .before .before .before .before)) (omega (arith, worked .before .before .before .before .if1 .left)) (worked .run-steps .ensures) (λ z. omega (arith, c .before .before .before .before .before .before .before .before .if2 .left)) refl (λ kept. search needs) (c .before .before .before .before .before .before .copy .ensures) (c .before .before .copy2 .ensures)
+    let e : tie.Else2 = search needs in
+    let first : tie.After-copy = search needs in
+    let second : tie.After-copy2 = search needs in
+    let worked = e .before .before .before .before .before .before in
+    steps-refused (call (refused e)) (tested (worked .before .before .before .before .before .before .before)) (omega (arith, worked .before .before .before .before .if1 .left)) (worked .run-steps .ensures) (λ z. omega (arith, e .if2 .left)) refl (λ kept. search needs) (first .copy .ensures) (second .copy2 .ensures)
 
 pub close-tested-spec : {M : Type 1} → statement M
 close-tested-spec =
