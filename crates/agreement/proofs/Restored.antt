@@ -8,6 +8,7 @@ use native.Mathlib.Omega.{arith}
 use Rattle.definitions.specs.Record.{BeaconState}
 use Rattle.definitions.specs.Checked.{Checked, Refusal, badShape, badSettings, badRecord, noRoot, overflow, value, refused, bind, numberOf}
 use Rattle.definitions.specs.Refusals.{inOrder, afterTests, closingBuffer}
+use Rattle.definitions.specs.Raised.{raisedUnlessRefused}
 use Rattle.definitions.specs.Close.{Call, close, closed, closeTests, stateOf, «process_epoch»}
 use Rattle.agreement.specs.Restored.{OneOf, Accepted, Untouched, Opening, Restored, StepBuffer}
 use Rattle.agreement.proofs.Refused.{work-refused}
@@ -23,17 +24,17 @@ step-buffer contents tests work opening closing =
 -- by what the tests and the work answered
 
 untouched : (c : Call) (r : Refusal) → closeTests c ≡ refused r → Untouched c
-unfolding close closed afterTests bind closingBuffer
-untouched c r t = record { finality = rw t; registry = rw t; slashings = rw t }
+unfolding close closed afterTests bind closingBuffer raisedUnlessRefused
+untouched c r t = record { finality = rw t; raised = rw t; registry = rw t; slashings = rw t }
 
 opening : (c : Call) (r : Refusal) → closeTests c ≡ value tt → «process_epoch» (c .settings) (stateOf c) ≡ refused r → Opening c
-unfolding close closed afterTests bind closingBuffer
-opening c r t w = record { finality = rw (t, w); registry = rw (t, w); slashings = rw (t, w) }
+unfolding close closed afterTests bind closingBuffer raisedUnlessRefused
+opening c r t w = record { finality = rw (t, w); raised = rw (t, w); registry = rw (t, w); slashings = rw (t, w) }
 
 accepted : (c : Call) (st : BeaconState) → closeTests c ≡ value tt → «process_epoch» (c .settings) (stateOf c) ≡ value st → Accepted c
-unfolding close closed afterTests bind closingBuffer
+unfolding close closed afterTests bind closingBuffer raisedUnlessRefused
 accepted c st t w =
-    record { state = st; gave = rw (t, w); finality = rw (t, w); registry = rw (t, w); slashings = rw (t, w) }
+    record { state = st; gave = rw (t, w); finality = rw (t, w); raised = rw (t, w); registry = rw (t, w); slashings = rw (t, w) }
 
 -- numbers
 

@@ -3,9 +3,10 @@ use mathlib.Core.Path.{_≡_}
 use mathlib.Core.List.{List, [], _∷_}
 use mathlib.Core.Logic.{_⊎_}
 use Prim.Native.Nat.{ℕ}
-use Rattle.definitions.specs.Record.{BeaconState, encode}
+use Rattle.definitions.specs.Record.{BeaconState, encode, decode}
 use Rattle.definitions.specs.Checked.{Checked, Refusal, value, refused}
 use Rattle.definitions.specs.Refusals.{closingBuffer}
+use Rattle.definitions.specs.Raised.{noneRaised, raisedTotals}
 use Rattle.definitions.specs.Close.{Call, close, closed}
 
 abbrev pub OneOf : ℕ → List ℕ → Type 0
@@ -17,18 +18,21 @@ pub record Accepted (c : Call) : Type 0 where
   pub state : BeaconState
   pub gave : closed c ≡ value state
   pub finality : close c .finality ≡ state .finality
+  pub raised : close c .raised ≡ raisedTotals (c .settings) (c .finality .slot) (decode (c .registry))
   pub registry : close c .closingRegistry ≡ encode (state .validators)
   pub slashings : close c .closingSlashings ≡ state .slashings
 
 -- 1, 2 and 3: the closing buffers as they were lent
 pub record Untouched (c : Call) : Type 0 where
   pub finality : close c .finality ≡ c .finality
+  pub raised : close c .raised ≡ noneRaised
   pub registry : close c .closingRegistry ≡ c .closingRegistry
   pub slashings : close c .closingSlashings ≡ c .closingSlashings
 
 -- 4 and 5: the opening's
 pub record Opening (c : Call) : Type 0 where
   pub finality : close c .finality ≡ c .finality
+  pub raised : close c .raised ≡ noneRaised
   pub registry : close c .closingRegistry ≡ c .registry
   pub slashings : close c .closingSlashings ≡ c .slashings
 

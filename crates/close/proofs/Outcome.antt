@@ -2,9 +2,11 @@
 use mathlib.Core.Path.{_≡_, sym, _∙_}
 use mathlib.Core.List.{List}
 use Prim.Native.Nat.{ℕ}
-use Rattle.types.specs.declared.FinalityAnswer.{FinalityAnswer}
+use Rattle.types.specs.declared.Raised.{Raised}
+use Rattle.types.specs.declared.CloseAnswer.{CloseAnswer}
 use Rattle.definitions.specs.Checked.{codeOf, bind}
 use Rattle.definitions.specs.Refusals.{afterTests, closingBuffer}
+use Rattle.definitions.specs.Raised.{noneRaised, raisedUnlessRefused}
 use Rattle.definitions.specs.Close.{Call, Outcome, stateOf, closeTests, closed, close, «process_epoch»}
 use Rattle.refusals.proofs.Answers.{passed}
 use Rattle.loops.proofs.Ran.{code-value}
@@ -12,30 +14,30 @@ use Rattle.close.specs.Called.{outcome}
 use Rattle.close.specs.Worked.{Worked}
 use Rattle.close.proofs.Worked.{code-refused}
 
-same-outcome : {o p : Outcome} → o .refusal ≡ p .refusal → o .finality ≡ p .finality → o .closingRegistry ≡ p .closingRegistry → o .closingSlashings ≡ p .closingSlashings → o ≡ p
-same-outcome a b c d = λ i. record { refusal = a i; finality = b i; closingRegistry = c i; closingSlashings = d i }
+same-outcome : {o p : Outcome} → o .refusal ≡ p .refusal → o .finality ≡ p .finality → o .raised ≡ p .raised → o .closingRegistry ≡ p .closingRegistry → o .closingSlashings ≡ p .closingSlashings → o ≡ p
+same-outcome a b n c d = λ i. record { refusal = a i; finality = b i; raised = n i; closingRegistry = c i; closingSlashings = d i }
 
 module _ (c : Call) {x : ℕ} (e : x ≡ codeOf (closeTests c)) where
   -- a test refused
-  pub tests-refused : (x ≡ 0 → ⊥) → outcome (record { refusal = x; finality = c .finality }) (c .closingRegistry) (c .closingSlashings) ≡ close c
-  unfolding close closed afterTests bind closingBuffer
-  tests-refused z =
+  pub tests-refused : {none : Raised} → (x ≡ 0 → ⊥) → none ≡ noneRaised → outcome (record { refusal = x; finality = c .finality; raised = none }) (c .closingRegistry) (c .closingSlashings) ≡ close c
+  unfolding close closed afterTests bind closingBuffer raisedUnlessRefused
+  tests-refused z none =
       let p = code-refused (closeTests c) e z in
-      same-outcome (rw (p .is) (p .number)) (rw (p .is)) (rw (p .is)) (rw (p .is))
+      same-outcome (rw (p .is) (p .number)) (rw (p .is)) (rw (p .is) none) (rw (p .is)) (rw (p .is))
 
-  module _ (z : x ≡ 0) {registry slashings : List ℕ} {r : FinalityAnswer} (w : Worked (c .settings) (stateOf c) registry slashings r) where
+  module _ (z : x ≡ 0) {registry slashings : List ℕ} {r : CloseAnswer} (w : Worked (c .settings) (stateOf c) registry slashings r) where
     -- a step is refused, and the opening put back, in an answer of that number and the opening's finality
-    pub steps-refused : {answer : FinalityAnswer} {xs ys : List ℕ} → (r .refusal ≡ 0 → ⊥) → answer .refusal ≡ r .refusal → (r .finality ≡ c .finality → answer .finality ≡ c .finality) → xs ≡ c .registry → ys ≡ c .slashings → outcome answer xs ys ≡ close c
-    unfolding close closed afterTests bind closingBuffer
-    steps-refused y number kept a b =
+    pub steps-refused : {answer : CloseAnswer} {xs ys : List ℕ} → (r .refusal ≡ 0 → ⊥) → answer .refusal ≡ r .refusal → (r .finality ≡ c .finality → answer .finality ≡ c .finality) → (r .raised ≡ noneRaised → answer .raised ≡ noneRaised) → xs ≡ c .registry → ys ≡ c .slashings → outcome answer xs ys ≡ close c
+    unfolding close closed afterTests bind closingBuffer raisedUnlessRefused
+    steps-refused y number kept none a b =
         let t = passed (closeTests c) e z in
         let p = code-refused («process_epoch» (c .settings) (stateOf c)) (w .code) y in
-        same-outcome (rw t (number ∙ w .code)) (rw (t, p .is) (kept (rw (p .is) at (w .finality)))) (rw (t, p .is) a) (rw (t, p .is) b)
+        same-outcome (rw t (number ∙ w .code)) (rw (t, p .is) (kept (rw (p .is) at (w .finality)))) (rw (t, p .is) (none (rw (p .is) at (w .raised)))) (rw (t, p .is) a) (rw (t, p .is) b)
 
     pub steps-done : r .refusal ≡ 0 → outcome r registry slashings ≡ close c
-    unfolding close closed afterTests bind closingBuffer
+    unfolding close closed afterTests bind closingBuffer raisedUnlessRefused
     steps-done y =
         let t = passed (closeTests c) e z in
         let v = code-value («process_epoch» (c .settings) (stateOf c)) (stateOf c) (sym (w .code) ∙ y) in
         let h = w .held _ v in
-        same-outcome (rw t (w .code)) (rw t (w .finality)) (rw (t, v) (h .0)) (rw (t, v) (h .1))
+        same-outcome (rw t (w .code)) (rw t (w .finality)) (rw t (w .raised)) (rw (t, v) (h .0)) (rw (t, v) (h .1))

@@ -3,7 +3,7 @@ use mathlib.Core.List.{List}
 use Prim.Native.Nat.{ℕ}
 use Rattle.types.specs.declared.Settings.{Settings}
 use Rattle.types.specs.declared.Finality.{Finality}
-use Rattle.types.specs.declared.FinalityAnswer.{FinalityAnswer}
+use Rattle.types.specs.declared.CloseAnswer.{CloseAnswer}
 use Rattle.definitions.specs.Close.{Call, Outcome}
 
 abbrev pub called : Settings → Finality → List ℕ → List ℕ → List ℕ → List ℕ → List ℕ → Call
@@ -19,6 +19,6 @@ called s f registry slashings roots closingRegistry closingSlashings =
     }
 
 -- the answer, and what the closing buffers hold
-abbrev pub outcome : FinalityAnswer → List ℕ → List ℕ → Outcome
+abbrev pub outcome : CloseAnswer → List ℕ → List ℕ → Outcome
 outcome r closingRegistry closingSlashings =
-    record { refusal = r .refusal; finality = r .finality; closingRegistry = closingRegistry; closingSlashings = closingSlashings }
+    record { refusal = r .refusal; finality = r .finality; raised = r .raised; closingRegistry = closingRegistry; closingSlashings = closingSlashings }

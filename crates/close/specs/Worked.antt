@@ -2,20 +2,22 @@
 use mathlib.Core.Path.{_≡_}
 use mathlib.Core.Bool.{true, cond, _&&_}
 use mathlib.Core.List.{List}
-use Prim.Native.Nat.{ℕ, _*_, _/_, max}
+use Prim.Native.Nat.{ℕ, _*_, _/_}
 use lib.Dec.{eqb}
 use lib.ListN.{length}
 use Rattle.types.specs.declared.Settings.{Settings}
 use Rattle.types.specs.declared.Finality.{Finality}
-use Rattle.types.specs.declared.FinalityAnswer.{FinalityAnswer}
+use Rattle.types.specs.declared.TotalAnswer.{TotalAnswer}
+use Rattle.types.specs.declared.TotalAnswer.the-variants.{Value, Refused}
+use Rattle.types.specs.declared.CloseAnswer.{CloseAnswer}
 use Rattle.definitions.specs.Record.{Validator, BeaconState, encode, decode}
 use Rattle.definitions.specs.Checked.{Checked, value, codeOf, settle, bind}
-use Rattle.types.specs.declared.Number.{Number}
-use Rattle.types.specs.declared.Number.the-variants.{Value, Refused}
+use Rattle.definitions.specs.Raised.{raisedTotals, raisedUnlessRefused}
 use Rattle.definitions.specs.Refusals.{inOrder, settingsShaped, registryShaped, rootsShaped, slashingsShaped, sameLength, goodSettings, goodFinality}
 use Rattle.definitions.specs.LeafRefusals.{weighTests}
 use Rattle.definitions.specs.Close.{Call, «process_epoch»}
 use Rattle.agreement.specs.Bounds.{Passed}
+use Rattle.totals.specs.Totals.{totalFrom}
 
 abbrev pub stateNow : Finality → List ℕ → List ℕ → List ℕ → BeaconState
 stateNow f registry slashings roots =
@@ -30,8 +32,8 @@ recordTests c =
     inOrder shaped (goodSettings s) (goodFinality (c .finality))
 
 -- a total, from the survey's sum and whether it has left 64 bits
-unfoldable pub totalOf : ℕ → ℕ → ℕ → Number
-totalOf increment sum over = cond (eqb over 0) (Value (max increment sum)) (Refused 5)
+unfoldable pub totalOf : ℕ → ℕ → ℕ → TotalAnswer
+totalOf increment sum over = cond (eqb over 0) (Value (totalFrom increment sum)) (Refused 5)
 
 -- What these tests say of the opening, of registry xs, slashings ys and roots zs, and the steps rely on
 pub record Tested (s : Settings) (f : Finality) (xs ys zs : List ℕ) : Type 0 where
@@ -43,7 +45,8 @@ pub record Tested (s : Settings) (f : Finality) (xs ys zs : List ℕ) : Type 0 w
 
 -- The eight steps on the state `before`: the answer, and what registry and slashings hold where they are not refused. The caller puts the
 -- opening back where they are.
-pub record Worked (s : Settings) (before : BeaconState) (registry slashings : List ℕ) (r : FinalityAnswer) : Type 0 where
+pub record Worked (s : Settings) (before : BeaconState) (registry slashings : List ℕ) (r : CloseAnswer) : Type 0 where
   pub code : r .refusal ≡ codeOf («process_epoch» s before)
   pub finality : r .finality ≡ settle («process_epoch» s before) before .finality
+  pub raised : r .raised ≡ raisedUnlessRefused («process_epoch» s before) (raisedTotals s (before .finality .slot) (before .validators))
   pub held : (after : BeaconState) → «process_epoch» s before ≡ value after → (registry ≡ encode (after .validators)) × (slashings ≡ after .slashings)

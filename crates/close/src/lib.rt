@@ -15,6 +15,8 @@ use buffers::copy;
 use justification::justification_core;
 use leaf_refusals::current_epoch;
 use leaf_refusals::previous_epoch;
+use raised::answer_with;
+use raised::none_raised;
 use refusals::good_finality;
 use refusals::good_settings;
 use refusals::registry_shaped;
@@ -22,11 +24,11 @@ use refusals::settings_shaped;
 use slashings::slashings_reset_core;
 use survey::Findings;
 use survey::survey_registry;
-use totals::raised;
+use totals::total_from;
+use types::CloseAnswer;
 use types::Finality;
-use types::FinalityAnswer;
-use types::Number;
 use types::Settings;
+use types::TotalAnswer;
 use write_steps::write_registry;
 
 // Test 1 of everything lent.
@@ -89,14 +91,14 @@ fn record_tests(
     0
 }
 
-// A total of the survey: at least one increment, and refused where the sum has left 64 bits.
-fn total_of(sum: u64, over: u64, increment: u64) -> Number
+// A total of the survey, refused where the sum has left 64 bits.
+fn total_of(sum: u64, over: u64, increment: u64) -> TotalAnswer
     ensures { λ r. ⌜ r ≡ totalOf increment sum over ⌝ }
 {
     if over != 0 {
-        return Number::Refused(5);
+        return TotalAnswer::Refused(5);
     }
-    Number::Value(raised(sum, increment))
+    TotalAnswer::Value(total_from(sum, increment))
 }
 
 // The eight steps from the survey: justification, the steps over the registry, the slashings' reset, which is never refused.
@@ -110,7 +112,7 @@ fn run_steps(
     roots: &[u8],
     closing_registry: &mut [u64],
     closing_slashings: &mut [u64],
-) -> FinalityAnswer
+) -> CloseAnswer
     requires { ⌜ Tested s finality (now registry) (now slashings) (now roots) ⌝ }
     requires { ⌜ (length (now «closing_registry») ≡ length (now registry)) × (length (now «closing_slashings») ≡ length (now slashings)) ⌝ }
     requires { ⌜ Finds s («get_current_epoch» s (finality .slot)) («get_previous_epoch» s (finality .slot)) (now registry) (now kept) found ⌝ }
@@ -127,6 +129,7 @@ fn run_steps(
         return justified;
     }
     let weighed = justified.finality;
+    let raised = justified.raised;
     let finalized = weighed.finalized_checkpoint;
     let refusal = write_registry(
         s,
@@ -139,13 +142,14 @@ fn run_steps(
         closing_registry,
     );
     if refusal != 0 {
-        return FinalityAnswer { refusal, finality };
+        return answer_with(refusal, finality, raised);
     }
     copy(slashings, closing_slashings);
     slashings_reset_core(s, weighed.slot, closing_slashings);
-    FinalityAnswer {
+    CloseAnswer {
         refusal: 0,
         finality: weighed,
+        raised,
     }
 }
 
@@ -160,7 +164,7 @@ fn close_tested(
     closing_registry: &mut [u64],
     closing_slashings: &mut [u64],
     kept: &mut [u64],
-) -> FinalityAnswer
+) -> CloseAnswer
     requires { ⌜ codeOf (recordTests (called s finality (now registry) (now slashings) (now roots) (now «closing_registry») (now «closing_slashings»))) ≡ 0 ⌝ }
     requires { ⌜ (length (now kept) ≡ 64) × Blank (now kept) ⌝ }
     ensures { λ r. ⌜ outcome r (now («closing_registry» .exit)) (now («closing_slashings» .exit)) ≡ closeOf (called s finality (now (registry .entry)) (now (slashings .entry)) (now (roots .entry)) (now («closing_registry» .entry)) (now («closing_slashings» .entry))) ⌝ }
@@ -170,7 +174,11 @@ fn close_tested(
     let found = survey_registry(s, current, previous, registry, kept);
     let refusal = found.refusal;
     if refusal != 0 {
-        return FinalityAnswer { refusal, finality };
+        return CloseAnswer {
+            refusal,
+            finality,
+            raised: none_raised(),
+        };
     }
     let answer = run_steps(
         s,
@@ -199,7 +207,7 @@ pub fn close(
     roots: &[u8],
     closing_registry: &mut [u64],
     closing_slashings: &mut [u64],
-) -> FinalityAnswer
+) -> CloseAnswer
     ensures { λ r. ⌜ outcome r (now («closing_registry» .exit)) (now («closing_slashings» .exit)) ≡ closeOf (called s finality (now (registry .entry)) (now (slashings .entry)) (now (roots .entry)) (now («closing_registry» .entry)) (now («closing_slashings» .entry))) ⌝ }
 {
     let refusal = record_tests(
@@ -212,7 +220,11 @@ pub fn close(
         closing_slashings,
     );
     if refusal != 0 {
-        return FinalityAnswer { refusal, finality };
+        return CloseAnswer {
+            refusal,
+            finality,
+            raised: none_raised(),
+        };
     }
     let mut kept = [18446744073709551615u64; 64];
     close_tested(

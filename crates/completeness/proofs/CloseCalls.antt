@@ -1,9 +1,10 @@
 -- Demand 2 of a call of the close.
 use mathlib.Core.Path.{_≡_, refl, sym, ap, _∙_}
 use mathlib.Core.Logic.{_⊎_, inl, inr, ⊎-elim}
-use Rattle.definitions.specs.Record.{BeaconState}
+use Rattle.definitions.specs.Record.{BeaconState, decode}
 use Rattle.definitions.specs.Checked.{Refusal, Checked, value, refused, bind, codeOf, settle}
 use Rattle.definitions.specs.Refusals.{afterTests, closingBuffer}
+use Rattle.definitions.specs.Raised.{raisedTotals, raisedUnlessRefused}
 use Rattle.definitions.specs.Document.Altair.EpochProcessing as document
 use Rattle.definitions.specs.Close.{Call, stateOf, closeTests, closed, close, Outcome}
 use Rattle.completeness.specs.DocumentIn64Bits as in64
@@ -33,12 +34,13 @@ outcomeBy tests c work =
     record {
       refusal = codeOf (afterTests tests work);
       finality = settle (afterTests tests work) (stateOf c) .finality;
+      raised = raisedUnlessRefused (afterTests tests work) (raisedTotals (c .settings) (c .finality .slot) (decode (c .registry)));
       closingRegistry = closingBuffer registryOf tests work (c .registry) (c .closingRegistry);
       closingSlashings = closingBuffer slashingsOf tests work (c .slashings) (c .closingSlashings);
     }
 
 after-refusal : (r : Refusal) (c : Call) (m n : Checked BeaconState) → outcomeBy (refused r) c m ≡ outcomeBy (refused r) c n
-unfolding afterTests bind closingBuffer
+unfolding afterTests bind closingBuffer raisedUnlessRefused
 after-refusal r c m n = refl
 
 close-complete : (c : Call) (t : Checked (Unit {0})) → closeTests c ≡ t → (close c ≡ outcomeOf c (in64.«process_epoch» (c .settings) (stateOf c))) ⊎ ((closeTests c ≡ value tt) × CloseParts (c .settings) (stateOf c))

@@ -7,11 +7,11 @@ use Prim.Native.Nat.{ℕ}
 use native.Mathlib.Omega.{arith}
 use Rattle.types.specs.declared.Settings.{Settings}
 use Rattle.types.specs.declared.Finality.{Finality}
-use Rattle.types.specs.declared.FinalityAnswer.{FinalityAnswer}
+use Rattle.types.specs.declared.CloseAnswer.{CloseAnswer}
 use Rattle.definitions.specs.Record.{BeaconState}
 use Rattle.definitions.specs.Updates.{withFinality}
 use Rattle.definitions.specs.Checked.{Refusal, badFile, Checked, value, refused, bind, numberOf, codeOf}
-use Rattle.definitions.specs.Answers.{finalityAnswerFor}
+use Rattle.definitions.specs.Raised.{raisedTotals, raisedUnlessRefused, closeAnswerFor}
 use Rattle.definitions.specs.Refusals.{inOrder, afterTests, justificationTests}
 use Rattle.definitions.specs.Rust.Altair.EpochProcessing as rust
 use Rattle.definitions.specs.Close.{justificationStep, step}
@@ -33,26 +33,26 @@ not-zero n (inr (inr (inr (inr (inl e))))) z = omega arith
 not-zero n (inr (inr (inr (inr (inr o))))) z = o
 
 module _ (s : Settings) (st : BeaconState) where
-  answered : (tests : Checked (Unit {0})) (work : Checked Finality) → ((q : Refusal) → tests ≡ refused q → OneOf (numberOf q) (1 ∷ 2 ∷ 3 ∷ [])) → ((q : Refusal) → work ≡ refused q → OneOf (numberOf q) (4 ∷ 5 ∷ [])) → ((f : Finality) → work ≡ value f → documentStep s st justificationStep .finality ≡ f) → (answer : FinalityAnswer) → answer ≡ finalityAnswerFor (afterTests tests work) (st .finality) → JustificationCall s st answer
-  unfolding afterTests bind
+  answered : (tests : Checked (Unit {0})) (work : Checked Finality) → ((q : Refusal) → tests ≡ refused q → OneOf (numberOf q) (1 ∷ 2 ∷ 3 ∷ [])) → ((q : Refusal) → work ≡ refused q → OneOf (numberOf q) (4 ∷ 5 ∷ [])) → ((f : Finality) → work ≡ value f → documentStep s st justificationStep .finality ≡ f) → (answer : CloseAnswer) → answer ≡ closeAnswerFor (afterTests tests work) (st .finality) (raisedTotals s (st .finality .slot) (st .validators)) → JustificationCall s st answer
+  unfolding afterTests bind raisedUnlessRefused
   answered (refused q) work t w g answer e =
       let n : OneOf (answer .refusal) (1 ∷ 2 ∷ 3 ∷ []) = rw e (t q refl) in
       record {
         number = inr (one-left (answer .refusal) (1 ∷ 2 ∷ 3 ∷ []) (4 ∷ 5 ∷ []) n);
         accepted = λ z. absurd (omega (arith, low (answer .refusal) n));
-        refused = λ _. rw e;
+        refused = λ _. (rw e, rw e);
       }
   answered (value u) (refused q) t w g answer e =
       let n : OneOf (answer .refusal) (4 ∷ 5 ∷ []) = rw e (w q refl) in
       record {
         number = inr (one-right (answer .refusal) (1 ∷ 2 ∷ 3 ∷ []) (4 ∷ 5 ∷ []) n);
         accepted = λ z. absurd (omega (arith, high (answer .refusal) n));
-        refused = λ _. rw e;
+        refused = λ _. (rw e, rw e);
       }
   answered (value u) (value f) t w g answer e =
       record {
         number = inl (rw e);
-        accepted = λ _. rw e (sym (g f refl));
+        accepted = λ _. (rw e (sym (g f refl)), rw e);
         refused = λ o. absurd (not-zero (answer .refusal) o (rw e));
       }
 

@@ -6,10 +6,10 @@ use mathlib.Core.List.{List, [], _∷_}
 use mathlib.Core.Logic.{_⊎_}
 use Prim.Native.Nat.{ℕ}
 use Rattle.types.specs.declared.Settings.{Settings}
-use Rattle.types.specs.declared.FinalityAnswer.{FinalityAnswer}
+use Rattle.types.specs.declared.CloseAnswer.{CloseAnswer}
 use Rattle.definitions.specs.Record.{Validator, BeaconState, encode, decode}
 use Rattle.definitions.specs.Checked.{Checked, value, codeOf, settle}
-use Rattle.definitions.specs.Answers.{finalityAnswerFor}
+use Rattle.definitions.specs.Raised.{noneRaised, raisedTotals, raisedUnlessRefused, closeAnswerFor}
 use Rattle.definitions.specs.Refusals.{afterTests, closingBuffer, justificationTests, registryTests, slashingsTests, effectiveBalanceTests, slashingsResetTests, rotationTests}
 use Rattle.definitions.specs.Document.Altair.EpochProcessing as Document
 use Rattle.definitions.specs.Rust.Phase0.EpochProcessing.{«process_registry_updates», «process_effective_balance_updates», resetSlashings}
@@ -38,6 +38,7 @@ outcomeOf c work =
     record {
       refusal = codeOf (afterTests (closeTests c) work);
       finality = settle (afterTests (closeTests c) work) (stateOf c) .finality;
+      raised = raisedUnlessRefused (afterTests (closeTests c) work) (raisedTotals (c .settings) (c .finality .slot) (decode (c .registry)));
       closingRegistry = closingBuffer registryOf (closeTests c) work (c .registry) (c .closingRegistry);
       closingSlashings = closingBuffer slashingsOf (closeTests c) work (c .slashings) (c .closingSlashings);
     }
@@ -86,13 +87,13 @@ abbrev pub StoppedCalls : Type 0
 StoppedCalls = (stop : ℕ) (s : Settings) (st : BeaconState) (opening closing after : List ℕ) (r : ℕ) → decode opening ≡ st .validators → let tests = registryToTests stop s (st .finality .slot) (finalizedEpochOf st) opening closing in Closes encode tests (registryUpdatesTo stop s (st .finality .slot) (finalizedEpochOf st) (decode opening)) opening closing after r → StepCall s st registryStep (stoppedOf stop (st .validators)) (0 ∷ 1 ∷ 2 ∷ 3 ∷ 5 ∷ []) tests opening closing after r
 
 -- Justification has no buffer; its operations stand where the document has them
-pub record JustificationCall (s : Settings) (st : BeaconState) (answer : FinalityAnswer) : Type 0 where
+pub record JustificationCall (s : Settings) (st : BeaconState) (answer : CloseAnswer) : Type 0 where
   pub number : OneOf (answer .refusal) (0 ∷ 1 ∷ 2 ∷ 3 ∷ 4 ∷ 5 ∷ [])
-  pub accepted : answer .refusal ≡ 0 → answer .finality ≡ documentStep s st justificationStep .finality
-  pub refused : OneOf (answer .refusal) (1 ∷ 2 ∷ 3 ∷ 4 ∷ 5 ∷ []) → answer .finality ≡ st .finality
+  pub accepted : answer .refusal ≡ 0 → (answer .finality ≡ documentStep s st justificationStep .finality) × (answer .raised ≡ raisedTotals s (st .finality .slot) (st .validators))
+  pub refused : OneOf (answer .refusal) (1 ∷ 2 ∷ 3 ∷ 4 ∷ 5 ∷ []) → (answer .finality ≡ st .finality) × (answer .raised ≡ noneRaised)
 
 abbrev pub JustificationCalls : Type 0
-JustificationCalls = (s : Settings) (st : BeaconState) (registry : List ℕ) (answer : FinalityAnswer) → decode registry ≡ st .validators → answer ≡ finalityAnswerFor (afterTests (justificationTests s (st .«block_roots») (st .finality) registry) («process_justification_and_finalization» s (st .«block_roots») (st .finality) (decode registry))) (st .finality) → JustificationCall s st answer
+JustificationCalls = (s : Settings) (st : BeaconState) (registry : List ℕ) (answer : CloseAnswer) → decode registry ≡ st .validators → answer ≡ closeAnswerFor (afterTests (justificationTests s (st .«block_roots») (st .finality) registry) («process_justification_and_finalization» s (st .«block_roots») (st .finality) (decode registry))) (st .finality) (raisedTotals s (st .finality .slot) (decode registry)) → JustificationCall s st answer
 
 -- Files: the numbers. What is left on a refusal is round_trip, Refused.antt.
 pub record FileCalls : Type 0 where

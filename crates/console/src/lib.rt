@@ -11,10 +11,10 @@ fn input() -> [u8; 65537]
 }
 
 // As long as the longest listing.
-fn output() -> [u8; 103522]
-    ensures { λ r. ⌜ 103522 ≡ length r ⌝ }
+fn output() -> [u8; 103585]
+    ensures { λ r. ⌜ 103585 ≡ length r ⌝ }
 {
-    [0; 103522]
+    [0; 103585]
 }
 
 // Reads a record file from a descriptor. Nothing is printed before all of the input is read and listed.

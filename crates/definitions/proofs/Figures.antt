@@ -43,7 +43,7 @@ validator effective balance flags score =
 abbrev flagged : ℕ → Validator
 flagged flags = validator 32_000_000_000 32_000_000_000 flags 0
 
-abbrev five : ℕ → ℕ → List Validator
+abbrev pub five : ℕ → ℕ → List Validator
 five first others = flagged first ∷ flagged others ∷ flagged others ∷ flagged others ∷ flagged others ∷ []
 
 -- slot 127 is the last of epoch 3, and epoch 2 is finalized: no leak
@@ -110,7 +110,7 @@ dividedLast slashings vs v =
     value (v .«effective_balance» / increment * min product total * increment / total))))
 
 -- active, with this effective balance and these flags of the previous and of the current epoch
-abbrev voter : ℕ → ℕ → ℕ → Validator
+abbrev pub voter : ℕ → ℕ → ℕ → Validator
 voter effective previous current = withParticipation previous current (validator effective effective 0 0)
 
 -- five that hit the target of the previous epoch alone

@@ -1,2 +1,3 @@
 -- Theorems about the definitions that break where a definition is changed.
 pub mod Figures
+pub mod RaisedFigures

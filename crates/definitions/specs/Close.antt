@@ -6,11 +6,13 @@ use lib.Dec.{eqb}
 use lib.ListN.{length, take}
 use Rattle.types.specs.declared.Settings.{Settings}
 use Rattle.types.specs.declared.Finality.{Finality}
+use Rattle.types.specs.declared.Raised.{Raised}
 use Rattle.definitions.specs.Lists.{filter}
 use Rattle.definitions.specs.Record.{Validator, BeaconState, «GENESIS_EPOCH», encode, decode}
 use Rattle.definitions.specs.Updates.{withValidators, withSlashings, withFinality}
 use Rattle.definitions.specs.Checked.{Checked, value, refused, bind, foldChecked, codeOf, settle}
 use Rattle.definitions.specs.Refusals.{inOrder, settingsShaped, rootsShaped, slashingsShaped, registryShaped, sameLength, goodSettings, goodFinality, goodRegistry, afterTests, closingBuffer}
+use Rattle.definitions.specs.Raised.{raisedTotals, raisedUnlessRefused}
 use Rattle.definitions.specs.Rust.Phase0.Helpers.{«get_current_epoch», «get_previous_epoch»}
 use Rattle.definitions.specs.Rust.Phase0.EpochProcessing.{isEligible, «process_registry_updates», «process_effective_balance_updates», resetSlashings}
 use Rattle.definitions.specs.Rust.Altair.EpochProcessing.{«process_justification_and_finalization», «process_inactivity_updates», «process_rewards_and_penalties», «process_slashings», «process_participation_flag_updates»}
@@ -89,10 +91,11 @@ closeTests c =
 unfoldable pub closed : Call → Checked BeaconState
 closed c = afterTests (closeTests c) («process_epoch» (c .settings) (stateOf c))
 
--- What comes back and what the closing buffers hold. The refusal is 0 where the close is accepted.
+-- What comes back and what the closing buffers hold. The refusal is 0 where the close is accepted. 02, R-7: which totals were raised.
 pub record Outcome : Type 0 where
   pub refusal : ℕ
   pub finality : Finality
+  pub raised : Raised
   pub closingRegistry : List ℕ
   pub closingSlashings : List ℕ
 
@@ -103,6 +106,7 @@ close c =
     record {
       refusal = codeOf (closed c);
       finality = settle (closed c) (stateOf c) .finality;
+      raised = raisedUnlessRefused (closed c) (raisedTotals (c .settings) (c .finality .slot) (decode (c .registry)));
       closingRegistry = closingBuffer (λ st. encode (st .validators)) tests work (c .registry) (c .closingRegistry);
       closingSlashings = closingBuffer (λ st. st .slashings) tests work (c .slashings) (c .closingSlashings);
     }

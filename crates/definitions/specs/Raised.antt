@@ -13,6 +13,7 @@ use Rattle.types.specs.declared.CloseAnswer.{CloseAnswer}
 use Rattle.definitions.specs.Lists.{sum}
 use Rattle.definitions.specs.Record.{Validator, «GENESIS_EPOCH»}
 use Rattle.definitions.specs.Checked.{Checked, value, refused, bind, numberOf, codeOf, settle}
+use Rattle.definitions.specs.Answers.{Answers}
 use Rattle.definitions.specs.Rust.Phase0.Helpers.{«get_current_epoch», «get_previous_epoch», «get_active_validator_indices», «get_total_balance»}
 use Rattle.definitions.specs.Rust.Altair.Helpers.{«TIMELY_TARGET_FLAG_INDEX», «get_unslashed_participating_indices»}
 
@@ -25,6 +26,9 @@ totalWithRaised s members = bind («get_total_balance» s members) (λ total. va
 abbrev pub totalAnswerFor : Checked Total → TotalAnswer
 totalAnswerFor (value t) = TotalValue t
 totalAnswerFor (refused r) = TotalRefused (numberOf r)
+
+abbrev pub SaysTotal : Checked Total → TotalAnswer → Type 0
+SaysTotal m r = Answers totalAnswerFor m r
 
 abbrev pub noneRaised : Raised
 noneRaised = record { active = 0; previous = 0; current = 0 }
@@ -46,6 +50,6 @@ unfoldable pub raisedUnlessRefused : {A : Type 0} → Checked A → Raised → R
 raisedUnlessRefused (value a) raised = raised
 raisedUnlessRefused (refused r) raised = noneRaised
 
--- justification's answer; `old` is the finality handed in
+-- the answer of justification and of the close; `old` is the finality handed in
 abbrev pub closeAnswerFor : Checked Finality → Finality → Raised → CloseAnswer
 closeAnswerFor m old raised = record { refusal = codeOf m; finality = settle m old; raised = raisedUnlessRefused m raised }

@@ -11,6 +11,7 @@ use Rattle.definitions.specs.Checked.{Checked, value, refused, numberOf, bind}
 use Rattle.definitions.specs.Refusals.{inOrder, settingsShaped, registryShaped, sameLength, isSmall, goodSettings, goodFinality, goodRegistry, afterTests}
 use Rattle.definitions.specs.LeafRefusals.{isIndex}
 use Rattle.definitions.specs.Document.Phase0.Helpers.{«get_current_epoch»}
+use Rattle.definitions.specs.Raised.{noneRaised, raisedTotals}
 use Rattle.definitions.specs.Close.{charged}
 use Rattle.definitions_listing.specs.declared.Head.{Head}
 use Rattle.definitions_listing.specs.declared.Line.{Line}
@@ -31,11 +32,12 @@ headNumbers s stateSlot closing opening =
       «finalized_epoch» = closing .«finalized_checkpoint» .epoch;
       «justification_bits» = closing .«justification_bits»;
       charged = charged s stateSlot (decode opening);
+      raised = raisedTotals s stateSlot (decode opening);
     }
 
 abbrev pub noHead : ℕ → Head
 noHead refusal =
-    record { refusal = refusal; epoch = 0; «justified_epoch» = 0; «finalized_epoch» = 0; «justification_bits» = 0; charged = 0 }
+    record { refusal = refusal; epoch = 0; «justified_epoch» = 0; «finalized_epoch» = 0; «justification_bits» = 0; charged = 0; raised = noneRaised }
 
 abbrev pub headFor : Checked Head → Head
 headFor (value h) = h

@@ -1,4 +1,5 @@
 // What the lines of a listing tell, by value.
+use types::Raised;
 
 // Of the first line, or a refusal's number and zeros.
 #[repr(C)]
@@ -9,6 +10,7 @@ pub struct Head {
     pub finalized_epoch: u64,
     pub justification_bits: u64,
     pub charged: u64,
+    pub raised: Raised,
 }
 
 // Of one validator's line, or a refusal's number and zeros.

@@ -4,17 +4,20 @@ ghost use lib.ListN.{getD};
 ghost use Rattle.definitions.specs.Record.{decodeOne, decode, nobody};
 ghost use Rattle.definitions.specs.Checked.{value};
 ghost use Rattle.definitions.specs.Answers.{numberFor, truthFor, deltasAnswerFor};
+ghost use Rattle.definitions.specs.Raised.{totalWithRaised, totalAnswerFor};
 ghost use Rattle.definitions.specs.Refusals.{afterTests};
 ghost use Rattle.definitions.specs.LeafRefusals.{flagTests, participationEntryTests, participationTests, totalTests, totalEntryTests, flagDeltasTests, slotEntryTests};
 ghost use Rattle.definitions.specs.Document.Altair.Helpers.{«has_flag», «add_flag»};
-ghost use Rattle.definitions.specs.Rust.Phase0.Helpers.{«get_current_epoch», «get_total_balance»};
+ghost use Rattle.definitions.specs.Rust.Phase0.Helpers.{«get_current_epoch»};
 ghost use Rattle.definitions.specs.Rust.Altair.Helpers.{isUnslashedParticipating, «get_unslashed_participating_indices», «get_base_reward_per_increment», «get_base_reward», «get_flag_index_deltas», «get_inactivity_penalty_deltas»};
-ghost use Rattle.plain.specs.Plain.{plainNumber, plainTruth, plainDeltas};
+ghost use Rattle.plain.specs.Plain.{plainNumber, plainTruth, plainDeltas, plainTotal};
 use plain::PlainDeltas;
 use plain::PlainNumber;
+use plain::PlainTotal;
 use plain::PlainTruth;
 use plain::plain_deltas;
 use plain::plain_number;
+use plain::plain_total;
 use plain::plain_truth;
 use types::Settings;
 
@@ -55,10 +58,10 @@ pub extern "C" fn altair_get_participating_balance(
     flag_index: u64,
     epoch: u64,
     registry: &[u64],
-) -> PlainNumber
-    ensures { λ r. ⌜ r ≡ plainNumber (numberFor (afterTests (participationTests s «state_slot» «flag_index» epoch (now (registry .entry))) («get_total_balance» s («get_unslashed_participating_indices» s «state_slot» (decode (now (registry .entry))) «flag_index» epoch)))) ⌝ }
+) -> PlainTotal
+    ensures { λ r. ⌜ r ≡ plainTotal (totalAnswerFor (afterTests (participationTests s «state_slot» «flag_index» epoch (now (registry .entry))) (totalWithRaised s («get_unslashed_participating_indices» s «state_slot» (decode (now (registry .entry))) «flag_index» epoch)))) ⌝ }
 {
-    plain_number(totals::get_participating_balance(s, state_slot, flag_index, epoch, registry))
+    plain_total(totals::get_participating_balance(s, state_slot, flag_index, epoch, registry))
 }
 
 // Base rewards, of a total that is handed in

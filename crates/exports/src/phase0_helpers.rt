@@ -3,18 +3,21 @@ ghost use mathlib.Core.Path.{_≡_};
 ghost use Rattle.definitions.specs.Record.{decodeOne, encodeOne, decode, encode};
 ghost use Rattle.definitions.specs.Checked.{value};
 ghost use Rattle.definitions.specs.Answers.{numberFor, truthFor};
+ghost use Rattle.definitions.specs.Raised.{totalWithRaised, totalAnswerFor};
 ghost use Rattle.definitions.specs.Refusals.{afterTests};
 ghost use Rattle.definitions.specs.LeafRefusals.{settingsTests, slotTests, entryTests, finalizedEntryTests, settingsEntryTests, slotEntryTests, rootTests, slotRegistryTests, exitTests};
 ghost use Rattle.definitions.specs.Document.Phase0.EpochProcessing.{isEligible};
 ghost use Rattle.definitions.specs.Document.Phase0.Helpers.{«integer_squareroot»};
-ghost use Rattle.definitions.specs.Rust.Phase0.Helpers.{«compute_epoch_at_slot», «compute_start_slot_at_epoch», «compute_activation_exit_epoch», «get_current_epoch», «get_previous_epoch», «is_active_validator», «is_eligible_for_activation_queue», «is_eligible_for_activation», «get_block_root_at_slot», «get_block_root», «get_total_active_balance», «get_validator_churn_limit», «increase_balance», «decrease_balance», «initiate_validator_exit»};
+ghost use Rattle.definitions.specs.Rust.Phase0.Helpers.{«compute_epoch_at_slot», «compute_start_slot_at_epoch», «compute_activation_exit_epoch», «get_current_epoch», «get_previous_epoch», «is_active_validator», «is_eligible_for_activation_queue», «is_eligible_for_activation», «get_block_root_at_slot», «get_block_root», «get_active_validator_indices», «get_validator_churn_limit», «increase_balance», «decrease_balance», «initiate_validator_exit»};
 ghost use Rattle.buffers.specs.Closes.{Closes};
-ghost use Rattle.plain.specs.Plain.{plainNumber, plainTruth, plainRoot};
+ghost use Rattle.plain.specs.Plain.{plainNumber, plainTruth, plainRoot, plainTotal};
 use plain::PlainNumber;
 use plain::PlainRoot;
+use plain::PlainTotal;
 use plain::PlainTruth;
 use plain::plain_number;
 use plain::plain_root;
+use plain::plain_total;
 use plain::plain_truth;
 use types::Settings;
 
@@ -149,10 +152,10 @@ pub extern "C" fn altair_get_total_active_balance(
     s: Settings,
     state_slot: u64,
     registry: &[u64],
-) -> PlainNumber
-    ensures { λ r. ⌜ r ≡ plainNumber (numberFor (afterTests (slotRegistryTests s «state_slot» (now (registry .entry))) («get_total_active_balance» s «state_slot» (decode (now (registry .entry)))))) ⌝ }
+) -> PlainTotal
+    ensures { λ r. ⌜ r ≡ plainTotal (totalAnswerFor (afterTests (slotRegistryTests s «state_slot» (now (registry .entry))) (totalWithRaised s («get_active_validator_indices» (decode (now (registry .entry))) («get_current_epoch» s «state_slot»))))) ⌝ }
 {
-    plain_number(totals::get_total_active_balance(s, state_slot, registry))
+    plain_total(totals::get_total_active_balance(s, state_slot, registry))
 }
 
 #[no_mangle]

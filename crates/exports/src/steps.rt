@@ -4,14 +4,14 @@ ghost use mathlib.Core.List.{List};
 ghost use Prim.Native.Nat.{ℕ};
 ghost use Rattle.definitions.specs.Record.{decode, encode};
 ghost use Rattle.definitions.specs.Checked.{value};
-ghost use Rattle.definitions.specs.Answers.{finalityAnswerFor};
+ghost use Rattle.definitions.specs.Raised.{raisedTotals, closeAnswerFor};
 ghost use Rattle.definitions.specs.Refusals.{afterTests, justificationTests, registryTests, slashingsTests, effectiveBalanceTests, slashingsResetTests, rotationTests};
 ghost use Rattle.definitions.specs.RegisterOrder.{registryUpdatesTo, registryToTests};
 ghost use Rattle.definitions.specs.Rust.Phase0.EpochProcessing.{«process_registry_updates», «process_effective_balance_updates», resetSlashings};
 ghost use Rattle.definitions.specs.Rust.Altair.EpochProcessing.{«process_justification_and_finalization», «process_inactivity_updates», «process_rewards_and_penalties», «process_slashings», «process_participation_flag_updates»};
 ghost use Rattle.buffers.specs.Closes.{Closes};
+use types::CloseAnswer;
 use types::Finality;
-use types::FinalityAnswer;
 use types::Settings;
 
 #[no_mangle]
@@ -20,8 +20,8 @@ pub extern "C" fn altair_process_justification_and_finalization(
     roots: &[u8],
     finality: Finality,
     registry: &[u64],
-) -> FinalityAnswer
-    ensures { λ r. ⌜ r ≡ finalityAnswerFor (afterTests (justificationTests s (now (roots .entry)) finality (now (registry .entry))) («process_justification_and_finalization» s (now (roots .entry)) finality (decode (now (registry .entry))))) finality ⌝ }
+) -> CloseAnswer
+    ensures { λ r. ⌜ r ≡ closeAnswerFor (afterTests (justificationTests s (now (roots .entry)) finality (now (registry .entry))) («process_justification_and_finalization» s (now (roots .entry)) finality (decode (now (registry .entry))))) finality (raisedTotals s (finality .slot) (decode (now (registry .entry)))) ⌝ }
 {
     justification::process_justification_and_finalization(s, roots, finality, registry)
 }

@@ -10,8 +10,8 @@ ghost use Rattle.definitions.specs.Answers.{numberFor};
 ghost use Rattle.plain.specs.Plain.{plainNumber};
 use plain::PlainNumber;
 use plain::plain_number;
+use types::CloseAnswer;
 use types::Finality;
-use types::FinalityAnswer;
 use types::Settings;
 
 #[no_mangle]
@@ -23,7 +23,7 @@ pub extern "C" fn altair_close(
     roots: &[u8],
     closing_registry: &mut [u64],
     closing_slashings: &mut [u64],
-) -> FinalityAnswer
+) -> CloseAnswer
     ensures { λ r. ⌜ outcome r (now («closing_registry» .exit)) (now («closing_slashings» .exit)) ≡ closeOf (called s finality (now (registry .entry)) (now (slashings .entry)) (now (roots .entry)) (now («closing_registry» .entry)) (now («closing_slashings» .entry))) ⌝ }
 {
     close::close(

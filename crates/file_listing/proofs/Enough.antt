@@ -37,7 +37,7 @@ pub record Enough (b : Buffers) : Type 0 where
   pub slashings : 8146 ≤ length (b .slashings)
   pub closingRegistry : 8140 ≤ length (b .closingRegistry)
   pub closingSlashings : 8146 ≤ length (b .closingSlashings)
-  pub text : 103522 ≤ length (b .text)
+  pub text : 103585 ≤ length (b .text)
 
 fitting : (h : Header) (b : Buffers) → Few h → Enough b → fits h b ≡ true
 unfolding fits
@@ -47,7 +47,7 @@ fitting h b f e =
       le-leb (h .slashings) (length (b .slashings)) (omega arith),
       le-leb (10 * h .validators) (length (b .closingRegistry)) (omega arith),
       le-leb (h .slashings) (length (b .closingSlashings)) (omega arith),
-      le-leb (144 + 127 * h .validators) (length (b .text)) (omega arith),
+      le-leb (207 + 127 * h .validators) (length (b .text)) (omega arith),
     )
 
 -- what the caller learns
@@ -57,7 +57,7 @@ pub record Printed (bytes before after : List ℕ) (r : ℕ) : Type 0 where
   pub inside : r ≤ length after
   pub front : r ≡ length (take r after)
 
-pub too-short : (bytes text : List ℕ) → length text < 103522 → Printed bytes text text 0
+pub too-short : (bytes text : List ℕ) → length text < 103585 → Printed bytes text text 0
 unfolding printedLength printedText
 too-short bytes text l =
     let e = lt-leb longest (length text) l in

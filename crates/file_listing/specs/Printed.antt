@@ -9,7 +9,7 @@ use Rattle.listing.specs.Lent.{inFront}
 
 -- the longest text: the head line and the lines of 814 validators, which are all that 65536 bytes hold
 abbrev pub longest : ℕ
-longest = 103522
+longest = 103585
 
 -- nothing is written where the longest would not fit
 unfoldable pub printedText : List ℕ → List ℕ → List ℕ

@@ -9,6 +9,7 @@ use lib.Dec.{T, eqb, ltb}
 use lib.ListN.{length, take}
 use Rattle.definitions.specs.Lists.{filter, range}
 use Rattle.definitions.specs.Record.{BeaconState, «FAR_FUTURE_EPOCH», encode}
+use Rattle.definitions.specs.Raised.{noneRaised}
 use Rattle.definitions.specs.Close.{Call, Outcome, finalizedEpochOf}
 use Rattle.history.specs.Events as statement
 use Rattle.history.specs.Events.{activation, waits, ahead, k, Others, Event, accepted, standing, Claim}
@@ -44,7 +45,7 @@ run w = map closeOf (calls w)
 
 abbrev outcome : ℕ → BeaconState → Outcome
 outcome refusal r =
-    record { refusal = refusal; finality = r .finality; closingRegistry = encode (r .validators); closingSlashings = r .slashings }
+    record { refusal = refusal; finality = r .finality; raised = noneRaised; closingRegistry = encode (r .validators); closingSlashings = r .slashings }
 
 abbrev closes : Bool → List Close
 closes w =

@@ -5,6 +5,7 @@ use mathlib.Core.List.{List, [], _∷_, map}
 use Prim.Native.Nat.{ℕ}
 use native.Mathlib.Omega.{arith}
 use Rattle.definitions.specs.Record.{BeaconState, encode}
+use Rattle.definitions.specs.Raised.{noneRaised}
 use Rattle.history.specs.Events.{waits, ahead, k, Claim}
 use Rattle.history.specs.Demand3.{Close, event, Premises}
 use Rattle.history.proofs.OneClose.{epoch-of}
@@ -18,7 +19,7 @@ abbrev returning : BeaconState → BeaconState → Close
 returning o r =
     record {
       call = call settings 30 o;
-      outcome = record { refusal = 0; finality = r .finality; closingRegistry = encode (r .validators); closingSlashings = r .slashings };
+      outcome = record { refusal = 0; finality = r .finality; raised = noneRaised; closingRegistry = encode (r .validators); closingSlashings = r .slashings };
       othersStay = false;
     }
 

@@ -7,14 +7,17 @@ use Rattle.types.specs.declared.Finality.{Finality}
 use Rattle.types.specs.declared.FinalityAnswer.{FinalityAnswer}
 use Rattle.types.specs.declared.Settings.{Settings}
 use Rattle.types.specs.declared.Number.{Number}
-use Rattle.definitions.specs.Answers.{Answers, Says, finalityAnswerFor}
-use Rattle.definitions.specs.Lists.{filter}
+use Rattle.types.specs.declared.TotalAnswer.{TotalAnswer}
+use Rattle.definitions.specs.Answers.{Answers, finalityAnswerFor}
 use Rattle.definitions.specs.Record.{Validator}
 use Rattle.definitions.specs.Checked.{Checked, value, bind}
-use Rattle.definitions.specs.Rust.Phase0.Helpers.{«get_current_epoch», «get_previous_epoch», «get_active_validator_indices», «get_total_balance», «get_total_active_balance»}
+use Rattle.definitions.specs.Rust.Phase0.Helpers.{«get_current_epoch», «get_previous_epoch», «get_total_balance», «get_total_active_balance»}
 use Rattle.definitions.specs.Rust.Phase0.EpochProcessing.{«weigh_justification_and_finalization»}
-use Rattle.definitions.specs.Rust.Altair.Helpers.{«TIMELY_TARGET_FLAG_INDEX», isUnslashedParticipating, «get_unslashed_participating_indices»}
+use Rattle.definitions.specs.Rust.Altair.Helpers.{«TIMELY_TARGET_FLAG_INDEX», «get_unslashed_participating_indices»}
 use Rattle.definitions.specs.Rust.Altair.EpochProcessing.{«process_justification_and_finalization»}
+use Rattle.totals.specs.Totals.{balanceFor}
+use Rattle.totals.proofs.WithRaised.{says-balance}
+use Rattle.raised.specs.Flags.{ThreeTotals}
 use Rattle.justification.specs.Given.{Given}
 use Rattle.arithmetic.proofs.Operations.{OnlyOverflow, only-bind, only-sum64, only-value}
 
@@ -45,7 +48,7 @@ module _ (s : Settings) (roots : List ℕ) (old : Finality) (vs : List Validator
   unfolding «process_justification_and_finalization»
   later-epochs l h = h .is ∙ rw (lt-leb _ _ l)
 
--- the three totals as the step's own passes tell them, by the two epochs that the code has worked out
-pub given : (s : Settings) (stateSlot : ℕ) (vs : List Validator) {current previous : ℕ} → current ≡ «get_current_epoch» s stateSlot → previous ≡ «get_previous_epoch» s stateSlot → {a b c : Number} → Says («get_total_balance» s («get_active_validator_indices» vs current)) a → Says («get_total_balance» s (filter (isUnslashedParticipating current 1 previous) vs)) b → Says («get_total_balance» s (filter (isUnslashedParticipating current 1 current) vs)) c → Given s stateSlot vs a b c
-unfolding «get_total_active_balance» «get_unslashed_participating_indices»
-given s stateSlot vs e d x y z = record { active = rw e at x; previous = rw (e, d) at y; current = rw e at z }
+-- the balances a, b and c of the three totals
+pub given : (s : Settings) (stateSlot : ℕ) (vs : List Validator) {total previousTarget currentTarget : TotalAnswer} {a b c : Number} → ThreeTotals s stateSlot vs total previousTarget currentTarget → a ≡ balanceFor total → b ≡ balanceFor previousTarget → c ≡ balanceFor currentTarget → Given s stateSlot vs a b c
+unfolding «get_total_active_balance»
+given s stateSlot vs h x y z = record { active = says-balance s _ (h .ofActive) x; previous = says-balance s _ (h .ofPrevious) y; current = says-balance s _ (h .ofCurrent) z }

@@ -6,11 +6,15 @@ use Rattle.types.specs.declared.Finality.{Finality}
 use Rattle.types.specs.declared.FinalityAnswer.{FinalityAnswer}
 use Rattle.types.specs.declared.Settings.{Settings}
 use Rattle.types.specs.declared.Number.{Number}
+use Rattle.types.specs.declared.TotalAnswer.{TotalAnswer}
+use Rattle.types.specs.declared.CloseAnswer.{CloseAnswer}
 use Rattle.definitions.specs.Answers.{Says, finalityAnswerFor}
+use Rattle.definitions.specs.Raised.{raisedTotals, closeAnswerFor}
 use Rattle.definitions.specs.Record.{Validator}
 use Rattle.definitions.specs.Rust.Phase0.Helpers.{«get_current_epoch», «get_previous_epoch», «get_total_balance», «get_total_active_balance»}
 use Rattle.definitions.specs.Rust.Altair.Helpers.{«TIMELY_TARGET_FLAG_INDEX», «get_unslashed_participating_indices»}
 use Rattle.definitions.specs.Rust.Altair.EpochProcessing.{«process_justification_and_finalization»}
+use Rattle.raised.specs.Flags.{ThreeTotals}
 
 -- the answers of the validators vs
 pub record Given (s : Settings) (stateSlot : ℕ) (vs : List Validator) (total previousTarget currentTarget : Number) : Type 0 where
@@ -21,3 +25,7 @@ pub record Given (s : Settings) (stateSlot : ℕ) (vs : List Validator) (total p
 -- The answer, over all validators that have these totals
 pub record JustifiesGiven (s : Settings) (roots : List ℕ) (old : Finality) (total previousTarget currentTarget : Number) (r : FinalityAnswer) : Type 0 where
   pub of : (vs : List Validator) → Given s (old .slot) vs total previousTarget currentTarget → r ≡ finalityAnswerFor («process_justification_and_finalization» s roots old vs) old
+
+-- with which of them were raised
+pub record JustifiesTotals (s : Settings) (roots : List ℕ) (old : Finality) (total previousTarget currentTarget : TotalAnswer) (r : CloseAnswer) : Type 0 where
+  pub of : (vs : List Validator) → ThreeTotals s (old .slot) vs total previousTarget currentTarget → r ≡ closeAnswerFor («process_justification_and_finalization» s roots old vs) old (raisedTotals s (old .slot) vs)

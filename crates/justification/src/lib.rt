@@ -1,26 +1,32 @@
 // process_justification_and_finalization of altair/epoch_processing.rs: three totals, each in one pass, and the weighing by them, which the
-// close shares. No closing registry.
+// close shares; and which of them were raised. No closing registry.
 ghost use mathlib.Core.Path.{_≡_};
-ghost use Rattle.definitions.specs.Answers.{finalityAnswerFor};
 ghost use Rattle.definitions.specs.Checked.{codeOf};
 ghost use Rattle.definitions.specs.LeafRefusals.{weighTests};
+ghost use Rattle.definitions.specs.Raised.{raisedTotals, closeAnswerFor};
 ghost use Rattle.definitions.specs.Record.{decode};
 ghost use Rattle.definitions.specs.Refusals.{afterTests, justificationTests};
 ghost use Rattle.definitions.specs.Rust.Altair.EpochProcessing.{«process_justification_and_finalization»};
-ghost use Rattle.justification.specs.Given.{JustifiesGiven};
+ghost use Rattle.justification.specs.Given.{JustifiesGiven, JustifiesTotals};
 use leaf_refusals::current_epoch;
 use leaf_refusals::previous_epoch;
+use raised::answer_with;
+use raised::none_raised;
+use raised::raised_of;
 use refusals::good_finality;
 use refusals::good_registry;
 use refusals::good_settings;
 use refusals::registry_shaped;
 use roots::roots_shaped;
-use totals::total_active;
-use totals::total_participating;
+use totals::active_total;
+use totals::balance_of;
+use totals::participating_total;
+use types::CloseAnswer;
 use types::Finality;
 use types::FinalityAnswer;
 use types::Number;
 use types::Settings;
+use types::TotalAnswer;
 use weighing::weigh;
 
 pub fn justification_refusal(s: Settings, roots: &[u8], finality: Finality, registry: &[u64]) -> u64
@@ -44,9 +50,9 @@ pub fn justification_refusal(s: Settings, roots: &[u8], finality: Finality, regi
     0
 }
 
-// The step by the three totals of the registry, once the tests have passed. Each is an answer: it may have left 64 bits, and is wanted from
-// epoch 2 on.
-pub fn justification_core(
+// The weighing by the three totals of the registry, once the tests have passed. Each is an answer: it may have left 64 bits, and is wanted
+// from epoch 2 on.
+fn weigh_totals(
     s: Settings,
     roots: &[u8],
     old: Finality,
@@ -85,24 +91,53 @@ pub fn justification_core(
     weigh(s, roots, old, active, before, now)
 }
 
+// The step by these totals, with which of them were raised.
+pub fn justification_core(
+    s: Settings,
+    roots: &[u8],
+    old: Finality,
+    total: TotalAnswer,
+    previous_target: TotalAnswer,
+    current_target: TotalAnswer,
+) -> CloseAnswer
+    requires { ⌜ codeOf (weighTests s (now roots) old) ≡ 0 ⌝ }
+    ensures { λ r. ⌜ JustifiesTotals s (now (roots .entry)) old total «previous_target» «current_target» r ⌝ }
+{
+    let weighed = weigh_totals(
+        s,
+        roots,
+        old,
+        balance_of(total),
+        balance_of(previous_target),
+        balance_of(current_target),
+    );
+    let current = current_epoch(s, old.slot);
+    let raised = raised_of(current, total, previous_target, current_target);
+    answer_with(weighed.refusal, weighed.finality, raised)
+}
+
 // Flag 1 is the target's.
 pub fn process_justification_and_finalization(
     s: Settings,
     roots: &[u8],
     finality: Finality,
     registry: &[u64],
-) -> FinalityAnswer
-    ensures { λ r. ⌜ r ≡ finalityAnswerFor (afterTests (justificationTests s (now (roots .entry)) finality (now (registry .entry))) («process_justification_and_finalization» s (now (roots .entry)) finality (decode (now (registry .entry))))) finality ⌝ }
+) -> CloseAnswer
+    ensures { λ r. ⌜ r ≡ closeAnswerFor (afterTests (justificationTests s (now (roots .entry)) finality (now (registry .entry))) («process_justification_and_finalization» s (now (roots .entry)) finality (decode (now (registry .entry))))) finality (raisedTotals s (finality .slot) (decode (now (registry .entry)))) ⌝ }
 {
     let refusal = justification_refusal(s, roots, finality, registry);
     if refusal != 0 {
-        return FinalityAnswer { refusal, finality };
+        return CloseAnswer {
+            refusal,
+            finality,
+            raised: none_raised(),
+        };
     }
     let slot = finality.slot;
     let current = current_epoch(s, slot);
     let previous = previous_epoch(s, slot);
-    let total = total_active(s, current, registry);
-    let previous_target = total_participating(s, current, 1, previous, registry);
-    let current_target = total_participating(s, current, 1, current, registry);
+    let total = active_total(s, current, registry);
+    let previous_target = participating_total(s, current, 1, previous, registry);
+    let current_target = participating_total(s, current, 1, current, registry);
     justification_core(s, roots, finality, total, previous_target, current_target)
 }

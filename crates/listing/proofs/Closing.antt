@@ -31,6 +31,10 @@ module _ (c : Contents) (xs ys : List ℕ) (us vs : List ℕ) (l : length xs ≡
   unfolding close closed
   same-finality = rw same-tests
 
+  pub same-raised : close (callOf c xs ys) .raised ≡ close (callOf c us vs) .raised
+  unfolding close closed
+  same-raised = rw same-tests
+
   pub same-registry : close (callOf c xs ys) .refusal ≡ 0 → close (callOf c xs ys) .closingRegistry ≡ close (callOf c us vs) .closingRegistry
   unfolding close closed
   same-registry e = same-buffer _ (closeTests (callOf c xs ys)) _ (c .registry) xs us e ∙ rw same-tests

@@ -13,7 +13,7 @@ use Rattle.definitions_listing.specs.Lines.{orRefused, closeText, acceptedText,
 use Rattle.definitions_listing.specs.Listing.{opened, callOf, closing, printed, listing}
 use Rattle.listing.specs.Lent.{Buffers, openingOf, closingOf}
 use Rattle.listing.proofs.Opened.{read-accepted, read-header, read-record, alike, headless}
-use Rattle.listing.proofs.Closing.{same-refusal, same-finality, same-registry}
+use Rattle.listing.proofs.Closing.{same-refusal, same-finality, same-raised, same-registry}
 
 -- alike where nothing is refused, and refused alike
 or-same : (x y : ℕ) (text other : List ℕ) → x ≡ y → (x ≡ 0 → text ≡ other) → orRefused x text ≡ orRefused y other
@@ -23,9 +23,9 @@ or-same x y text other e f = by (eqb x 0) refl
     by true q = rw (← e, q) (f (eqb-true x 0 q))
     by false q = rw (← e, q)
 
-accepted-text-same : (c call : Call) (out other : Outcome) → c .settings ≡ call .settings → c .finality ≡ call .finality → c .registry ≡ call .registry → out .finality ≡ other .finality → out .closingRegistry ≡ other .closingRegistry → acceptedText c out ≡ acceptedText call other
+accepted-text-same : (c call : Call) (out other : Outcome) → c .settings ≡ call .settings → c .finality ≡ call .finality → c .registry ≡ call .registry → out .finality ≡ other .finality → out .raised ≡ other .raised → out .closingRegistry ≡ other .closingRegistry → acceptedText c out ≡ acceptedText call other
 unfolding acceptedText closeText
-accepted-text-same c call out other s i o f r = rw (s, i, o, f, r)
+accepted-text-same c call out other s i o f n r = rw (s, i, o, f, n, r)
 
 -- closing buffers as long as the opening's
 closed-same : (c : Contents) (xs ys : List ℕ) → length xs ≡ length (c .registry) → length ys ≡ length (c .slashings) → closePrinted (callOf c xs ys) (close (callOf c xs ys)) ≡ closePrinted (closing c) (close (closing c))
@@ -34,7 +34,7 @@ closed-same c xs ys l m =
     let s = c .slashings in
     let call = callOf c xs ys in
     or-same (close call .refusal) (close (closing c) .refusal) (acceptedText call (close call)) (acceptedText (closing c) (close (closing c))) (same-refusal c xs ys r s l m)
-    (λ z. accepted-text-same call (closing c) (close call) (close (closing c)) refl refl refl (same-finality c xs ys r s l m) (same-registry c xs ys r s l m z))
+    (λ z. accepted-text-same call (closing c) (close call) (close (closing c)) refl refl refl (same-finality c xs ys r s l m) (same-raised c xs ys r s l m) (same-registry c xs ys r s l m z))
 
 -- as long as called for, where there is a header
 pub record Exact (bytes : List ℕ) (b : Buffers) : Type 0 where

@@ -26,7 +26,7 @@ pub record Room (h : Header) (b : Buffers) : Type 0 where
   pub slashings : h .slashings ≤ length (b .slashings)
   pub closingRegistry : 10 * h .validators ≤ length (b .closingRegistry)
   pub closingSlashings : h .slashings ≤ length (b .closingSlashings)
-  pub text : 144 + 127 * h .validators ≤ length (b .text)
+  pub text : 207 + 127 * h .validators ≤ length (b .text)
 
 -- what came back is as long as what was lent
 pub record AsLong (before after : Buffers) : Type 0 where
@@ -38,7 +38,7 @@ pub record AsLong (before after : Buffers) : Type 0 where
 room : (h : Header) (b : Buffers) → fits h b ≡ true → Room h b
 unfolding fits
 room h b e =
-    let t = tests (leb (10 * h .validators) (length (b .registry))) (leb (h .slashings) (length (b .slashings)) ∷ leb (10 * h .validators) (length (b .closingRegistry)) ∷ leb (h .slashings) (length (b .closingSlashings)) ∷ leb (144 + 127 * h .validators) (length (b .text)) ∷ []) e in
+    let t = tests (leb (10 * h .validators) (length (b .registry))) (leb (h .slashings) (length (b .slashings)) ∷ leb (10 * h .validators) (length (b .closingRegistry)) ∷ leb (h .slashings) (length (b .closingSlashings)) ∷ leb (207 + 127 * h .validators) (length (b .text)) ∷ []) e in
     record { registry = leb-true _ _ (t 0); slashings = leb-true _ _ (t 1); closingRegistry = leb-true _ _ (t 2); closingSlashings = leb-true _ _ (t 3); text = leb-true _ _ (t 4) }
 
 -- text put at the front

@@ -61,7 +61,7 @@ fits h b =
     && leb (h .slashings) (length (b .slashings))
     && leb (10 * h .validators) (length (b .closingRegistry))
     && leb (h .slashings) (length (b .closingSlashings))
-    && leb (144 + 127 * h .validators) (length (b .text))
+    && leb (207 + 127 * h .validators) (length (b .text))
 
 abbrev pub fronts : Header → Buffers → Buffers
 fronts h b =

@@ -19,7 +19,7 @@ fn list_record(
     closing_slashings: &mut [u64],
     text: &mut [u8],
 ) -> usize
-    requires { ⌜ 144 + 127 * (length (now registry) / 10) ≤ length (now text) ⌝ }
+    requires { ⌜ 207 + 127 * (length (now registry) / 10) ≤ length (now text) ⌝ }
     ensures { λ r. ⌜ Listed (now (bytes .entry)) (buffers (now (registry .entry)) (now (slashings .entry)) (now («closing_registry» .entry)) (now («closing_slashings» .entry)) (now (text .entry))) (buffers (now (registry .exit)) (now (slashings .exit)) (now («closing_registry» .exit)) (now («closing_slashings» .exit)) (now (text .exit))) r ⌝ }
 {
     let opened = read_file(bytes, registry, slashings);
@@ -80,10 +80,10 @@ fn fits(
     if (closing_slashings.len() as u64) < sums {
         return false;
     }
-    if text.len() < 144 {
+    if text.len() < 207 {
         return false;
     }
-    if (((text.len() - 144) / 127) as u64) < validators {
+    if (((text.len() - 207) / 127) as u64) < validators {
         return false;
     }
     true

@@ -7,7 +7,10 @@ use borrow.Author.Tests.{eqb-true}
 use lib.ListN.{length}
 use Rattle.definitions.specs.Checked.{Checked, value, refused, bind, codeOf}
 use Rattle.definitions.specs.Refusals.{settingsShaped, registryShaped, rootsShaped, slashingsShaped, sameLength, goodSettings, goodFinality, goodRegistry, afterTests}
+use Rattle.definitions.specs.Record.{decode}
+use Rattle.definitions.specs.Raised.{raisedTotals}
 use Rattle.definitions.specs.Close.{Call, closeTests, closed, close}
+use Rattle.agreement.proofs.Restored.{restored}
 use Rattle.refusals.proofs.Laws.{in-order, good-settings}
 use Rattle.round_trip.proofs.Tests.{tests}
 
@@ -21,6 +24,7 @@ pub record Accepted (c : Call) : Type 0 where
   pub epochs : 0 < c .settings .«slots_per_epoch»
   pub shaped : registryShaped (c .registry) ≡ true
   pub alike : length (c .closingRegistry) ≡ length (c .registry)
+  pub raised : close c .raised ≡ raisedTotals (c .settings) (c .finality .slot) (decode (c .registry))
 
 pub accepted : (c : Call) → close c .refusal ≡ 0 → Accepted c
 unfolding close closed closeTests
@@ -34,4 +38,4 @@ accepted c e =
     let h = sameLength (c .slashings) (c .closingSlashings) in
     let p = in-order (a && b && d && f && g && h) (goodSettings s) (goodFinality (c .finality) && goodRegistry (c .registry)) (tested (closeTests c) _ e) in
     let t = tests a (b ∷ d ∷ f ∷ g ∷ h ∷ []) (p .first) in
-    record { epochs = good-settings s (p .second) .positive .«slots_per_epoch»; shaped = t 1; alike = eqb-true _ _ (t 4) }
+    record { epochs = good-settings s (p .second) .positive .«slots_per_epoch»; shaped = t 1; alike = eqb-true _ _ (t 4); raised = restored c .accepted e .raised }

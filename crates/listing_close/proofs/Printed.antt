@@ -4,7 +4,7 @@ use mathlib.Core.Path.{_≡_, refl, ap, subst}
 use Prim.Native.Nat.{ℕ, _≤_}
 use borrow.Author.Tests.{eq-eqb, ne-eqb}
 use lib.ListN.{length}
-use Rattle.types.specs.declared.FinalityAnswer.{FinalityAnswer}
+use Rattle.types.specs.declared.CloseAnswer.{CloseAnswer}
 use Rattle.definitions.specs.Close.{Call, Outcome, close}
 use Rattle.close.specs.Called.{outcome}
 use Rattle.decimals.specs.Put.{Put}
@@ -17,7 +17,7 @@ or-refused {x} {y} text e z = rw (← e, ne-eqb x 0 z)
 pub or-text : {y : ℕ} (text : List ℕ) → y ≡ 0 → orRefused y text ≡ text
 or-text {y} text e = rw (eq-eqb y 0 e)
 
-module _ (c : Call) {r : FinalityAnswer} {xs ys before after : List ℕ} {end : ℕ} (e : outcome r xs ys ≡ close c) (inside : end ≤ length before) where
+module _ (c : Call) {r : CloseAnswer} {xs ys before after : List ℕ} {end : ℕ} (e : outcome r xs ys ≡ close c) (inside : end ≤ length before) where
   listed : Put before 0 (closePrinted c (outcome r xs ys)) after end → ListedClose c xs ys before after end
   listed p =
       record {

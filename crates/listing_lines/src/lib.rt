@@ -17,6 +17,7 @@ use leaf_refusals::current_epoch;
 use numbers::net_change;
 use numbers::no_head;
 use numbers::no_line;
+use raised::raised_totals;
 use refusals::good_finality;
 use refusals::registry_shaped;
 use registry_refusals::slot_registry_tests;
@@ -32,6 +33,7 @@ pub fn head_core(s: Settings, state_slot: u64, closing: Finality, opening: &[u64
 {
     let epoch = current_epoch(s, state_slot);
     let charged = charged_count(s, state_slot, opening);
+    let raised = raised_totals(s, state_slot, opening);
     let justified = closing.current_justified_checkpoint;
     let finalized = closing.finalized_checkpoint;
     Head {
@@ -41,6 +43,7 @@ pub fn head_core(s: Settings, state_slot: u64, closing: Finality, opening: &[u64
         finalized_epoch: finalized.epoch,
         justification_bits: closing.justification_bits,
         charged,
+        raised,
     }
 }
 

@@ -7,6 +7,7 @@ ghost use Rattle.definitions_listing.specs.Answers.{noHead, noLine};
 use definitions_listing::Change;
 use definitions_listing::Head;
 use definitions_listing::Line;
+use raised::none_raised;
 
 pub fn no_head(refusal: u64) -> Head
     ensures { λ r. ⌜ r ≡ noHead refusal ⌝ }
@@ -18,6 +19,7 @@ pub fn no_head(refusal: u64) -> Head
         finalized_epoch: 0,
         justification_bits: 0,
         charged: 0,
+        raised: none_raised(),
     }
 }
 

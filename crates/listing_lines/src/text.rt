@@ -7,10 +7,11 @@ ghost use lib.ListN.{length};
 ghost use Rattle.definitions.specs.Record.{decode};
 ghost use Rattle.definitions.specs.Refusals.{registryShaped};
 ghost use Rattle.decimals.specs.Put.{Put};
-ghost use Rattle.definitions_listing.specs.Lines.{row, headLine, validatorLine, lines, refusedLine};
+ghost use Rattle.definitions_listing.specs.Lines.{row, raisedFigures, headLine, validatorLine, lines, refusedLine};
 use decimals::put_change;
 use decimals::put_labelled;
 use definitions_listing::Head;
+use types::Raised;
 
 fn put_end(text: &mut [u8], at: usize) -> usize
     requires { ⌜ at + 1 ≤ length (now text) ⌝ }
@@ -46,12 +47,23 @@ fn put_row(
     put_labelled(text, fourth, e, o)
 }
 
-pub fn put_head(text: &mut [u8], at: usize, h: Head) -> usize
-    requires { ⌜ at + 144 ≤ length (now text) ⌝ }
-    ensures { λ r. ⌜ Put (now (text .entry)) at (headLine (h .epoch) (h .«justified_epoch») (h .«finalized_epoch») (h .«justification_bits») (h .charged)) (now (text .exit)) r ⌝ }
-    ensures { λ r. ⌜ r ≤ at + 144 ⌝ }
+// Which totals were raised, behind charged.
+fn put_raised(text: &mut [u8], at: usize, raised: Raised) -> usize
+    requires { ⌜ at + 63 ≤ length (now text) ⌝ }
+    ensures { λ r. ⌜ Put (now (text .entry)) at (raisedFigures raised) (now (text .exit)) r ⌝ }
+    ensures { λ r. ⌜ r ≤ at + 63 ⌝ }
 {
-    let end = put_row(
+    let first = put_labelled(text, at, b" ", raised.active);
+    let second = put_labelled(text, first, b" ", raised.previous);
+    put_labelled(text, second, b" ", raised.current)
+}
+
+pub fn put_head(text: &mut [u8], at: usize, h: Head) -> usize
+    requires { ⌜ at + 207 ≤ length (now text) ⌝ }
+    ensures { λ r. ⌜ Put (now (text .entry)) at (headLine (h .epoch) (h .«justified_epoch») (h .«finalized_epoch») (h .«justification_bits») (h .charged) (h .raised)) (now (text .exit)) r ⌝ }
+    ensures { λ r. ⌜ r ≤ at + 207 ⌝ }
+{
+    let row = put_row(
         text,
         at,
         b"epoch ",
@@ -65,6 +77,7 @@ pub fn put_head(text: &mut [u8], at: usize, h: Head) -> usize
         b" charged ",
         h.charged,
     );
+    let end = put_raised(text, row, h.raised);
     put_end(text, end)
 }
 

@@ -11,12 +11,15 @@ use Rattle.types.specs.declared.Truth.{Truth}
 use Rattle.types.specs.declared.Truth.the-variants.{Value as TruthValue, Refused as TruthRefused}
 use Rattle.types.specs.declared.DeltasAnswer.{DeltasAnswer}
 use Rattle.types.specs.declared.DeltasAnswer.the-variants.{Value as DeltasValue, Refused as DeltasRefused}
+use Rattle.types.specs.declared.TotalAnswer.{TotalAnswer}
+use Rattle.types.specs.declared.TotalAnswer.the-variants.{Value as TotalValue, Refused as TotalRefused}
 use Rattle.definitions.specs.Checked.{Checked, codeOf, settle}
 use Rattle.definitions_listing.specs.declared.Change.{Change}
 use Rattle.definitions_listing.specs.declared.Change.the-variants.{Value as ChangeValue, Refused as ChangeRefused}
 use Rattle.plain.specs.declared.PlainNumber.{PlainNumber}
 use Rattle.plain.specs.declared.PlainTruth.{PlainTruth}
 use Rattle.plain.specs.declared.PlainDeltas.{PlainDeltas}
+use Rattle.plain.specs.declared.PlainTotal.{PlainTotal}
 use Rattle.plain.specs.declared.PlainChange.{PlainChange}
 use Rattle.plain.specs.declared.PlainRoot.{PlainRoot}
 
@@ -31,6 +34,10 @@ plainTruth (TruthRefused n) = record { refusal = n; value = 0 }
 unfoldable pub plainDeltas : DeltasAnswer → PlainDeltas
 plainDeltas (DeltasValue d) = record { refusal = 0; reward = d .reward; penalty = d .penalty }
 plainDeltas (DeltasRefused n) = record { refusal = n; reward = 0; penalty = 0 }
+
+unfoldable pub plainTotal : TotalAnswer → PlainTotal
+plainTotal (TotalValue t) = record { refusal = 0; balance = t .balance; raised = t .raised }
+plainTotal (TotalRefused n) = record { refusal = n; balance = 0; raised = 0 }
 
 unfoldable pub plainChange : Change → PlainChange
 plainChange (ChangeValue x) = record { refusal = 0; value = x }

@@ -1,9 +1,10 @@
 // The library's answers as plain numbers, for callers that have no enum: 0 and what was asked for, or a refusal's number and zeros.
 ghost use mathlib.Core.Path.{_≡_};
-ghost use Rattle.plain.specs.Plain.{plainNumber, plainTruth, plainDeltas, rootGiven};
+ghost use Rattle.plain.specs.Plain.{plainNumber, plainTruth, plainDeltas, plainTotal, rootGiven};
 use roots::root_copy;
 use types::DeltasAnswer;
 use types::Number;
+use types::TotalAnswer;
 use types::Truth;
 
 #[repr(C)]
@@ -24,6 +25,14 @@ pub struct PlainDeltas {
     pub refusal: u64,
     pub reward: u64,
     pub penalty: u64,
+}
+
+// raised is 1 where the plain sum was below one increment
+#[repr(C)]
+pub struct PlainTotal {
+    pub refusal: u64,
+    pub balance: u64,
+    pub raised: u64,
 }
 
 // value is from -2^63 to 2^63 - 1; the call that answers it makes it
@@ -73,6 +82,23 @@ pub fn plain_deltas(d: DeltasAnswer) -> PlainDeltas
             refusal,
             reward: 0,
             penalty: 0,
+        },
+    }
+}
+
+pub fn plain_total(t: TotalAnswer) -> PlainTotal
+    ensures { λ r. ⌜ r ≡ plainTotal t ⌝ }
+{
+    match t {
+        TotalAnswer::Value(total) => PlainTotal {
+            refusal: 0,
+            balance: total.balance,
+            raised: total.raised,
+        },
+        TotalAnswer::Refused(refusal) => PlainTotal {
+            refusal,
+            balance: 0,
+            raised: 0,
         },
     }
 }

@@ -4,9 +4,11 @@ use crate::outcome::Outcome;
 use crate::record::Record;
 use crate::record::registry;
 use crate::record::slashings;
-use types::FinalityAnswer;
+use types::CloseAnswer;
+use types::Raised;
 use vectors::finality_stands;
 use vectors::part;
+use vectors::word;
 
 pub const NOTHING: u64 = 0;
 
@@ -24,6 +26,8 @@ pub const REGISTRY: u64 = 6;
 
 pub const SLASHINGS: u64 = 7;
 
+pub const RAISED: u64 = 8;
+
 pub fn in_refusal(refusal: u64, o: Outcome) -> u64 {
     if o.refusal == refusal {
         return NOTHING;
@@ -31,9 +35,27 @@ pub fn in_refusal(refusal: u64, o: Outcome) -> u64 {
     REFUSAL
 }
 
-// The finality that comes back: the stored one, or on refusal the one handed in, which stands at `before`.
+// Which totals were raised: as stored behind the finality, or on refusal none.
+fn stored_raised(o: Outcome, words: &[u64], at: usize) -> u64 {
+    if o.refusal != 0 {
+        return 0;
+    }
+    word(words, o.given, at)
+}
+
+fn raised_stands(raised: Raised, o: Outcome, words: &[u64]) -> bool {
+    if stored_raised(o, words, 17) != raised.active {
+        return false;
+    }
+    if stored_raised(o, words, 18) != raised.previous {
+        return false;
+    }
+    stored_raised(o, words, 19) == raised.current
+}
+
+// The finality that comes back, the stored one, or on refusal the one handed in, which stands at `before`; and which totals were raised.
 pub fn in_finality(
-    answer: FinalityAnswer,
+    answer: CloseAnswer,
     o: Outcome,
     words: &[u64],
     bytes: &[u8],
@@ -43,10 +65,13 @@ pub fn in_finality(
         return REFUSAL;
     }
     let f = answer.finality;
-    if finality_stands(f, words, bytes, stored_finality(o, before)) {
+    if !finality_stands(f, words, bytes, stored_finality(o, before)) {
+        return FINALITY;
+    }
+    if raised_stands(answer.raised, o, words) {
         return NOTHING;
     }
-    FINALITY
+    RAISED
 }
 
 fn stored_finality(o: Outcome, before: usize) -> usize {

@@ -5,8 +5,8 @@ use vectors::counted;
 use vectors::past;
 use vectors::word;
 
-// Places of words. `given` is what comes back besides the refusal: the position of the reading, or the finality. Changes are a
-// place and a number each, so two words.
+// Places of words. `given` is what comes back besides the refusal: the position of the reading, or the finality and which totals were
+// raised. Changes are a place and a number each, so two words.
 pub struct Outcome {
     pub refusal: u64,
     pub given: usize,
@@ -27,7 +27,7 @@ fn given_words(operation: u64, refusal: u64) -> usize {
         return 0;
     }
     match operation {
-        1 | 9 => 17,
+        1 | 9 => 20,
         _ => 0,
     }
 }

@@ -6,6 +6,7 @@ use vectors::lent_agrees;
 use vectors::number;
 use vectors::number_agrees;
 use vectors::settings;
+use vectors::total_agrees;
 
 // Places in an entry. The withdrawable epoch follows the exit epoch.
 const EXIT_EPOCH: usize = 4;
@@ -15,7 +16,7 @@ const BALANCE: usize = 6;
 fn get_total_active_balance(c: Case, words: &[u64]) -> bool {
     let s = settings(c, words);
     let answer = totals::get_total_active_balance(s, number(c, words, 0), lent(c, words));
-    number_agrees(answer, c, words)
+    total_agrees(answer, c, words)
 }
 
 fn get_participating_balance(c: Case, words: &[u64]) -> bool {
@@ -24,7 +25,7 @@ fn get_participating_balance(c: Case, words: &[u64]) -> bool {
     let flag_index = number(c, words, 1);
     let epoch = number(c, words, 2);
     let answer = totals::get_participating_balance(s, slot, flag_index, epoch, lent(c, words));
-    number_agrees(answer, c, words)
+    total_agrees(answer, c, words)
 }
 
 fn get_validator_churn_limit(c: Case, words: &[u64]) -> bool {

@@ -25,12 +25,12 @@ pub fn function(number: u64) -> bool {
 
 // The parts of an answer, by their numbers in record_vectors, in 10 bytes each.
 fn part(differs: u64) -> bool {
-    if 7 < differs {
+    if 8 < differs {
         return false;
     }
     let from = 10 * (differs as usize);
     part_of(
-        b"          refusal   position  settings  finality  roots     registry  slashings ",
+        b"          refusal   position  settings  finality  roots     registry  slashings raised    ",
         from,
         from + 10,
     )

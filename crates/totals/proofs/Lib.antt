@@ -2,3 +2,4 @@
 mod Genesis
 pub mod Sums
 pub mod Tested
+pub mod WithRaised

@@ -1,2 +1,3 @@
 -- Whom totals and counts are over.
 pub mod Members
+pub mod Totals

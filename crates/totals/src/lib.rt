@@ -4,17 +4,20 @@ ghost use mathlib.Core.Path.{_≡_};
 ghost use mathlib.Core.Bool.{cond};
 ghost use mathlib.Core.List.{map};
 ghost use Prim.Native.Nat.{_*_, _/_, _≤_, _<_, max};
+ghost use lib.Dec.{ltb};
 ghost use lib.ListN.{length};
 ghost use Rattle.definitions.specs.Lists.{filter};
 ghost use Rattle.definitions.specs.Record.{decodeOne, decode};
 ghost use Rattle.definitions.specs.Checked.{value, sum64};
 ghost use Rattle.definitions.specs.Answers.{Says};
+ghost use Rattle.definitions.specs.Raised.{totalWithRaised, SaysTotal};
 ghost use Rattle.definitions.specs.Refusals.{afterTests};
 ghost use Rattle.definitions.specs.LeafRefusals.{slotRegistryTests, participationTests};
-ghost use Rattle.definitions.specs.Rust.Phase0.Helpers.{«get_active_validator_indices», «get_total_balance», «get_total_active_balance», «get_validator_churn_limit»};
+ghost use Rattle.definitions.specs.Rust.Phase0.Helpers.{«get_current_epoch», «get_active_validator_indices», «get_total_balance», «get_validator_churn_limit»};
 ghost use Rattle.definitions.specs.Rust.Altair.Helpers.{isUnslashedParticipating, «get_unslashed_participating_indices»};
 ghost use Rattle.definitions.specs.Close.{charged};
 ghost use Rattle.totals.specs.Members.{isMember, flagOf};
+ghost use Rattle.totals.specs.Totals.{totalFrom, balanceFor};
 use arithmetic::max;
 use entries::entry_is_active;
 use entries::entry_is_eligible;
@@ -25,6 +28,8 @@ use registry_refusals::participation_tests;
 use registry_refusals::slot_registry_tests;
 use types::Number;
 use types::Settings;
+use types::Total;
+use types::TotalAnswer;
 
 // Whom a total or a count is over. At `Participating` the flag's index is at most 7.
 enum Members {
@@ -114,24 +119,80 @@ pub fn raised(sum: u64, increment: u64) -> u64
     max(increment, sum)
 }
 
-fn members_total(s: Settings, members: Members, registry: &[u64]) -> Number
+// 1 where a plain sum is below one increment, so that its total was raised, and else 0.
+fn was_raised(sum: u64, increment: u64) -> u64
+    ensures { λ r. ⌜ r ≡ cond (ltb sum increment) 1 0 ⌝ }
+{
+    if sum < increment {
+        return 1;
+    }
+    0
+}
+
+// A total from its plain sum.
+pub fn total_from(sum: u64, increment: u64) -> Total
+    ensures { λ r. ⌜ r ≡ totalFrom increment sum ⌝ }
+{
+    Total {
+        balance: raised(sum, increment),
+        raised: was_raised(sum, increment),
+    }
+}
+
+fn members_total(s: Settings, members: Members, registry: &[u64]) -> TotalAnswer
     requires { ⌜ length (now registry) ≡ 10 * (length (now registry) / 10) ⌝ }
     requires { ⌜ flagOf members ≤ 7 ⌝ }
-    ensures { λ r. ⌜ Says («get_total_balance» s (filter (isMember members) (decode (now (registry .entry))))) r ⌝ }
+    ensures { λ r. ⌜ SaysTotal (totalWithRaised s (filter (isMember members) (decode (now (registry .entry))))) r ⌝ }
 {
     let Number::Value(sum) = members_balance(members, registry) else {
-        return Number::Refused(5);
+        return TotalAnswer::Refused(5);
     };
-    let total = raised(sum, s.effective_balance_increment);
-    Number::Value(total)
+    let total = total_from(sum, s.effective_balance_increment);
+    TotalAnswer::Value(total)
+}
+
+pub fn active_total(s: Settings, epoch: u64, registry: &[u64]) -> TotalAnswer
+    requires { ⌜ length (now registry) ≡ 10 * (length (now registry) / 10) ⌝ }
+    ensures { λ r. ⌜ SaysTotal (totalWithRaised s («get_active_validator_indices» (decode (now (registry .entry))) epoch)) r ⌝ }
+{
+    let members = Members::Active { epoch: epoch };
+    members_total(s, members, registry)
+}
+
+pub fn participating_total(
+    s: Settings,
+    current_epoch: u64,
+    flag_index: u64,
+    epoch: u64,
+    registry: &[u64],
+) -> TotalAnswer
+    requires { ⌜ length (now registry) ≡ 10 * (length (now registry) / 10) ⌝ }
+    requires { ⌜ «flag_index» ≤ 7 ⌝ }
+    ensures { λ r. ⌜ SaysTotal (totalWithRaised s (filter (isUnslashedParticipating «current_epoch» «flag_index» epoch) (decode (now (registry .entry))))) r ⌝ }
+{
+    let members = Members::Participating {
+        current_epoch: current_epoch,
+        flag_index: flag_index,
+        epoch: epoch,
+    };
+    members_total(s, members, registry)
+}
+
+// A total alone, for what does not ask whether it was raised.
+pub fn balance_of(answer: TotalAnswer) -> Number
+    ensures { λ r. ⌜ r ≡ balanceFor answer ⌝ }
+{
+    match answer {
+        TotalAnswer::Value(total) => Number::Value(total.balance),
+        TotalAnswer::Refused(refusal) => Number::Refused(refusal),
+    }
 }
 
 pub fn total_active(s: Settings, epoch: u64, registry: &[u64]) -> Number
     requires { ⌜ length (now registry) ≡ 10 * (length (now registry) / 10) ⌝ }
     ensures { λ r. ⌜ Says («get_total_balance» s («get_active_validator_indices» (decode (now (registry .entry))) epoch)) r ⌝ }
 {
-    let members = Members::Active { epoch: epoch };
-    members_total(s, members, registry)
+    balance_of(active_total(s, epoch, registry))
 }
 
 pub fn total_participating(
@@ -145,23 +206,18 @@ pub fn total_participating(
     requires { ⌜ «flag_index» ≤ 7 ⌝ }
     ensures { λ r. ⌜ Says («get_total_balance» s (filter (isUnslashedParticipating «current_epoch» «flag_index» epoch) (decode (now (registry .entry))))) r ⌝ }
 {
-    let members = Members::Participating {
-        current_epoch: current_epoch,
-        flag_index: flag_index,
-        epoch: epoch,
-    };
-    members_total(s, members, registry)
+    balance_of(participating_total(s, current_epoch, flag_index, epoch, registry))
 }
 
-pub fn get_total_active_balance(s: Settings, state_slot: u64, registry: &[u64]) -> Number
-    ensures { λ r. ⌜ Says (afterTests (slotRegistryTests s «state_slot» (now (registry .entry))) («get_total_active_balance» s «state_slot» (decode (now (registry .entry))))) r ⌝ }
+pub fn get_total_active_balance(s: Settings, state_slot: u64, registry: &[u64]) -> TotalAnswer
+    ensures { λ r. ⌜ SaysTotal (afterTests (slotRegistryTests s «state_slot» (now (registry .entry))) (totalWithRaised s («get_active_validator_indices» (decode (now (registry .entry))) («get_current_epoch» s «state_slot»)))) r ⌝ }
 {
     let refusal = slot_registry_tests(s, state_slot, registry);
     if refusal != 0 {
-        return Number::Refused(refusal);
+        return TotalAnswer::Refused(refusal);
     }
     let epoch = current_epoch(s, state_slot);
-    total_active(s, epoch, registry)
+    active_total(s, epoch, registry)
 }
 
 // The balance that participates by a flag.
@@ -171,15 +227,15 @@ pub fn get_participating_balance(
     flag_index: u64,
     epoch: u64,
     registry: &[u64],
-) -> Number
-    ensures { λ r. ⌜ Says (afterTests (participationTests s «state_slot» «flag_index» epoch (now (registry .entry))) («get_total_balance» s («get_unslashed_participating_indices» s «state_slot» (decode (now (registry .entry))) «flag_index» epoch))) r ⌝ }
+) -> TotalAnswer
+    ensures { λ r. ⌜ SaysTotal (afterTests (participationTests s «state_slot» «flag_index» epoch (now (registry .entry))) (totalWithRaised s («get_unslashed_participating_indices» s «state_slot» (decode (now (registry .entry))) «flag_index» epoch))) r ⌝ }
 {
     let refusal = participation_tests(s, state_slot, flag_index, epoch, registry);
     if refusal != 0 {
-        return Number::Refused(refusal);
+        return TotalAnswer::Refused(refusal);
     }
     let current = current_epoch(s, state_slot);
-    total_participating(s, current, flag_index, epoch, registry)
+    participating_total(s, current, flag_index, epoch, registry)
 }
 
 // The churn limit by the number of the active.

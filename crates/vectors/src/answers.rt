@@ -10,6 +10,8 @@ use types::DeltasAnswer;
 use types::Finality;
 use types::FinalityAnswer;
 use types::Number;
+use types::Total;
+use types::TotalAnswer;
 use types::Truth;
 
 fn is_refused(c: Case, refusal: u64) -> bool {
@@ -52,6 +54,20 @@ fn both_agree(d: Deltas, c: Case, words: &[u64]) -> bool {
         return false;
     }
     value_agrees(d.reward, c, words)
+}
+
+pub fn total_agrees(answer: TotalAnswer, c: Case, words: &[u64]) -> bool {
+    match answer {
+        TotalAnswer::Refused(refusal) => is_refused(c, refusal),
+        TotalAnswer::Value(t) => balance_agrees(t, c, words),
+    }
+}
+
+fn balance_agrees(t: Total, c: Case, words: &[u64]) -> bool {
+    if word(words, c.answer, 1) != t.raised {
+        return false;
+    }
+    value_agrees(t.balance, c, words)
 }
 
 // What a list should hold at i: the answer from `at` on, what it held elsewhere.

@@ -12,6 +12,7 @@ pub use answers::finality_stands;
 pub use answers::lent_agrees;
 pub use answers::number_agrees;
 pub use answers::root_agrees;
+pub use answers::total_agrees;
 pub use answers::truth_agrees;
 pub use case::Case;
 pub use case::counted;

@@ -47,7 +47,7 @@ pub fn answer_words(leaf: u64, refusal: u64) -> usize {
     }
     match leaf {
         15 | 16 => 4,
-        23 | 26 | 27 => 2,
+        17 | 18 | 23 | 26 | 27 => 2,
         28 => 17,
         _ => 1,
     }

@@ -10,6 +10,9 @@ use Rattle.close.proofs.close.Tie as tie
 record-tests-requires : tie.Need-record-tests-requires
 record-tests-requires c κs = search needs
 
+none-raised-requires : tie.Need-none-raised-requires
+none-raised-requires c κs = search needs
+
 same-length : tie.Need-same-length
 same-length c = search needs
 
@@ -17,7 +20,7 @@ same-length-2 : tie.Need-same-length-2
 same-length-2 c = search needs
 
 returns : tie.Need-returns
-returns c = tests-refused _ (record-refused _ (c .before .record-tests .ensures) (c .if1 .taken)) (c .if1 .taken)
+returns c = tests-refused _ (record-refused _ (c .before .before .record-tests .ensures) (c .before .if1 .taken)) (c .before .if1 .taken) (c .none-raised .ensures)
 
 sub-close-tested : tie.Need-sub-close-tested
 sub-close-tested c = search needs
@@ -46,6 +49,7 @@ close-spec =
     tie.close
     (tie.spec
     record-tests-requires
+    none-raised-requires
     same-length
     same-length-2
     returns

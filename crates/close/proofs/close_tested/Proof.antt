@@ -39,11 +39,16 @@ survey-registry-requires c κs =
     let a = c .before .before .before .before .before .before .before .before .before in
     (was-lent a .opening .registry, (omega (arith, c .before .before .current-epoch .ensures, ep a .small), a .pre .1))
 
+none-raised-requires : tie.Need-none-raised-requires
+none-raised-requires c κs = search needs
+
 same-length : tie.Need-same-length
 same-length c = search needs
 
 returns : tie.Need-returns
-returns c = tests-refused (call (c .before .before .before .before .before .before .before .before .before .before .before .before .before)) (tested (c .before .before .before)) (λ z. omega (arith, c .if1 .taken))
+returns c =
+    let t = c .before in
+    tests-refused (call (t .before .before .before .before .before .before .before .before .before .before .before .before .before)) (tested (t .before .before .before)) (λ z. omega (arith, t .if1 .taken)) (c .none-raised .ensures)
 
 run-steps-requires : tie.Need-run-steps-requires
 run-steps-requires c κs =
@@ -91,7 +96,7 @@ returns-3 c =
     let first : tie.After-copy = search needs in
     let second : tie.After-copy2 = search needs in
     let worked = e .before .before .before .before .before .before in
-    steps-refused (call (refused e)) (tested (worked .before .before .before .before .before .before .before)) (omega (arith, worked .before .before .before .before .if1 .left)) (worked .run-steps .ensures) (λ z. omega (arith, e .if2 .left)) refl (λ kept. search needs) (first .copy .ensures) (second .copy2 .ensures)
+    steps-refused (call (refused e)) (tested (worked .before .before .before .before .before .before .before)) (omega (arith, worked .before .before .before .before .if1 .left)) (worked .run-steps .ensures) (λ z. omega (arith, e .if2 .left)) refl (λ kept. search needs) (λ none. search needs) (first .copy .ensures) (second .copy2 .ensures)
 
 pub close-tested-spec : {M : Type 1} → statement M
 close-tested-spec =
@@ -100,6 +105,7 @@ close-tested-spec =
     current-epoch-requires
     previous-epoch-requires
     survey-registry-requires
+    none-raised-requires
     same-length
     returns
     run-steps-requires

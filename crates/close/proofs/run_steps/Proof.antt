@@ -3,11 +3,11 @@ use native.Mathlib.Omega.{arith}
 use borrow.Author.Needs.{needs}
 use lib.ListN.{length}
 use Rattle.definitions.specs.Record.{decode}
-use Rattle.definitions.specs.Answers.{finalityAnswerFor}
+use Rattle.definitions.specs.Raised.{raisedTotals, closeAnswerFor}
 use Rattle.definitions.specs.Rust.Phase0.EpochProcessing.{resetSlashings}
 use Rattle.definitions.specs.Rust.Altair.EpochProcessing.{«process_justification_and_finalization»}
 use Rattle.refusals.proofs.Laws.{small, good-finality}
-use Rattle.close.proofs.Justified.{given-found}
+use Rattle.close.proofs.Justified.{totals-found}
 use Rattle.close.proofs.Worked.{slot-kept, finalized-small, worked-unjustified, worked-refused, worked-done}
 use Rattle.close.proofs.run_steps.Statement.{statement}
 use Rattle.close.proofs.run_steps.Tie as tie
@@ -16,10 +16,10 @@ use Rattle.close.proofs.run_steps.Tie as tie
 abbrev start : tie.After-justification-core → tie.Start
 start c = c .before .before .before .before .before .before .before .before .before .before .before .before
 
-justified : (c : tie.After-justification-core) → c .justification-core .result ≡ finalityAnswerFor («process_justification_and_finalization» (start c .args .s) (start c .args .roots .now) (start c .args .finality) (decode (start c .args .registry .now))) (start c .args .finality)
+justified : (c : tie.After-justification-core) → c .justification-core .result ≡ closeAnswerFor («process_justification_and_finalization» (start c .args .s) (start c .args .roots .now) (start c .args .finality) (decode (start c .args .registry .now))) (start c .args .finality) (raisedTotals (start c .args .s) (start c .args .finality .slot) (decode (start c .args .registry .now)))
 justified c =
     let a = start c in
-    c .justification-core .ensures .of (decode (a .args .registry .now)) (given-found (a .args .s) (a .args .finality .slot) (a .args .registry .now) (a .pre .1 .1) (c .before .before .before .total-of .ensures) (c .before .before .total-of2 .ensures) (c .before .total-of3 .ensures))
+    c .justification-core .ensures .of (decode (a .args .registry .now)) (totals-found (a .args .s) (a .args .finality .slot) (a .args .registry .now) (a .pre .1 .1) (c .before .before .before .total-of .ensures) (c .before .before .total-of2 .ensures) (c .before .total-of3 .ensures))
 
 -- it gave a finality; the test may stand either way round
 given : (c : tie.Else1) → c .before .before .justification-core .result .refusal ≡ 0
@@ -42,27 +42,32 @@ returns c = worked-unjustified _ _ _ _ _ (justified (c .before .before)) (λ z. 
 
 write-registry-requires : tie.Need-write-registry-requires
 write-registry-requires c κs =
-    let j = c .before .before .before .before .before in
+    let j = c .before .before .before .before .before .before in
     let a = start j in
-    let slot = slot-kept _ _ _ (a .args .slashings .now) _ (justified j) (given (c .before .before .before)) in
-    let finalized = finalized-small _ _ _ (a .args .slashings .now) _ (justified j) (given (c .before .before .before)) (a .pre .0 .finality) in
+    let slot = slot-kept _ _ _ (a .args .slashings .now) _ (justified j) (given (c .before .before .before .before)) in
+    let finalized = finalized-small _ _ _ (a .args .slashings .now) _ (justified j) (given (c .before .before .before .before)) (a .pre .0 .finality) in
     let opening = good-finality (a .args .finality) (a .pre .0 .finality) in
     ((a .pre .0 .settings .good, rw slot (small _ (a .pre .0 .settings .small)), omega (arith, finalized, opening .finalized)), ((a .pre .0 .registry, a .pre .1 .0 .0), rw slot (a .pre .1 .1)))
+
+answer-with-requires : tie.Need-answer-with-requires
+answer-with-requires c κs = search needs
 
 same-length : tie.Need-same-length
 same-length c = search needs
 
 returns-2 : tie.Need-returns-2
-returns-2 c = worked-refused _ _ _ _ _ (justified (c .before .before .before .before .before .before .before .before .before)) (given (c .before .before .before .before .before .before .before)) (c .before .before .before .write-registry .ensures) (λ z. omega (arith, c .if2 .taken))
+returns-2 c =
+    let t = c .before in
+    worked-refused _ _ _ _ _ (justified (t .before .before .before .before .before .before .before .before .before .before)) (given (t .before .before .before .before .before .before .before .before)) (t .before .before .before .write-registry .ensures) _ (λ z. omega (arith, t .if2 .taken)) (c .answer-with .ensures)
 
 copy-requires : tie.Need-copy-requires
-copy-requires c κs = c .before .before .before .before .before .before .before .before .before .before .before .before .before .before .before .before .before .before .before .before .before .before .pre .1 .0 .1
+copy-requires c κs = c .before .before .before .before .before .before .before .before .before .before .before .before .before .before .before .before .before .before .before .before .before .before .before .pre .1 .0 .1
 
 slashings-reset-core-requires : tie.Need-slashings-reset-core-requires
 slashings-reset-core-requires c κs =
-    let j = c .before .before .before .before .before .before .before .before .before .before .before .before .before .before in
+    let j = c .before .before .before .before .before .before .before .before .before .before .before .before .before .before .before in
     let a = start j in
-    let slot = slot-kept _ _ _ (a .args .slashings .now) _ (justified j) (given (c .before .before .before .before .before .before .before .before .before .before .before .before)) in
+    let slot = slot-kept _ _ _ (a .args .slashings .now) _ (justified j) (given (c .before .before .before .before .before .before .before .before .before .before .before .before .before)) in
     (ap length (c .before .before .before .copy .ensures) ∙ a .pre .0 .slashings, rw slot (a .pre .0 .settings))
 
 same-length-2 : tie.Need-same-length-2
@@ -75,10 +80,10 @@ returns-3 : tie.Need-returns-3
 returns-3 c =
     let reset : tie.After-slashings-reset-core = search needs in
     let done = reset .before .before .before .before .before .before in
-    let e = done .before .before .before .before .before .before .before in
+    let e = done .before .before .before .before .before .before .before .before in
     worked-done _ _ _ _ _ (justified (e .before .before)) (given e) (done .before .before .before .write-registry .ensures) (omega (arith, done .if2 .left))
     (reset .slashings-reset-core .ensures ∙ ap (resetSlashings _ _) (reset .before .before .before .before .copy .ensures))
-    (omega (arith, given e)) refl
+    (omega (arith, given e)) refl refl
 
 pub run-steps-spec : {M : Type 1} → statement M
 run-steps-spec =
@@ -90,6 +95,7 @@ run-steps-spec =
     justification-core-requires
     returns
     write-registry-requires
+    answer-with-requires
     same-length
     returns-2
     copy-requires

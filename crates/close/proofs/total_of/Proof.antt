@@ -1,8 +1,5 @@
 use borrow.Author.Tests.{eq-eqb, ne-eqb}
 use borrow.Author.Needs.{needs}
-use mathlib.Core.Path.{ap, _∙_}
-use Prim.Native.Nat.{ℕ}
-use Rattle.types.specs.declared.Number.the-variants.{Value}
 use Rattle.close.specs.Worked.{totalOf}
 use Rattle.close.proofs.total_of.Statement.{statement}
 use Rattle.close.proofs.total_of.Tie as tie
@@ -11,12 +8,12 @@ returns : tie.Need-returns
 unfolding totalOf
 returns c = rw (ne-eqb _ 0 (c .if1 .taken))
 
-raised-requires : tie.Need-raised-requires
-raised-requires c κs = search needs
+total-from-requires : tie.Need-total-from-requires
+total-from-requires c κs = search needs
 
 returns-2 : tie.Need-returns-2
 unfolding totalOf
-returns-2 c = rw (eq-eqb _ 0 (c .before .if1 .left), c .raised .ensures)
+returns-2 c = rw (eq-eqb _ 0 (c .before .if1 .left), c .total-from .ensures)
 
 pub total-of-spec : {M : Type 1} → statement M
-total-of-spec = tie.close (tie.spec returns raised-requires returns-2)
+total-of-spec = tie.close (tie.spec returns total-from-requires returns-2)

@@ -1,92 +1,61 @@
+use mathlib.Core.Path.{ap, _∙_}
+use Prim.Native.Nat.{_^_, _<_}
 use native.Mathlib.Omega.{arith}
-use mathlib.Core.Path.{refl}
-use Prim.Native.Nat.{_<_}
 use borrow.Author.Needs.{needs}
-use Rattle.definitions.specs.Rust.Phase0.Helpers.{«get_current_epoch»}
-use Rattle.arithmetic.proofs.Laws.{next, stop}
-use Rattle.weighing.proofs.Answers.{hands-on}
 use Rattle.weighing.proofs.Passed.{weigh-passed}
-use Rattle.justification.proofs.Totals.{only-active, only-total, first-epochs, later-epochs}
+use Rattle.raised.specs.Flags.{answerWith}
+use Rattle.raised.proofs.Three.{three-raised}
+use Rattle.raised.proofs.Answered.{answered-with}
+use Rattle.justification.proofs.Totals.{given}
 use Rattle.justification.proofs.justification_core.Statement.{statement}
 use Rattle.justification.proofs.justification_core.Tie as tie
 
+small : (c : tie.Start) → c .args .s .«effective_balance_increment» < 2 ^ 64
+small c = omega arith
+
+balance-of-requires : tie.Need-balance-of-requires
+balance-of-requires c κs = search needs
+
+balance-of-requires-2 : tie.Need-balance-of-requires-2
+balance-of-requires-2 c κs = search needs
+
+balance-of-requires-3 : tie.Need-balance-of-requires-3
+balance-of-requires-3 c κs = search needs
+
+weigh-totals-requires : tie.Need-weigh-totals-requires
+weigh-totals-requires c κs = search needs
+
 current-epoch-requires : tie.Need-current-epoch-requires
-current-epoch-requires c κs = weigh-passed _ _ _ (c .before .pre) .settings .good .positive .«slots_per_epoch»
+current-epoch-requires c κs = weigh-passed _ _ _ (c .before .before .before .before .before .pre) .settings .good .positive .«slots_per_epoch»
+
+raised-of-requires : tie.Need-raised-of-requires
+raised-of-requires c κs = search needs
+
+answer-with-requires : tie.Need-answer-with-requires
+answer-with-requires c κs = search needs
 
 returns : tie.Need-returns
 returns c =
-    let a = c .before .before .before .args in
-    record { of = λ vs p. hands-on (a .old) (first-epochs (a .s) (a .roots .now) (a .old) vs (omega (arith, c .before .current-epoch .ensures, c .if1 .taken))) refl }
-
--- epoch 2 or later
-late : (c : tie.Else1) → 1 < «get_current_epoch» (c .before .before .before .args .s) (c .before .before .before .args .old .slot)
-late c = omega (arith, c .before .current-epoch .ensures, c .if1 .left)
-
-enum-known-total : tie.Need-enum-known-total
-enum-known-total c = search needs
-
-enum-told : tie.Need-enum-told
-enum-told c = search needs
-
-returns-2 : tie.Need-returns-2
-returns-2 c =
-    let e = c .before .before in
-    let a = e .before .before .before .args in
-    record { of = λ vs g. later-epochs (a .s) (a .roots .now) (a .old) vs (late e) (stop _ (only-active _ _ _) (g .active) (c .enum-told .given .1) refl) }
-
-enum-known-previous-target : tie.Need-enum-known-previous-target
-enum-known-previous-target c = search needs
-
-enum-told-2 : tie.Need-enum-told-2
-enum-told-2 c = search needs
-
-returns-3 : tie.Need-returns-3
-returns-3 c =
-    let t = c .before .before .before in
-    let e = t .before .before in
-    let a = e .before .before .before .args in
-    record { of = λ vs g. later-epochs (a .s) (a .roots .now) (a .old) vs (late e) (next _ (g .active) (t .total .given .1) (stop _ (only-total _ _) (g .previous) (c .enum-told2 .given .1) refl)) }
-
-enum-known-current-target : tie.Need-enum-known-current-target
-enum-known-current-target c = search needs
-
-enum-told-3 : tie.Need-enum-told-3
-enum-told-3 c = search needs
-
-returns-4 : tie.Need-returns-4
-returns-4 c =
-    let u = c .before .before .before in
-    let t = u .before .before .before in
-    let e = t .before .before in
-    let a = e .before .before .before .args in
-    record { of = λ vs g. later-epochs (a .s) (a .roots .now) (a .old) vs (late e) (next _ (g .active) (t .total .given .1) (next _ (g .previous) (u .previous-target .given .1) (stop _ (only-total _ _) (g .current) (c .enum-told3 .given .1) refl))) }
-
-weigh-requires : tie.Need-weigh-requires
-weigh-requires c κs = search needs
-
-returns-5 : tie.Need-returns-5
-returns-5 c =
-    let x = c .before .before in
-    let u = x .before .before .before in
-    let t = u .before .before .before in
-    let e = t .before .before in
-    let a = e .before .before .before .args in
-    record { of = λ vs g. later-epochs (a .s) (a .roots .now) (a .old) vs (late e) (next _ (g .active) (t .total .given .1) (next _ (g .previous) (u .previous-target .given .1) (next _ (g .current) (x .current-target .given .1) (record { is = c .weigh .ensures })))) }
+    let w = c .before .before .before in
+    let b = w .before .before .before in
+    let start = b .before .before in
+    let a = start .args in
+    record {
+      of = λ vs h.
+          let g = given (a .s) (a .old .slot) vs h (b .balance-of .ensures) (w .before .before .balance-of2 .ensures) (w .before .balance-of3 .ensures) in
+          let raised = c .before .raised-of .ensures ∙ three-raised (a .s) (small start) (a .old .slot) vs (c .before .before .current-epoch .ensures) h in
+          c .answer-with .ensures ∙ ap (answerWith _ _) raised ∙ answered-with _ (a .old) _ (w .weigh-totals .ensures .of vs g);
+    }
 
 pub justification-core-spec : {M : Type 1} → statement M
 justification-core-spec =
     tie.close
     (tie.spec
+    balance-of-requires
+    balance-of-requires-2
+    balance-of-requires-3
+    weigh-totals-requires
     current-epoch-requires
-    returns
-    enum-known-total
-    enum-told
-    returns-2
-    enum-known-previous-target
-    enum-told-2
-    returns-3
-    enum-known-current-target
-    enum-told-3
-    returns-4
-    weigh-requires
-    returns-5)
+    raised-of-requires
+    answer-with-requires
+    returns)

@@ -2,9 +2,9 @@ use mathlib.Core.Path.{sym, _∙_}
 use native.Mathlib.Omega.{arith}
 use borrow.Author.Needs.{needs}
 use Rattle.definitions.specs.Record.{decode}
-use Rattle.weighing.proofs.Answers.{refused-first, then-works}
+use Rattle.raised.proofs.Three.{three-totals}
+use Rattle.raised.proofs.Answered.{close-refused-first, close-then-works}
 use Rattle.justification.proofs.Passed.{JustificationPassed, justification-passed}
-use Rattle.justification.proofs.Totals.{given}
 use Rattle.justification.proofs.process_justification_and_finalization.Statement.{statement}
 use Rattle.justification.proofs.process_justification_and_finalization.Tie as tie
 
@@ -15,8 +15,11 @@ tested c = justification-passed _ _ _ _ (sym (c .before .justification-refusal .
 justification-refusal-requires : tie.Need-justification-refusal-requires
 justification-refusal-requires c κs = search needs
 
+none-raised-requires : tie.Need-none-raised-requires
+none-raised-requires c κs = search needs
+
 returns : tie.Need-returns
-returns c = refused-first _ _ _ (c .before .justification-refusal .ensures) (c .if1 .taken)
+returns c = close-refused-first _ _ _ _ (c .before .before .justification-refusal .ensures) (c .before .if1 .taken) (c .none-raised .ensures)
 
 current-epoch-requires : tie.Need-current-epoch-requires
 current-epoch-requires c κs = tested c .epoch
@@ -24,14 +27,14 @@ current-epoch-requires c κs = tested c .epoch
 previous-epoch-requires : tie.Need-previous-epoch-requires
 previous-epoch-requires c κs = tested (c .before) .epoch
 
-total-active-requires : tie.Need-total-active-requires
-total-active-requires c κs = tested (c .before .before) .shape .long
+active-total-requires : tie.Need-active-total-requires
+active-total-requires c κs = tested (c .before .before) .shape .long
 
-total-participating-requires : tie.Need-total-participating-requires
-total-participating-requires c κs = (tested (c .before .before .before) .shape .long, omega arith)
+participating-total-requires : tie.Need-participating-total-requires
+participating-total-requires c κs = (tested (c .before .before .before) .shape .long, omega arith)
 
-total-participating-requires-2 : tie.Need-total-participating-requires-2
-total-participating-requires-2 c κs = (tested (c .before .before .before .before) .shape .long, omega arith)
+participating-total-requires-2 : tie.Need-participating-total-requires-2
+participating-total-requires-2 c κs = (tested (c .before .before .before .before) .shape .long, omega arith)
 
 justification-core-requires : tie.Need-justification-core-requires
 justification-core-requires c κs = tested (c .before .before .before .before .before) .weighs
@@ -42,19 +45,20 @@ returns-2 c =
     let a = e .before .before .before .before .args in
     let now = c .before .before .before .before .before .current-epoch .ensures in
     let was = c .before .before .before .before .previous-epoch .ensures in
-    then-works _ _ _ (e .before .justification-refusal .ensures) (e .if1 .left)
-    (c .justification-core .ensures .of (decode (a .registry .now)) (given (a .s) (a .finality .slot) _ now was (c .before .before .before .total-active .ensures) (c .before .before .total-participating .ensures) (c .before .total-participating2 .ensures)))
+    close-then-works _ _ _ _ (e .before .justification-refusal .ensures) (e .if1 .left)
+    (c .justification-core .ensures .of (decode (a .registry .now)) (three-totals (a .s) (a .finality .slot) _ now was (c .before .before .before .active-total .ensures) (c .before .before .participating-total .ensures) (c .before .participating-total2 .ensures)))
 
 pub process-justification-and-finalization-spec : {M : Type 1} → statement M
 process-justification-and-finalization-spec =
     tie.close
     (tie.spec
     justification-refusal-requires
+    none-raised-requires
     returns
     current-epoch-requires
     previous-epoch-requires
-    total-active-requires
-    total-participating-requires
-    total-participating-requires-2
+    active-total-requires
+    participating-total-requires
+    participating-total-requires-2
     justification-core-requires
     returns-2)

@@ -36,7 +36,7 @@ returns-5 : tie.Need-returns-5
 unfolding fits
 returns-5 c =
     let a = c .before .before .before .before .before .args in
-    rw (lt-leb (144 + 127 * a .h .validators) (length (a .text .now)) (omega arith), and-false)
+    rw (lt-leb (207 + 127 * a .h .validators) (length (a .text .now)) (omega arith), and-false)
 
 sub-if6 : tie.Need-sub-if6
 sub-if6 c = search needs
@@ -45,13 +45,13 @@ returns-6 : tie.Need-returns-6
 unfolding fits
 returns-6 c =
     let a = c .before .before .before .before .before .before .args in
-    rw (lt-leb (144 + 127 * a .h .validators) (length (a .text .now)) (omega arith), and-false)
+    rw (lt-leb (207 + 127 * a .h .validators) (length (a .text .now)) (omega arith), and-false)
 
 returns-7 : tie.Need-returns-7
 unfolding fits
 returns-7 c =
     let a = c .before .before .before .before .before .before .args in
-    rw (le-leb (10 * a .h .validators) (length (a .registry .now)) (omega arith), le-leb (a .h .slashings) (length (a .slashings .now)) (omega arith), le-leb (10 * a .h .validators) (length (a .closing-registry .now)) (omega arith), le-leb (a .h .slashings) (length (a .closing-slashings .now)) (omega arith), le-leb (144 + 127 * a .h .validators) (length (a .text .now)) (omega arith))
+    rw (le-leb (10 * a .h .validators) (length (a .registry .now)) (omega arith), le-leb (a .h .slashings) (length (a .slashings .now)) (omega arith), le-leb (10 * a .h .validators) (length (a .closing-registry .now)) (omega arith), le-leb (a .h .slashings) (length (a .closing-slashings .now)) (omega arith), le-leb (207 + 127 * a .h .validators) (length (a .text .now)) (omega arith))
 
 pub fits-spec : {M : Type 1} → statement M
 fits-spec =

@@ -50,7 +50,11 @@ returns-2 : tie.Need-returns-2
 unfolding closeText acceptedText
 returns-2 c =
     let p = c .before .before .put-close .ensures in
-    listed-close (handed (c .before .before .before .before .before .before .before .before .before .before .before .before .before .before .before .before .before .before .before .before .before)) (c .before .before .before .before .before .before .before .before .before .before .before .before .close .ensures) (p .1) (c .before .before .before .before .before .before .if1 .left) (p .0)
+    let accepts = c .before .before .before .before .before .before .if1 .left in
+    let closed = c .before .before .before .before .before .before .before .before .before .before .before .before .close .ensures in
+    let lent = handed (c .before .before .before .before .before .before .before .before .before .before .before .before .before .before .before .before .before .before .before .before .before) in
+    let flags = ap (λ (o : Outcome). o .raised) closed ∙ accepted lent (sym (ap (λ (o : Outcome). o .refusal) closed) ∙ accepts) .raised in
+    listed-close lent closed (p .1) accepts (rw (← flags) at (p .0))
 
 pub list-close-spec : {M : Type 1} → statement M
 list-close-spec =

@@ -1,7 +1,6 @@
 use borrow.Author.Needs.{needs}
-use Rattle.definitions.specs.Rust.Phase0.Helpers.{«get_total_active_balance»}
 use Rattle.registry_refusals.proofs.Passed.{slot-registry-passed}
-use Rattle.totals.proofs.Tested.{says-refused, says-after}
+use Rattle.totals.proofs.WithRaised.{total-refused, total-after}
 use Rattle.totals.proofs.get_total_active_balance.Statement.{statement}
 use Rattle.totals.proofs.get_total_active_balance.Tie as tie
 
@@ -9,17 +8,16 @@ slot-registry-tests-requires : tie.Need-slot-registry-tests-requires
 slot-registry-tests-requires c κs = search needs
 
 returns : tie.Need-returns
-returns c = says-refused _ (c .before .slot-registry-tests .ensures) _ (c .if1 .taken)
+returns c = total-refused _ (c .before .slot-registry-tests .ensures) _ (c .if1 .taken)
 
 current-epoch-requires : tie.Need-current-epoch-requires
 current-epoch-requires c κs = slot-registry-passed _ _ _ (c .before .slot-registry-tests .ensures) (c .if1 .left) .positive .«slots_per_epoch»
 
-total-active-requires : tie.Need-total-active-requires
-total-active-requires c κs = slot-registry-passed _ _ _ (c .before .before .slot-registry-tests .ensures) (c .before .if1 .left) .shape .long
+active-total-requires : tie.Need-active-total-requires
+active-total-requires c κs = slot-registry-passed _ _ _ (c .before .before .slot-registry-tests .ensures) (c .before .if1 .left) .shape .long
 
 returns-2 : tie.Need-returns-2
-unfolding «get_total_active_balance»
-returns-2 c = rw (← c .before .current-epoch .ensures) (says-after _ (c .before .before .before .slot-registry-tests .ensures) (c .before .before .if1 .left) (c .total-active .ensures))
+returns-2 c = rw (← c .before .current-epoch .ensures) (total-after _ (c .before .before .before .slot-registry-tests .ensures) (c .before .before .if1 .left) (c .active-total .ensures))
 
 pub get-total-active-balance-spec : {M : Type 1} → statement M
 get-total-active-balance-spec =
@@ -28,5 +26,5 @@ get-total-active-balance-spec =
     slot-registry-tests-requires
     returns
     current-epoch-requires
-    total-active-requires
+    active-total-requires
     returns-2)

@@ -1,10 +1,7 @@
-use mathlib.Core.Path.{ap, refl}
-use Prim.Native.Nat.{max}
 use borrow.Author.Needs.{needs}
-use Rattle.types.specs.declared.Number.the-variants.{Value}
-use Rattle.definitions.specs.Checked.{value}
-use Rattle.definitions.specs.Rust.Phase0.Helpers.{«get_total_balance»}
-use Rattle.arithmetic.proofs.Laws.{next, stop, chain}
+use Rattle.arithmetic.proofs.Laws.{says-value, says-overflow}
+use Rattle.arithmetic.proofs.Operations.{only-sum64}
+use Rattle.totals.proofs.WithRaised.{total-of-sum, total-over}
 use Rattle.totals.proofs.members_total.Statement.{statement}
 use Rattle.totals.proofs.members_total.Tie as tie
 
@@ -18,15 +15,13 @@ enum-told : tie.Need-enum-told
 enum-told c = search needs
 
 returns : tie.Need-returns
-unfolding «get_total_balance»
-returns c = search (needs, chain)
+returns c = total-over _ _ (says-overflow (c .before .before .members-balance .ensures) (only-sum64 _) (c .enum-told .given .1) .0)
 
-raised-requires : tie.Need-raised-requires
-raised-requires c κs = search needs
+total-from-requires : tie.Need-total-from-requires
+total-from-requires c κs = search needs
 
 returns-2 : tie.Need-returns-2
-unfolding «get_total_balance»
-returns-2 c = next _ (c .before .before .before .before .members-balance .ensures) (c .before .before .sum .given .1) (record { is = ap Value (c .raised .ensures) })
+returns-2 c = total-of-sum _ _ (says-value (c .before .before .before .before .members-balance .ensures) (c .before .before .sum .given .1)) (c .total-from .ensures)
 
 pub members-total-spec : {M : Type 1} → statement M
 members-total-spec =
@@ -36,5 +31,5 @@ members-total-spec =
     enum-known-sum
     enum-told
     returns
-    raised-requires
+    total-from-requires
     returns-2)

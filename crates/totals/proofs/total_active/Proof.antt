@@ -1,14 +1,16 @@
-use Rattle.definitions.specs.Document.Phase0.Helpers.{«get_active_validator_indices»}
 use borrow.Author.Needs.{needs}
+use Rattle.totals.proofs.WithRaised.{says-balance}
 use Rattle.totals.proofs.total_active.Statement.{statement}
 use Rattle.totals.proofs.total_active.Tie as tie
 
-members-total-requires : tie.Need-members-total-requires
-members-total-requires c κs = search needs
+active-total-requires : tie.Need-active-total-requires
+active-total-requires c κs = search needs
+
+balance-of-requires : tie.Need-balance-of-requires
+balance-of-requires c κs = search needs
 
 returns : tie.Need-returns
-unfolding «get_active_validator_indices»
-returns c = c .members-total .ensures
+returns c = says-balance _ _ (c .before .active-total .ensures) (c .balance-of .ensures)
 
 pub total-active-spec : {M : Type 1} → statement M
-total-active-spec = tie.close (tie.spec members-total-requires returns)
+total-active-spec = tie.close (tie.spec active-total-requires balance-of-requires returns)

@@ -1,5 +1,5 @@
 use mathlib.Core.Path.{ap, _∙_}
-use Rattle.plain.specs.Plain.{plainNumber}
+use Rattle.plain.specs.Plain.{plainTotal}
 use borrow.Author.Needs.{needs}
 use Rattle.exports.proofs.phase0_helpers.altair_get_total_active_balance.Statement.{
   statement,
@@ -9,12 +9,12 @@ use Rattle.exports.proofs.phase0_helpers.altair_get_total_active_balanc
 get-total-active-balance-requires : tie.Need-get-total-active-balance-requires
 get-total-active-balance-requires c κs = search needs
 
-plain-number-requires : tie.Need-plain-number-requires
-plain-number-requires c κs = search needs
+plain-total-requires : tie.Need-plain-total-requires
+plain-total-requires c κs = search needs
 
 returns : tie.Need-returns
-returns c = c .plain-number .ensures ∙ ap plainNumber (c .before .get-total-active-balance .ensures .is)
+returns c = c .plain-total .ensures ∙ ap plainTotal (c .before .get-total-active-balance .ensures .is)
 
 pub altair-get-total-active-balance-spec : {M : Type 1} → statement M
 altair-get-total-active-balance-spec =
-    tie.close (tie.spec get-total-active-balance-requires plain-number-requires returns)
+    tie.close (tie.spec get-total-active-balance-requires plain-total-requires returns)

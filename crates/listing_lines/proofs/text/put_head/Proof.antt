@@ -22,6 +22,9 @@ slice-aggregate-put-row-5 c = search needs
 put-row-requires : tie.Need-put-row-requires
 put-row-requires c κs = search needs
 
+put-raised-requires : tie.Need-put-raised-requires
+put-raised-requires c κs = search needs
+
 put-end-requires : tie.Need-put-end-requires
 put-end-requires c κs = search needs
 
@@ -30,9 +33,11 @@ same-length c = search needs
 
 returns : tie.Need-returns
 returns c =
-    let p = c .before .before .before .before .before .before .put-row .ensures in
-    let q = c .before .before .put-end .ensures in
-    (put-more (p .0) q, omega (arith, p .1, q .stopped))
+    let k = c .before .before .before .before in
+    let p = k .before .before .before .before .before .before .put-row .ensures in
+    let q = k .before .before .put-raised .ensures in
+    let r = c .before .before .put-end .ensures in
+    (put-more (put-more (p .0) (q .0)) r, omega (arith, p .1, q .1, r .stopped))
 
 pub put-head-spec : {M : Type 1} → statement M
 put-head-spec =
@@ -44,6 +49,7 @@ put-head-spec =
     slice-aggregate-put-row-4
     slice-aggregate-put-row-5
     put-row-requires
+    put-raised-requires
     put-end-requires
     same-length
     returns)

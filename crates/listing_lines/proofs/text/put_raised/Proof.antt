@@ -1,0 +1,49 @@
+use native.Mathlib.Omega.{arith}
+use borrow.Author.Needs.{needs}
+use Rattle.decimals.proofs.Put.{put-more}
+use Rattle.listing_lines.proofs.text.put_raised.Statement.{statement}
+use Rattle.listing_lines.proofs.text.put_raised.Tie as tie
+
+slice-aggregate-put-labelled : tie.Need-slice-aggregate-put-labelled
+slice-aggregate-put-labelled c = search needs
+
+put-labelled-requires : tie.Need-put-labelled-requires
+put-labelled-requires c κs = search needs
+
+slice-aggregate-put-labelled-2 : tie.Need-slice-aggregate-put-labelled-2
+slice-aggregate-put-labelled-2 c = search needs
+
+put-labelled-requires-2 : tie.Need-put-labelled-requires-2
+put-labelled-requires-2 c κs = search needs
+
+slice-aggregate-put-labelled-3 : tie.Need-slice-aggregate-put-labelled-3
+slice-aggregate-put-labelled-3 c = search needs
+
+put-labelled-requires-3 : tie.Need-put-labelled-requires-3
+put-labelled-requires-3 c κs = search needs
+
+same-length : tie.Need-same-length
+same-length c = search needs
+
+returns : tie.Need-returns
+returns c =
+    let k1 : tie.After-put-labelled = search needs in
+    let k2 : tie.After-put-labelled2 = search needs in
+    let k3 : tie.After-put-labelled3 = search needs in
+    let p1 = k1 .put-labelled .ensures in
+    let p2 = k2 .put-labelled2 .ensures in
+    let p3 = k3 .put-labelled3 .ensures in
+    (put-more (put-more (p1 .0) (p2 .0)) (p3 .0), omega (arith, p1 .1, p2 .1, p3 .1))
+
+pub put-raised-spec : {M : Type 1} → statement M
+put-raised-spec =
+    tie.close
+    (tie.spec
+    slice-aggregate-put-labelled
+    put-labelled-requires
+    slice-aggregate-put-labelled-2
+    put-labelled-requires-2
+    slice-aggregate-put-labelled-3
+    put-labelled-requires-3
+    same-length
+    returns)

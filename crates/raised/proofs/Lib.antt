@@ -1,0 +1,3 @@
+-- Laws of the raised totals.
+pub mod Three
+pub mod Answered

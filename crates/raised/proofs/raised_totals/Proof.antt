@@ -1,0 +1,47 @@
+use mathlib.Core.Path.{_∙_}
+use Prim.Native.Nat.{_^_, _<_}
+use native.Mathlib.Omega.{arith}
+use borrow.Author.Needs.{needs}
+use Rattle.raised.proofs.Three.{three-raised, three-totals}
+use Rattle.raised.proofs.raised_totals.Statement.{statement}
+use Rattle.raised.proofs.raised_totals.Tie as tie
+
+small : (c : tie.Start) → c .args .s .«effective_balance_increment» < 2 ^ 64
+small c = omega arith
+
+current-epoch-requires : tie.Need-current-epoch-requires
+current-epoch-requires c κs = search needs
+
+previous-epoch-requires : tie.Need-previous-epoch-requires
+previous-epoch-requires c κs = search needs
+
+active-total-requires : tie.Need-active-total-requires
+active-total-requires c κs = search needs
+
+participating-total-requires : tie.Need-participating-total-requires
+participating-total-requires c κs = search needs
+
+participating-total-requires-2 : tie.Need-participating-total-requires-2
+participating-total-requires-2 c κs = search needs
+
+raised-of-requires : tie.Need-raised-of-requires
+raised-of-requires c κs = search needs
+
+returns : tie.Need-returns
+returns c =
+    let p = c .before .before .before .before in
+    let a = p .before .before .before .args in
+    let now = p .before .current-epoch .ensures in
+    c .raised-of .ensures ∙ three-raised (a .s) (small (p .before .before .before)) (a .state-slot) _ now (three-totals (a .s) (a .state-slot) _ now (p .previous-epoch .ensures) (c .before .before .before .active-total .ensures) (c .before .before .participating-total .ensures) (c .before .participating-total2 .ensures))
+
+pub raised-totals-spec : {M : Type 1} → statement M
+raised-totals-spec =
+    tie.close
+    (tie.spec
+    current-epoch-requires
+    previous-epoch-requires
+    active-total-requires
+    participating-total-requires
+    participating-total-requires-2
+    raised-of-requires
+    returns)

@@ -1,0 +1,2 @@
+-- What the contracts of the raised totals cite.
+pub mod Flags
