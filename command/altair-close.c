@@ -23,8 +23,8 @@ static const char help[] =
     "\n"
     "Closes the epoch of a record file ('-' is standard input) and prints the listing: epoch, justified and finalized "
     "epoch,\n"
-    "bits and charged; then for each validator its index, opening and closing balance, effective balance and score "
-    "after,\n"
+    "bits, charged, and whether the active, previous and current total was raised, 1 or 0 each; then for each validator\n"
+    "its index, opening and closing balance, effective balance and score after,\n"
     "and its net change, closing minus opening.\n"
     "\n"
     "  --json        the listing as one JSON object; numbers are whole, up to 2^64 - 1; a loss has a minus sign\n"
@@ -153,8 +153,9 @@ typedef struct form {
 
 static void listing_first(const altair_head *head, size_t validators) {
     (void)validators;
-    printf("epoch " U64 " justified " U64 " finalized " U64 " bits " U64 " charged " U64 "\n", head->epoch,
-           head->justified_epoch, head->finalized_epoch, head->justification_bits, head->charged);
+    printf("epoch " U64 " justified " U64 " finalized " U64 " bits " U64 " charged " U64 " " U64 " " U64 " " U64 "\n",
+           head->epoch, head->justified_epoch, head->finalized_epoch, head->justification_bits, head->charged,
+           head->raised.active, head->raised.previous, head->raised.current);
 }
 
 static void listing_line(const altair_head *head, const altair_line *line) {
@@ -166,8 +167,10 @@ static void listing_line(const altair_head *head, const altair_line *line) {
 static void json_first(const altair_head *head, size_t validators) {
     (void)validators;
     printf("{\"epoch\": " U64 ", \"justified_epoch\": " U64 ", \"finalized_epoch\": " U64
-           ", \"justification_bits\": " U64 ", \"charged\": " U64 ",\n \"validators\": [",
-           head->epoch, head->justified_epoch, head->finalized_epoch, head->justification_bits, head->charged);
+           ", \"justification_bits\": " U64 ", \"charged\": " U64 ",\n \"raised_active\": " U64
+           ", \"raised_previous\": " U64 ", \"raised_current\": " U64 ",\n \"validators\": [",
+           head->epoch, head->justified_epoch, head->finalized_epoch, head->justification_bits, head->charged,
+           head->raised.active, head->raised.previous, head->raised.current);
 }
 
 static void json_line(const altair_head *head, const altair_line *line) {
@@ -179,14 +182,15 @@ static void json_line(const altair_head *head, const altair_line *line) {
 }
 
 static void csv_epoch(const altair_head *head) {
-    printf(U64 "," U64 "," U64 "," U64 "," U64 ",", head->epoch, head->justified_epoch, head->finalized_epoch,
-           head->justification_bits, head->charged);
+    printf(U64 "," U64 "," U64 "," U64 "," U64 "," U64 "," U64 "," U64 ",", head->epoch, head->justified_epoch,
+           head->finalized_epoch, head->justification_bits, head->charged, head->raised.active, head->raised.previous,
+           head->raised.current);
 }
 
 /* with no validators one line stands for the epoch, and the validator's columns are empty */
 static void csv_first(const altair_head *head, size_t validators) {
-    puts("epoch,justified_epoch,finalized_epoch,justification_bits,charged,index,opening_balance,closing_balance,"
-         "effective_balance,inactivity_score,net_change");
+    puts("epoch,justified_epoch,finalized_epoch,justification_bits,charged,raised_active,raised_previous,raised_current,"
+         "index,opening_balance,closing_balance,effective_balance,inactivity_score,net_change");
     if (validators == 0) {
         csv_epoch(head);
         puts(",,,,,");
@@ -283,7 +287,7 @@ static int close_record(const char *path, const form *as, const char *target) {
 
     uint64_t *closing = room(r.numbers, sizeof *closing);
     uint64_t *closing_slashings = room(r.slashings_length, sizeof *closing_slashings);
-    const altair_finality_answer closed =
+    const altair_close_answer closed =
         altair_close(r.settings, r.finality, r.registry, r.numbers, r.slashings, r.slashings_length, r.roots,
                      r.roots_length, closing, r.numbers, closing_slashings, r.slashings_length);
     if (closed.refusal != 0)

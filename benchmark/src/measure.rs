@@ -110,7 +110,8 @@ impl Buffers {
 
     pub fn closed(&mut self, r: &Record) -> Result<types::Finality, Refusal> {
         let (registry, slashings) = (&mut self.registry[..], &mut self.slashings[..]);
-        altair_close::close(&self.settings, &self.finality, &r.registry, &r.slashings, &r.roots, registry, slashings)
+        let (s, f) = (&self.settings, &self.finality);
+        altair_close::close(s, f, &r.registry, &r.slashings, &r.roots, registry, slashings).map(|closed| closed.finality)
     }
 
     fn plain(&mut self, r: &Record) -> Duration {

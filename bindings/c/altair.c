@@ -64,13 +64,13 @@ static int apart(const lent *buffers, size_t count) {
     return 1;
 }
 
-altair_finality_answer altair_checked_close(altair_settings settings, altair_finality finality, const uint64_t *registry,
-                                            size_t registry_length, const uint64_t *slashings, size_t slashings_length,
-                                            const uint8_t *roots, size_t roots_length, uint64_t *closing_registry,
-                                            size_t closing_registry_length, uint64_t *closing_slashings,
-                                            size_t closing_slashings_length) {
+altair_close_answer altair_checked_close(altair_settings settings, altair_finality finality, const uint64_t *registry,
+                                         size_t registry_length, const uint64_t *slashings, size_t slashings_length,
+                                         const uint8_t *roots, size_t roots_length, uint64_t *closing_registry,
+                                         size_t closing_registry_length, uint64_t *closing_slashings,
+                                         size_t closing_slashings_length) {
     if (!APART(READ(registry), READ(slashings), READ(roots), WRITTEN(closing_registry), WRITTEN(closing_slashings)))
-        return (altair_finality_answer){ALTAIR_BAD_SHAPE, finality};
+        return (altair_close_answer){ALTAIR_BAD_SHAPE, finality, {0, 0, 0}};
     return altair_close(settings, finality, registry, registry_length, slashings, slashings_length, roots, roots_length,
                         closing_registry, closing_registry_length, closing_slashings, closing_slashings_length);
 }

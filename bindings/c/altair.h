@@ -45,7 +45,7 @@ extern "C" {
 #endif
 
 /* The number of this interface. altair_version() answers the number of the library that was linked. */
-#define ALTAIR_VERSION 1
+#define ALTAIR_VERSION 2
 
 /* 2^64 - 1, which means none: the activation epoch of one that is not activated, the exit epoch of one that does not leave. */
 #define ALTAIR_FAR_FUTURE_EPOCH UINT64_MAX
@@ -147,6 +147,28 @@ typedef struct altair_finality_answer {
     altair_finality finality;
 } altair_finality_answer;
 
+/* Which totals were raised to one increment, since their plain sum was below it: of the active, and of those that hit the target of
+ * the previous and of the current epoch. 1 or 0 each; none up to epoch 1 and on refusal. */
+typedef struct altair_raised {
+    uint64_t active;
+    uint64_t previous;
+    uint64_t current;
+} altair_raised;
+
+/* The finality after the call and which totals were raised, or the refusal and the finality that was handed in. */
+typedef struct altair_close_answer {
+    uint64_t refusal;
+    altair_finality finality;
+    altair_raised raised;
+} altair_close_answer;
+
+/* A total balance; raised is 1 where its plain sum was below one increment, so that the total was raised to it, and else 0. */
+typedef struct altair_total_answer {
+    uint64_t refusal;
+    uint64_t balance;
+    uint64_t raised;
+} altair_total_answer;
+
 typedef struct altair_number_answer {
     uint64_t refusal;
     uint64_t value;
@@ -201,6 +223,7 @@ typedef struct altair_head {
     uint64_t finalized_epoch;
     uint64_t justification_bits;
     uint64_t charged;
+    altair_raised raised;
 } altair_head;
 
 /* The numbers of one validator's line: effective balance and score are those after the close, net_change is closing minus opening
@@ -242,13 +265,13 @@ uint64_t altair_version(void);
 
 /* -- The close -------------------------------------------------------------------------------------------------------- */
 
-/* Answers the closed record's finality, or 1 to 5 and the finality handed in.
+/* Answers the closed record's finality and which totals were raised, or 1 to 5 and the finality handed in.
  * Closing buffers hold the closed record; after 1, 2 and 3 what they held before, after 4 and 5 the opening's numbers. */
-altair_finality_answer altair_close(altair_settings settings, altair_finality finality, const uint64_t *registry,
-                                    size_t registry_length, const uint64_t *slashings, size_t slashings_length,
-                                    const uint8_t *roots, size_t roots_length, uint64_t *closing_registry,
-                                    size_t closing_registry_length, uint64_t *closing_slashings,
-                                    size_t closing_slashings_length);
+altair_close_answer altair_close(altair_settings settings, altair_finality finality, const uint64_t *registry,
+                                 size_t registry_length, const uint64_t *slashings, size_t slashings_length,
+                                 const uint8_t *roots, size_t roots_length, uint64_t *closing_registry,
+                                 size_t closing_registry_length, uint64_t *closing_slashings,
+                                 size_t closing_slashings_length);
 
 /* Answers how many validators of the opening registry are charged: active in the previous epoch, or slashed with the previous
  * epoch + 1 below the withdrawable epoch; nobody at epoch 0. Or 1, 2 or 3. The registry is read. */
@@ -291,11 +314,11 @@ uint64_t altair_write_file(altair_settings settings, altair_finality finality, c
 
 /* -- The eight steps, in the order of the close ------------------------------------------------------------------------ */
 
-/* Answers the finality after justification, or 1 to 5 and the finality handed in.
+/* Answers the finality after justification and which totals were raised, or 1 to 5 and the finality handed in.
  * Roots and registry are read. */
-altair_finality_answer altair_process_justification_and_finalization(altair_settings settings, const uint8_t *roots,
-                                                                     size_t roots_length, altair_finality finality,
-                                                                     const uint64_t *registry, size_t registry_length);
+altair_close_answer altair_process_justification_and_finalization(altair_settings settings, const uint8_t *roots,
+                                                                  size_t roots_length, altair_finality finality,
+                                                                  const uint64_t *registry, size_t registry_length);
 
 /* Answers 0, or 1, 2, 3 or 5.
  * closing holds the registry with the new scores; after 1, 2 and 3 what it held before, after 5 the opening's numbers. */
@@ -458,15 +481,15 @@ altair_root_answer altair_get_block_root(altair_settings settings, const uint8_t
 
 /* -- The registry ------------------------------------------------------------------------------------------------------ */
 
-/* Answers the effective balance of all that are active, at least one increment; or 1, 2, 3 or 5.
+/* Answers the effective balance of all that are active, at least one increment, and whether it was raised to it; or 1, 2, 3 or 5.
  * The registry is read. */
-altair_number_answer altair_get_total_active_balance(altair_settings settings, uint64_t state_slot,
-                                                     const uint64_t *registry, size_t registry_length);
+altair_total_answer altair_get_total_active_balance(altair_settings settings, uint64_t state_slot,
+                                                    const uint64_t *registry, size_t registry_length);
 
 /* Answers that of the unslashed participants of a flag (0 to 2) in the previous or current epoch; or 1, 2, 3 or 5.
  * The registry is read. */
-altair_number_answer altair_get_participating_balance(altair_settings settings, uint64_t state_slot, uint64_t flag_index,
-                                                      uint64_t epoch, const uint64_t *registry, size_t registry_length);
+altair_total_answer altair_get_participating_balance(altair_settings settings, uint64_t state_slot, uint64_t flag_index,
+                                                     uint64_t epoch, const uint64_t *registry, size_t registry_length);
 
 /* Answers how many may enter or leave in an epoch, or 1, 2 or 3.
  * The registry is read. */
@@ -540,11 +563,11 @@ const altair_settings *altair_preset(const char *name);
 /* The calls above that write one buffer beside others, refused with 1 before any other test where a buffer that is written
  * overlaps another, or one that is not empty is NULL, not aligned or beyond the address space. Nothing is then written: the
  * finality handed in comes back, and of a file zeros. Else each is the function that it is named after. */
-altair_finality_answer altair_checked_close(altair_settings settings, altair_finality finality,
-                                            const uint64_t *registry, size_t registry_length, const uint64_t *slashings,
-                                            size_t slashings_length, const uint8_t *roots, size_t roots_length,
-                                            uint64_t *closing_registry, size_t closing_registry_length,
-                                            uint64_t *closing_slashings, size_t closing_slashings_length);
+altair_close_answer altair_checked_close(altair_settings settings, altair_finality finality, const uint64_t *registry,
+                                         size_t registry_length, const uint64_t *slashings, size_t slashings_length,
+                                         const uint8_t *roots, size_t roots_length, uint64_t *closing_registry,
+                                         size_t closing_registry_length, uint64_t *closing_slashings,
+                                         size_t closing_slashings_length);
 
 altair_read_answer altair_checked_read_file(const uint8_t *file, size_t file_length, uint64_t *registry,
                                             size_t registry_length, uint64_t *slashings, size_t slashings_length);

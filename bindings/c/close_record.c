@@ -72,7 +72,7 @@ int main(void) {
         return refused(record.refusal);
 
     const uint8_t *roots = file + ALTAIR_ROOTS_AT(header.validators);
-    altair_finality_answer closed =
+    altair_close_answer closed =
         altair_close(record.settings, record.finality, registry, numbers, slashings, slashings_length, roots,
                      32 * header.roots, closing, numbers, closing_slashings, slashings_length);
     if (closed.refusal != 0)
@@ -86,8 +86,9 @@ int main(void) {
     }
     altair_head head =
         altair_listing_head(record.settings, record.finality.slot, closed.finality, registry, numbers);
-    printf("epoch %" PRIu64 " justified %" PRIu64 " finalized %" PRIu64 " bits %" PRIu64 " charged %" PRIu64 "\n",
-           head.epoch, head.justified_epoch, head.finalized_epoch, head.justification_bits, head.charged);
+    printf("epoch %" PRIu64 " justified %" PRIu64 " finalized %" PRIu64 " bits %" PRIu64 " charged %" PRIu64, head.epoch,
+           head.justified_epoch, head.finalized_epoch, head.justification_bits, head.charged);
+    printf(" %" PRIu64 " %" PRIu64 " %" PRIu64 "\n", head.raised.active, head.raised.previous, head.raised.current);
     for (uint64_t i = 0; i < header.validators; i++) {
         altair_line line = altair_listing_line(registry, numbers, closing, numbers, i);
         printf("%" PRIu64 " %" PRIu64 " %" PRIu64 " %" PRIu64 " %" PRIu64 " %" PRId64 "\n", line.index,

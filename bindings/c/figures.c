@@ -32,6 +32,19 @@ static void same(uint64_t got, uint64_t wanted, const char *what, int line) {
         SAME((answer).refusal, 0);                                                                                     \
         SAME((answer).value, (wanted));                                                                                \
     } while (0)
+/* a total, and whether it was raised */
+#define TOTAL(answer, wanted, was_raised)                                                                              \
+    do {                                                                                                               \
+        SAME((answer).refusal, 0);                                                                                     \
+        SAME((answer).balance, (wanted));                                                                              \
+        SAME((answer).raised, (was_raised));                                                                           \
+    } while (0)
+#define RAISED(answer, a, b, c)                                                                                        \
+    do {                                                                                                               \
+        SAME((answer).raised.active, (a));                                                                             \
+        SAME((answer).raised.previous, (b));                                                                           \
+        SAME((answer).raised.current, (c));                                                                            \
+    } while (0)
 #define REFUSED(answer, number)                                                                                        \
     do {                                                                                                               \
         SAME((answer).refusal, (number));                                                                              \
@@ -214,9 +227,15 @@ static void the_registry(void) {
     registry[45] = 3;
     VALUE(altair_charged(mainnet, 127, registry, FIVE), 4);
     fill(registry, 5);
-    VALUE(altair_get_total_active_balance(mainnet, 127, registry, FIVE), 160 * ETH);
-    VALUE(altair_get_total_active_balance(mainnet, 127, registry, 0), ETH);
-    VALUE(altair_get_participating_balance(mainnet, 127, 1, 2, registry, FIVE), 160 * ETH);
+    TOTAL(altair_get_total_active_balance(mainnet, 127, registry, FIVE), 160 * ETH, 0);
+    TOTAL(altair_get_total_active_balance(mainnet, 127, registry, 0), ETH, 1); /* a total of nobody is raised */
+    registry[ALTAIR_EFFECTIVE_BALANCE] = ETH;
+    TOTAL(altair_get_total_active_balance(mainnet, 127, registry, ENTRY), ETH, 0); /* a sum equal to it is not */
+    registry[ALTAIR_EFFECTIVE_BALANCE] = ETH - 1;
+    TOTAL(altair_get_total_active_balance(mainnet, 127, registry, ENTRY), ETH, 1);
+    fill(registry, 5);
+    TOTAL(altair_get_participating_balance(mainnet, 127, 1, 2, registry, FIVE), 160 * ETH, 0);
+    TOTAL(altair_get_participating_balance(mainnet, 127, 1, 3, registry, 0), ETH, 1);
     VALUE(altair_get_validator_churn_limit(mainnet, 127, registry, FIVE), 4);
     VALUE(altair_get_base_reward_per_increment(mainnet, 160 * ETH), 160000);
     altair_deltas_answer d = altair_get_flag_index_deltas(mainnet, 127, 1, 1, 4, registry, FIVE);
@@ -242,10 +261,17 @@ static void the_steps(void) {
     fill(opening, 5);
 
     altair_finality f = finality_at(127);
-    altair_finality_answer justified =
+    altair_close_answer justified =
         altair_process_justification_and_finalization(mainnet, roots, sizeof roots, f, opening, FIVE);
     SAME(justified.refusal, 0), SAME(justified.finality.justification_bits, 3);
     SAME(justified.finality.current_justified_checkpoint.epoch, 3);
+    RAISED(justified, 0, 0, 0);
+    /* of no validators all three are raised, but neither up to epoch 1 nor on refusal: at an epoch's first slot its root is wanted */
+    RAISED(altair_process_justification_and_finalization(mainnet, roots, sizeof roots, f, opening, 0), 1, 1, 1);
+    RAISED(altair_process_justification_and_finalization(mainnet, roots, sizeof roots, finality_at(63), opening, 0), 0, 0, 0);
+    justified = altair_process_justification_and_finalization(mainnet, roots, sizeof roots, finality_at(96), opening, 0);
+    SAME(justified.refusal, 4);
+    RAISED(justified, 0, 0, 0);
 
     opening[ALTAIR_INACTIVITY_SCORE] = 10;
     SAME(altair_process_inactivity_updates(mainnet, 127, 1, opening, FIVE, closing, FIVE), 0);
@@ -325,13 +351,21 @@ static void the_file(void) {
     SAME(memcmp(&read.finality, &f, sizeof f), 0), SAME(memcmp(back, registry, sizeof back), 0);
     SAME(memcmp(slashings_back, slashings, sizeof slashings), 0);
 
-    altair_finality_answer closed = altair_close(s, f, registry, FIVE, slashings, 64, roots, sizeof roots, closing, FIVE,
-                                                 slashings_back, 64);
+    altair_close_answer closed =
+        altair_close(s, f, registry, FIVE, slashings, 64, roots, sizeof roots, closing, FIVE, slashings_back, 64);
     SAME(closed.refusal, 0), SAME(closed.finality.finalized_checkpoint.epoch, 2);
     SAME(closing[ALTAIR_BALANCE], 32 * ETH + 1120000 + 2080000 + 1120000);
     altair_head head = altair_listing_head(s, 31, closed.finality, registry, FIVE);
     SAME(head.refusal, 0), SAME(head.epoch, 3), SAME(head.justified_epoch, 3), SAME(head.finalized_epoch, 2);
     SAME(head.justification_bits, 7), SAME(head.charged, 5);
+    RAISED(closed, 0, 0, 0);
+    RAISED(head, 0, 0, 0);
+    /* nobody hits the current epoch's target */
+    for (size_t i = 0; i < 5; i++)
+        registry[ENTRY * i + ALTAIR_CURRENT_EPOCH_PARTICIPATION] = 0;
+    closed = altair_close(s, f, registry, FIVE, slashings, 64, roots, sizeof roots, closing, FIVE, slashings_back, 64);
+    RAISED(closed, 0, 0, 1);
+    RAISED(altair_listing_head(s, 31, closed.finality, registry, FIVE), 0, 0, 1);
     registry[ENTRY * 4 + ALTAIR_BALANCE] = 6, closing[ENTRY * 4 + ALTAIR_BALANCE] = 7;
     closing[ENTRY * 4 + ALTAIR_EFFECTIVE_BALANCE] = 8, closing[ENTRY * 4 + ALTAIR_INACTIVITY_SCORE] = 9;
     altair_line line = altair_listing_line(registry, FIVE, closing, FIVE, 4);

@@ -2,7 +2,7 @@
 use crate::{
     convert,
     library::answered,
-    raw::{self, DeltasAnswer, NumberAnswer, RootAnswer, TruthAnswer},
+    raw::{self, DeltasAnswer, NumberAnswer, RootAnswer, TotalAnswer, TruthAnswer},
 };
 use reference::{
     calls::{finality_words, root_words, Answer, Case, Leaf},
@@ -52,6 +52,7 @@ fn words(leaf: Leaf) -> usize {
     match leaf {
         Leaf::GetBlockRootAtSlot | Leaf::GetBlockRoot => 4,
         Leaf::GetFlagIndexDeltas | Leaf::GetInactivityPenaltyDeltas => 2,
+        Leaf::GetTotalActiveBalance | Leaf::GetParticipatingBalance => 2,
         _ => 1,
     }
 }
@@ -59,6 +60,12 @@ fn words(leaf: Leaf) -> usize {
 impl From<NumberAnswer> for Answer {
     fn from(n: NumberAnswer) -> Self {
         Answer { refusal: n.refusal, words: vec![n.value] }
+    }
+}
+
+impl From<TotalAnswer> for Answer {
+    fn from(t: TotalAnswer) -> Self {
+        Answer { refusal: t.refusal, words: vec![t.balance, t.raised] }
     }
 }
 

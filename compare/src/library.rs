@@ -1,13 +1,18 @@
 //! The library by the declarations of bindings/rust, whose safe functions leave out what stands beside a refusal.
 use crate::{
     convert,
-    raw::{self, FinalityAnswer},
+    raw::{self, CloseAnswer, FinalityAnswer},
     record::{Finality, Settings},
 };
 
 /// 0 or the refusal's number, and the finality that comes back.
 pub fn answered(a: FinalityAnswer) -> (u64, Finality) {
     (a.refusal, convert::plain(&a.finality))
+}
+
+/// The same, and which totals were raised.
+pub fn closed(a: CloseAnswer) -> (u64, Finality, [u64; 3]) {
+    (a.refusal, convert::plain(&a.finality), [a.raised.active, a.raised.previous, a.raised.current])
 }
 
 pub fn close(
@@ -18,8 +23,8 @@ pub fn close(
     roots: &[u8],
     closing_registry: &mut [u64],
     closing_slashings: &mut [u64],
-) -> (u64, Finality) {
-    answered(unsafe {
+) -> (u64, Finality, [u64; 3]) {
+    closed(unsafe {
         raw::altair_close(
             convert::settings(s),
             convert::finality(f),
@@ -37,8 +42,8 @@ pub fn close(
     })
 }
 
-pub fn justification(s: &Settings, f: &Finality, roots: &[u8], registry: &[u64]) -> (u64, Finality) {
-    answered(unsafe {
+pub fn justification(s: &Settings, f: &Finality, roots: &[u8], registry: &[u64]) -> (u64, Finality, [u64; 3]) {
+    closed(unsafe {
         raw::altair_process_justification_and_finalization(
             convert::settings(s),
             roots.as_ptr(),

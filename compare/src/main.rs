@@ -205,7 +205,7 @@ impl Counts {
                 self.report.closes[kind].count(rust.refusal);
                 closed = (rust.refusal == 0).then(|| rust.registry.clone());
             }
-            self.numbers += (18 + rust.registry.len() + rust.slashings.len()) as u64;
+            self.numbers += (21 + rust.registry.len() + rust.slashings.len()) as u64;
             if operation == Operation::Registry {
                 self.stops(rng, &call, &rust)?;
             }

@@ -50,18 +50,18 @@ pub fn outcome(c: &Call, operation: Operation) -> Outcome {
     let mut registry = Watched::around(&c.closing_registry);
     let mut slashings = Watched::around(&c.closing_slashings);
     let closing = registry.lent();
-    let (refusal, finality) = match operation {
+    let (refusal, finality, raised) = match operation {
         Operation::Close => library::close(s, f, opening, &r.slashings, &r.roots, closing, slashings.lent()),
         Operation::Justification => library::justification(s, f, &r.roots, opening),
-        Operation::Inactivity => (library::inactivity(s, slot, finalized, opening, closing), *f),
-        Operation::Rewards => (library::rewards(s, slot, finalized, opening, closing), *f),
-        Operation::Registry => (library::registry(s, slot, finalized, opening, closing), *f),
-        Operation::Slashings => (library::slashings(s, slot, &r.slashings, opening, closing), *f),
-        Operation::EffectiveBalances => (library::effective_balances(s, opening, closing), *f),
-        Operation::SlashingsReset => (library::slashings_reset(s, slot, &r.slashings, slashings.lent()), *f),
-        Operation::ParticipationFlags => (library::participation_flags(opening, closing), *f),
+        Operation::Inactivity => (library::inactivity(s, slot, finalized, opening, closing), *f, [0; 3]),
+        Operation::Rewards => (library::rewards(s, slot, finalized, opening, closing), *f, [0; 3]),
+        Operation::Registry => (library::registry(s, slot, finalized, opening, closing), *f, [0; 3]),
+        Operation::Slashings => (library::slashings(s, slot, &r.slashings, opening, closing), *f, [0; 3]),
+        Operation::EffectiveBalances => (library::effective_balances(s, opening, closing), *f, [0; 3]),
+        Operation::SlashingsReset => (library::slashings_reset(s, slot, &r.slashings, slashings.lent()), *f, [0; 3]),
+        Operation::ParticipationFlags => (library::participation_flags(opening, closing), *f, [0; 3]),
     };
-    Outcome { refusal, finality, registry: registry.after(), slashings: slashings.after() }
+    Outcome { refusal, finality, raised, registry: registry.after(), slashings: slashings.after() }
 }
 
 /// The stops that are tried: every one of a small record and the one behind them all, a few of a large one.

@@ -61,6 +61,8 @@ pub struct Call {
 pub struct Outcome {
     pub refusal: u64,
     pub finality: Finality,
+    /// of justification and of the close: which totals were raised
+    pub raised: [u64; 3],
     pub registry: Vec<u64>,
     pub slashings: Vec<u64>,
 }
@@ -161,8 +163,8 @@ leaves! {
     IsInInactivityLeak 14 "is_in_inactivity_leak" 1 0 0 [StateSlot, FinalizedEpoch] Nothing "0 or 1" [1, 2, 3, 5]
     GetBlockRootAtSlot 15 "get_block_root_at_slot" 1 1 0 [StateSlot, Slot] Nothing "root" [1, 2, 3, 4]
     GetBlockRoot 16 "get_block_root" 1 1 0 [StateSlot, Epoch] Nothing "root" [1, 2, 3, 4, 5]
-    GetTotalActiveBalance 17 "get_total_active_balance" 1 0 0 [StateSlot] Registry "total" [1, 2, 3, 5]
-    GetParticipatingBalance 18 "get_participating_balance" 1 0 0 [StateSlot, FlagIndex, ParticipationEpoch] Registry "total" [1, 2, 3, 5]
+    GetTotalActiveBalance 17 "get_total_active_balance" 1 0 0 [StateSlot] Registry "total, raised" [1, 2, 3, 5]
+    GetParticipatingBalance 18 "get_participating_balance" 1 0 0 [StateSlot, FlagIndex, ParticipationEpoch] Registry "total, raised" [1, 2, 3, 5]
     GetValidatorChurnLimit 19 "get_validator_churn_limit" 1 0 0 [StateSlot] Registry "limit" [1, 2, 3]
     Charged 20 "charged" 1 0 0 [StateSlot] Registry "count" [1, 2, 3]
     IncreaseBalance 21 "increase_balance" 0 0 0 [Amount] Entry "balance" [1, 3, 5]

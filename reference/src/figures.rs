@@ -81,7 +81,7 @@ pub fn example() -> Record {
 }
 
 const LISTING: &str = "\
-epoch 3 justified 3 finalized 2 bits 7 charged 5
+epoch 3 justified 3 finalized 2 bits 7 charged 5 0 0 0
 0 32000000000 32003456000 32000000000 0 3456000
 1 32000000000 32003456000 32000000000 0 3456000
 2 32000000000 32003456000 32000000000 0 3456000
@@ -89,7 +89,7 @@ epoch 3 justified 3 finalized 2 bits 7 charged 5
 4 32000000000 31996800000 32000000000 0 -3200000
 ";
 
-/// The close in the words of 01's listing program, with 02's net change; only `refused 7` where one does not fit.
+/// The close in the words of 01's listing program, with 02's net change and raised totals; only `refused 7` where one does not fit.
 pub fn listing(record: &Record) -> String {
     let out = run(record, Operation::Close);
     if out.refusal != 0 {
@@ -97,8 +97,9 @@ pub fn listing(record: &Record) -> String {
     }
     let charged = ask(Leaf::Charged, &record.settings, &[record.finality.slot], &record.registry).map_or(0, |w| w[0]);
     let (f, epoch) = (&out.finality, record.finality.slot / record.settings[at::SLOTS_PER_EPOCH]);
+    let [active, previous, current] = out.raised;
     let mut text = format!(
-        "epoch {epoch} justified {} finalized {} bits {} charged {charged}\n",
+        "epoch {epoch} justified {} finalized {} bits {} charged {charged} {active} {previous} {current}\n",
         f.current.epoch, f.finalized.epoch, f.bits
     );
     for (i, (before, after)) in record.registry.chunks(10).zip(out.registry.chunks(10)).enumerate() {

@@ -11,6 +11,7 @@ use crate::{
     altair,
     calls::{steps, Call, Case, Operation, Outcome},
     error::Error,
+    raised,
     record::{at, Finality, Record, Settings},
     refusals,
     state_transition::Context,
@@ -115,6 +116,7 @@ pub fn outcome(c: &Call, operation: Operation) -> Outcome {
     let mut out = Outcome {
         refusal: refusals::operation(c, operation),
         finality: r.finality,
+        raised: [0; 3],
         registry: c.closing_registry.clone(),
         slashings: c.closing_slashings.clone(),
     };
@@ -134,6 +136,9 @@ pub fn outcome(c: &Call, operation: Operation) -> Outcome {
     };
     if roots {
         out.finality = after.0;
+    }
+    if roots && out.refusal == 0 {
+        out.raised = raised::totals(&r.settings, r.finality.slot, &r.registry);
     }
     if operation.writes_registry() {
         out.registry = after.1;

@@ -38,6 +38,7 @@ pub mod figures;
 pub mod generate;
 pub mod generate_leaves;
 pub mod judge;
+pub mod raised;
 pub mod random;
 pub mod record;
 pub mod refusals;

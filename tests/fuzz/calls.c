@@ -15,7 +15,7 @@
 /*      function, what it answers, buffers, numbers that are tested, refusals after the tests; arguments */
 #define FUNCTIONS(X)                                                                                                   \
     X(version, ITSELF, uint64_t, "", "", "")                                                                           \
-    X(close, FINALITY, altair_finality_answer, "RSB>RS", "sf", "45", c->s, c->f, IN(0), IN(1), IN(2), OUT(0), OUT(1))  \
+    X(close, FINALITY, altair_close_answer, "RSB>RS", "sf", "45", c->s, c->f, IN(0), IN(1), IN(2), OUT(0), OUT(1))     \
     X(charged, VALUES, altair_number_answer, "R", "st", "", c->s, c->slot, IN(0))                                      \
     X(listing_head, VALUES, altair_head, "R", "stf", "", c->s, c->slot, c->f, IN(0))                                   \
     X(listing_line, VALUES, altair_line, "PQ", "i", "7", IN(0), IN(1), c->index)                                       \
@@ -23,7 +23,7 @@
     X(read_header, VALUES, altair_header, "F", "", "", IN(0))                                                          \
     X(read_file, READ, altair_read_answer, "F>RS", "", "", IN(0), OUT(0), OUT(1))                                      \
     X(write_file, NUMBER, uint64_t, "RBS>F", "sf", "", c->s, c->f, IN(0), IN(1), IN(2), OUT(0))                        \
-    X(process_justification_and_finalization, FINALITY, altair_finality_answer, "BR", "sf", "45", c->s, IN(0), c->f,   \
+    X(process_justification_and_finalization, FINALITY, altair_close_answer, "BR", "sf", "45", c->s, IN(0), c->f,      \
       IN(1))                                                                                                           \
     X(process_inactivity_updates, NUMBER, uint64_t, "R>R", "stz", "5", c->s, c->slot, c->finalized, IN(0), OUT(0))     \
     X(process_rewards_and_penalties, NUMBER, uint64_t, "R>R", "stz", "5", c->s, c->slot, c->finalized, IN(0), OUT(0))  \
@@ -59,8 +59,8 @@
       c->epoch, IN(0))                                                                                                 \
     X(get_block_root_at_slot, VALUES, altair_root_answer, "B", "st", "4", c->s, IN(0), c->slot, c->number)             \
     X(get_block_root, VALUES, altair_root_answer, "B", "st", "45", c->s, IN(0), c->slot, c->epoch)                     \
-    X(get_total_active_balance, VALUES, altair_number_answer, "R", "st", "5", c->s, c->slot, IN(0))                    \
-    X(get_participating_balance, VALUES, altair_number_answer, "R", "stge", "5", c->s, c->slot, c->flag_index,         \
+    X(get_total_active_balance, VALUES, altair_total_answer, "R", "st", "5", c->s, c->slot, IN(0))                     \
+    X(get_participating_balance, VALUES, altair_total_answer, "R", "stge", "5", c->s, c->slot, c->flag_index,          \
       c->epoch, IN(0))                                                                                                 \
     X(get_validator_churn_limit, VALUES, altair_number_answer, "R", "st", "", c->s, c->slot, IN(0))                    \
     X(initiate_validator_exit, NUMBER, uint64_t, ">r", "sti", "5", c->s, c->slot, c->index, OUT(0))                    \
@@ -75,7 +75,7 @@
       c->totals[0], c->totals[1], c->totals[2])                                                                        \
     X(unknown_votes, VALUES, altair_votes_answer, "BRM", "sf", "45", c->s, IN(0), c->f, IN(1), IN(2))                  \
     /* in C */                                                                                                         \
-    X(checked_close, FINALITY, altair_finality_answer, "RSB>RS", "sf", "45", c->s, c->f, IN(0), IN(1), IN(2), OUT(0),  \
+    X(checked_close, FINALITY, altair_close_answer, "RSB>RS", "sf", "45", c->s, c->f, IN(0), IN(1), IN(2), OUT(0),     \
       OUT(1))                                                                                                          \
     X(checked_read_file, READ, altair_read_answer, "F>RS", "", "", IN(0), OUT(0), OUT(1))                              \
     X(checked_write_file, NUMBER, uint64_t, "RBS>F", "sf", "", c->s, c->f, IN(0), IN(1), IN(2), OUT(0))                \

@@ -9,15 +9,41 @@ enum { NUMBERS = 10 * 400, SLASHINGS = 65537 };
 
 static bool same_finality(const altair_finality *a, const altair_finality *b) { return memcmp(a, b, sizeof *a) == 0; }
 
+static bool same_raised(const altair_raised *a, const altair_raised *b) { return memcmp(a, b, sizeof *a) == 0; }
+
+/* whether the plain sum of those that are active in the epoch, and where a column of flags is named, unslashed with its target flag,
+ * is below one increment */
+static uint64_t below_increment(const record *r, uint64_t epoch, int flags) {
+    unsigned __int128 sum = 0;
+    for (size_t i = 0; i < r->validators; i++) {
+        const uint64_t *v = r->registry + 10 * i;
+        const bool active = v[ALTAIR_ACTIVATION_EPOCH] <= epoch && epoch < v[ALTAIR_EXIT_EPOCH];
+        if (active && (flags < 0 || (v[ALTAIR_SLASHED] == 0 && (v[flags] & 2))))
+            sum += v[ALTAIR_EFFECTIVE_BALANCE];
+    }
+    return sum < r->s.effective_balance_increment;
+}
+
+static altair_raised count_raised(const record *r) {
+    const uint64_t epoch = r->f.slot / r->s.slots_per_epoch;
+    if (epoch <= 1)
+        return (altair_raised){0, 0, 0};
+    return (altair_raised){below_increment(r, epoch, -1),
+                           below_increment(r, epoch - 1, ALTAIR_PREVIOUS_EPOCH_PARTICIPATION),
+                           below_increment(r, epoch, ALTAIR_CURRENT_EPOCH_PARTICIPATION)};
+}
+
 /* The first refusal of the steps, each lent what the last one left; 0 and what all of them leave. */
-static uint64_t steps(const record *r, altair_finality *finality, uint64_t *registry, uint64_t *slashings) {
+static uint64_t steps(const record *r, altair_finality *finality, altair_raised *raised, uint64_t *registry,
+                      uint64_t *slashings) {
     static uint64_t before[NUMBERS];
     const size_t numbers = 10 * r->validators;
-    const altair_finality_answer justified =
+    const altair_close_answer justified =
         altair_process_justification_and_finalization(r->s, r->roots, r->roots_length, r->f, r->registry, numbers);
     if (justified.refusal != 0)
         return justified.refusal;
     *finality = justified.finality;
+    *raised = justified.raised;
     const uint64_t slot = r->f.slot, finalized = finality->finalized_checkpoint.epoch;
     uint64_t number;
     memcpy(registry, r->registry, 8 * numbers);
@@ -62,14 +88,17 @@ static altair_change_answer changed(uint64_t opening, uint64_t closing) {
 static void the_close(const record *r) {
     static uint64_t registry[NUMBERS], slashings[SLASHINGS], by_steps[NUMBERS], slashings_by_steps[SLASHINGS];
     const size_t numbers = 10 * r->validators;
-    const altair_finality_answer closed =
+    const altair_close_answer closed =
         altair_close(r->s, r->f, r->registry, numbers, r->slashings, r->slashings_length, r->roots, r->roots_length,
                      registry, numbers, slashings, r->slashings_length);
     altair_finality finality;
-    MUST(steps(r, &finality, by_steps, slashings_by_steps) == closed.refusal);
+    altair_raised raised;
+    MUST(steps(r, &finality, &raised, by_steps, slashings_by_steps) == closed.refusal);
     if (closed.refusal != 0)
         return;
-    MUST(same_finality(&finality, &closed.finality));
+    MUST(same_finality(&finality, &closed.finality) && same_raised(&raised, &closed.raised));
+    const altair_raised counted = count_raised(r);
+    MUST(same_raised(&counted, &closed.raised));
     MUST(memcmp(registry, by_steps, 8 * numbers) == 0);
     MUST(memcmp(slashings, slashings_by_steps, 8 * r->slashings_length) == 0);
 
@@ -78,6 +107,7 @@ static void the_close(const record *r) {
     MUST(head.justified_epoch == finality.current_justified_checkpoint.epoch);
     MUST(head.finalized_epoch == finality.finalized_checkpoint.epoch);
     MUST(head.justification_bits == finality.justification_bits);
+    MUST(same_raised(&head.raised, &closed.raised));
     MUST(head.charged == altair_charged(r->s, r->f.slot, r->registry, numbers).value && head.charged <= r->validators);
     for (size_t i = 0; i < r->validators; i++) {
         const altair_line line = altair_listing_line(r->registry, numbers, registry, numbers, i);
@@ -151,7 +181,7 @@ static void the_votes(const record *r) {
     }
     const altair_votes_answer votes =
         altair_unknown_votes(r->s, r->roots, r->roots_length, r->f, r->registry, numbers, marks, r->validators);
-    const altair_finality_answer step =
+    const altair_close_answer step =
         altair_process_justification_and_finalization(r->s, r->roots, r->roots_length, r->f, filled, numbers);
     const uint64_t finalized = step.finality.finalized_checkpoint.epoch;
     if (votes.refusal != 0) {

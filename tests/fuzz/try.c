@@ -153,6 +153,7 @@ static void refused_answer(const row *row, const lent *c, const uint8_t *answer)
         return;
     case FINALITY:
         MUST(memcmp(answer + 8, &c->f, sizeof c->f) == 0);
+        MUST(zeros(answer + 8 + sizeof c->f, row->size - 8 - sizeof c->f));
         return;
     case READ:
         memcpy(&read, answer, sizeof read);
@@ -189,7 +190,7 @@ static void refuses(const row *row, lent c, buffer written) {
     memcpy(&number, answer, 8);
     MUST(number == 1);
     if (row->kind == FINALITY)
-        MUST(memcmp(answer + 8, &c.f, sizeof c.f) == 0);
+        MUST(memcmp(answer + 8, &c.f, sizeof c.f) == 0 && zeros(answer + 8 + sizeof c.f, row->size - 8 - sizeof c.f));
     if (row->kind == READ)
         MUST(zeros(answer + 8, row->size - 8));
     c.out[0] = whole;

@@ -11,7 +11,7 @@ def _by_finalized_epoch(step):
 # by the names that the published tests give them, in the order of the close
 STEPS = {
     "justification_and_finalization": lambda r: r._replace(
-        finality=library.process_justification_and_finalization(r.settings, r.roots, r.finality, r.registry)
+        finality=library.process_justification_and_finalization(r.settings, r.roots, r.finality, r.registry).finality
     ),
     "inactivity_updates": _by_finalized_epoch(library.process_inactivity_updates),
     "rewards_and_penalties": _by_finalized_epoch(library.process_rewards_and_penalties),

@@ -23,7 +23,7 @@ from ._types import (ACTIVATION_ELIGIBILITY_EPOCH, ACTIVATION_EPOCH, BALANCE, BO
                      FAR_FUTURE_EPOCH, INACTIVITY_SCORE, MAINNET, MAINNET_CLOCK, MINIMAL, PASSES_IN_ALL,
                      PASSES_IN_NONE, PASSES_IN_SOME, PRESETS, PREVIOUS_EPOCH_PARTICIPATION, PREVIOUS_UNKNOWN,
                      SLASHED, VALIDATOR_LENGTH, WITHDRAWABLE_EPOCH, Checkpoint, Clock, Closed, Deltas,
-                     Finality, Head, Header, Line, Settings, Votes)
+                     Finality, Head, Header, Justified, Line, Raised, Settings, Total, Votes)
 
 
 def version():

@@ -11,7 +11,7 @@ def pair(out):
 
 
 def close(settings, finality, registry, slashings, roots, *, out=(None, None)):
-    """The closed record. `out` is a pair of buffers for its registry and slashings, as long as the opening's.
+    """The closed record, and which totals were raised. `out` is a pair of buffers for its registry and slashings, as long as the opening's.
 
     Refused with 1, 2 or 3 the buffers of `out` keep what they held; with 4 or 5 they hold the opening's numbers.
     """

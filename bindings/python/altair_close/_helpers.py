@@ -141,7 +141,7 @@ def get_block_root(settings, roots, state_slot, epoch):
 
 
 def get_total_active_balance(settings, state_slot, registry):
-    """The effective balance of all that are active, at least one increment."""
+    """The effective balance of all that are active, at least one increment, and whether it was raised to it."""
     return _call("get_total_active_balance", settings, state_slot, registry)
 
 

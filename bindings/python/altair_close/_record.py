@@ -74,7 +74,7 @@ class Record(NamedTuple):
     def close(self, *, out=(None, None)):
         """The closed record; roots stay. `out` is as that of the function."""
         closed = close(self.settings, self.finality, self.registry, self.slashings, self.roots, out=out)
-        return Record(self.settings, *closed, self.roots)
+        return Record(self.settings, closed.finality, closed.registry, closed.slashings, self.roots)
 
     def charged(self):
         """How many validators are charged."""
@@ -87,6 +87,6 @@ class Record(NamedTuple):
         head = listing_head(self.settings, self.finality.slot, closed.finality, self.registry)
         yield (
             f"epoch {head.epoch} justified {head.justified_epoch} finalized {head.finalized_epoch} "
-            f"bits {head.justification_bits} charged {head.charged}"
+            f"bits {head.justification_bits} charged {head.charged} %d %d %d" % head.raised
         )
         yield from lines

@@ -19,9 +19,9 @@ from . import _buffers, _layout, _library
 from ._arguments import (BYTES, CHANGED, CLOCK, FINALITY, FLAGS, MARKS, NUMBER, REGISTRY, ROOTS, SETTINGS, SLASHINGS, U64, VALIDATOR,
                          Bytes, FinalityWords, Numbers, as_long_as, finality_of)
 from ._refusals import Refused
-from ._types import VALIDATOR_LENGTH, Closed, Deltas, Head, Header, Line, Settings, Votes
+from ._types import VALIDATOR_LENGTH, Closed, Deltas, Head, Header, Justified, Line, Raised, Settings, Total, Votes
 
-VERSION = 1
+VERSION = 2
 I64 = ctypes.c_int64
 
 
@@ -41,12 +41,20 @@ class FinalityAnswer(ctypes.Structure):
     _fields_ = [("refusal", U64), ("finality", FinalityWords)]
 
 
+class CloseAnswer(ctypes.Structure):
+    _fields_ = [("refusal", U64), ("finality", FinalityWords), ("raised", U64 * 3)]
+
+
+class TotalAnswer(ctypes.Structure):
+    _fields_ = [("refusal", U64), ("balance", U64), ("raised", U64)]
+
+
 class HeaderAnswer(ctypes.Structure):
     _fields_ = [("refusal", U64), ("numbers", U64 * 3)]
 
 
 class HeadAnswer(ctypes.Structure):
-    _fields_ = [("refusal", U64), ("numbers", U64 * 5)]
+    _fields_ = [("refusal", U64), ("numbers", U64 * 5), ("raised", U64 * 3)]
 
 
 class LineAnswer(ctypes.Structure):
@@ -65,6 +73,10 @@ class VotesAnswer(ctypes.Structure):
     _fields_ = [("refusal", U64), ("count", U64), ("finalized_epochs", U64 * 3), ("previous_target", U64), ("current_target", U64)]
 
 
+def raised_of(numbers):
+    return Raised(*(number == 1 for number in numbers))
+
+
 class Answer(NamedTuple):
     """What C answers, and what Python gives for it and for the buffers that were written."""
 
@@ -80,8 +92,10 @@ TRUTH = Answer(NumberAnswer, lambda answer: answer.value == 1)
 DELTAS = Answer(DeltasAnswer, lambda answer: Deltas(answer.reward, answer.penalty))
 ROOT = Answer(RootAnswer, lambda answer: bytes(answer.root))
 FINALITY_AFTER = Answer(FinalityAnswer, lambda answer: finality_of(answer.finality))
-CLOSED = Answer(FinalityAnswer, lambda answer, *written: Closed(finality_of(answer.finality), *written))
-HEAD = Answer(HeadAnswer, lambda answer: Head(*answer.numbers[:]))
+TOTAL = Answer(TotalAnswer, lambda answer: Total(answer.balance, answer.raised == 1))
+JUSTIFIED = Answer(CloseAnswer, lambda answer: Justified(finality_of(answer.finality), raised_of(answer.raised)))
+CLOSED = Answer(CloseAnswer, lambda answer, *written: Closed(finality_of(answer.finality), *written, raised_of(answer.raised)))
+HEAD = Answer(HeadAnswer, lambda answer: Head(*answer.numbers[:], raised_of(answer.raised)))
 LINE = Answer(LineAnswer, lambda answer: Line(*answer.numbers[:], answer.net_change))
 CHANGE = Answer(ChangeAnswer, lambda answer: answer.value)
 HEADER = Answer(HeaderAnswer, lambda answer: Header(*answer.numbers[:]))
@@ -136,7 +150,7 @@ SIGNATURES = {
     "write_file": Signature(WRITTEN, settings=SETTINGS, finality=FINALITY, registry=REGISTRY, roots=ROOTS, slashings=SLASHINGS,
                             file=Bytes(written=file_length)),
     # the eight steps, in the order of the close
-    "process_justification_and_finalization": Signature(FINALITY_AFTER, settings=SETTINGS, roots=ROOTS, finality=FINALITY,
+    "process_justification_and_finalization": Signature(JUSTIFIED, settings=SETTINGS, roots=ROOTS, finality=FINALITY,
                                                         registry=REGISTRY),
     "process_inactivity_updates": Signature(WRITTEN, settings=SETTINGS, state_slot=NUMBER, finalized_epoch=NUMBER,
                                             opening=REGISTRY, closing=written_registry("opening")),
@@ -183,8 +197,8 @@ SIGNATURES = {
     "get_block_root_at_slot": Signature(ROOT, settings=SETTINGS, roots=ROOTS, state_slot=NUMBER, slot=NUMBER),
     "get_block_root": Signature(ROOT, settings=SETTINGS, roots=ROOTS, state_slot=NUMBER, epoch=NUMBER),
     # the registry
-    "get_total_active_balance": Signature(VALUE, settings=SETTINGS, state_slot=NUMBER, registry=REGISTRY),
-    "get_participating_balance": Signature(VALUE, settings=SETTINGS, state_slot=NUMBER, flag_index=NUMBER, epoch=NUMBER,
+    "get_total_active_balance": Signature(TOTAL, settings=SETTINGS, state_slot=NUMBER, registry=REGISTRY),
+    "get_participating_balance": Signature(TOTAL, settings=SETTINGS, state_slot=NUMBER, flag_index=NUMBER, epoch=NUMBER,
                                            registry=REGISTRY),
     "get_validator_churn_limit": Signature(VALUE, settings=SETTINGS, state_slot=NUMBER, registry=REGISTRY),
     "initiate_validator_exit": Signature(WRITTEN, settings=SETTINGS, state_slot=NUMBER, index=NUMBER, registry=CHANGED),

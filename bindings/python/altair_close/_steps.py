@@ -3,7 +3,7 @@ from ._signatures import call as _call
 
 
 def process_justification_and_finalization(settings, roots, finality, registry):
-    """The finality after justification."""
+    """The finality after justification, and which totals were raised."""
     return _call("process_justification_and_finalization", settings, roots, finality, registry)
 
 

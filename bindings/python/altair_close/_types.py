@@ -74,12 +74,36 @@ class Deltas(NamedTuple):
     penalty: int
 
 
+class Total(NamedTuple):
+    """A total balance, and whether its plain sum was below one increment, so that the total was raised to it."""
+
+    balance: int
+    raised: bool
+
+
+class Raised(NamedTuple):
+    """Which totals were raised to one increment: of the active, and of those that hit the target of the previous and of the current
+    epoch. None up to epoch 1."""
+
+    active: bool
+    previous: bool
+    current: bool
+
+
+class Justified(NamedTuple):
+    """What justification gives."""
+
+    finality: Finality
+    raised: Raised
+
+
 class Closed(NamedTuple):
-    """A closed record: registry and slashings are the buffers of `out`, or memoryviews of 64-bit numbers."""
+    """A closed record: registry and slashings are the buffers of `out`, or memoryviews of 64-bit numbers. And which totals were raised."""
 
     finality: Finality
     registry: Any
     slashings: Any
+    raised: Raised
 
 
 class Head(NamedTuple):
@@ -90,6 +114,7 @@ class Head(NamedTuple):
     finalized_epoch: int
     justification_bits: int
     charged: int
+    raised: Raised
 
 
 class Line(NamedTuple):

@@ -174,7 +174,7 @@ class Buffers(unittest.TestCase):
             record.save(path)
             self.assertEqual(altair.Record.open(str(path)), record)
             closed = altair.Record.open(path).close()
-            self.assertEqual(closed, altair.Record(MINIMAL, *self.closed, ROOTS))
+            self.assertEqual(closed, altair.Record(MINIMAL, *self.closed[:3], ROOTS))
             with self.assertRaises(Refused):
                 record._replace(roots=b"").save(path)
             self.assertEqual(altair.Record.open(path), record)

@@ -16,6 +16,8 @@ ANSWERS = {
     "altair_deltas_answer": (_signatures.DeltasAnswer,),
     "altair_root_answer": (_signatures.RootAnswer,),
     "altair_finality_answer": (_signatures.FinalityAnswer,),
+    "altair_close_answer": (_signatures.CloseAnswer,),
+    "altair_total_answer": (_signatures.TotalAnswer,),
     "altair_header": (_signatures.HeaderAnswer,),
     "altair_read_answer": (_signatures.ReadAnswer,),
     "altair_change_answer": (_signatures.ChangeAnswer,),

@@ -10,9 +10,17 @@ fn listing(file: &[u8]) -> Result<String, Refusal> {
     let opening = Record::read(file)?;
     let closed = opening.close()?;
     let head = listing_head(&opening.settings, opening.finality.slot, &closed.finality, &opening.registry)?;
+    let raised = head.raised;
     let mut text = format!(
-        "epoch {} justified {} finalized {} bits {} charged {}\n",
-        head.epoch, head.justified_epoch, head.finalized_epoch, head.justification_bits, head.charged,
+        "epoch {} justified {} finalized {} bits {} charged {} {} {} {}\n",
+        head.epoch,
+        head.justified_epoch,
+        head.finalized_epoch,
+        head.justification_bits,
+        head.charged,
+        raised.active as u8,
+        raised.previous as u8,
+        raised.current as u8,
     );
     for index in 0..opening.validators().count() as u64 {
         let line = listing_line(&opening.registry, &closed.registry, index)?;

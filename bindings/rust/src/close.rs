@@ -1,9 +1,10 @@
 //! The whole close, and the figures of its listing.
 use crate::raw;
 use crate::refusal::Refusal;
-use crate::types::{Finality, Head, Line, Settings};
+use crate::types::{Closed, Finality, Head, Line, Settings};
 
-/// Closes the opening record into the closing buffers, which are as long as the opening's, and gives its finality.
+/// Closes the opening record into the closing buffers, which are as long as the opening's, and gives its finality and which
+/// totals were raised.
 ///
 /// Refused with 1, 2 or 3 the closing buffers keep what they held; with 4 or 5 they hold the opening's numbers.
 ///
@@ -16,7 +17,7 @@ use crate::types::{Finality, Head, Line, Settings};
 /// let (slashings, roots) = (vec![0; 64], vec![0; 32 * 64]);
 /// let (mut closing, mut closing_slashings) = (vec![0; 10], vec![0; 64]);
 /// let closed = close(&settings, &finality, &registry, &slashings, &roots, &mut closing, &mut closing_slashings)?;
-/// assert_eq!((closed.slot, closing[validator::BALANCE]), (31, 32_000_000_000));
+/// assert_eq!((closed.finality.slot, closing[validator::BALANCE]), (31, 32_000_000_000));
 ///
 /// let short = close(&settings, &finality, &registry, &slashings, &roots[1..], &mut closing, &mut closing_slashings);
 /// assert_eq!(short, Err(Refusal::Shape));
@@ -30,7 +31,7 @@ pub fn close(
     roots: &[u8],
     closing_registry: &mut [u64],
     closing_slashings: &mut [u64],
-) -> Result<Finality, Refusal> {
+) -> Result<Closed, Refusal> {
     unsafe {
         raw::altair_close(
             *settings,

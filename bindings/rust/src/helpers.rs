@@ -1,7 +1,7 @@
 //! The leaves: what the steps are made of, each callable alone. `validator` is ten numbers.
 use crate::raw;
 use crate::refusal::Refusal;
-use crate::types::{Deltas, Finality, Settings};
+use crate::types::{Deltas, Finality, Settings, Total};
 
 /// The largest number whose square is at most `n`.
 ///
@@ -144,8 +144,8 @@ pub fn get_block_root(settings: &Settings, roots: &[u8], state_slot: u64, epoch:
 
 // the registry
 
-/// The effective balance of all that are active, at least one increment.
-pub fn get_total_active_balance(settings: &Settings, state_slot: u64, registry: &[u64]) -> Result<u64, Refusal> {
+/// The effective balance of all that are active, at least one increment, and whether it was raised to it.
+pub fn get_total_active_balance(settings: &Settings, state_slot: u64, registry: &[u64]) -> Result<Total, Refusal> {
     unsafe { raw::altair_get_total_active_balance(*settings, state_slot, registry.as_ptr(), registry.len()) }.result()
 }
 
@@ -156,7 +156,7 @@ pub fn get_participating_balance(
     flag_index: u64,
     epoch: u64,
     registry: &[u64],
-) -> Result<u64, Refusal> {
+) -> Result<Total, Refusal> {
     unsafe {
         raw::altair_get_participating_balance(
             *settings,

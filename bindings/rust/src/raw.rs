@@ -1,11 +1,32 @@
 //! The library's functions as bindings/c/altair.h declares them: a slice is a pointer and a length in elements.
 use crate::refusal::Refusal;
-use crate::types::{Checkpoint, Clock, Deltas, Finality, Head, Line, Passes, Settings, Votes};
+use crate::types::{Checkpoint, Clock, Closed, Deltas, Finality, Head, Line, Passes, Raised, Settings, Total, Votes};
 
 #[repr(C)]
 pub struct FinalityAnswer {
     pub refusal: u64,
     pub finality: Finality,
+}
+
+#[repr(C)]
+pub struct RaisedNumbers {
+    pub active: u64,
+    pub previous: u64,
+    pub current: u64,
+}
+
+#[repr(C)]
+pub struct CloseAnswer {
+    pub refusal: u64,
+    pub finality: Finality,
+    pub raised: RaisedNumbers,
+}
+
+#[repr(C)]
+pub struct TotalAnswer {
+    pub refusal: u64,
+    pub balance: u64,
+    pub raised: u64,
 }
 
 #[repr(C)]
@@ -63,6 +84,7 @@ pub struct HeadAnswer {
     pub finalized_epoch: u64,
     pub justification_bits: u64,
     pub charged: u64,
+    pub raised: RaisedNumbers,
 }
 
 #[repr(C)]
@@ -103,6 +125,24 @@ impl FinalityAnswer {
     }
 }
 
+impl RaisedNumbers {
+    fn told(&self) -> Raised {
+        Raised { active: self.active == 1, previous: self.previous == 1, current: self.current == 1 }
+    }
+}
+
+impl CloseAnswer {
+    pub fn result(self) -> Result<Closed, Refusal> {
+        Refusal::or(self.refusal, Closed { finality: self.finality, raised: self.raised.told() })
+    }
+}
+
+impl TotalAnswer {
+    pub fn result(self) -> Result<Total, Refusal> {
+        Refusal::or(self.refusal, Total { balance: self.balance, raised: self.raised == 1 })
+    }
+}
+
 impl NumberAnswer {
     pub fn result(self) -> Result<u64, Refusal> {
         Refusal::or(self.refusal, self.value)
@@ -135,8 +175,9 @@ impl RootAnswer {
 
 impl HeadAnswer {
     pub fn result(self) -> Result<Head, Refusal> {
-        let HeadAnswer { refusal, epoch, justified_epoch, finalized_epoch, justification_bits, charged } = self;
-        Refusal::or(refusal, Head { epoch, justified_epoch, finalized_epoch, justification_bits, charged })
+        let HeadAnswer { refusal, epoch, justified_epoch, finalized_epoch, justification_bits, charged, raised } = self;
+        let raised = raised.told();
+        Refusal::or(refusal, Head { epoch, justified_epoch, finalized_epoch, justification_bits, charged, raised })
     }
 }
 
@@ -175,7 +216,7 @@ extern "C" {
         closing_registry_length: usize,
         closing_slashings: *mut u64,
         closing_slashings_length: usize,
-    ) -> FinalityAnswer;
+    ) -> CloseAnswer;
     pub fn altair_charged(settings: Settings, state_slot: u64, registry: *const u64, length: usize) -> NumberAnswer;
 
     // the listing of a close
@@ -226,7 +267,7 @@ extern "C" {
         finality: Finality,
         registry: *const u64,
         registry_length: usize,
-    ) -> FinalityAnswer;
+    ) -> CloseAnswer;
     pub fn altair_process_inactivity_updates(
         settings: Settings,
         state_slot: u64,
@@ -359,7 +400,7 @@ extern "C" {
         state_slot: u64,
         registry: *const u64,
         length: usize,
-    ) -> NumberAnswer;
+    ) -> TotalAnswer;
     pub fn altair_get_participating_balance(
         settings: Settings,
         state_slot: u64,
@@ -367,7 +408,7 @@ extern "C" {
         epoch: u64,
         registry: *const u64,
         length: usize,
-    ) -> NumberAnswer;
+    ) -> TotalAnswer;
     pub fn altair_get_validator_churn_limit(
         settings: Settings,
         state_slot: u64,

@@ -80,7 +80,7 @@ impl Record {
     pub fn close(&self) -> Result<Record, Refusal> {
         let mut registry = vec![0; self.registry.len()];
         let mut slashings = vec![0; self.slashings.len()];
-        let finality = close(
+        let closed = close(
             &self.settings,
             &self.finality,
             &self.registry,
@@ -89,7 +89,13 @@ impl Record {
             &mut registry,
             &mut slashings,
         )?;
-        Ok(Record { settings: self.settings, finality, registry, slashings, roots: self.roots.clone() })
+        Ok(Record {
+            settings: self.settings,
+            finality: closed.finality,
+            registry,
+            slashings,
+            roots: self.roots.clone(),
+        })
     }
 
     /// How many validators were active in the previous epoch.

@@ -2,9 +2,9 @@
 //! closing buffer holds the opening's numbers.
 use crate::raw;
 use crate::refusal::Refusal;
-use crate::types::{Finality, Settings};
+use crate::types::{Closed, Finality, Settings};
 
-/// The finality after justification.
+/// The finality after justification, and which totals were raised.
 ///
 /// ```
 /// use altair_close::*;
@@ -12,7 +12,7 @@ use crate::types::{Finality, Settings};
 /// registry[validator::PREVIOUS_EPOCH_PARTICIPATION] = 7;
 /// let finality = Finality { slot: 127, ..Finality::default() };
 /// let after = process_justification_and_finalization(&Settings::MAINNET, &vec![0; 32 * 8192], &finality, &registry)?;
-/// assert_eq!(after.current_justified_checkpoint.epoch, 2);
+/// assert_eq!(after.finality.current_justified_checkpoint.epoch, 2);
 /// # Ok::<(), Refusal>(())
 /// ```
 pub fn process_justification_and_finalization(
@@ -20,7 +20,7 @@ pub fn process_justification_and_finalization(
     roots: &[u8],
     finality: &Finality,
     registry: &[u64],
-) -> Result<Finality, Refusal> {
+) -> Result<Closed, Refusal> {
     unsafe {
         raw::altair_process_justification_and_finalization(
             *settings,

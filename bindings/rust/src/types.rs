@@ -118,6 +118,29 @@ pub struct Deltas {
     pub penalty: u64,
 }
 
+/// A total balance, and whether its plain sum was below one increment, so that the total was raised to it.
+#[derive(Clone, Copy, Debug, PartialEq, Eq)]
+pub struct Total {
+    pub balance: u64,
+    pub raised: bool,
+}
+
+/// Which totals were raised to one increment: of the active, and of those that hit the target of the previous and of the
+/// current epoch. None up to epoch 1.
+#[derive(Clone, Copy, Debug, Default, PartialEq, Eq)]
+pub struct Raised {
+    pub active: bool,
+    pub previous: bool,
+    pub current: bool,
+}
+
+/// What justification and the close answer.
+#[derive(Clone, Copy, Debug, PartialEq, Eq)]
+pub struct Closed {
+    pub finality: Finality,
+    pub raised: Raised,
+}
+
 /// The numbers of a listing's first line.
 #[derive(Clone, Copy, Debug, PartialEq, Eq)]
 pub struct Head {
@@ -126,6 +149,7 @@ pub struct Head {
     pub finalized_epoch: u64,
     pub justification_bits: u64,
     pub charged: u64,
+    pub raised: Raised,
 }
 
 /// The numbers of one validator's line: effective balance and score are those after the close, `net_change` is closing

@@ -123,9 +123,13 @@ fn the_registry() {
     assert_eq!(charged(&MAINNET, 127, &slashed), Ok(5), "slashed and gone, withdrawable ahead");
     slashed[45] = 3;
     assert_eq!(charged(&MAINNET, 127, &slashed), Ok(4), "withdrawable next");
-    assert_eq!(get_total_active_balance(&MAINNET, 127, &registry), Ok(160 * ETH));
-    assert_eq!(get_total_active_balance(&MAINNET, 127, &[]), Ok(ETH));
-    assert_eq!(get_participating_balance(&MAINNET, 127, 1, 2, &registry), Ok(160 * ETH));
+    let total = |balance, raised| Ok(Total { balance, raised });
+    assert_eq!(get_total_active_balance(&MAINNET, 127, &registry), total(160 * ETH, false));
+    assert_eq!(get_total_active_balance(&MAINNET, 127, &[]), total(ETH, true), "a total of nobody");
+    let mut one = hit();
+    one[EFFECTIVE_BALANCE] = ETH;
+    assert_eq!(get_total_active_balance(&MAINNET, 127, &one), total(ETH, false), "a sum of one increment");
+    assert_eq!(get_participating_balance(&MAINNET, 127, 1, 2, &registry), total(160 * ETH, false));
     assert_eq!(get_validator_churn_limit(&MAINNET, 127, &registry), Ok(4));
     assert_eq!(get_base_reward_per_increment(&MAINNET, 160 * ETH), Ok(160_000));
     let target = |index, registry: &[u64]| get_flag_index_deltas(&MAINNET, 127, 1, 1, index, registry);
@@ -145,8 +149,14 @@ fn the_registry() {
 fn the_steps() {
     let mut opening = hit().repeat(5);
     let mut closing = vec![0; 50];
-    let after = process_justification_and_finalization(&MAINNET, &vec![0; 32 * 8192], &finality(127), &opening);
-    assert_eq!(after.map(|f| (f.justification_bits, f.current_justified_checkpoint.epoch)), Ok((3, 3)));
+    let justified = |slot, registry: &[u64]| {
+        process_justification_and_finalization(&MAINNET, &vec![0; 32 * 8192], &finality(slot), registry).unwrap()
+    };
+    let after = justified(127, &opening);
+    assert_eq!((after.finality.justification_bits, after.finality.current_justified_checkpoint.epoch), (3, 3));
+    assert_eq!(after.raised, Raised::default());
+    assert_eq!(justified(127, &[]).raised, Raised { active: true, previous: true, current: true });
+    assert_eq!(justified(63, &[]).raised, Raised::default(), "up to epoch 1");
 
     opening[INACTIVITY_SCORE] = 10;
     assert_eq!(process_inactivity_updates(&MAINNET, 127, 1, &opening, &mut closing), Ok(()));
@@ -245,7 +255,8 @@ fn the_close() {
 
     let head = listing_head(&record.settings, 31, &closed.finality, &record.registry);
     let (justified_epoch, finalized_epoch, justification_bits) = (3, 2, 7);
-    assert_eq!(head, Ok(Head { epoch: 3, justified_epoch, finalized_epoch, justification_bits, charged: 5 }));
+    let raised = Raised::default();
+    assert_eq!(head, Ok(Head { epoch: 3, justified_epoch, finalized_epoch, justification_bits, charged: 5, raised }));
     let mut last = closed.registry.clone();
     (last[40 + EFFECTIVE_BALANCE], last[40 + INACTIVITY_SCORE]) = (8, 9);
     let (opening_balance, closing_balance) = (32 * ETH, 31_996_800_000);

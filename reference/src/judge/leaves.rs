@@ -9,7 +9,7 @@ use crate::{
     calls::{finality_words, root_words, Answer, Case, Leaf, Lent, Number},
     error::Error,
     integer_sqrt::IntegerSquareRoot,
-    phase0,
+    phase0, raised,
     record::{of, Record},
     refusals,
     state_transition::Context,
@@ -85,10 +85,13 @@ fn plain(c: &Case, state: &mut State<1, 1>, context: &Context) -> Result<Vec<u64
         Leaf::GetPreviousEpoch => vec![altair::get_previous_epoch(state, context)],
         Leaf::GetFinalityDelay => vec![phase0::epoch_processing::get_finality_delay(state, context)],
         Leaf::IsInInactivityLeak => truth(altair::is_in_inactivity_leak(state, context)),
-        Leaf::GetTotalActiveBalance => vec![altair::get_total_active_balance(state, context)?],
+        Leaf::GetTotalActiveBalance => {
+            vec![altair::get_total_active_balance(state, context)?, raised::active(&c.settings, n[0], &c.registry)]
+        }
         Leaf::GetParticipatingBalance => {
             let members = altair::get_unslashed_participating_indices(state, n[1] as usize, n[2], context)?;
-            vec![altair::get_total_balance(state, &members, context)?]
+            let raised = raised::participating(&c.settings, n[0], &c.registry, n[1], n[2]);
+            vec![altair::get_total_balance(state, &members, context)?, raised]
         }
         Leaf::GetValidatorChurnLimit => vec![phase0::helpers::get_validator_churn_limit(state, context) as u64],
         // rewards and penalties are nobody's at the genesis epoch

@@ -31,7 +31,7 @@ pub fn text(records: &[StoredRecord], places: &[usize]) -> String {
     text += "# record NUMBER at OFFSET in crates/replay_records/stdin, LENGTH bytes: KIND; the file itself is there\n";
     text += "# lent: how many numbers of its registry, how many of its slashings, how many bytes of its roots, lengths of closing registry and slashings\n";
     text += "# read refusal position: reading it into buffers of the closing buffers' lengths\n";
-    text += "# STEP refusal, and where it is 0: finality after; registry or slashings with PLACE:NUMBER for each number that is not the opening's\n";
+    text += "# STEP refusal, and where it is 0: finality after, which totals were raised; registry or slashings with PLACE:NUMBER for each number that is not the opening's\n";
     text += "# a file whose header is bad has no parts to ask a step with\n";
     for (i, (r, at)) in records.iter().zip(places).enumerate() {
         let _ = writeln!(text, "record {i} at {at}, {} bytes: {}", r.file.len(), r.kind);
@@ -54,7 +54,7 @@ pub fn outcome_text(operation: Operation, r: &Record, o: &Outcome) -> String {
     let (registry, slashings) = changes_of(operation, r, o);
     let list = |changes: &[(usize, u64)]| changes.iter().fold(String::new(), |t, (i, n)| t + &format!(" {i}:{n}"));
     if gives_finality(operation) {
-        text += &format!(" finality {}", finality_text(&o.finality));
+        text += &format!(" finality {} raised {}", finality_text(&o.finality), decimals(&o.raised));
     }
     if operation.writes_registry() {
         text += &format!(" registry{}", list(&registry));
@@ -66,7 +66,7 @@ pub fn outcome_text(operation: Operation, r: &Record, o: &Outcome) -> String {
 }
 
 /// Words in all, the file as its length and words, the lengths lent, the number of answers. Of the read: refusal and position. Of
-/// each operation: its refusal, and where it is 0 the 17 words of finality (justification and close), the number of changes of
+/// each operation: its refusal, and where it is 0 the 17 words of finality and 3 of what was raised (justification and close), the number of changes of
 /// the registry and each as place and value, the same of the slashings, as far as it is lent them.
 fn record_words(r: &StoredRecord) -> Vec<u64> {
     let mut words = vec![0];
@@ -86,6 +86,7 @@ fn record_words(r: &StoredRecord) -> Vec<u64> {
             let (registry, slashings) = changes_of(operation, record, o);
             if gives_finality(operation) {
                 words.extend(finality_words(&o.finality));
+                words.extend(o.raised);
             }
             if operation.writes_registry() {
                 put(&registry, &mut words);
