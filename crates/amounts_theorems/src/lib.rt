@@ -1,0 +1,1 @@
+// Theorems alone: what holds of the amounts of every accepted close. See specs/ for the statements.

@@ -1,0 +1,2 @@
+-- Figures of the amounts and of the test's number.
+pub mod Figures
