@@ -1,0 +1,271 @@
+// The amounts of an accepted close (R-4), in one pass over the opening and the closing registry after the pass that writes. Everything that
+// rewards read stands in the two: no step before them writes what they read of the opening but the score, which is the closing one. What
+// slashing took is what the balance after the four pairs is above the closing one. Nothing is refused: the close was accepted.
+ghost use mathlib.Core.Path.{_≡_};
+ghost use mathlib.Core.List.{[], _∷_, _++_};
+ghost use Prim.Native.Nat.{_+_, _-_, _*_, _/_, _^_, _≤_, _<_};
+ghost use lib.ListN.{length, getD, replicate};
+ghost use Rattle.definitions.specs.Record.{decodeOne, decode};
+ghost use Rattle.definitions_amounts.specs.Amounts.{booked};
+ghost use Rattle.definitions.specs.Checked.{mul64};
+ghost use Rattle.definitions.specs.Answers.{Says};
+ghost use Rattle.rates.specs.Rated.{Most, Fits as FitsRates};
+ghost use Rattle.write_pass.specs.Planned.{Planned};
+ghost use Rattle.write_pass.specs.Written.{MemoFor};
+ghost use Rattle.amounts.specs.Filled.{Given, flagAnswer, Charges, Gives, Books, four, left, Fits, nineBy, Between, Passed, Filled};
+use entries::entry_is_eligible;
+use entries::entry_is_participating;
+use rates::Amount;
+use rates::Memo;
+use rates::Rates;
+use rates::no_memo;
+use rates::rates_for;
+use types::Deltas;
+use types::Number;
+use types::Settings;
+use write_pass::Plan;
+
+// The four pairs of a validator.
+struct Pairs {
+    source: Deltas,
+    target: Deltas,
+    head: Deltas,
+    inactivity: Deltas,
+}
+
+// What a penalty took, and what it left.
+struct Booking {
+    taken: u64,
+    left: u64,
+}
+
+// For a flag. Of an accepted close every amount that is wanted is a number.
+fn flag_pair(eligible: bool, hit: bool, reward: Amount, penalty: Amount) -> Deltas
+    ensures { λ r. ⌜ Given (flagAnswer eligible hit reward penalty) r ⌝ }
+{
+    if !eligible {
+        return Deltas {
+            reward: 0,
+            penalty: 0,
+        };
+    }
+    if hit {
+        return Deltas {
+            reward: reward.value,
+            penalty: 0,
+        };
+    }
+    Deltas {
+        reward: 0,
+        penalty: penalty.value,
+    }
+}
+
+// For inactivity, where an eligible validator missed the target. A score of 0 costs no division.
+fn charge(
+    bias: u64,
+    quotient: u64,
+    product: Number,
+    eligible: bool,
+    hit: bool,
+    balance: u64,
+    most_score: u64,
+    score: u64,
+) -> u64
+    requires { ⌜ (0 < bias) × (0 < quotient) ⌝ }
+    requires { ⌜ Says (mul64 bias quotient) product ⌝ }
+    requires { ⌜ Most balance «most_score» ⌝ }
+    ensures { λ r. ⌜ Charges bias quotient eligible hit balance score r ⌝ }
+{
+    if !eligible {
+        return 0;
+    }
+    if hit {
+        return 0;
+    }
+    let Number::Value(denominator) = product else {
+        return 0;
+    };
+    if score == 0 {
+        return 0;
+    }
+    if most_score < score {
+        return 0;
+    }
+    let penalty = balance * score / denominator;
+    penalty
+}
+
+fn pairs_by(s: Settings, p: Plan, rates: Rates, score: u64, entry: &[u64]) -> Pairs
+    requires { ⌜ Planned s p ⌝ }
+    requires { ⌜ length (now entry) ≡ 10 ⌝ }
+    requires { ⌜ FitsRates s (p .shared) (p .source) (p .target) (p .head) rates ⌝ }
+    requires { ⌜ rates .«effective_balance» ≡ getD (now entry) 0 0 ⌝ }
+    ensures { λ r. ⌜ Gives s p score (decodeOne (now (entry .entry))) r ⌝ }
+{
+    let h = p.shared;
+    let eligible = entry_is_eligible(h.previous_epoch, entry);
+    let source_is = entry_is_participating(h.current_epoch, 0, h.previous_epoch, entry);
+    let target_is = entry_is_participating(h.current_epoch, 1, h.previous_epoch, entry);
+    let head_is = entry_is_participating(h.current_epoch, 2, h.previous_epoch, entry);
+    let source = flag_pair(
+        eligible,
+        source_is,
+        rates.source_reward,
+        rates.source_penalty,
+    );
+    let target = flag_pair(
+        eligible,
+        target_is,
+        rates.target_reward,
+        rates.target_penalty,
+    );
+    let head = flag_pair(eligible, head_is, rates.head_reward, rates.head_penalty);
+    let product = p.product;
+    let charged = charge(
+        s.inactivity_score_bias,
+        p.quotient,
+        product,
+        eligible,
+        target_is,
+        rates.effective_balance,
+        rates.most_score,
+        score,
+    );
+    let inactivity = Deltas {
+        reward: 0,
+        penalty: charged,
+    };
+    Pairs {
+        source: source,
+        target: target,
+        head: head,
+        inactivity: inactivity,
+    }
+}
+
+// A reward, then its penalty as far as there is balance.
+fn book(balance: u64, deltas: Deltas) -> Booking
+    requires { ⌜ balance + deltas .reward < 2 ^ 64 ⌝ }
+    ensures { λ r. ⌜ Books balance deltas r ⌝ }
+{
+    let raised = balance + deltas.reward;
+    let penalty = deltas.penalty;
+    if raised < penalty {
+        return Booking {
+            taken: raised,
+            left: 0,
+        };
+    }
+    Booking {
+        taken: penalty,
+        left: raised - penalty,
+    }
+}
+
+fn put_nine(
+    a: u64,
+    b: u64,
+    c: u64,
+    d: u64,
+    e: u64,
+    f: u64,
+    g: u64,
+    h: u64,
+    i: u64,
+    nine: &mut [u64],
+)
+    requires { ⌜ length (now nine) ≡ 9 ⌝ }
+    ensures { λ _. ⌜ now (nine .exit) ≡ a ∷ b ∷ c ∷ d ∷ e ∷ f ∷ g ∷ h ∷ i ∷ [] ⌝ }
+{
+    nine[0] = a;
+    nine[1] = b;
+    nine[2] = c;
+    nine[3] = d;
+    nine[4] = e;
+    nine[5] = f;
+    nine[6] = g;
+    nine[7] = h;
+    nine[8] = i;
+}
+
+// Pair by pair, and what slashing took down to the closing balance.
+fn put_amounts(r: Pairs, balance: u64, closing_balance: u64, nine: &mut [u64])
+    requires { ⌜ length (now nine) ≡ 9 ⌝ }
+    requires { ⌜ Fits balance (four r) × («closing_balance» ≤ left balance (four r)) ⌝ }
+    ensures { λ _. ⌜ now (nine .exit) ≡ booked balance (four r) ++ ((left balance (four r) - «closing_balance») ∷ []) ⌝ }
+{
+    let a = r.source;
+    let first = book(balance, a);
+    let b = r.target;
+    let second = book(first.left, b);
+    let c = r.head;
+    let third = book(second.left, c);
+    let d = r.inactivity;
+    let fourth = book(third.left, d);
+    put_nine(
+        a.reward,
+        first.taken,
+        b.reward,
+        second.taken,
+        c.reward,
+        third.taken,
+        d.reward,
+        fourth.taken,
+        fourth.left - closing_balance,
+        nine,
+    )
+}
+
+fn fill_entry(
+    s: Settings,
+    p: Plan,
+    carried: Memo,
+    from: &[u64],
+    to: &[u64],
+    nine: &mut [u64],
+) -> Memo
+    requires { ⌜ Planned s p ⌝ }
+    requires { ⌜ MemoFor s p carried ⌝ }
+    requires { ⌜ (length (now from) ≡ 10) × (length (now to) ≡ 10) × (length (now nine) ≡ 9) ⌝ }
+    requires { ⌜ Between s p (decodeOne (now from)) (decodeOne (now to)) ⌝ }
+    ensures { λ _. ⌜ now (nine .exit) ≡ nineBy s p (decodeOne (now (from .entry))) (decodeOne (now (to .entry))) ⌝ }
+    ensures { λ r. ⌜ MemoFor s p r ⌝ }
+{
+    let h = p.shared;
+    if h.current_epoch == 0 {
+        put_nine(0, 0, 0, 0, 0, 0, 0, 0, from[6] - to[6], nine);
+        return carried;
+    }
+    let memo = rates_for(s, h, p.source, p.target, p.head, carried, from[0]);
+    let rates = memo.last;
+    let pairs = pairs_by(s, p, rates, to[9], from);
+    put_amounts(pairs, from[6], to[6], nine);
+    memo
+}
+
+// `closing` is what the pass left of `opening`.
+pub fn fill_amounts(s: Settings, p: Plan, opening: &[u64], closing: &[u64], amounts: &mut [u64])
+    requires { ⌜ Planned s p ⌝ }
+    requires { ⌜ (length (now opening) ≡ 10 * (length (now opening) / 10)) × (length (now closing) ≡ length (now opening)) ⌝ }
+    requires { ⌜ length (now amounts) ≡ 9 * (length (now opening) / 10) ⌝ }
+    requires { ⌜ Passed s p (decode (now opening)) (decode (now closing)) ⌝ }
+    ensures { λ _. ⌜ Filled s p (now (opening .entry)) (now (closing .entry)) (now (amounts .exit)) ⌝ }
+{
+    let n = opening.len() / 10;
+    let mut memo = no_memo(s, p.shared, p.source, p.target, p.head);
+    for i in 0..n {
+        let a = 10 * i;
+        let b = a + 10;
+        let c = 9 * i;
+        let d = c + 9;
+        memo = fill_entry(
+            s,
+            p,
+            memo,
+            &opening[a..b],
+            &closing[a..b],
+            &mut amounts[c..d],
+        );
+    }
+}
