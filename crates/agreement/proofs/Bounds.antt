@@ -10,15 +10,18 @@ use lib.Dec.{leb, eqb}
 use lib.ListN.{length, getD}
 use Rattle.types.specs.declared.Settings.{Settings}
 use Rattle.types.specs.declared.Finality.{Finality}
+use Rattle.types.specs.declared.Rules.{Rules}
 use Rattle.definitions.specs.Lists.{all}
 use Rattle.definitions.specs.Checked.{value, bind}
-use Rattle.definitions.specs.Refusals.{inOrder, isVectorLength, settingsShaped, goodFinality, goodRegistry, goodSettings, isSmall, settingsNumbers, divisors, justificationTests, registryTests, slashingsTests, effectiveBalanceTests, slashingsResetTests}
+use Rattle.definitions.specs.Refusals.{inOrder, isVectorLength, settingsShaped, goodFinality, goodRegistry, goodSettings, isSmall, settingsNumbers, divisors, justificationTests, registryTests, effectiveBalanceTests, slashingsResetTests}
+use Rattle.definitions.specs.Rules.{settingsUnder, rulesShaped, goodRules, rewardsTests, slashingsTests, inactivityPenaltyTests}
 use Rattle.definitions.specs.Document.Phase0.Helpers as document
 use Rattle.definitions.specs.Document.Phase0.Helpers.{«compute_epoch_at_slot», «get_current_epoch», «get_previous_epoch»}
 use Rattle.definitions.specs.Rust.Phase0.Helpers as rust
 use Rattle.definitions.specs.Close.{Call, closeTests}
 use Rattle.laws.proofs.Checked.{not-value}
-use Rattle.agreement.specs.Bounds.{Passed, FinalityPassed, TestsPassed, Bounds, Given}
+use Rattle.laws.proofs.Rules.{shaped-under, good-under}
+use Rattle.agreement.specs.Bounds.{Passed, FinalityPassed, TestsPassed, RulesPassed, Bounds, Given}
 use Rattle.agreement.proofs.Fits.{add64-fits, mul64-fits}
 
 -- Tests
@@ -133,12 +136,11 @@ first-shaped : {t : Bool} (a : Bool) → t ≡ true → (a ≡ false → t ≡ f
 first-shaped true h f = refl
 first-shaped false h f = absurd (false≢true (sym (f refl) ∙ h))
 
-finality-passed : (s : Settings) (f : Finality) (recorded : Bool) {shaped : Bool} → inOrder shaped (goodSettings s) (goodFinality f && recorded) ≡ value tt → (settingsShaped s ≡ false → shaped ≡ false) → FinalityPassed s f
-finality-passed s f recorded {shaped} h first =
-    let tests = in-order shaped (goodSettings s) (goodFinality f && recorded) h in
-    let small = small-epochs f (both (goodFinality f) recorded (tests .2) .0) in
+finality-passed : (s : Settings) (f : Finality) (recorded : Bool) → settingsShaped s ≡ true → goodSettings s ≡ true → (goodFinality f && recorded) ≡ true → FinalityPassed s f
+finality-passed s f recorded shaped good h =
+    let small = small-epochs f (both (goodFinality f) recorded h .0) in
     record {
-      passed = record { shaped = first-shaped (settingsShaped s) (tests .0) first; good = tests .1; small = small .0 };
+      passed = record { shaped = shaped; good = good; small = small .0 };
       previousJustified = small .1;
       currentJustified = small .2;
       finalized = small .3;
@@ -149,19 +151,44 @@ slot-passed s stateSlot {shaped} {recorded} h first small =
     let tests = in-order shaped (goodSettings s) recorded h in
     record { shaped = first-shaped (settingsShaped s) (tests .0) first; good = tests .1; small = first-shaped (isSmall stateSlot) (tests .2) small }
 
-pub close-passed : (c : Call) → closeTests c ≡ value tt → FinalityPassed (c .settings) (c .finality)
-unfolding closeTests
-close-passed c h = finality-passed (c .settings) (c .finality) (goodRegistry (c .registry)) h (λ e. rw e)
+finalized-small : (stateSlot finalizedEpoch : ℕ) (recorded : Bool) → (isSmall stateSlot && isSmall finalizedEpoch && recorded) ≡ true → isSmall finalizedEpoch ≡ true
+finalized-small stateSlot finalizedEpoch recorded h = both (isSmall stateSlot) (isSmall finalizedEpoch) (both (isSmall stateSlot && isSmall finalizedEpoch) recorded h .0) .1
 
 pub tests-passed : (s : Settings) → TestsPassed s
-unfolding justificationTests registryTests slashingsTests effectiveBalanceTests slashingsResetTests
+unfolding justificationTests registryTests effectiveBalanceTests slashingsResetTests
 tests-passed s =
     record {
-      close = λ c e h. rw e at (close-passed c h);
-      justification = λ roots f registry h. finality-passed s f (goodRegistry registry) h (λ e. rw e);
+      justification = λ roots f registry h.
+          finality-passed s f (goodRegistry registry) (first-shaped (settingsShaped s) (in-order _ _ _ h .0) (λ e. rw e)) (in-order _ _ _ h .1) (in-order _ _ _ h .2);
       registry = λ stateSlot finalizedEpoch opening closing h.
-          (slot-passed s stateSlot h (λ e. rw e) (λ e. rw e), both (isSmall stateSlot) (isSmall finalizedEpoch) (both (isSmall stateSlot && isSmall finalizedEpoch) (goodRegistry opening) (in-order _ _ _ h .2) .0) .1);
-      slashings = λ stateSlot slashings opening closing h. slot-passed s stateSlot h (λ e. rw e) (λ e. rw e);
+          (slot-passed s stateSlot h (λ e. rw e) (λ e. rw e), finalized-small stateSlot finalizedEpoch (goodRegistry opening) (in-order _ _ _ h .2));
       effectiveBalances = λ opening closing h. (first-shaped (settingsShaped s) (in-order _ _ _ h .0) (λ e. rw e), in-order _ _ _ h .1);
       slashingsReset = λ stateSlot opening closing h. slot-passed s stateSlot h (λ e. rw e) (λ e. e);
+    }
+
+-- The same of calls that are lent rules, for the settings under them
+
+rules-passed-slot : (r : Rules) (stateSlot : ℕ) {shaped recorded : Bool} → inOrder shaped (goodRules r) recorded ≡ value tt → (rulesShaped r ≡ false → shaped ≡ false) → (isSmall stateSlot ≡ false → recorded ≡ false) → Passed (settingsUnder r) stateSlot
+rules-passed-slot r stateSlot {shaped} {recorded} h first small =
+    let tests = in-order shaped (goodRules r) recorded h in
+    record {
+      shaped = shaped-under r (first-shaped (rulesShaped r) (tests .0) first);
+      good = good-under r (tests .1);
+      small = first-shaped (isSmall stateSlot) (tests .2) small;
+    }
+
+pub close-passed : (c : Call) → closeTests c ≡ value tt → FinalityPassed (settingsUnder (c .rules)) (c .finality)
+unfolding closeTests
+close-passed c h =
+    finality-passed (settingsUnder (c .rules)) (c .finality) (goodRegistry (c .registry)) (shaped-under (c .rules) (first-shaped (rulesShaped (c .rules)) (in-order _ _ _ h .0) (λ e. rw e))) (good-under (c .rules) (in-order _ _ _ h .1)) (in-order _ _ _ h .2)
+
+pub rules-passed : (r : Rules) → RulesPassed r
+unfolding rewardsTests slashingsTests inactivityPenaltyTests
+rules-passed r =
+    record {
+      close = λ c e h. rw e at (close-passed c h);
+      rewards = λ stateSlot finalizedEpoch opening closing h.
+          (rules-passed-slot r stateSlot h (λ e. rw e) (λ e. rw e), finalized-small stateSlot finalizedEpoch (goodRegistry opening) (in-order _ _ _ h .2));
+      slashings = λ stateSlot slashings opening closing h. rules-passed-slot r stateSlot h (λ e. rw e) (λ e. rw e);
+      inactivityPenalty = λ stateSlot entry h. rules-passed-slot r stateSlot h (λ e. rw e) (λ e. rw e);
     }

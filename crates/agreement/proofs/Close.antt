@@ -1,15 +1,17 @@
 -- Each step, and so the whole close: where it gives a value it is the document's, and which refusals it can answer.
-use mathlib.Core.Path.{_≡_, refl}
+use mathlib.Core.Path.{_≡_, refl, _∙_}
 use mathlib.Core.Logic.{_⊎_, inl, inr, ⊎-elim}
 use Rattle.types.specs.declared.Settings.{Settings}
 use Rattle.definitions.specs.Record.{BeaconState}
 use Rattle.definitions.specs.Checked.{Refusal, noRoot, overflow, refused, foldChecked}
+use Rattle.definitions.specs.Rules.{settingsUnder}
 use Rattle.definitions.specs.Document.Phase0.EpochProcessing.{«process_slashings_reset»}
 use Rattle.definitions.specs.Document.Altair.EpochProcessing as document
 use Rattle.definitions.specs.Rust.Altair.EpochProcessing as rustEpoch
 use Rattle.definitions.specs.Close as rust
 use Rattle.definitions.specs.Close.{Step, justificationStep, inactivityStep, rewardsStep, registryStep, slashingsStep, effectiveBalancesStep, slashingsResetStep, participationFlagsStep}
 use Rattle.agreement.specs.Agreement.{documentStep, StepAgrees, CloseAgrees}
+use Rattle.agreement.proofs.Bellatrix.{under}
 use Rattle.agreement.proofs.Agrees.{Agrees, weaken, or-more, value-agrees, bind-agrees}
 use Rattle.agreement.proofs.Justification.{justification}
 use Rattle.agreement.proofs.Inactivity.{inactivity}
@@ -41,7 +43,7 @@ each-step s st slashingsResetStep = slashings-reset s st
 each-step s st participationFlagsStep = participation-flags s st
 
 pub step-agrees : StepAgrees
-step-agrees s st st′ k p = each-step s st k .same st′ p
+step-agrees r st st′ k p = under r .steps st k ∙ each-step (settingsUnder r) st k .same st′ p
 
 -- 5, or justification's 4
 abbrev pub CloseRefusal : Settings → BeaconState → Refusal → Type 0
@@ -67,4 +69,4 @@ close s st =
     (bind-agrees _ (participation-flags s _) value-agrees)))))))
 
 pub close-agrees : CloseAgrees
-close-agrees s st st′ p = close s st .same st′ p
+close-agrees r st st′ p = under r .epoch st ∙ close (settingsUnder r) st .same st′ p

@@ -1,6 +1,7 @@
 -- The proofs of the statements in specs/, and of those that take a line.
 -- Agreement, and which refusals can be answered
 pub mod Agrees
+pub mod Bellatrix
 pub mod Helpers
 pub mod Justification
 pub mod Inactivity

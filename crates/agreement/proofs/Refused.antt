@@ -8,6 +8,7 @@ use Rattle.definitions.specs.Document.Phase0.EpochProcessing.{«process_slashin
 use Rattle.definitions.specs.Document.Altair.EpochProcessing as document
 use Rattle.definitions.specs.Rust.Altair.EpochProcessing as rust
 use Rattle.definitions.specs.Refusals.{afterTests}
+use Rattle.definitions.specs.Rules.{settingsUnder}
 use Rattle.definitions.specs.Close.{step, justificationStep, Call, stateOf, closed, «process_epoch»}
 use Rattle.agreement.specs.Refused.{Refused, AfterTests}
 use Rattle.agreement.proofs.Close.{each-step, close}
@@ -23,8 +24,8 @@ refused-by s st =
       close = close s st .only;
     }
 
-pub work-refused : (c : Call) (r : Refusal) → «process_epoch» (c .settings) (stateOf c) ≡ refused r → (r ≡ overflow) ⊎ (r ≡ noRoot)
-work-refused c r p = ⊎-elim (λ e. inl e) (λ e. inr (e .0)) (close (c .settings) (stateOf c) .only r p)
+pub work-refused : (c : Call) (r : Refusal) → «process_epoch» (settingsUnder (c .rules)) (stateOf c) ≡ refused r → (r ≡ overflow) ⊎ (r ≡ noRoot)
+work-refused c r p = ⊎-elim (λ e. inl e) (λ e. inr (e .0)) (close (settingsUnder (c .rules)) (stateOf c) .only r p)
 
 pub after-tests : (c : Call) → AfterTests c
 unfolding closed afterTests bind

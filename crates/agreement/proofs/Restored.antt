@@ -9,6 +9,7 @@ use Rattle.definitions.specs.Record.{BeaconState}
 use Rattle.definitions.specs.Checked.{Checked, Refusal, badShape, badSettings, badRecord, noRoot, overflow, value, refused, bind, numberOf}
 use Rattle.definitions.specs.Refusals.{inOrder, afterTests, closingBuffer}
 use Rattle.definitions.specs.Raised.{raisedUnlessRefused}
+use Rattle.definitions.specs.Rules.{settingsUnder}
 use Rattle.definitions.specs.Close.{Call, close, closed, closeTests, stateOf, «process_epoch»}
 use Rattle.agreement.specs.Restored.{OneOf, Accepted, Untouched, Opening, Restored, StepBuffer}
 use Rattle.agreement.proofs.Refused.{work-refused}
@@ -27,11 +28,11 @@ untouched : (c : Call) (r : Refusal) → closeTests c ≡ refused r → Untouche
 unfolding close closed afterTests bind closingBuffer raisedUnlessRefused
 untouched c r t = record { finality = rw t; raised = rw t; registry = rw t; slashings = rw t }
 
-opening : (c : Call) (r : Refusal) → closeTests c ≡ value tt → «process_epoch» (c .settings) (stateOf c) ≡ refused r → Opening c
+opening : (c : Call) (r : Refusal) → closeTests c ≡ value tt → «process_epoch» (settingsUnder (c .rules)) (stateOf c) ≡ refused r → Opening c
 unfolding close closed afterTests bind closingBuffer raisedUnlessRefused
 opening c r t w = record { finality = rw (t, w); raised = rw (t, w); registry = rw (t, w); slashings = rw (t, w) }
 
-accepted : (c : Call) (st : BeaconState) → closeTests c ≡ value tt → «process_epoch» (c .settings) (stateOf c) ≡ value st → Accepted c
+accepted : (c : Call) (st : BeaconState) → closeTests c ≡ value tt → «process_epoch» (settingsUnder (c .rules)) (stateOf c) ≡ value st → Accepted c
 unfolding close closed afterTests bind closingBuffer raisedUnlessRefused
 accepted c st t w =
     record { state = st; gave = rw (t, w); finality = rw (t, w); raised = rw (t, w); registry = rw (t, w); slashings = rw (t, w) }
@@ -76,7 +77,7 @@ data Row (c : Call) : Type 0 where
   touchesNothing : OneOf (close c .refusal) (1 ∷ 2 ∷ 3 ∷ []) → Untouched c → Row c
   restores : OneOf (close c .refusal) (4 ∷ 5 ∷ []) → Opening c → Row c
 
-row : (c : Call) (t : Checked (Unit {0})) (w : Checked BeaconState) → closeTests c ≡ t → «process_epoch» (c .settings) (stateOf c) ≡ w → Row c
+row : (c : Call) (t : Checked (Unit {0})) (w : Checked BeaconState) → closeTests c ≡ t → «process_epoch» (settingsUnder (c .rules)) (stateOf c) ≡ w → Row c
 unfolding close closed afterTests bind closeTests
 row c (refused r) w t p = touchesNothing (rw t (tests-number _ _ _ r t)) (untouched c r t)
 row c (value u) (refused r) t p = restores (rw (t, p) (work-number r (work-refused c r p))) (opening c r t p)
@@ -106,4 +107,4 @@ from-row c (restores e h) =
     }
 
 pub restored : (c : Call) → Restored c
-restored c = from-row c (row c (closeTests c) («process_epoch» (c .settings) (stateOf c)) refl refl)
+restored c = from-row c (row c (closeTests c) («process_epoch» (settingsUnder (c .rules)) (stateOf c)) refl refl)

@@ -6,8 +6,10 @@ use mathlib.Core.List.{List}
 use Prim.Native.Nat.{ℕ, _+_, _*_, _/_, _^_, _≤_, _<_}
 use Rattle.types.specs.declared.Settings.{Settings}
 use Rattle.types.specs.declared.Finality.{Finality}
+use Rattle.types.specs.declared.Rules.{Rules}
 use Rattle.definitions.specs.Checked.{value, add64}
-use Rattle.definitions.specs.Refusals.{settingsShaped, goodSettings, isSmall, justificationTests, registryTests, slashingsTests, effectiveBalanceTests, slashingsResetTests}
+use Rattle.definitions.specs.Refusals.{settingsShaped, goodSettings, isSmall, justificationTests, registryTests, effectiveBalanceTests, slashingsResetTests}
+use Rattle.definitions.specs.Rules.{settingsUnder, rewardsTests, slashingsTests, inactivityPenaltyTests}
 use Rattle.definitions.specs.Document.Phase0.Helpers as document
 use Rattle.definitions.specs.Document.Phase0.Helpers.{«get_current_epoch», «get_previous_epoch»}
 use Rattle.definitions.specs.Rust.Phase0.Helpers as rust
@@ -26,14 +28,19 @@ pub record FinalityPassed (s : Settings) (f : Finality) : Type 0 where
   pub currentJustified : isSmall (f .«current_justified_checkpoint» .epoch) ≡ true
   pub finalized : isSmall (f .«finalized_checkpoint» .epoch) ≡ true
 
--- the tests of the close and of each step that is lent settings ask for this
+-- the tests of each step that is lent settings ask for this
 pub record TestsPassed (s : Settings) : Type 0 where
-  pub close : (c : Call) → c .settings ≡ s → closeTests c ≡ value tt → FinalityPassed s (c .finality)
   pub justification : (roots : List ℕ) (f : Finality) (registry : List ℕ) → justificationTests s roots f registry ≡ value tt → FinalityPassed s f
   pub registry : (stateSlot finalizedEpoch : ℕ) (opening closing : List ℕ) → registryTests s stateSlot finalizedEpoch opening closing ≡ value tt → Passed s stateSlot × (isSmall finalizedEpoch ≡ true)
-  pub slashings : (stateSlot : ℕ) (slashings opening closing : List ℕ) → slashingsTests s stateSlot slashings opening closing ≡ value tt → Passed s stateSlot
   pub effectiveBalances : (opening closing : List ℕ) → effectiveBalanceTests s opening closing ≡ value tt → (settingsShaped s ≡ true) × (goodSettings s ≡ true)
   pub slashingsReset : (stateSlot : ℕ) (opening closing : List ℕ) → slashingsResetTests s stateSlot opening closing ≡ value tt → Passed s stateSlot
+
+-- and those of the calls that are lent rules ask for it of the settings under them
+pub record RulesPassed (r : Rules) : Type 0 where
+  pub close : (c : Call) → c .rules ≡ r → closeTests c ≡ value tt → FinalityPassed (settingsUnder r) (c .finality)
+  pub rewards : (stateSlot finalizedEpoch : ℕ) (opening closing : List ℕ) → rewardsTests r stateSlot finalizedEpoch opening closing ≡ value tt → Passed (settingsUnder r) stateSlot × (isSmall finalizedEpoch ≡ true)
+  pub slashings : (stateSlot : ℕ) (slashings opening closing : List ℕ) → slashingsTests r stateSlot slashings opening closing ≡ value tt → Passed (settingsUnder r) stateSlot
+  pub inactivityPenalty : (stateSlot : ℕ) (entry : List ℕ) → inactivityPenaltyTests r stateSlot entry ≡ value tt → Passed (settingsUnder r) stateSlot
 
 pub record Bounds (s : Settings) (stateSlot : ℕ) : Type 0 where
   pub nextEpoch : «get_current_epoch» s stateSlot + 1 < 2 ^ 64

@@ -18,7 +18,7 @@ pub record Accepted (c : Call) : Type 0 where
   pub state : BeaconState
   pub gave : closed c ≡ value state
   pub finality : close c .finality ≡ state .finality
-  pub raised : close c .raised ≡ raisedTotals (c .settings) (c .finality .slot) (decode (c .registry))
+  pub raised : close c .raised ≡ raisedTotals (c .rules .settings) (c .finality .slot) (decode (c .registry))
   pub registry : close c .closingRegistry ≡ encode (state .validators)
   pub slashings : close c .closingSlashings ≡ state .slashings
 

@@ -1,12 +1,19 @@
 -- What the close hands back and what its closing buffers hold are the definition's. `x` is the number that the tests' code gave.
-use mathlib.Core.Path.{_≡_, sym, _∙_}
+use mathlib.Core.Path.{_≡_, refl, sym, ap, _∙_, subst}
 use mathlib.Core.List.{List}
 use Prim.Native.Nat.{ℕ}
+use Rattle.types.specs.declared.Settings.{Settings}
+use Rattle.types.specs.declared.Rules.{Rules}
 use Rattle.types.specs.declared.Raised.{Raised}
 use Rattle.types.specs.declared.CloseAnswer.{CloseAnswer}
 use Rattle.definitions.specs.Checked.{codeOf, bind}
 use Rattle.definitions.specs.Refusals.{afterTests, closingBuffer}
-use Rattle.definitions.specs.Raised.{noneRaised, raisedUnlessRefused}
+use Rattle.definitions.specs.Raised.{wasRaised, noneRaised, raisedTotals, raisedUnlessRefused}
+use Rattle.definitions.specs.Record.{Validator, decode}
+use Rattle.definitions.specs.Rules.{settingsUnder}
+use Rattle.definitions.specs.Rust.Phase0.Helpers.{«compute_epoch_at_slot», «get_current_epoch», «get_previous_epoch»}
+use Rattle.definitions.specs.Rust.Altair.Helpers.{«get_unslashed_participating_indices»}
+use Rattle.laws.proofs.Rules.{by-fork}
 use Rattle.definitions.specs.Close.{Call, Outcome, stateOf, closeTests, closed, close, «process_epoch»}
 use Rattle.refusals.proofs.Answers.{passed}
 use Rattle.loops.proofs.Ran.{code-value}
@@ -17,6 +24,11 @@ use Rattle.close.proofs.Worked.{code-refused}
 same-outcome : {o p : Outcome} → o .refusal ≡ p .refusal → o .finality ≡ p .finality → o .raised ≡ p .raised → o .closingRegistry ≡ p .closingRegistry → o .closingSlashings ≡ p .closingSlashings → o ≡ p
 same-outcome a b n c d = λ i. record { refusal = a i; finality = b i; raised = n i; closingRegistry = c i; closingSlashings = d i }
 
+-- which totals were raised is the same under either fork
+raised-under : (r : Rules) (stateSlot : ℕ) (vs : List Validator) → raisedTotals (settingsUnder r) stateSlot vs ≡ raisedTotals (r .settings) stateSlot vs
+unfolding raisedTotals wasRaised «get_current_epoch» «get_previous_epoch» «compute_epoch_at_slot» «get_unslashed_participating_indices»
+raised-under r stateSlot vs = by-fork r (λ t. raisedTotals t stateSlot vs ≡ raisedTotals (r .settings) stateSlot vs) refl refl
+
 module _ (c : Call) {x : ℕ} (e : x ≡ codeOf (closeTests c)) where
   -- a test refused
   pub tests-refused : {none : Raised} → (x ≡ 0 → ⊥) → none ≡ noneRaised → outcome (record { refusal = x; finality = c .finality; raised = none }) (c .closingRegistry) (c .closingSlashings) ≡ close c
@@ -25,19 +37,22 @@ module _ (c : Call) {x : ℕ} (e : x ≡ codeOf (closeTests c)) where
       let p = code-refused (closeTests c) e z in
       same-outcome (rw (p .is) (p .number)) (rw (p .is)) (rw (p .is) none) (rw (p .is)) (rw (p .is))
 
-  module _ (z : x ≡ 0) {registry slashings : List ℕ} {r : CloseAnswer} (w : Worked (c .settings) (stateOf c) registry slashings r) where
+  module _ (z : x ≡ 0) {s : Settings} (under : settingsUnder (c .rules) ≡ s) {registry slashings : List ℕ} {r : CloseAnswer} (by-settings : Worked s (stateOf c) registry slashings r) where
+    w : Worked (settingsUnder (c .rules)) (stateOf c) registry slashings r
+    w = subst (λ t. Worked t (stateOf c) registry slashings r) (sym under) by-settings
+
     -- a step is refused, and the opening put back, in an answer of that number and the opening's finality
     pub steps-refused : {answer : CloseAnswer} {xs ys : List ℕ} → (r .refusal ≡ 0 → ⊥) → answer .refusal ≡ r .refusal → (r .finality ≡ c .finality → answer .finality ≡ c .finality) → (r .raised ≡ noneRaised → answer .raised ≡ noneRaised) → xs ≡ c .registry → ys ≡ c .slashings → outcome answer xs ys ≡ close c
     unfolding close closed afterTests bind closingBuffer raisedUnlessRefused
     steps-refused y number kept none a b =
         let t = passed (closeTests c) e z in
-        let p = code-refused («process_epoch» (c .settings) (stateOf c)) (w .code) y in
+        let p = code-refused («process_epoch» (settingsUnder (c .rules)) (stateOf c)) (w .code) y in
         same-outcome (rw t (number ∙ w .code)) (rw (t, p .is) (kept (rw (p .is) at (w .finality)))) (rw (t, p .is) (none (rw (p .is) at (w .raised)))) (rw (t, p .is) a) (rw (t, p .is) b)
 
     pub steps-done : r .refusal ≡ 0 → outcome r registry slashings ≡ close c
     unfolding close closed afterTests bind closingBuffer raisedUnlessRefused
     steps-done y =
         let t = passed (closeTests c) e z in
-        let v = code-value («process_epoch» (c .settings) (stateOf c)) (stateOf c) (sym (w .code) ∙ y) in
+        let v = code-value («process_epoch» (settingsUnder (c .rules)) (stateOf c)) (stateOf c) (sym (w .code) ∙ y) in
         let h = w .held _ v in
-        same-outcome (rw t (w .code)) (rw t (w .finality)) (rw t (w .raised)) (rw (t, v) (h .0)) (rw (t, v) (h .1))
+        same-outcome (rw t (w .code)) (rw t (w .finality)) (rw t (w .raised ∙ ap (raisedUnlessRefused («process_epoch» (settingsUnder (c .rules)) (stateOf c))) (raised-under (c .rules) (c .finality .slot) (decode (c .registry))))) (rw (t, v) (h .0)) (rw (t, v) (h .1))

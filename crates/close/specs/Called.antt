@@ -1,15 +1,15 @@
 -- A call of the close, and what it came back with, as the definition's records.
 use mathlib.Core.List.{List}
 use Prim.Native.Nat.{ℕ}
-use Rattle.types.specs.declared.Settings.{Settings}
+use Rattle.types.specs.declared.Rules.{Rules}
 use Rattle.types.specs.declared.Finality.{Finality}
 use Rattle.types.specs.declared.CloseAnswer.{CloseAnswer}
 use Rattle.definitions.specs.Close.{Call, Outcome}
 
-abbrev pub called : Settings → Finality → List ℕ → List ℕ → List ℕ → List ℕ → List ℕ → Call
-called s f registry slashings roots closingRegistry closingSlashings =
+abbrev pub called : Rules → Finality → List ℕ → List ℕ → List ℕ → List ℕ → List ℕ → Call
+called rules f registry slashings roots closingRegistry closingSlashings =
     record {
-      settings = s;
+      rules = rules;
       finality = f;
       registry = registry;
       slashings = slashings;

@@ -6,6 +6,7 @@ use Prim.Native.Nat.{ℕ, _*_, _/_}
 use lib.Dec.{eqb}
 use lib.ListN.{length}
 use Rattle.types.specs.declared.Settings.{Settings}
+use Rattle.types.specs.declared.Rules.{Rules}
 use Rattle.types.specs.declared.Finality.{Finality}
 use Rattle.types.specs.declared.TotalAnswer.{TotalAnswer}
 use Rattle.types.specs.declared.TotalAnswer.the-variants.{Value, Refused}
@@ -15,21 +16,31 @@ use Rattle.definitions.specs.Checked.{Checked, value, codeOf, settle, bind}
 use Rattle.definitions.specs.Raised.{raisedTotals, raisedUnlessRefused}
 use Rattle.definitions.specs.Refusals.{inOrder, settingsShaped, registryShaped, rootsShaped, slashingsShaped, sameLength, goodSettings, goodFinality}
 use Rattle.definitions.specs.LeafRefusals.{weighTests}
-use Rattle.definitions.specs.Close.{Call, «process_epoch»}
+use Rattle.definitions.specs.Rules.{settingsUnder, rulesShaped, goodRules}
+use Rattle.definitions.specs.Close.{Call, Outcome, «process_epoch», close}
 use Rattle.agreement.specs.Bounds.{Passed}
 use Rattle.totals.specs.Totals.{totalFrom}
+use Rattle.close.specs.Called.{called}
 
 abbrev pub stateNow : Finality → List ℕ → List ℕ → List ℕ → BeaconState
 stateNow f registry slashings roots =
     record { finality = f; validators = decode registry; slashings = slashings; «block_roots» = roots }
 
--- Tests 1, 2 and 3 but for the registry's entries
-unfoldable pub recordTests : Call → Checked (Unit {0})
-recordTests c =
-    let s = c .settings in
+-- Tests 1, 2 and 3 but for fork, pair and the registry's entries
+unfoldable pub settingsTests : Call → Checked (Unit {0})
+settingsTests c =
+    let s = c .rules .settings in
     let opening = settingsShaped s && registryShaped (c .registry) && rootsShaped s (c .roots) && slashingsShaped s (c .slashings) in
     let shaped = opening && sameLength (c .registry) (c .closingRegistry) && sameLength (c .slashings) (c .closingSlashings) in
     inOrder shaped (goodSettings s) (goodFinality (c .finality))
+
+-- but for the registry's entries
+unfoldable pub recordTests : Call → Checked (Unit {0})
+recordTests c =
+    let s = c .rules .settings in
+    let opening = rulesShaped (c .rules) && registryShaped (c .registry) && rootsShaped s (c .roots) && slashingsShaped s (c .slashings) in
+    let shaped = opening && sameLength (c .registry) (c .closingRegistry) && sameLength (c .slashings) (c .closingSlashings) in
+    inOrder shaped (goodRules (c .rules)) (goodFinality (c .finality))
 
 -- a total, from the survey's sum and whether it has left 64 bits
 unfoldable pub totalOf : ℕ → ℕ → ℕ → TotalAnswer
@@ -50,3 +61,7 @@ pub record Worked (s : Settings) (before : BeaconState) (registry slashings : Li
   pub finality : r .finality ≡ settle («process_epoch» s before) before .finality
   pub raised : r .raised ≡ raisedUnlessRefused («process_epoch» s before) (raisedTotals s (before .finality .slot) (before .validators))
   pub held : (after : BeaconState) → «process_epoch» s before ≡ value after → (registry ≡ encode (after .validators)) × (slashings ≡ after .slashings)
+
+-- The outcome is that of a call under any rules by which the settings are s, and which pass these tests
+pub record ClosedUnder (s : Settings) (f : Finality) (registry slashings roots closingRegistry closingSlashings : List ℕ) (o : Outcome) : Type 0 where
+  pub under : (r : Rules) → settingsUnder r ≡ s → let c = called r f registry slashings roots closingRegistry closingSlashings in codeOf (recordTests c) ≡ 0 → o ≡ close c

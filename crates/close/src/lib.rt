@@ -6,11 +6,12 @@ ghost use lib.ListN.{length};
 ghost use Rattle.definitions.specs.Checked.{codeOf};
 ghost use Rattle.definitions.specs.Refusals.{settingsShaped, registryShaped, rootsShaped, slashingsShaped, sameLength};
 ghost use Rattle.definitions.specs.Rust.Phase0.Helpers.{«get_current_epoch», «get_previous_epoch»};
+ghost use Rattle.definitions.specs.Rules.{altairRules};
 ghost use Rattle.definitions.specs.Close.{close as closeOf};
 ghost use Rattle.selection.specs.Keep.{Blank};
 ghost use Rattle.survey.specs.Found.{Finds};
 ghost use Rattle.close.specs.Called.{called, outcome};
-ghost use Rattle.close.specs.Worked.{recordTests, totalOf, stateNow, Tested, Worked};
+ghost use Rattle.close.specs.Worked.{settingsTests, recordTests, totalOf, stateNow, Tested, Worked, ClosedUnder};
 use buffers::copy;
 use justification::justification_core;
 use leaf_refusals::current_epoch;
@@ -21,17 +22,21 @@ use refusals::good_finality;
 use refusals::good_settings;
 use refusals::registry_shaped;
 use refusals::settings_shaped;
+use rules::altair_rules;
+use rules::rules_refusal;
+use rules::settings_under;
 use slashings::slashings_reset_core;
 use survey::Findings;
 use survey::survey_registry;
 use totals::total_from;
 use types::CloseAnswer;
 use types::Finality;
+use types::Rules;
 use types::Settings;
 use types::TotalAnswer;
 use write_steps::write_registry;
 
-// Test 1 of everything lent.
+// Test 1 of everything lent but the fork.
 fn close_shaped(
     s: Settings,
     registry: &[u64],
@@ -60,9 +65,9 @@ fn close_shaped(
     closing_slashings.len() == slashings.len()
 }
 
-// Tests 1, 2 and 3 but for the registry's entries, which the survey tests: 0, or the number of the first that failed.
-fn record_tests(
-    s: Settings,
+// Tests 1, 2 and 3 by the settings, but for the registry's entries, which the survey tests: 0, or the number of the first that failed.
+fn settings_tests(
+    rules: Rules,
     finality: Finality,
     registry: &[u64],
     slashings: &[u64],
@@ -70,8 +75,9 @@ fn record_tests(
     closing_registry: &[u64],
     closing_slashings: &[u64],
 ) -> u64
-    ensures { λ r. ⌜ r ≡ codeOf (recordTests (called s finality (now (registry .entry)) (now (slashings .entry)) (now (roots .entry)) (now («closing_registry» .entry)) (now («closing_slashings» .entry)))) ⌝ }
+    ensures { λ r. ⌜ r ≡ codeOf (settingsTests (called rules finality (now (registry .entry)) (now (slashings .entry)) (now (roots .entry)) (now («closing_registry» .entry)) (now («closing_slashings» .entry)))) ⌝ }
 {
+    let s = rules.settings;
     if !close_shaped(
         s,
         registry,
@@ -89,6 +95,30 @@ fn record_tests(
         return 3;
     }
     0
+}
+
+// With fork and pair.
+fn record_tests(
+    rules: Rules,
+    finality: Finality,
+    registry: &[u64],
+    slashings: &[u64],
+    roots: &[u8],
+    closing_registry: &[u64],
+    closing_slashings: &[u64],
+) -> u64
+    ensures { λ r. ⌜ r ≡ codeOf (recordTests (called rules finality (now (registry .entry)) (now (slashings .entry)) (now (roots .entry)) (now («closing_registry» .entry)) (now («closing_slashings» .entry)))) ⌝ }
+{
+    let by_settings = settings_tests(
+        rules,
+        finality,
+        registry,
+        slashings,
+        roots,
+        closing_registry,
+        closing_slashings,
+    );
+    rules_refusal(rules, by_settings)
 }
 
 // A total of the survey, refused where the sum has left 64 bits.
@@ -153,8 +183,8 @@ fn run_steps(
     }
 }
 
-// Once the tests have passed but for that of the entries. Where a step is refused, the opening is put back. `kept` has room for what the
-// survey keeps of the activation queue.
+// Once the tests have passed but for that of the entries, by the settings under the rules. Where a step is refused, the opening is put back.
+// `kept` has room for what the survey keeps of the activation queue.
 fn close_tested(
     s: Settings,
     finality: Finality,
@@ -165,9 +195,10 @@ fn close_tested(
     closing_slashings: &mut [u64],
     kept: &mut [u64],
 ) -> CloseAnswer
-    requires { ⌜ codeOf (recordTests (called s finality (now registry) (now slashings) (now roots) (now «closing_registry») (now «closing_slashings»))) ≡ 0 ⌝ }
+    requires { ⌜ Tested s finality (now registry) (now slashings) (now roots) ⌝ }
+    requires { ⌜ (length (now «closing_registry») ≡ length (now registry)) × (length (now «closing_slashings») ≡ length (now slashings)) ⌝ }
     requires { ⌜ (length (now kept) ≡ 64) × Blank (now kept) ⌝ }
-    ensures { λ r. ⌜ outcome r (now («closing_registry» .exit)) (now («closing_slashings» .exit)) ≡ closeOf (called s finality (now (registry .entry)) (now (slashings .entry)) (now (roots .entry)) (now («closing_registry» .entry)) (now («closing_slashings» .entry))) ⌝ }
+    ensures { λ r. ⌜ ClosedUnder s finality (now (registry .entry)) (now (slashings .entry)) (now (roots .entry)) (now («closing_registry» .entry)) (now («closing_slashings» .entry)) (outcome r (now («closing_registry» .exit)) (now («closing_slashings» .exit))) ⌝ }
 {
     let current = current_epoch(s, finality.slot);
     let previous = previous_epoch(s, finality.slot);
@@ -200,7 +231,7 @@ fn close_tested(
 }
 
 pub fn close(
-    s: Settings,
+    rules: Rules,
     finality: Finality,
     registry: &[u64],
     slashings: &[u64],
@@ -208,10 +239,10 @@ pub fn close(
     closing_registry: &mut [u64],
     closing_slashings: &mut [u64],
 ) -> CloseAnswer
-    ensures { λ r. ⌜ outcome r (now («closing_registry» .exit)) (now («closing_slashings» .exit)) ≡ closeOf (called s finality (now (registry .entry)) (now (slashings .entry)) (now (roots .entry)) (now («closing_registry» .entry)) (now («closing_slashings» .entry))) ⌝ }
+    ensures { λ r. ⌜ outcome r (now («closing_registry» .exit)) (now («closing_slashings» .exit)) ≡ closeOf (called rules finality (now (registry .entry)) (now (slashings .entry)) (now (roots .entry)) (now («closing_registry» .entry)) (now («closing_slashings» .entry))) ⌝ }
 {
     let refusal = record_tests(
-        s,
+        rules,
         finality,
         registry,
         slashings,
@@ -226,6 +257,7 @@ pub fn close(
             raised: none_raised(),
         };
     }
+    let s = settings_under(rules);
     let mut kept = [18446744073709551615u64; 64];
     close_tested(
         s,
@@ -236,5 +268,29 @@ pub fn close(
         closing_registry,
         closing_slashings,
         &mut kept[0..64],
+    )
+}
+
+// By settings that name no fork: as Altair.
+pub fn close_as_altair(
+    s: Settings,
+    finality: Finality,
+    registry: &[u64],
+    slashings: &[u64],
+    roots: &[u8],
+    closing_registry: &mut [u64],
+    closing_slashings: &mut [u64],
+) -> CloseAnswer
+    ensures { λ r. ⌜ outcome r (now («closing_registry» .exit)) (now («closing_slashings» .exit)) ≡ closeOf (called (altairRules s) finality (now (registry .entry)) (now (slashings .entry)) (now (roots .entry)) (now («closing_registry» .entry)) (now («closing_slashings» .entry))) ⌝ }
+{
+    let rules = altair_rules(s);
+    close(
+        rules,
+        finality,
+        registry,
+        slashings,
+        roots,
+        closing_registry,
+        closing_slashings,
     )
 }

@@ -1,10 +1,12 @@
 -- The document's 64-bit evaluation agrees with the document.
+use mathlib.Core.Path.{_≡_, _∙_}
 use mathlib.Core.List.{List}
 use Prim.Native.Nat.{ℕ}
 use lib.Dec.{eqb}
 use Rattle.types.specs.declared.Settings.{Settings}
 use Rattle.definitions.specs.Record.{Validator, BeaconState}
-use Rattle.definitions.specs.Checked.{Refusal}
+use Rattle.definitions.specs.Checked.{Refusal, value}
+use Rattle.definitions.specs.Rules.{settingsUnder}
 use Rattle.definitions.specs.Document.Phase0.Helpers.{«compute_activation_exit_epoch», «get_current_epoch», «get_previous_epoch», «get_total_balance», «get_total_active_balance»}
 use Rattle.definitions.specs.Document.Phase0.EpochProcessing as documentEpoch
 use Rattle.definitions.specs.Document.Phase0.EpochProcessing.{isEligible, «is_in_inactivity_leak»}
@@ -27,6 +29,7 @@ use Rattle.agreement.proofs.Rewards.{apply-delta}
 use Rattle.agreement.proofs.Registry.{registry-at}
 use Rattle.agreement.proofs.EffectiveBalances.{effective-balance}
 use Rattle.agreement.proofs.Justification.{justification}
+use Rattle.agreement.proofs.Bellatrix.{under}
 use Rattle.completeness.proofs.Laws.{traverse-agrees, zip-agrees}
 use Rattle.agreement.proofs.Slashings.{slashings}
 use Rattle.agreement.proofs.Close.{slashings-reset, participation-flags}
@@ -141,10 +144,19 @@ each-step s st effectiveBalancesStep = effective-balances s st
 each-step s st slashingsResetStep = slashings-reset s st
 each-step s st participationFlagsStep = participation-flags s st
 
+-- of Altair's text with any settings
+
+pub step-given : (s : Settings) (st st′ : BeaconState) (k : Step) → in64.step s st k ≡ value st′ → documentStep s st k ≡ st′
+step-given s st st′ k e = each-step s st k .same st′ e
+
+pub close-given : (s : Settings) (st st′ : BeaconState) → in64.«process_epoch» s st ≡ value st′ → document.«process_epoch» s st ≡ st′
+unfolding in64.«process_epoch» document.«process_epoch»
+close-given s st st′ e = foldChecked-value (in64.step s) (documentStep s) (λ before k after. step-given s before after k) st steps e
+
+-- of either fork's
+
 pub step-agrees-in-64-bits : StepAgreesIn64Bits
-step-agrees-in-64-bits s st st′ k e = each-step s st k .same st′ e
+step-agrees-in-64-bits r st st′ k e = under r .steps st k ∙ step-given (settingsUnder r) st st′ k e
 
 pub close-agrees-in-64-bits : CloseAgreesIn64Bits
-unfolding in64.«process_epoch» document.«process_epoch»
-close-agrees-in-64-bits s st st′ e =
-    foldChecked-value (in64.step s) (documentStep s) (λ before k after. step-agrees-in-64-bits s before after k) st steps e
+close-agrees-in-64-bits r st st′ e = under r .epoch st ∙ close-given (settingsUnder r) st st′ e

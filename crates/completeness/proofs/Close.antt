@@ -20,7 +20,7 @@ use Rattle.completeness.specs.DocumentIn64Bits as in64
 use Rattle.completeness.specs.Rows.{FinalizedAhead, Row, nobodyEligible, nobodyHits, noValidators, CloseRow, atInactivity, atEffectiveBalances}
 use Rattle.completeness.specs.Complete.{StepParts, NoRewardsRow, CloseParts, CompleteClose}
 use Rattle.agreement.proofs.Agrees.{Agrees, Overflow, not-refused, value-agrees, bind-agrees}
-use Rattle.agreement.proofs.Close.{step-agrees}
+use Rattle.agreement.proofs.Close.{each-step as agrees-step}
 use Rattle.completeness.proofs.Laws.{refused-or-parted}
 use Rattle.completeness.proofs.Agrees.{each-step}
 use Rattle.completeness.proofs.Steps.{complete-step, inactivity-refused}
@@ -76,7 +76,7 @@ scored-finality s st = finality-kept (eqb («get_current_epoch» s (st .finality
 
 pub no-rewards-row : NoRewardsRow
 no-rewards-row s st scored e (nobodyHits a _ _ _) =
-    let f : scored .finality ≡ st .finality = rw (step-agrees s st scored inactivityStep e) at (scored-finality s st) in
+    let f : scored .finality ≡ st .finality = rw (agrees-step s st inactivityStep .same scored e) at (scored-finality s st) in
     let b : FinalizedAhead s st = record { started = rw f at (a .started); ahead = rw f at (a .ahead) } in
     not-refused (sym e ∙ inactivity-refused s st b)
 
@@ -114,7 +114,7 @@ after-justification s st =
 
 epoch-agrees : (s : Settings) (st justified : BeaconState) → Rust.step s st justificationStep ≡ value justified → Agrees Overflow (in64.«process_epoch» s st) (document.«process_epoch» s st)
 unfolding in64.«process_epoch» foldChecked bind in64.step document.«process_epoch»
-epoch-agrees s st justified e = rw (e, step-agrees s st justified justificationStep e) (after-justification s justified)
+epoch-agrees s st justified e = rw (e, agrees-step s st justificationStep .same justified e) (after-justification s justified)
 
 parted-close : (s : Settings) (st : BeaconState) → Met s st steps → (Rust.«process_epoch» s st ≡ in64.«process_epoch» s st) ⊎ CloseParts s st
 unfolding Rust.«process_epoch» Rust.closeUpTo HasRow

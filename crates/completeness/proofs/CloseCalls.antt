@@ -5,7 +5,8 @@ use Rattle.definitions.specs.Record.{BeaconState, decode}
 use Rattle.definitions.specs.Checked.{Refusal, Checked, value, refused, bind, codeOf, settle}
 use Rattle.definitions.specs.Refusals.{afterTests, closingBuffer}
 use Rattle.definitions.specs.Raised.{raisedTotals, raisedUnlessRefused}
-use Rattle.definitions.specs.Document.Altair.EpochProcessing as document
+use Rattle.definitions.specs.Rules.{settingsUnder}
+use Rattle.definitions.specs.Document.ByFork.{documentUnder}
 use Rattle.definitions.specs.Close.{Call, stateOf, closeTests, closed, close, Outcome}
 use Rattle.completeness.specs.DocumentIn64Bits as in64
 use Rattle.completeness.specs.Complete.{CloseParts}
@@ -18,9 +19,9 @@ use Rattle.agreement.proofs.Close.{close-agrees}
 use Rattle.agreement.proofs.Restored.{restored}
 use Rattle.completeness.proofs.Close.{complete-close}
 
-closed-agrees : (c : Call) (st : BeaconState) → closed c ≡ value st → document.«process_epoch» (c .settings) (stateOf c) ≡ st
+closed-agrees : (c : Call) (st : BeaconState) → closed c ≡ value st → documentUnder (c .rules) (stateOf c) ≡ st
 unfolding closed afterTests
-closed-agrees c st e = close-agrees (c .settings) (stateOf c) st (bound _ _ e .then)
+closed-agrees c st e = close-agrees (c .rules) (stateOf c) st (bound _ _ e .then)
 
 document-closed : (c : Call) → close c .refusal ≡ 0 → DocumentClosed c (close c)
 document-closed c z =
@@ -34,7 +35,7 @@ outcomeBy tests c work =
     record {
       refusal = codeOf (afterTests tests work);
       finality = settle (afterTests tests work) (stateOf c) .finality;
-      raised = raisedUnlessRefused (afterTests tests work) (raisedTotals (c .settings) (c .finality .slot) (decode (c .registry)));
+      raised = raisedUnlessRefused (afterTests tests work) (raisedTotals (c .rules .settings) (c .finality .slot) (decode (c .registry)));
       closingRegistry = closingBuffer registryOf tests work (c .registry) (c .closingRegistry);
       closingSlashings = closingBuffer slashingsOf tests work (c .slashings) (c .closingSlashings);
     }
@@ -43,11 +44,11 @@ after-refusal : (r : Refusal) (c : Call) (m n : Checked BeaconState) → outcome
 unfolding afterTests bind closingBuffer raisedUnlessRefused
 after-refusal r c m n = refl
 
-close-complete : (c : Call) (t : Checked (Unit {0})) → closeTests c ≡ t → (close c ≡ outcomeOf c (in64.«process_epoch» (c .settings) (stateOf c))) ⊎ ((closeTests c ≡ value tt) × CloseParts (c .settings) (stateOf c))
+close-complete : (c : Call) (t : Checked (Unit {0})) → closeTests c ≡ t → (close c ≡ outcomeOf c (in64.«process_epoch» (settingsUnder (c .rules)) (stateOf c))) ⊎ ((closeTests c ≡ value tt) × CloseParts (settingsUnder (c .rules)) (stateOf c))
 unfolding close closed
 close-complete c (refused r) t = inl (rw t (after-refusal r c _ _))
 close-complete c (value u) t =
-    ⊎-elim (λ e. inl (ap (outcomeOf c) e)) (λ p. inr (t, p)) (complete-close (c .settings) (stateOf c) (close-passed c t .passed))
+    ⊎-elim (λ e. inl (ap (outcomeOf c) e)) (λ p. inr (t, p)) (complete-close (settingsUnder (c .rules)) (stateOf c) (close-passed c t .passed))
 
 pub close-call : (c : Call) → CloseCall c (close c)
 close-call c = record { accepted = document-closed c; complete = close-complete c (closeTests c) refl }

@@ -21,7 +21,7 @@ use Rattle.definitions.specs.Document.Altair.EpochProcessing as document
 use Rattle.definitions.specs.Close as Rust
 use Rattle.definitions.specs.Close.{finalizedEpochOf, Step, justificationStep, inactivityStep, rewardsStep, registryStep, slashingsStep, effectiveBalancesStep, slashingsResetStep, participationFlagsStep}
 use Rattle.agreement.specs.Agreement.{documentStep}
-use Rattle.agreement.proofs.Close.{step-agrees}
+use Rattle.agreement.proofs.Close.{each-step}
 
 pub record AsMany (vs ws : List Validator) : Type 0 where
   pub many : length vs ≡ length ws
@@ -104,4 +104,4 @@ kept s st slashingsResetStep = record { slot = refl; validators = record { many 
 kept s st participationFlagsStep = kept-with st (map-many _ _)
 
 pub kept-step : (s : Settings) (st st′ : BeaconState) (k : Step) → Rust.step s st k ≡ value st′ → Kept st st′
-kept-step s st st′ k e = rw (step-agrees s st st′ k e) at (kept s st k)
+kept-step s st st′ k e = rw (each-step s st k .same st′ e) at (kept s st k)

@@ -6,10 +6,12 @@ use mathlib.Core.Logic.{_⊎_, inl, inr, ⊎-elim}
 use Prim.Native.Nat.{ℕ}
 use native.Mathlib.Omega.{arith}
 use Rattle.types.specs.declared.Settings.{Settings}
+use Rattle.types.specs.declared.Rules.{Rules}
 use Rattle.definitions.specs.Record.{Validator, BeaconState, encode, decode}
 use Rattle.definitions.specs.Updates.{withValidators, withSlashings}
 use Rattle.definitions.specs.Checked.{Refusal, badShape, badRecord, overflow, Checked, value, refused, bind, numberOf}
-use Rattle.definitions.specs.Refusals.{inOrder, afterTests, closingBuffer, registryTests, slashingsTests, effectiveBalanceTests, slashingsResetTests, rotationTests}
+use Rattle.definitions.specs.Refusals.{inOrder, afterTests, closingBuffer, registryTests, effectiveBalanceTests, slashingsResetTests, rotationTests}
+use Rattle.definitions.specs.Rules.{settingsUnder, rewardsTests, slashingsTests}
 use Rattle.definitions.specs.RegisterOrder.{registryUpdatesTo, registryToTests}
 use Rattle.definitions.specs.Rust.Phase0.EpochProcessing.{«process_registry_updates», resetSlashings}
 use Rattle.definitions.specs.Rust.Altair.EpochProcessing as rust
@@ -19,12 +21,13 @@ use Rattle.agreement.specs.Bounds.{Passed}
 use Rattle.agreement.specs.Restored.{OneOf}
 use Rattle.buffers.specs.Closes.{Closes}
 use Rattle.completeness.specs.DocumentIn64Bits as in64
-use Rattle.completeness.specs.Calls.{registryOf, slashingsOf, ByNumber, StepCall, StepCalls, stoppedOf, StoppedCalls}
+use Rattle.completeness.specs.Calls.{registryOf, slashingsOf, ByNumber, StepCall, StepCalls, RulesCalls, stoppedOf, StoppedCalls}
 use Rattle.laws.proofs.Checked.{not-value}
 use Rattle.queue.specs.Stopped.{keptFrom}
 use Rattle.queue.proofs.Stopped.{stopped}
 use Rattle.agreement.proofs.Agrees.{Agrees, Overflow, not-refused}
-use Rattle.agreement.proofs.Bounds.{tests-passed}
+use Rattle.agreement.proofs.Bellatrix.{under}
+use Rattle.agreement.proofs.Bounds.{tests-passed, rules-passed}
 use Rattle.agreement.proofs.Inactivity.{inactivity}
 use Rattle.agreement.proofs.Rewards.{rewards}
 use Rattle.agreement.proofs.Registry.{registry}
@@ -104,7 +107,7 @@ on-registry st tests work h = widen encode registryOf (λ vs. withValidators vs 
 
 module _ (s : Settings) (st : BeaconState) (contents : BeaconState → List ℕ) {opening closing after : List ℕ} {r : ℕ} where
   -- which refuses with 5 alone
-  step-call : (k : Step) (a b d : Bool) → Agrees Overflow (step s st k) (documentStep s st k) → (k ≡ registryStep → inOrder a b d ≡ value tt → Passed s (st .finality .slot)) → Closes contents (inOrder a b d) (step s st k) opening closing after r → StepCall s st k contents (0 ∷ 1 ∷ 2 ∷ 3 ∷ 5 ∷ []) (inOrder a b d) opening closing after r
+  step-call : (k : Step) (a b d : Bool) {document : BeaconState} → Agrees Overflow (step s st k) document → (k ≡ registryStep → inOrder a b d ≡ value tt → Passed s (st .finality .slot)) → Closes contents (inOrder a b d) (step s st k) opening closing after r → StepCall s document st k contents (0 ∷ 1 ∷ 2 ∷ 3 ∷ 5 ∷ []) (inOrder a b d) opening closing after r
   step-call k a b d h p c =
       record {
         byNumber = by-number contents (inl refl) five (inOrder a b d) (step s st k) (three a b d) h c;
@@ -123,7 +126,7 @@ three-alone : (a b d : Bool) (q : Refusal) → inOrder a b d ≡ refused q → T
 three-alone a b d q e = let n = tests-number a b d q e in (inr n, n)
 
 module _ (s : Settings) (st : BeaconState) {closing after : List ℕ} {r : ℕ} where
-  reset-call : let tests = slashingsResetTests s (st .finality .slot) (st .slashings) closing in Closes (λ xs. xs) tests (value (resetSlashings s (st .finality .slot) (st .slashings))) (st .slashings) closing after r → StepCall s st slashingsResetStep slashingsOf (0 ∷ 1 ∷ 2 ∷ 3 ∷ []) tests (st .slashings) closing after r
+  reset-call : let tests = slashingsResetTests s (st .finality .slot) (st .slashings) closing in Closes (λ xs. xs) tests (value (resetSlashings s (st .finality .slot) (st .slashings))) (st .slashings) closing after r → StepCall s (documentStep s st slashingsResetStep) st slashingsResetStep slashingsOf (0 ∷ 1 ∷ 2 ∷ 3 ∷ []) tests (st .slashings) closing after r
   unfolding slashingsResetTests step in64.step bind
   reset-call h =
       let w = widen (λ xs. xs) slashingsOf (λ xs. withSlashings xs st) (λ xs. refl) _ _ h in
@@ -132,7 +135,7 @@ module _ (s : Settings) (st : BeaconState) {closing after : List ℕ} {r : ℕ} 
         complete = inl w;
       }
 
-  flags-call : {opening : List ℕ} → decode opening ≡ st .validators → let tests = rotationTests opening closing in Closes encode tests (value (rust.«process_participation_flag_updates» (decode opening))) opening closing after r → StepCall s st participationFlagsStep registryOf (0 ∷ 1 ∷ 3 ∷ []) tests opening closing after r
+  flags-call : {opening : List ℕ} → decode opening ≡ st .validators → let tests = rotationTests opening closing in Closes encode tests (value (rust.«process_participation_flag_updates» (decode opening))) opening closing after r → StepCall s (documentStep s st participationFlagsStep) st participationFlagsStep registryOf (0 ∷ 1 ∷ 3 ∷ []) tests opening closing after r
   unfolding rotationTests step in64.step bind
   flags-call e h =
       let w = on-registry st _ _ (rw e at h) in
@@ -142,16 +145,23 @@ module _ (s : Settings) (st : BeaconState) {closing after : List ℕ} {r : ℕ} 
       }
 
 pub step-calls : (s : Settings) (st : BeaconState) (opening closing after : List ℕ) (r : ℕ) → StepCalls s st opening closing after r
-unfolding registryTests slashingsTests effectiveBalanceTests step
+unfolding registryTests effectiveBalanceTests step
 step-calls s st opening closing after r =
     record {
       inactivity = λ e h. step-call s st registryOf inactivityStep _ _ _ (inactivity s st) (λ _ t. tests-passed s .registry (st .finality .slot) (finalizedEpochOf st) opening closing t .0) (on-registry st _ _ (rw e at h));
-      rewards = λ e h. step-call s st registryOf rewardsStep _ _ _ (rewards s st) (λ _ t. tests-passed s .registry (st .finality .slot) (finalizedEpochOf st) opening closing t .0) (on-registry st _ _ (rw e at h));
       registry = λ e h. step-call s st registryOf registryStep _ _ _ (registry s st) (λ _ t. tests-passed s .registry (st .finality .slot) (finalizedEpochOf st) opening closing t .0) (on-registry st _ _ (rw e at h));
-      slashings = λ e h. step-call s st registryOf slashingsStep _ _ _ (slashings s st) (λ _ t. tests-passed s .slashings (st .finality .slot) (st .slashings) opening closing t) (on-registry st _ _ (rw e at h));
       effectiveBalances = λ e h. step-call s st registryOf effectiveBalancesStep _ _ _ (effective-balances s st) (λ k _. other k) (on-registry st _ _ (rw e at h));
       slashingsReset = reset-call s st;
       participationFlags = flags-call s st;
+    }
+
+pub rules-calls : (r : Rules) (st : BeaconState) (opening closing after : List ℕ) (n : ℕ) → RulesCalls r st opening closing after n
+unfolding rewardsTests slashingsTests step
+rules-calls r st opening closing after n =
+    let s = settingsUnder r in
+    record {
+      rewards = λ e h. rw (under r .steps st rewardsStep) (step-call s st registryOf rewardsStep _ _ _ (rewards s st) (λ _ t. rules-passed r .rewards (st .finality .slot) (finalizedEpochOf st) opening closing t .0) (on-registry st _ _ (rw e at h)));
+      slashings = λ e h. rw (under r .steps st slashingsStep) (step-call s st registryOf slashingsStep _ _ _ (slashings s st) (λ _ t. rules-passed r .slashings (st .finality .slot) (st .slashings) opening closing t) (on-registry st _ _ (rw e at h)));
     }
 
 -- The registry step with a stop

@@ -14,6 +14,7 @@ use Rattle.definitions.specs.Record.{Validator, «FAR_FUTURE_EPOCH», decodeOne
 use Rattle.definitions.specs.Updates.{withActivation}
 use Rattle.definitions.specs.Checked.{bind}
 use Rattle.definitions.specs.Refusals.{inOrder, settingsShaped, registryShaped, goodSettings, goodFinality, goodRegistry, afterTests, closingBuffer}
+use Rattle.definitions.specs.Rules.{settingsUnder, altairRules, rulesShaped, goodRules}
 use Rattle.definitions.specs.Document.Phase0.Helpers.{«is_eligible_for_activation»}
 use Rattle.definitions.specs.Document.Phase0.EpochProcessing.{activationQueue, dequeued}
 use Rattle.definitions.specs.RegisterOrder.{ahead, mapBelow, activatedAt, activated}
@@ -26,7 +27,7 @@ abbrev badBits : Call
 badBits =
     let checkpoint : Checkpoint = record { epoch = 0; root = replicate 32 0 } in
     record {
-      settings = least 1 0 0;
+      rules = altairRules (least 1 0 0);
       finality = record {
         slot = 0;
         «justification_bits» = 16;
@@ -42,7 +43,7 @@ badBits =
     }
 
 pub not-restored-on-three : ((c : Call) → OneOf (close c .refusal) (3 ∷ 4 ∷ 5 ∷ []) → Opening c) → ⊥
-unfolding close closed closeTests afterTests closingBuffer bind inOrder settingsShaped registryShaped goodSettings goodFinality goodRegistry decode decodeFirst all
+unfolding close closed closeTests settingsUnder rulesShaped goodRules afterTests closingBuffer bind inOrder settingsShaped registryShaped goodSettings goodFinality goodRegistry decode decodeFirst all
 not-restored-on-three h = let e : _≡_ {A = ℕ} 1 0 = ap (λ xs. getD xs 0 0) (h badBits (inl refl) .slashings) in omega arith
 
 -- those with fewer than `limit` eligible ones of smaller numbers

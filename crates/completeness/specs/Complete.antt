@@ -5,24 +5,27 @@ use mathlib.Core.List.{List}
 use mathlib.Core.Logic.{_⊎_}
 use Prim.Native.Nat.{ℕ}
 use Rattle.types.specs.declared.Settings.{Settings}
+use Rattle.types.specs.declared.Rules.{Rules}
 use Rattle.definitions.specs.Record.{Validator, BeaconState}
 use Rattle.definitions.specs.Checked.{value, refused, overflow}
+use Rattle.definitions.specs.Rules.{settingsUnder}
+use Rattle.definitions.specs.Document.ByFork.{documentUnder}
 use Rattle.definitions.specs.Document.Altair.Helpers as DocumentHelpers
 use Rattle.definitions.specs.Document.Altair.EpochProcessing as Document
 use Rattle.definitions.specs.Rust.Altair.Helpers as RustHelpers
 use Rattle.definitions.specs.Close as Rust
 use Rattle.definitions.specs.Close.{Step, inactivityStep, rewardsStep, registryStep, effectiveBalancesStep}
-use Rattle.agreement.specs.Agreement.{documentStep}
+use Rattle.agreement.specs.Agreement.{documentStep, documentStepUnder}
 use Rattle.agreement.specs.Bounds.{Passed}
 use Rattle.completeness.specs.DocumentIn64Bits as In64Bits
 use Rattle.completeness.specs.Rows.{Row, LeafRow, CloseRow}
 
--- where the document's evaluation in 64 bits gives a state, it is the document's
+-- where the evaluation in 64 bits of a fork's document gives a state, it is that document's
 abbrev pub StepAgreesIn64Bits : Type 0
-StepAgreesIn64Bits = (s : Settings) (st st′ : BeaconState) (k : Step) → In64Bits.step s st k ≡ value st′ → documentStep s st k ≡ st′
+StepAgreesIn64Bits = (r : Rules) (st st′ : BeaconState) (k : Step) → In64Bits.step (settingsUnder r) st k ≡ value st′ → documentStepUnder r st k ≡ st′
 
 abbrev pub CloseAgreesIn64Bits : Type 0
-CloseAgreesIn64Bits = (s : Settings) (st st′ : BeaconState) → In64Bits.«process_epoch» s st ≡ value st′ → Document.«process_epoch» s st ≡ st′
+CloseAgreesIn64Bits = (r : Rules) (st st′ : BeaconState) → In64Bits.«process_epoch» (settingsUnder r) st ≡ value st′ → documentUnder r st ≡ st′
 
 -- Steps
 

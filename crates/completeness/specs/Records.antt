@@ -7,6 +7,7 @@ use Rattle.types.specs.declared.Settings.{Settings}
 use Rattle.types.specs.declared.Checkpoint.{Checkpoint}
 use Rattle.definitions.specs.Record.{«FAR_FUTURE_EPOCH»}
 use Rattle.definitions.specs.Checked.{value, refused, overflow}
+use Rattle.definitions.specs.Rules.{«BELLATRIX», settingsUnder, altairRules}
 use Rattle.definitions.specs.Close as Rust
 use Rattle.definitions.specs.Close.{inactivityStep, rewardsStep, registryStep, effectiveBalancesStep, Call, stateOf, closeTests}
 use Rattle.completeness.specs.DocumentIn64Bits as In64Bits
@@ -37,12 +38,12 @@ least increment downward lookahead =
       «churn_limit_quotient» = 1;
     }
 
--- this registry, slot, and finalized epoch
+-- this registry, slot, and finalized epoch, under fork 0
 abbrev pub callOf : Settings → List ℕ → ℕ → ℕ → Call
 callOf s registry slot finalized =
     let checkpoint : ℕ → Checkpoint = λ epoch. record { epoch = epoch; root = replicate 32 0 } in
     record {
-      settings = s;
+      rules = altairRules s;
       finality = record {
         slot = slot;
         «justification_bits» = 0;
@@ -55,6 +56,27 @@ callOf s registry slot finalized =
       roots = replicate 32 0;
       closingRegistry = registry;
       closingSlashings = 0 ∷ [];
+    }
+
+-- the same under fork 1, with a pair that has the Altair two's numbers
+abbrev pub onBellatrix : Call → Call
+onBellatrix c =
+    let s = c .rules .settings in
+    record {
+      rules = record {
+        settings = s;
+        fork = «BELLATRIX»;
+        bellatrix = record {
+          «inactivity_penalty_quotient_bellatrix» = s .«inactivity_penalty_quotient_altair»;
+          «proportional_slashing_multiplier_bellatrix» = s .«proportional_slashing_multiplier_altair»;
+        };
+      };
+      finality = c .finality;
+      registry = c .registry;
+      slashings = c .slashings;
+      roots = c .roots;
+      closingRegistry = c .closingRegistry;
+      closingSlashings = c .closingSlashings;
     }
 
 -- no validators in epoch 1, which is finalized
@@ -74,17 +96,21 @@ abbrev pub untested : Call
 untested = callOf (least 1 0 (2 ^ 64 - 1)) [] 0 0
 
 -- the first three pass the tests and part: a step of each and, but for rewards, the whole close
-pub record Records : Type 0 where
-  pub aheadTests : closeTests ahead ≡ value tt
-  pub inactivity : StepParts (ahead .settings) (stateOf ahead) inactivityStep
-  pub rewards : StepParts (ahead .settings) (stateOf ahead) rewardsStep
-  pub aheadClose : CloseParts (ahead .settings) (stateOf ahead)
-  pub missedTests : closeTests missed ≡ value tt
-  pub missedRewards : StepParts (missed .settings) (stateOf missed) rewardsStep
-  pub missedClose : (Rust.«process_epoch» (missed .settings) (stateOf missed) ≡ refused overflow) × (In64Bits.«process_epoch» (missed .settings) (stateOf missed) ≡ refused overflow)
-  pub wideTests : closeTests wide ≡ value tt
-  pub effectiveBalances : StepParts (wide .settings) (stateOf wide) effectiveBalancesStep
-  pub wideClose : CloseParts (wide .settings) (stateOf wide)
+pub record Parting (turned : Call → Call) : Type 0 where
+  pub aheadTests : closeTests (turned ahead) ≡ value tt
+  pub inactivity : StepParts (settingsUnder (turned ahead .rules)) (stateOf (turned ahead)) inactivityStep
+  pub rewards : StepParts (settingsUnder (turned ahead .rules)) (stateOf (turned ahead)) rewardsStep
+  pub aheadClose : CloseParts (settingsUnder (turned ahead .rules)) (stateOf (turned ahead))
+  pub missedTests : closeTests (turned missed) ≡ value tt
+  pub missedRewards : StepParts (settingsUnder (turned missed .rules)) (stateOf (turned missed)) rewardsStep
+  pub missedClose : (Rust.«process_epoch» (settingsUnder (turned missed .rules)) (stateOf (turned missed)) ≡ refused overflow) × (In64Bits.«process_epoch» (settingsUnder (turned missed .rules)) (stateOf (turned missed)) ≡ refused overflow)
+  pub wideTests : closeTests (turned wide) ≡ value tt
+  pub effectiveBalances : StepParts (settingsUnder (turned wide .rules)) (stateOf (turned wide)) effectiveBalancesStep
+  pub wideClose : CloseParts (settingsUnder (turned wide .rules)) (stateOf (turned wide))
   -- why the steps are said of what passes the tests: without them registry would part, too
-  pub untestedRust : Rust.step (untested .settings) (stateOf untested) registryStep ≡ refused overflow
-  pub untestedDocument : In64Bits.step (untested .settings) (stateOf untested) registryStep ≡ value (stateOf untested)
+  pub untestedRust : Rust.step (settingsUnder (turned untested .rules)) (stateOf (turned untested)) registryStep ≡ refused overflow
+  pub untestedDocument : In64Bits.step (settingsUnder (turned untested .rules)) (stateOf (turned untested)) registryStep ≡ value (stateOf (turned untested))
+
+pub record Records : Type 0 where
+  pub altair : Parting (λ c. c)
+  pub bellatrix : Parting onBellatrix

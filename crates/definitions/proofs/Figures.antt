@@ -1,5 +1,5 @@
 -- The figures of document 01, "Figures to meet", that are marked [P], as one table about the definitions that contracts cite; then
--- three of its other figures, and four more, which hold the definitions to what the marked ones leave open.
+-- three of its other figures, four more, which hold the definitions to what the marked ones leave open, and those of 02, R-3.
 use mathlib.Core.Path.{_≡_, refl, ap}
 use mathlib.Core.Bool.{Bool, true, false, cond, _&&_, _||_, not}
 use mathlib.Core.List.{List, [], _∷_, map}
@@ -10,11 +10,13 @@ use Rattle.types.specs.declared.Settings.{Settings}
 use Rattle.types.specs.declared.Deltas.{Deltas}
 use Rattle.types.specs.declared.Checkpoint.{Checkpoint}
 use Rattle.types.specs.declared.Finality.{Finality}
+use Rattle.types.specs.declared.Rules.{Rules}
 use Rattle.definitions.specs.Lists.{filter, sum, range, insert, sorted, maximum}
 use Rattle.definitions.specs.Record.{Validator, «FAR_FUTURE_EPOCH», nobody}
 use Rattle.definitions.specs.Updates.{withBalance, withParticipation}
 use Rattle.definitions.specs.Checked.{Checked, value, refused, Refusal, noRoot, overflow, bind, add64, sub64, mul64, sum64, mapChecked, foldChecked}
-use Rattle.definitions.specs.Mainnet.{mainnet}
+use Rattle.definitions.specs.Mainnet.{mainnet, mainnetBellatrix}
+use Rattle.definitions.specs.Rules.{settingsUnder, «ALTAIR», «BELLATRIX»}
 use Rattle.definitions.specs.Document.Phase0.Helpers.{«integer_squareroot», rootWithin}
 use Rattle.definitions.specs.Document.Phase0.Helpers as document
 use Rattle.definitions.specs.Document.Phase0.EpochProcessing.{justifiedBits, finalizedBy, weighed, roundedBalance}
@@ -146,6 +148,17 @@ shortHistory =
       «churn_limit_quotient» = mainnet .«churn_limit_quotient»;
     }
 
+-- mainnet's settings and pair under this fork
+abbrev under : ℕ → Settings
+under fork = settingsUnder (record { settings = mainnet; fork = fork; bellatrix = mainnetBellatrix })
+
+-- the inactivity penalty of score 100, and the balance of the first of five after a slashing
+abbrev scored : Settings → Checked Deltas
+scored s = «get_inactivity_penalty_deltas» s (s .«inactivity_penalty_quotient_altair») slot (validator 32_000_000_000 32_000_000_000 0 100)
+
+abbrev slashedBy : Settings → ℕ
+slashedBy s = getD (balances («process_slashings» s (s .«proportional_slashing_multiplier_altair») slot (32_000_000_000 ∷ []) oneDue)) 0 0
+
 -- these bits, and checkpoints of these epochs with roots of zeros
 abbrev checkpoint : ℕ → Checkpoint
 checkpoint epoch = record { epoch = epoch; root = replicate 32 0 }
@@ -222,6 +235,11 @@ pub record Figures : Type 0 where
   -- added, the one order of 4 and 5 that shows: the previous epoch's root is looked up before the current epoch's product
   pub product-after : «process_justification_and_finalization» mainnet [] (finality slot 0 0 0 0) heavy ≡ refused overflow
   pub root-before : «process_justification_and_finalization» shortHistory [] (finality slot 0 0 0 0) heavy ≡ refused noRoot
+  -- 02, R-3, the Bellatrix pair: the same two are 47683 and 19×10^9, and under fork 0 what they were
+  pub bellatrix-inactivity-penalty : scored (under «BELLATRIX») ≡ delta 0 47_683
+  pub bellatrix-slashed : slashedBy (under «BELLATRIX») ≡ 32_000_000_000 - 19_000_000_000
+  pub altair-inactivity-penalty : scored (under «ALTAIR») ≡ delta 0 15_894
+  pub altair-slashed : slashedBy (under «ALTAIR») ≡ 32_000_000_000 - 12_000_000_000
 
 -- 262143 / 65536 is 3, below the least of 4; 327680 / 65536 is 5
 churn-of : {limit : ℕ} (vs : List Validator) {n : ℕ} → length («get_active_validator_indices» vs («get_current_epoch» mainnet slot)) ≡ n → max 4 (n / 65_536) ≡ limit → «get_validator_churn_limit» mainnet slot vs ≡ limit
@@ -234,7 +252,7 @@ all-active zero = refl
 all-active (suc n) = ap suc (all-active n)
 
 pub figures : Figures
-unfolding «integer_squareroot» rootWithin «get_total_active_balance» «get_total_balance» sum64 sum filter bind add64 sub64 mul64 mapChecked foldChecked «get_active_validator_indices» «is_active_validator» «get_current_epoch» «get_previous_epoch» «compute_epoch_at_slot» «get_base_reward_per_increment» «get_base_reward» «get_flag_index_deltas» flagTotals flagIndexDeltas hitDeltas missDeltas isEligible isUnslashedParticipating «get_unslashed_participating_indices» «has_flag» «is_in_inactivity_leak» «get_finality_delay» «process_rewards_and_penalties» rewardAndPenalize inactivityPenaltyDeltas «get_inactivity_penalty_deltas» applyDelta «increase_balance» «decrease_balance» movedScore recoveredScore updateInactivityScore «process_inactivity_updates» «process_slashings» slash isSlashingDue slashingPenalty «process_effective_balance_updates» updateEffectiveBalance roundedBalance isJustified «get_block_root_at_slot» document.«get_block_root_at_slot» «get_block_root» «compute_start_slot_at_epoch» «process_justification_and_finalization» «weigh_justification_and_finalization» rootWhere weighed justifiedBits finalizedBy
+unfolding «integer_squareroot» rootWithin «get_total_active_balance» «get_total_balance» sum64 sum filter bind add64 sub64 mul64 mapChecked foldChecked «get_active_validator_indices» «is_active_validator» «get_current_epoch» «get_previous_epoch» «compute_epoch_at_slot» «get_base_reward_per_increment» «get_base_reward» «get_flag_index_deltas» flagTotals flagIndexDeltas hitDeltas missDeltas isEligible isUnslashedParticipating «get_unslashed_participating_indices» «has_flag» «is_in_inactivity_leak» «get_finality_delay» «process_rewards_and_penalties» rewardAndPenalize inactivityPenaltyDeltas «get_inactivity_penalty_deltas» applyDelta «increase_balance» «decrease_balance» movedScore recoveredScore updateInactivityScore «process_inactivity_updates» «process_slashings» slash isSlashingDue slashingPenalty «process_effective_balance_updates» updateEffectiveBalance roundedBalance isJustified «get_block_root_at_slot» document.«get_block_root_at_slot» «get_block_root» «compute_start_slot_at_epoch» «process_justification_and_finalization» «weigh_justification_and_finalization» rootWhere weighed justifiedBits finalizedBy settingsUnder
 figures =
     record {
       root-of-total = refl;
@@ -274,4 +292,8 @@ figures =
       fourth-overrides = refl;
       product-after = refl;
       root-before = refl;
+      bellatrix-inactivity-penalty = refl;
+      bellatrix-slashed = refl;
+      altair-inactivity-penalty = refl;
+      altair-slashed = refl;
     }

@@ -7,11 +7,13 @@ use lib.ListN.{length, take}
 use Rattle.types.specs.declared.Settings.{Settings}
 use Rattle.types.specs.declared.Finality.{Finality}
 use Rattle.types.specs.declared.Raised.{Raised}
+use Rattle.types.specs.declared.Rules.{Rules}
 use Rattle.definitions.specs.Lists.{filter}
 use Rattle.definitions.specs.Record.{Validator, BeaconState, «GENESIS_EPOCH», encode, decode}
 use Rattle.definitions.specs.Updates.{withValidators, withSlashings, withFinality}
 use Rattle.definitions.specs.Checked.{Checked, value, refused, bind, foldChecked, codeOf, settle}
-use Rattle.definitions.specs.Refusals.{inOrder, settingsShaped, rootsShaped, slashingsShaped, registryShaped, sameLength, goodSettings, goodFinality, goodRegistry, afterTests, closingBuffer}
+use Rattle.definitions.specs.Refusals.{inOrder, rootsShaped, slashingsShaped, registryShaped, sameLength, goodFinality, goodRegistry, afterTests, closingBuffer}
+use Rattle.definitions.specs.Rules.{settingsUnder, rulesShaped, goodRules}
 use Rattle.definitions.specs.Raised.{raisedTotals, raisedUnlessRefused}
 use Rattle.definitions.specs.Rust.Phase0.Helpers.{«get_current_epoch», «get_previous_epoch»}
 use Rattle.definitions.specs.Rust.Phase0.EpochProcessing.{isEligible, «process_registry_updates», «process_effective_balance_updates», resetSlashings}
@@ -68,7 +70,7 @@ unfoldable pub «process_epoch» : Settings → BeaconState → Checked BeaconSt
 
 -- All that a close is handed: opening, roots, and closing buffers of any contents
 pub record Call : Type 0 where
-  pub settings : Settings
+  pub rules : Rules
   pub finality : Finality
   pub registry : List ℕ
   pub slashings : List ℕ
@@ -82,14 +84,14 @@ stateOf c =
 
 unfoldable pub closeTests : Call → Checked (Unit {0})
 closeTests c =
-    let s = c .settings in
-    let opening = settingsShaped s && registryShaped (c .registry) && rootsShaped s (c .roots) && slashingsShaped s (c .slashings) in
+    let s = c .rules .settings in
+    let opening = rulesShaped (c .rules) && registryShaped (c .registry) && rootsShaped s (c .roots) && slashingsShaped s (c .slashings) in
     let shaped = opening && sameLength (c .registry) (c .closingRegistry) && sameLength (c .slashings) (c .closingSlashings) in
-    inOrder shaped (goodSettings s) (goodFinality (c .finality) && goodRegistry (c .registry))
+    inOrder shaped (goodRules (c .rules)) (goodFinality (c .finality) && goodRegistry (c .registry))
 
 -- the closed state, or the refusal
 unfoldable pub closed : Call → Checked BeaconState
-closed c = afterTests (closeTests c) («process_epoch» (c .settings) (stateOf c))
+closed c = afterTests (closeTests c) («process_epoch» (settingsUnder (c .rules)) (stateOf c))
 
 -- What comes back and what the closing buffers hold. The refusal is 0 where the close is accepted. 02, R-7: which totals were raised.
 pub record Outcome : Type 0 where
@@ -102,11 +104,11 @@ pub record Outcome : Type 0 where
 unfoldable pub close : Call → Outcome
 close c =
     let tests = closeTests c in
-    let work = «process_epoch» (c .settings) (stateOf c) in
+    let work = «process_epoch» (settingsUnder (c .rules)) (stateOf c) in
     record {
       refusal = codeOf (closed c);
       finality = settle (closed c) (stateOf c) .finality;
-      raised = raisedUnlessRefused (closed c) (raisedTotals (c .settings) (c .finality .slot) (decode (c .registry)));
+      raised = raisedUnlessRefused (closed c) (raisedTotals (c .rules .settings) (c .finality .slot) (decode (c .registry)));
       closingRegistry = closingBuffer (λ st. encode (st .validators)) tests work (c .registry) (c .closingRegistry);
       closingSlashings = closingBuffer (λ st. st .slashings) tests work (c .slashings) (c .closingSlashings);
     }

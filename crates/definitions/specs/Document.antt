@@ -5,3 +5,4 @@
 pub mod Phase0
 pub mod Altair
 pub mod Bellatrix
+pub mod ByFork

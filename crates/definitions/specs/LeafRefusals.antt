@@ -45,7 +45,7 @@ finalizedEntryTests finalizedEpoch entry = inOrder (entryShaped entry) true (isS
 unfoldable pub settingsEntryTests : Settings → List ℕ → Checked (Unit {0})
 settingsEntryTests s entry = inOrder (settingsShaped s && entryShaped entry) (goodSettings s) (goodEntry entry)
 
--- eligibility for rewards, get_inactivity_penalty_deltas
+-- eligibility for rewards
 unfoldable pub slotEntryTests : Settings → ℕ → List ℕ → Checked (Unit {0})
 slotEntryTests s stateSlot entry = inOrder (settingsShaped s && entryShaped entry) (goodSettings s) (isSmall stateSlot && goodEntry entry)
 

@@ -15,7 +15,7 @@ pub mod Answers
 pub mod Raised
 pub mod Refusals
 pub mod RegisterOrder
-pub mod Rules
 pub mod LeafRefusals
+pub mod Rules
 pub mod Close
 pub mod File

@@ -110,22 +110,17 @@ closingBuffer contents (refused r) work opening closing = closing
 closingBuffer contents (value u) (refused r) opening closing = opening
 closingBuffer contents (value u) (value a) opening closing = contents a
 
--- The eight steps: a step tests exactly what it is lent
+-- The eight steps: a step tests exactly what it is lent. Rewards and slashings are lent rules: Rules.antt.
 
 unfoldable pub justificationTests : Settings → List ℕ → Finality → List ℕ → Checked (Unit {0})
 justificationTests s roots f registry =
     inOrder (settingsShaped s && rootsShaped s roots && registryShaped registry) (goodSettings s) (goodFinality f && goodRegistry registry)
 
--- inactivity, rewards and registry
+-- inactivity and registry
 unfoldable pub registryTests : Settings → ℕ → ℕ → List ℕ → List ℕ → Checked (Unit {0})
 registryTests s stateSlot finalizedEpoch opening closing =
     let shaped = settingsShaped s && registryShaped opening && sameLength opening closing in
     inOrder shaped (goodSettings s) (isSmall stateSlot && isSmall finalizedEpoch && goodRegistry opening)
-
-unfoldable pub slashingsTests : Settings → ℕ → List ℕ → List ℕ → List ℕ → Checked (Unit {0})
-slashingsTests s stateSlot slashings opening closing =
-    let shaped = settingsShaped s && slashingsShaped s slashings && registryShaped opening && sameLength opening closing in
-    inOrder shaped (goodSettings s) (isSmall stateSlot && goodRegistry opening)
 
 unfoldable pub effectiveBalanceTests : Settings → List ℕ → List ℕ → Checked (Unit {0})
 effectiveBalanceTests s opening closing =

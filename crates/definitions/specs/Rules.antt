@@ -1,11 +1,14 @@
 -- 02, R-3: settings, fork and the Bellatrix pair.
 use mathlib.Core.Bool.{Bool, cond, _&&_, _||_, not}
+use mathlib.Core.List.{List}
 use Prim.Native.Nat.{ℕ}
 use lib.Dec.{leb, eqb}
 use Rattle.types.specs.declared.Settings.{Settings}
 use Rattle.types.specs.declared.Bellatrix.{Bellatrix}
 use Rattle.types.specs.declared.Rules.{Rules}
-use Rattle.definitions.specs.Refusals.{isSmall, settingsShaped, goodSettings}
+use Rattle.definitions.specs.Checked.{Checked}
+use Rattle.definitions.specs.Refusals.{inOrder, isSmall, settingsShaped, goodSettings, registryShaped, slashingsShaped, sameLength, goodRegistry}
+use Rattle.definitions.specs.LeafRefusals.{entryShaped, goodEntry}
 
 -- the forks' numbers, as 02 has them in R-10
 abbrev pub «ALTAIR» : ℕ
@@ -46,6 +49,15 @@ inPlace b s =
 unfoldable pub settingsUnder : Rules → Settings
 settingsUnder r = cond (isAltair r) (r .settings) (inPlace (r .bellatrix) (r .settings))
 
+-- "Record files name neither, and the listing program closes as Altair": fork 0, under which the pair may be anything
+abbrev pub altairRules : Settings → Rules
+altairRules s =
+    record {
+      settings = s;
+      fork = «ALTAIR»;
+      bellatrix = record { «inactivity_penalty_quotient_bellatrix» = 0; «proportional_slashing_multiplier_bellatrix» = 0 };
+    }
+
 -- Test 1: a fork over 1 is neither
 
 unfoldable pub rulesShaped : Rules → Bool
@@ -61,3 +73,20 @@ goodBellatrix b =
 
 unfoldable pub goodRules : Rules → Bool
 goodRules r = goodSettings (r .settings) && (isAltair r || goodBellatrix (r .bellatrix))
+
+-- The calls that read the pair, besides the close: two steps and a leaf
+
+-- process_rewards_and_penalties
+unfoldable pub rewardsTests : Rules → ℕ → ℕ → List ℕ → List ℕ → Checked (Unit {0})
+rewardsTests r stateSlot finalizedEpoch opening closing =
+    let shaped = rulesShaped r && registryShaped opening && sameLength opening closing in
+    inOrder shaped (goodRules r) (isSmall stateSlot && isSmall finalizedEpoch && goodRegistry opening)
+
+unfoldable pub slashingsTests : Rules → ℕ → List ℕ → List ℕ → List ℕ → Checked (Unit {0})
+slashingsTests r stateSlot slashings opening closing =
+    let shaped = rulesShaped r && slashingsShaped (r .settings) slashings && registryShaped opening && sameLength opening closing in
+    inOrder shaped (goodRules r) (isSmall stateSlot && goodRegistry opening)
+
+-- get_inactivity_penalty_deltas
+unfoldable pub inactivityPenaltyTests : Rules → ℕ → List ℕ → Checked (Unit {0})
+inactivityPenaltyTests r stateSlot entry = inOrder (rulesShaped r && entryShaped entry) (goodRules r) (isSmall stateSlot && goodEntry entry)

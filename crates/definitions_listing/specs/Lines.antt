@@ -59,7 +59,7 @@ orRefused refusal text = cond (eqb refusal 0) text (refusedLine refusal)
 -- "prints the close": checkpoints and bits after it, charged of the opening, and what the close raised
 unfoldable pub closeText : Call → Outcome → List ℕ
 closeText c out =
-    let s = c .settings in
+    let s = c .rules .settings in
     let stateSlot = c .finality .slot in
     let after = out .finality in
     headLine («get_current_epoch» s stateSlot) (after .«current_justified_checkpoint» .epoch) (after .«finalized_checkpoint» .epoch) (after .«justification_bits») (charged s stateSlot (decode (c .registry))) (out .raised)

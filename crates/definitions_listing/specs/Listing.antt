@@ -6,6 +6,7 @@ use lib.Dec.{ltb}
 use lib.ListN.{length, replicate}
 use Rattle.definitions.specs.Checked.{numberOf, badFile}
 use Rattle.definitions.specs.File.{Contents, ReadOutcome, countOf, slashingCountOf, read}
+use Rattle.definitions.specs.Rules.{altairRules}
 use Rattle.definitions.specs.Close.{Call, close}
 use Rattle.definitions_listing.specs.Lines.{refusedLine, orRefused, closePrinted}
 
@@ -13,11 +14,11 @@ use Rattle.definitions_listing.specs.Lines.{refusedLine, orRefused, clos
 abbrev pub opened : List ℕ → ReadOutcome
 opened bytes = read bytes (replicate (10 * countOf bytes) 0) (replicate (slashingCountOf bytes) 0)
 
--- a close of what it holds, into closing buffers of any contents
+-- a close of what it holds, as Altair, into closing buffers of any contents
 abbrev pub callOf : Contents → List ℕ → List ℕ → Call
 callOf c closingRegistry closingSlashings =
     record {
-      settings = c .settings;
+      rules = altairRules (c .settings);
       finality = c .finality;
       registry = c .registry;
       slashings = c .slashings;

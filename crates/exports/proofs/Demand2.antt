@@ -9,20 +9,23 @@ use denote.Triple.Clauses.{AtExit}
 use denote.Ref.{now}
 use Rattle.types.specs.declared.Settings.{Settings}
 use Rattle.definitions.specs.Record.{BeaconState, decode}
-use Rattle.definitions.specs.Refusals.{registryTests, slashingsTests, effectiveBalanceTests, slashingsResetTests, rotationTests}
+use Rattle.definitions.specs.Refusals.{registryTests, effectiveBalanceTests, slashingsResetTests, rotationTests}
+use Rattle.definitions.specs.Rules.{settingsUnder, rewardsTests, slashingsTests}
 use Rattle.definitions.specs.RegisterOrder.{registryToTests}
 use Rattle.definitions.specs.Close.{Step, inactivityStep, rewardsStep, registryStep, slashingsStep, effectiveBalancesStep, slashingsResetStep, participationFlagsStep, finalizedEpochOf}
 use Rattle.close.proofs.close.Kinds as closeKinds
 use Rattle.close.proofs.Contract.{callOf, outcomeOf}
+use Rattle.agreement.specs.Agreement.{documentStep, documentStepUnder}
 use Rattle.completeness.specs.Calls.{CloseCall, StepCall, JustificationCall, registryOf, slashingsOf, stoppedOf}
 use Rattle.completeness.proofs.CloseCalls.{close-call}
-use Rattle.completeness.proofs.StepCalls.{step-calls, stopped-calls}
+use Rattle.completeness.proofs.StepCalls.{step-calls, rules-calls, stopped-calls}
 use Rattle.completeness.proofs.OtherCalls.{justification-calls}
 use Rattle.exports.proofs.whole.altair_close.Reads as whole
 use Rattle.exports.proofs.steps.altair_process_justification_and_finalization.Kinds as justificationKinds
 use Rattle.exports.proofs.steps.altair_process_justification_and_finalization.Reads as justification
 use Rattle.exports.proofs.steps.altair_process_inactivity_updates.Kinds as finalizedKinds
 use Rattle.exports.proofs.steps.altair_process_inactivity_updates.Reads as inactivity
+use Rattle.exports.proofs.steps.altair_process_rewards_and_penalties.Kinds as rewardsKinds
 use Rattle.exports.proofs.steps.altair_process_rewards_and_penalties.Reads as rewards
 use Rattle.exports.proofs.steps.altair_process_registry_updates.Reads as registry
 use Rattle.exports.proofs.steps.altair_process_registry_updates_to.Kinds as stoppedKinds
@@ -43,38 +46,38 @@ demand2-altair-close κs a r e h = rw h (close-call (callOf κs a))
 abbrev withoutFour : List ℕ
 withoutFour = 0 ∷ 1 ∷ 2 ∷ 3 ∷ 5 ∷ []
 
--- the three steps that are lent slot and finalized epoch
+-- the two steps that are lent settings, slot and finalized epoch
 module _ (k : Step) where
   abbrev Finalized : ((κs : Lfts 2) → Dens κs finalizedKinds.ps → resT finalizedKinds.r κs .Denot → AtExit (endedOf 2 finalizedKinds.ps finalizedKinds.r) κs → Type 0) → Type 0
   Finalized contract =
       (κs : Lfts 2) (a : Dens κs finalizedKinds.ps) (r : resT finalizedKinds.r κs .Denot) (e : AtExit (endedOf 2 finalizedKinds.ps finalizedKinds.r) κs) → contract κs a r e →
       let opening = now (a .1 .1 .1 .0) in let closing = now (a .1 .1 .1 .1 .0) in
       (st : BeaconState) → a .1 .0 ≡ st .finality .slot → a .1 .1 .0 ≡ finalizedEpochOf st → decode opening ≡ st .validators →
-      StepCall (a .0) st k registryOf withoutFour (registryTests (a .0) (st .finality .slot) (finalizedEpochOf st) opening closing) opening closing (now (e .1 .1 .1 .1 .0)) r
+      StepCall (a .0) (documentStep (a .0) st k) st k registryOf withoutFour (registryTests (a .0) (st .finality .slot) (finalizedEpochOf st) opening closing) opening closing (now (e .1 .1 .1 .1 .0)) r
 
 pub demand2-inactivity : Finalized inactivityStep inactivity.Learnt
 demand2-inactivity κs a r e h st p q d = step-calls (a .0) st _ _ _ r .inactivity d (rw (p, q) at h)
-
-pub demand2-rewards : Finalized rewardsStep rewards.Learnt
-demand2-rewards κs a r e h st p q d = step-calls (a .0) st _ _ _ r .rewards d (rw (p, q) at h)
 
 pub demand2-registry : Finalized registryStep registry.Learnt
 demand2-registry κs a r e h st p q d = step-calls (a .0) st _ _ _ r .registry d (rw (p, q) at h)
 
 -- with a stop: from it up activation epochs are the opening's, all else is the document's
-pub demand2-registry-to : (κs : Lfts 2) (a : Dens κs stoppedKinds.ps) (r : resT stoppedKinds.r κs .Denot) (e : AtExit (endedOf 2 stoppedKinds.ps stoppedKinds.r) κs) → stopped.Learnt κs a r e → let opening = now (a .1 .1 .1 .1 .0) in let closing = now (a .1 .1 .1 .1 .1 .0) in (st : BeaconState) → a .1 .1 .0 ≡ st .finality .slot → a .1 .1 .1 .0 ≡ finalizedEpochOf st → decode opening ≡ st .validators → StepCall (a .1 .0) st registryStep (stoppedOf (a .0) (st .validators)) withoutFour (registryToTests (a .0) (a .1 .0) (st .finality .slot) (finalizedEpochOf st) opening closing) opening closing (now (e .1 .1 .1 .1 .1 .0)) r
+pub demand2-registry-to : (κs : Lfts 2) (a : Dens κs stoppedKinds.ps) (r : resT stoppedKinds.r κs .Denot) (e : AtExit (endedOf 2 stoppedKinds.ps stoppedKinds.r) κs) → stopped.Learnt κs a r e → let opening = now (a .1 .1 .1 .1 .0) in let closing = now (a .1 .1 .1 .1 .1 .0) in (st : BeaconState) → a .1 .1 .0 ≡ st .finality .slot → a .1 .1 .1 .0 ≡ finalizedEpochOf st → decode opening ≡ st .validators → StepCall (a .1 .0) (documentStep (a .1 .0) st registryStep) st registryStep (stoppedOf (a .0) (st .validators)) withoutFour (registryToTests (a .0) (a .1 .0) (st .finality .slot) (finalizedEpochOf st) opening closing) opening closing (now (e .1 .1 .1 .1 .1 .0)) r
 demand2-registry-to κs a r e h st p q d = stopped-calls (a .0) (a .1 .0) st _ _ _ r d (rw (p, q) at h)
 
-pub demand2-slashings : (κs : Lfts 3) (a : Dens κs slashingsKinds.ps) (r : resT slashingsKinds.r κs .Denot) (e : AtExit (endedOf 3 slashingsKinds.ps slashingsKinds.r) κs) → slashings.Learnt κs a r e → let opening = now (a .1 .1 .1 .0) in let closing = now (a .1 .1 .1 .1 .0) in (st : BeaconState) → a .1 .0 ≡ st .finality .slot → now (a .1 .1 .0) ≡ st .slashings → decode opening ≡ st .validators → StepCall (a .0) st slashingsStep registryOf withoutFour (slashingsTests (a .0) (st .finality .slot) (st .slashings) opening closing) opening closing (now (e .1 .1 .1 .1 .0)) r
-demand2-slashings κs a r e h st p q d = step-calls (a .0) st _ _ _ r .slashings d (rw (p, q) at h)
+pub demand2-rewards : (κs : Lfts 2) (a : Dens κs rewardsKinds.ps) (r : resT rewardsKinds.r κs .Denot) (e : AtExit (endedOf 2 rewardsKinds.ps rewardsKinds.r) κs) → rewards.Learnt κs a r e → let opening = now (a .1 .1 .1 .0) in let closing = now (a .1 .1 .1 .1 .0) in (st : BeaconState) → a .1 .0 ≡ st .finality .slot → a .1 .1 .0 ≡ finalizedEpochOf st → decode opening ≡ st .validators → StepCall (settingsUnder (a .0)) (documentStepUnder (a .0) st rewardsStep) st rewardsStep registryOf withoutFour (rewardsTests (a .0) (st .finality .slot) (finalizedEpochOf st) opening closing) opening closing (now (e .1 .1 .1 .1 .0)) r
+demand2-rewards κs a r e h st p q d = rules-calls (a .0) st _ _ _ r .rewards d (rw (p, q) at h)
 
-pub demand2-effective-balances : (κs : Lfts 2) (a : Dens κs balancesKinds.ps) (r : resT balancesKinds.r κs .Denot) (e : AtExit (endedOf 2 balancesKinds.ps balancesKinds.r) κs) → balances.Learnt κs a r e → let opening = now (a .1 .0) in let closing = now (a .1 .1 .0) in (st : BeaconState) → decode opening ≡ st .validators → StepCall (a .0) st effectiveBalancesStep registryOf withoutFour (effectiveBalanceTests (a .0) opening closing) opening closing (now (e .1 .1 .0)) r
+pub demand2-slashings : (κs : Lfts 3) (a : Dens κs slashingsKinds.ps) (r : resT slashingsKinds.r κs .Denot) (e : AtExit (endedOf 3 slashingsKinds.ps slashingsKinds.r) κs) → slashings.Learnt κs a r e → let opening = now (a .1 .1 .1 .0) in let closing = now (a .1 .1 .1 .1 .0) in (st : BeaconState) → a .1 .0 ≡ st .finality .slot → now (a .1 .1 .0) ≡ st .slashings → decode opening ≡ st .validators → StepCall (settingsUnder (a .0)) (documentStepUnder (a .0) st slashingsStep) st slashingsStep registryOf withoutFour (slashingsTests (a .0) (st .finality .slot) (st .slashings) opening closing) opening closing (now (e .1 .1 .1 .1 .0)) r
+demand2-slashings κs a r e h st p q d = rules-calls (a .0) st _ _ _ r .slashings d (rw (p, q) at h)
+
+pub demand2-effective-balances : (κs : Lfts 2) (a : Dens κs balancesKinds.ps) (r : resT balancesKinds.r κs .Denot) (e : AtExit (endedOf 2 balancesKinds.ps balancesKinds.r) κs) → balances.Learnt κs a r e → let opening = now (a .1 .0) in let closing = now (a .1 .1 .0) in (st : BeaconState) → decode opening ≡ st .validators → StepCall (a .0) (documentStep (a .0) st effectiveBalancesStep) st effectiveBalancesStep registryOf withoutFour (effectiveBalanceTests (a .0) opening closing) opening closing (now (e .1 .1 .0)) r
 demand2-effective-balances κs a r e h st d = step-calls (a .0) st _ _ _ r .effectiveBalances d h
 
-pub demand2-slashings-reset : (κs : Lfts 2) (a : Dens κs resetKinds.ps) (r : resT resetKinds.r κs .Denot) (e : AtExit (endedOf 2 resetKinds.ps resetKinds.r) κs) → reset.Learnt κs a r e → let closing = now (a .1 .1 .1 .0) in (st : BeaconState) → a .1 .0 ≡ st .finality .slot → now (a .1 .1 .0) ≡ st .slashings → StepCall (a .0) st slashingsResetStep slashingsOf (0 ∷ 1 ∷ 2 ∷ 3 ∷ []) (slashingsResetTests (a .0) (st .finality .slot) (st .slashings) closing) (st .slashings) closing (now (e .1 .1 .1 .0)) r
+pub demand2-slashings-reset : (κs : Lfts 2) (a : Dens κs resetKinds.ps) (r : resT resetKinds.r κs .Denot) (e : AtExit (endedOf 2 resetKinds.ps resetKinds.r) κs) → reset.Learnt κs a r e → let closing = now (a .1 .1 .1 .0) in (st : BeaconState) → a .1 .0 ≡ st .finality .slot → now (a .1 .1 .0) ≡ st .slashings → StepCall (a .0) (documentStep (a .0) st slashingsResetStep) st slashingsResetStep slashingsOf (0 ∷ 1 ∷ 2 ∷ 3 ∷ []) (slashingsResetTests (a .0) (st .finality .slot) (st .slashings) closing) (st .slashings) closing (now (e .1 .1 .1 .0)) r
 demand2-slashings-reset κs a r e h st p q = step-calls (a .0) st [] _ _ r .slashingsReset (rw (p, q) at h)
 
-pub demand2-participation-flags : (κs : Lfts 2) (a : Dens κs flagsKinds.ps) (r : resT flagsKinds.r κs .Denot) (e : AtExit (endedOf 2 flagsKinds.ps flagsKinds.r) κs) → flags.Learnt κs a r e → let opening = now (a .0) in let closing = now (a .1 .0) in (s : Settings) (st : BeaconState) → decode opening ≡ st .validators → StepCall s st participationFlagsStep registryOf (0 ∷ 1 ∷ 3 ∷ []) (rotationTests opening closing) opening closing (now (e .1 .0)) r
+pub demand2-participation-flags : (κs : Lfts 2) (a : Dens κs flagsKinds.ps) (r : resT flagsKinds.r κs .Denot) (e : AtExit (endedOf 2 flagsKinds.ps flagsKinds.r) κs) → flags.Learnt κs a r e → let opening = now (a .0) in let closing = now (a .1 .0) in (s : Settings) (st : BeaconState) → decode opening ≡ st .validators → StepCall s (documentStep s st participationFlagsStep) st participationFlagsStep registryOf (0 ∷ 1 ∷ 3 ∷ []) (rotationTests opening closing) opening closing (now (e .1 .0)) r
 demand2-participation-flags κs a r e h s st d = step-calls s st _ _ _ r .participationFlags d h
 
 pub demand2-justification : (κs : Lfts 2) (a : Dens κs justificationKinds.ps) (r : resT justificationKinds.r κs .Denot) (e : AtExit (endedOf 2 justificationKinds.ps justificationKinds.r) κs) → justification.Learnt κs a r e → (st : BeaconState) → now (a .1 .0) ≡ st .«block_roots» → a .1 .1 .0 ≡ st .finality → decode (now (a .1 .1 .1 .0)) ≡ st .validators → JustificationCall (a .0) st r

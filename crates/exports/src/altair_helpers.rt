@@ -6,7 +6,8 @@ ghost use Rattle.definitions.specs.Checked.{value};
 ghost use Rattle.definitions.specs.Answers.{numberFor, truthFor, deltasAnswerFor};
 ghost use Rattle.definitions.specs.Raised.{totalWithRaised, totalAnswerFor};
 ghost use Rattle.definitions.specs.Refusals.{afterTests};
-ghost use Rattle.definitions.specs.LeafRefusals.{flagTests, participationEntryTests, participationTests, totalTests, totalEntryTests, flagDeltasTests, slotEntryTests};
+ghost use Rattle.definitions.specs.LeafRefusals.{flagTests, participationEntryTests, participationTests, totalTests, totalEntryTests, flagDeltasTests};
+ghost use Rattle.definitions.specs.Rules.{settingsUnder, inactivityPenaltyTests};
 ghost use Rattle.definitions.specs.Document.Altair.Helpers.{«has_flag», «add_flag»};
 ghost use Rattle.definitions.specs.Rust.Phase0.Helpers.{«get_current_epoch»};
 ghost use Rattle.definitions.specs.Rust.Altair.Helpers.{isUnslashedParticipating, «get_unslashed_participating_indices», «get_base_reward_per_increment», «get_base_reward», «get_flag_index_deltas», «get_inactivity_penalty_deltas»};
@@ -19,6 +20,7 @@ use plain::plain_deltas;
 use plain::plain_number;
 use plain::plain_total;
 use plain::plain_truth;
+use types::Rules;
 use types::Settings;
 
 // Flags and participation
@@ -105,11 +107,11 @@ pub extern "C" fn altair_get_flag_index_deltas(
 
 #[no_mangle]
 pub extern "C" fn altair_get_inactivity_penalty_deltas(
-    s: Settings,
+    rules: Rules,
     state_slot: u64,
     entry: &[u64],
 ) -> PlainDeltas
-    ensures { λ r. ⌜ r ≡ plainDeltas (deltasAnswerFor (afterTests (slotEntryTests s «state_slot» (now (entry .entry))) («get_inactivity_penalty_deltas» s (s .«inactivity_penalty_quotient_altair») «state_slot» (decodeOne (now (entry .entry)))))) ⌝ }
+    ensures { λ r. ⌜ r ≡ plainDeltas (deltasAnswerFor (afterTests (inactivityPenaltyTests rules «state_slot» (now (entry .entry))) («get_inactivity_penalty_deltas» (settingsUnder rules) (settingsUnder rules .«inactivity_penalty_quotient_altair») «state_slot» (decodeOne (now (entry .entry)))))) ⌝ }
 {
-    plain_deltas(rewards::get_inactivity_penalty_deltas(s, state_slot, entry))
+    plain_deltas(rewards::get_inactivity_penalty_deltas(rules, state_slot, entry))
 }

@@ -19,5 +19,5 @@ mod whole;
 pub extern "C" fn altair_version() -> u64
     ensures { λ r. ⌜ r ≡ version ⌝ }
 {
-    2
+    3
 }

@@ -5,13 +5,15 @@ ghost use Prim.Native.Nat.{ℕ};
 ghost use Rattle.definitions.specs.Record.{decode, encode};
 ghost use Rattle.definitions.specs.Checked.{value};
 ghost use Rattle.definitions.specs.Raised.{raisedTotals, closeAnswerFor};
-ghost use Rattle.definitions.specs.Refusals.{afterTests, justificationTests, registryTests, slashingsTests, effectiveBalanceTests, slashingsResetTests, rotationTests};
+ghost use Rattle.definitions.specs.Refusals.{afterTests, justificationTests, registryTests, effectiveBalanceTests, slashingsResetTests, rotationTests};
+ghost use Rattle.definitions.specs.Rules.{settingsUnder, rewardsTests, slashingsTests};
 ghost use Rattle.definitions.specs.RegisterOrder.{registryUpdatesTo, registryToTests};
 ghost use Rattle.definitions.specs.Rust.Phase0.EpochProcessing.{«process_registry_updates», «process_effective_balance_updates», resetSlashings};
 ghost use Rattle.definitions.specs.Rust.Altair.EpochProcessing.{«process_justification_and_finalization», «process_inactivity_updates», «process_rewards_and_penalties», «process_slashings», «process_participation_flag_updates»};
 ghost use Rattle.buffers.specs.Closes.{Closes};
 use types::CloseAnswer;
 use types::Finality;
+use types::Rules;
 use types::Settings;
 
 #[no_mangle]
@@ -41,15 +43,21 @@ pub extern "C" fn altair_process_inactivity_updates(
 
 #[no_mangle]
 pub extern "C" fn altair_process_rewards_and_penalties(
-    s: Settings,
+    rules: Rules,
     state_slot: u64,
     finalized_epoch: u64,
     opening: &[u64],
     closing: &mut [u64],
 ) -> u64
-    ensures { λ r. ⌜ Closes encode (registryTests s «state_slot» «finalized_epoch» (now (opening .entry)) (now (closing .entry))) («process_rewards_and_penalties» s (s .«inactivity_penalty_quotient_altair») «state_slot» «finalized_epoch» (decode (now (opening .entry)))) (now (opening .entry)) (now (closing .entry)) (now (closing .exit)) r ⌝ }
+    ensures { λ r. ⌜ Closes encode (rewardsTests rules «state_slot» «finalized_epoch» (now (opening .entry)) (now (closing .entry))) («process_rewards_and_penalties» (settingsUnder rules) (settingsUnder rules .«inactivity_penalty_quotient_altair») «state_slot» «finalized_epoch» (decode (now (opening .entry)))) (now (opening .entry)) (now (closing .entry)) (now (closing .exit)) r ⌝ }
 {
-    rewards_step::process_rewards_and_penalties(s, state_slot, finalized_epoch, opening, closing)
+    rewards_step::process_rewards_and_penalties(
+        rules,
+        state_slot,
+        finalized_epoch,
+        opening,
+        closing,
+    )
 }
 
 #[no_mangle]
@@ -85,15 +93,15 @@ pub extern "C" fn altair_process_registry_updates_to(
 
 #[no_mangle]
 pub extern "C" fn altair_process_slashings(
-    s: Settings,
+    rules: Rules,
     state_slot: u64,
     slashings: &[u64],
     opening: &[u64],
     closing: &mut [u64],
 ) -> u64
-    ensures { λ r. ⌜ Closes encode (slashingsTests s «state_slot» (now (slashings .entry)) (now (opening .entry)) (now (closing .entry))) («process_slashings» s (s .«proportional_slashing_multiplier_altair») «state_slot» (now (slashings .entry)) (decode (now (opening .entry)))) (now (opening .entry)) (now (closing .entry)) (now (closing .exit)) r ⌝ }
+    ensures { λ r. ⌜ Closes encode (slashingsTests rules «state_slot» (now (slashings .entry)) (now (opening .entry)) (now (closing .entry))) («process_slashings» (settingsUnder rules) (settingsUnder rules .«proportional_slashing_multiplier_altair») «state_slot» (now (slashings .entry)) (decode (now (opening .entry)))) (now (opening .entry)) (now (closing .entry)) (now (closing .exit)) r ⌝ }
 {
-    slashings::process_slashings(s, state_slot, slashings, opening, closing)
+    slashings::process_slashings(rules, state_slot, slashings, opening, closing)
 }
 
 #[no_mangle]

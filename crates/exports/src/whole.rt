@@ -12,11 +12,12 @@ use plain::PlainNumber;
 use plain::plain_number;
 use types::CloseAnswer;
 use types::Finality;
+use types::Rules;
 use types::Settings;
 
 #[no_mangle]
 pub extern "C" fn altair_close(
-    s: Settings,
+    rules: Rules,
     finality: Finality,
     registry: &[u64],
     slashings: &[u64],
@@ -24,10 +25,10 @@ pub extern "C" fn altair_close(
     closing_registry: &mut [u64],
     closing_slashings: &mut [u64],
 ) -> CloseAnswer
-    ensures { λ r. ⌜ outcome r (now («closing_registry» .exit)) (now («closing_slashings» .exit)) ≡ closeOf (called s finality (now (registry .entry)) (now (slashings .entry)) (now (roots .entry)) (now («closing_registry» .entry)) (now («closing_slashings» .entry))) ⌝ }
+    ensures { λ r. ⌜ outcome r (now («closing_registry» .exit)) (now («closing_slashings» .exit)) ≡ closeOf (called rules finality (now (registry .entry)) (now (slashings .entry)) (now (roots .entry)) (now («closing_registry» .entry)) (now («closing_slashings» .entry))) ⌝ }
 {
     close::close(
-        s,
+        rules,
         finality,
         registry,
         slashings,

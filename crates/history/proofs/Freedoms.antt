@@ -1,6 +1,6 @@
 -- Every freedom that demand 3 leaves is used in one list: others change balances, effective balances, slashed, exits, scores, flags, bits,
--- slashings, roots and slot, and add a validator; a closing buffer has another length; closes are refused, and what others did then stays or not.
--- By the claim alone, the one who waits has its activation epoch.
+-- slashings, roots and slot, and add a validator; each close names a fork and lends a pair; a closing buffer has another length; closes are
+-- refused, and what others did then stays or not. By the claim alone, the one who waits has its activation epoch.
 use mathlib.Core.Path.{_≡_, refl, sym, _∙_}
 use mathlib.Core.Logic.{_≢_}
 use mathlib.Core.Bool.{Bool, true, false}
@@ -10,6 +10,7 @@ use native.Mathlib.Omega.{arith}
 use lib.Dec.{T}
 use lib.ListN.{length, replicate}
 use Rattle.types.specs.declared.Settings.{Settings}
+use Rattle.types.specs.declared.Rules.{Rules}
 use Rattle.definitions.specs.Record.{Validator, BeaconState, «FAR_FUTURE_EPOCH», encode}
 use Rattle.definitions.specs.Close.{Call, close}
 use Rattle.history.specs.Events.{activation, waits, ahead, k, Others, Event, accepted, standing}
@@ -36,11 +37,20 @@ entry effective slashed eligibility activation exit withdrawable balance previou
       «inactivity_score» = score;
     }
 
--- what others make of r, as a call: all but the checkpoints is anew, and so are the closing buffers, of n numbers and of one
-abbrev handed : BeaconState → ℕ → ℕ → List Validator → ℕ → ℕ → ℕ → Call
-handed r slot bits vs slashing root n =
+-- fork and pair
+abbrev by : ℕ → ℕ → ℕ → Rules
+by fork quotient multiplier =
     record {
       settings = settings;
+      fork = fork;
+      bellatrix = record { «inactivity_penalty_quotient_bellatrix» = quotient; «proportional_slashing_multiplier_bellatrix» = multiplier };
+    }
+
+-- what others make of r, as a call: all but the checkpoints is anew, and so are the closing buffers, of n numbers and of one
+abbrev handed : Rules → BeaconState → ℕ → ℕ → List Validator → ℕ → ℕ → ℕ → Call
+handed rules r slot bits vs slashing root n =
+    record {
+      rules = rules;
       finality = record {
         slot = slot;
         «justification_bits» = bits;
@@ -61,30 +71,30 @@ start = record-of 15 3 1 2 1 (validator 0 0 7 7 ∷ validator 1 far 0 0 ∷ vali
 
 -- 1: a closing registry of 39 numbers
 abbrev first : Call
-first = handed start 15 3 (entry 32 0 0 0 far far 40 7 7 0 ∷ validator 1 far 0 0 ∷ validator 0 far 0 0 ∷ validator 0 far 0 0 ∷ []) 0 0 39
+first = handed (by 0 0 0) start 15 3 (entry 32 0 0 0 far far 40 7 7 0 ∷ validator 1 far 0 0 ∷ validator 0 far 0 0 ∷ validator 0 far 0 0 ∷ []) 0 0 39
 
 -- 3: bits over 15
 abbrev second : Call
-second = handed start 15 16 (entry 32 1 0 0 far far 32 7 7 0 ∷ validator 1 far 0 0 ∷ validator 0 far 0 0 ∷ validator 0 far 0 0 ∷ []) 0 0 40
+second = handed (by 1 7 3) start 15 16 (entry 32 1 0 0 far far 32 7 7 0 ∷ validator 1 far 0 0 ∷ validator 0 far 0 0 ∷ validator 0 far 0 0 ∷ []) 0 0 40
 
 -- accepted, of epoch 3: numbers 2, which is slashed and loses balance, and 3 are activated
 abbrev third : Call
-third = handed start 15 2 (entry 31 0 0 0 far far 33 7 7 3 ∷ entry 32 0 1 far 9 265 32 0 0 5 ∷ entry 32 1 0 far far 3 32 0 0 0 ∷ entry 17 0 0 far far far 17 1 2 0 ∷ []) 5 9 40
+third = handed (by 1 16_777_216 3) start 15 2 (entry 31 0 0 0 far far 33 7 7 3 ∷ entry 32 0 1 far 9 265 32 0 0 5 ∷ entry 32 1 0 far far 3 32 0 0 0 ∷ entry 17 0 0 far far far 17 1 2 0 ∷ []) 5 9 40
 
 abbrev then : BeaconState
 then = returnedBy third (close third)
 
 -- 4: at the first slot of epoch 4 its root is not there yet
 abbrev fourth : Call
-fourth = handed then 16 7 (entry 32 0 0 0 far far 33 7 7 0 ∷ entry 32 0 1 far 9 265 32 0 0 5 ∷ entry 22 1 0 8 far 3 22 0 0 0 ∷ entry 17 0 0 8 far far 17 1 2 0 ∷ []) 1 8 40
+fourth = handed (by 0 far far) then 16 7 (entry 32 0 0 0 far far 33 7 7 0 ∷ entry 32 0 1 far 9 265 32 0 0 5 ∷ entry 22 1 0 8 far 3 22 0 0 0 ∷ entry 17 0 0 8 far far 17 1 2 0 ∷ []) 1 8 40
 
 -- 5: a balance that the hysteresis takes out of 64 bits
 abbrev fifth : Call
-fifth = handed then 19 5 (entry 32 0 0 0 far far far 7 0 0 ∷ entry 32 0 1 far far far 32 0 0 0 ∷ entry 22 0 0 8 far far 22 0 0 0 ∷ entry 17 0 0 8 20 276 17 0 0 0 ∷ []) 2 7 40
+fifth = handed (by 1 1 0) then 19 5 (entry 32 0 0 0 far far far 7 0 0 ∷ entry 32 0 1 far far far 32 0 0 0 ∷ entry 22 0 0 8 far far 22 0 0 0 ∷ entry 17 0 0 8 20 276 17 0 0 0 ∷ []) 2 7 40
 
 -- accepted, of epoch 4, with a validator that others have added: number 1 is activated
 abbrev sixth : Call
-sixth = handed then 19 6 (entry 30 0 0 0 far far 31 7 0 0 ∷ entry 1 1 1 far 9 10 0 0 0 9 ∷ entry 0 0 0 8 8 8 0 255 0 0 ∷ entry 17 0 0 8 far far 17 1 2 0 ∷ validator far far 0 0 ∷ []) 3 6 50
+sixth = handed (by 0 0 9) then 19 6 (entry 30 0 0 0 far far 31 7 0 0 ∷ entry 1 1 1 far 9 10 0 0 0 9 ∷ entry 0 0 0 8 8 8 0 255 0 0 ∷ entry 17 0 0 8 far far 17 1 2 0 ∷ validator far far 0 0 ∷ []) 3 6 50
 
 abbrev calls : List (Bool × Call)
 calls = (false, first) ∷ (true, second) ∷ (false, third) ∷ (true, fourth) ∷ (false, fifth) ∷ (true, sixth) ∷ []

@@ -3,7 +3,7 @@ use mathlib.Core.Path.{_≡_, refl, ap, _∙_}
 use mathlib.Core.Bool.{Bool, true, false, cond, _&&_}
 use mathlib.Core.List.{List, [], _∷_, map, head-eq-of-cons-eq, tail-eq-of-cons-eq}
 use Prim.Native.Nat.{ℕ, suc, _<_}
-use native.Mathlib.Nat.{zero-div}
+use native.Mathlib.Nat.{zero-div, div-le-self}
 use native.Mathlib.Decide.{decLt}
 use native.Mathlib.Omega.{arith}
 use borrow.Author.Tests.{lt-leb, le-ltb}
@@ -12,15 +12,17 @@ use lib.ListN.{length, replicate}
 use Rattle.types.specs.declared.Settings.{Settings}
 use Rattle.definitions.specs.Lists.{filter}
 use Rattle.definitions.specs.Record.{Validator, BeaconState, «FAR_FUTURE_EPOCH», decode}
+use Rattle.definitions.specs.Rules.{settingsUnder}
 use Rattle.definitions.specs.Close.{Call}
 use Rattle.definitions.specs.Rust.Phase0.Helpers.{«is_active_validator», «compute_epoch_at_slot», «get_current_epoch», «get_active_validator_indices», «get_validator_churn_limit»}
+use Rattle.laws.proofs.Rules.{shared}
 use Rattle.history.specs.Events.{Others, Event, accepts, after, standing}
 use Rattle.history.specs.Demand3.{event, closeOf}
 use Rattle.history.proofs.Waiting as list
 use Rattle.history.proofs.Waiting.{activationAt}
 use Rattle.history.proofs.Premises.{Handed}
 use Rattle.history.proofs.EightSteps.{Eight}
-use Rattle.history.proofs.WholeClose.{closed-eight, close-shaped}
+use Rattle.history.proofs.WholeClose.{accepted-close, closed-eight}
 
 abbrev closed : Bool × Call → Event
 closed c = event (closeOf c)
@@ -47,11 +49,11 @@ others-inactive {i} {r} {o} h a = record { there = omega (arith, a .there, h .mo
     go j l (yes k) = h .old j k .1 ∙ a .none j k
     go j l (no k) = h .new j (omega arith) l .1
 
-close-inactive : {i : ℕ} (c : Bool × Call) → c .1 .settings .«min_per_epoch_churn_limit» ≡ 0 → T (accepts (closed c)) → Inactive i (closed c .opening .validators) → Inactive i (closed c .returned .validators)
+close-inactive : {i : ℕ} (c : Bool × Call) → c .1 .rules .settings .«min_per_epoch_churn_limit» ≡ 0 → T (accepts (closed c)) → Inactive i (closed c .opening .validators) → Inactive i (closed c .returned .validators)
 unfolding «get_current_epoch» «compute_epoch_at_slot»
 close-inactive {i} (w, c) z t a = record { there = omega (arith, a .there, n); none = λ j l. none j (omega (arith, l, n)) }
   where
-    x : Eight (c .settings) (c .finality) (decode (c .registry)) (closed (w, c) .returned .finality) (closed (w, c) .returned .validators)
+    x : Eight (settingsUnder (c .rules)) (c .finality) (decode (c .registry)) (closed (w, c) .returned .finality) (closed (w, c) .returned .validators)
     x = closed-eight c t
 
     n : length (closed (w, c) .returned .validators) ≡ length (decode (c .registry))
@@ -61,10 +63,10 @@ close-inactive {i} (w, c) z t a = record { there = omega (arith, a .there, n); n
     queued j l = x .registry .queue-activation j l ∙ a .none j l
 
     churn : ℕ
-    churn = «get_validator_churn_limit» (c .settings) (c .finality .slot) (x .queue)
+    churn = «get_validator_churn_limit» (settingsUnder (c .rules)) (c .finality .slot) (x .queue)
 
     limit : churn ≡ 0
-    limit = no-churn (c .settings) (c .finality .slot) (x .queue) z (omega (arith, close-shaped (w, c) t .fits)) (λ j l. queued j (omega (arith, l, x .registry .queue-number)))
+    limit = no-churn (settingsUnder (c .rules)) (c .finality .slot) (x .queue) (shared (c .rules) .leastChurn ∙ z) (omega (arith, accepted-close c t .small .0, div-le-self (c .finality .slot) (settingsUnder (c .rules) .«slots_per_epoch»))) (λ j l. queued j (omega (arith, l, x .registry .queue-number)))
 
     unchosen : (b : Bool) (k to was : ℕ) → cond (b && ltb k churn) to was ≡ was
     unchosen false k to was = refl
@@ -73,7 +75,7 @@ close-inactive {i} (w, c) z t a = record { there = omega (arith, a .there, n); n
     none : (j : ℕ) → j < length (decode (c .registry)) → activationAt (closed (w, c) .returned .validators) j ≡ «FAR_FUTURE_EPOCH»
     none j l = x .registry .activation j l ∙ unchosen (list.waits _ (x .queue) j) (list.ahead _ (x .queue) j) _ (activationAt (x .queue) j) ∙ queued j l
 
-after-inactive : {i : ℕ} (c : Bool × Call) {r : BeaconState} → c .1 .settings .«min_per_epoch_churn_limit» ≡ 0 → Others r (closed c .opening) → Inactive i (r .validators) → Inactive i (after r (closed c) .validators)
+after-inactive : {i : ℕ} (c : Bool × Call) {r : BeaconState} → c .1 .rules .settings .«min_per_epoch_churn_limit» ≡ 0 → Others r (closed c .opening) → Inactive i (r .validators) → Inactive i (after r (closed c) .validators)
 after-inactive {i} c {r} z h a = go (accepts (closed c)) (closed c .othersStay) (λ t. close-inactive c z t (others-inactive h a))
   where
     go : (b w : Bool) → (T b → Inactive i (closed c .returned .validators)) → Inactive i (cond b (closed c .returned) (cond w (closed c .opening) r) .validators)
@@ -82,6 +84,6 @@ after-inactive {i} c {r} z h a = go (accepts (closed c)) (closed c .othersStay) 
     go false false f = a
 
 -- whatever the list, nobody is ever activated
-pub never : {i : ℕ} (s : Settings) → s .«min_per_epoch_churn_limit» ≡ 0 → (calls : List (Bool × Call)) (r : BeaconState) → map (λ c. c .1 .settings) calls ≡ replicate (length calls) s → Inactive i (r .validators) → Handed r (map closed calls) → Inactive i (standing r (map closed calls) .validators)
+pub never : {i : ℕ} (s : Settings) → s .«min_per_epoch_churn_limit» ≡ 0 → (calls : List (Bool × Call)) (r : BeaconState) → map (λ c. c .1 .rules .settings) calls ≡ replicate (length calls) s → Inactive i (r .validators) → Handed r (map closed calls) → Inactive i (standing r (map closed calls) .validators)
 never s z [] r e a h = a
 never s z (c ∷ calls) r e a h = never s z calls (after r (closed c)) (tail-eq-of-cons-eq e) (after-inactive c (ap (λ (x : Settings). x .«min_per_epoch_churn_limit») (head-eq-of-cons-eq e) ∙ z) (h .0) a) (h .1)

@@ -89,7 +89,7 @@ OrderedBut x r (e ∷ es) = OrderBut x r (e .epoch)
 
 pub record PremisesBut (x : Part) (s : Settings) (start : BeaconState) (closes : List Close) : Type 0 where
   pub churn : Unless x limit (1 ≤ s .«min_per_epoch_churn_limit»)
-  pub stay : Unless x settingsStay (map (λ c. c .call .settings) closes ≡ replicate (length closes) s)
+  pub stay : Unless x settingsStay (map (λ c. c .call .rules .settings) closes ≡ replicate (length closes) s)
   pub handed : HandedBut x start (map event closes)
   pub later : Unless x rising (Rising (accepted (map event closes)))
   pub ordered : OrderedBut x start (accepted (map event closes))

@@ -5,6 +5,7 @@ use lib.ListN.{replicate}
 use Rattle.types.specs.declared.Settings.{Settings}
 use Rattle.types.specs.declared.Checkpoint.{Checkpoint}
 use Rattle.definitions.specs.Record.{Validator, BeaconState, «FAR_FUTURE_EPOCH», encode}
+use Rattle.definitions.specs.Rules.{altairRules}
 use Rattle.definitions.specs.Close.{Call}
 
 -- a base reward factor of 0 keeps the balances still
@@ -79,7 +80,7 @@ record-of slot bits previous current final vs =
 abbrev pub call : Settings → ℕ → BeaconState → Call
 call s n o =
     record {
-      settings = s;
+      rules = altairRules s;
       finality = o .finality;
       registry = encode (o .validators);
       slashings = o .slashings;

@@ -1,5 +1,5 @@
 -- Demand 3: "For every list of whole closes, each as demand 2 gives it, refused ones included". Events.antt has premises and claim; here an event
--- is a whole close by its own definition, and the settings stay.
+-- is a whole close by its own definition, and the settings stay. 02, R-3: "demand 3 stands, whichever fork each close names", and with which pair.
 use mathlib.Core.Path.{_≡_}
 use mathlib.Core.Bool.{Bool}
 use mathlib.Core.List.{List, map}
@@ -30,18 +30,18 @@ event c =
       returned = returnedBy (c .call) (c .outcome);
       refusal = c .outcome .refusal;
       -- "The epoch of a close is slot / slots_per_epoch"
-      epoch = c .call .finality .slot / c .call .settings .«slots_per_epoch»;
-      lookahead = c .call .settings .«max_seed_lookahead»;
+      epoch = c .call .finality .slot / c .call .rules .settings .«slots_per_epoch»;
+      lookahead = c .call .rules .settings .«max_seed_lookahead»;
       -- "The smallest activation churn limit that the settings allow is min_per_epoch_churn_limit"
-      churn = c .call .settings .«min_per_epoch_churn_limit»;
+      churn = c .call .rules .settings .«min_per_epoch_churn_limit»;
       othersStay = c .othersStay;
     }
 
 pub record Premises (s : Settings) (start : BeaconState) (closes : List Close) : Type 0 where
   -- "m, at least 1"
   pub churn : 1 ≤ s .«min_per_epoch_churn_limit»
-  -- "Settings stay"
-  pub stay : map (λ c. c .call .settings) closes ≡ replicate (length closes) s
+  -- "Settings stay": the nineteen; fork and pair may be any at each close
+  pub stay : map (λ c. c .call .rules .settings) closes ≡ replicate (length closes) s
   pub list : events.Premises start (map event closes)
 
 -- a close of the definition

@@ -6,8 +6,7 @@ use Prim.Native.Nat.{ℕ, _<_}
 use Rattle.types.specs.declared.Finality.{Finality}
 use Rattle.types.specs.declared.Settings.{Settings}
 use Rattle.definitions.specs.Checked.{codeOf}
-use Rattle.definitions.specs.Refusals.{inOrder, settingsShaped, rootsShaped, slashingsShaped, registryShaped, sameLength, goodSettings, goodFinality, goodRegistry, justificationTests}
-use Rattle.definitions.specs.Close.{Call, closeTests}
+use Rattle.definitions.specs.Refusals.{inOrder, settingsShaped, rootsShaped, registryShaped, goodSettings, goodFinality, goodRegistry, justificationTests}
 use Rattle.definitions.specs.LeafRefusals.{weighTests}
 use Rattle.refusals.proofs.All.{both}
 use Rattle.refusals.proofs.Laws.{in-order, good-settings, RegistryShape, registry-shaped}
@@ -29,19 +28,3 @@ justification-passed s roots f registry z =
       shape = registry-shaped registry (q .second);
       epoch = good-settings s (p .second) .positive .«slots_per_epoch»;
     }
-
--- the tests of the whole close ask for more
-pub close-passed : (c : Call) → codeOf (closeTests c) ≡ 0 → codeOf (justificationTests (c .settings) (c .roots) (c .finality) (c .registry)) ≡ 0
-unfolding closeTests justificationTests inOrder
-close-passed c z =
-    let s = c .settings in
-    let a = settingsShaped s && registryShaped (c .registry) in
-    let b = rootsShaped s (c .roots) in
-    let d = slashingsShaped s (c .slashings) in
-    let e = sameLength (c .registry) (c .closingRegistry) in
-    let f = sameLength (c .slashings) (c .closingSlashings) in
-    let p = in-order (a && b && d && e && f) (goodSettings s) (goodFinality (c .finality) && goodRegistry (c .registry)) z in
-    let q = both (a && b && d) e (both (a && b && d && e) f (p .first) .first) .first in
-    let r = both a b (both (a && b) d q .first) in
-    let t = both (settingsShaped s) (registryShaped (c .registry)) (r .first) in
-    rw (t .first, r .second, t .second, p .second, p .third)

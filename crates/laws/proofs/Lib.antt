@@ -1,3 +1,4 @@
 -- Laws that the proofs of several crates cite.
 pub mod Encode
 pub mod Checked
+pub mod Rules

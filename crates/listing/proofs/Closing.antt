@@ -6,6 +6,7 @@ use lib.ListN.{length}
 use Rattle.definitions.specs.Checked.{Checked, value, refused, bind, codeOf}
 use Rattle.definitions.specs.File.{Contents, nothing}
 use Rattle.definitions.specs.Refusals.{inOrder, settingsShaped, afterTests, closingBuffer}
+use Rattle.definitions.specs.Rules.{rulesShaped}
 use Rattle.definitions.specs.Close.{closeTests, closed, close}
 use Rattle.laws.proofs.Checked.{number-not-zero}
 use Rattle.definitions_listing.specs.Listing.{callOf}
@@ -43,9 +44,9 @@ module _ (c : Contents) (xs ys : List ℕ) (us vs : List ℕ) (l : length xs ≡
 
 module _ (registry slashings xs ys : List ℕ) where
   pub nothing-registry : close (callOf (nothing registry slashings) xs ys) .closingRegistry ≡ xs
-  unfolding close closeTests inOrder settingsShaped closingBuffer
+  unfolding close closeTests inOrder rulesShaped settingsShaped closingBuffer
   nothing-registry = refl
 
   pub nothing-slashings : close (callOf (nothing registry slashings) xs ys) .closingSlashings ≡ ys
-  unfolding close closeTests inOrder settingsShaped closingBuffer
+  unfolding close closeTests inOrder rulesShaped settingsShaped closingBuffer
   nothing-slashings = refl

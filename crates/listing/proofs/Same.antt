@@ -23,7 +23,7 @@ or-same x y text other e f = by (eqb x 0) refl
     by true q = rw (← e, q) (f (eqb-true x 0 q))
     by false q = rw (← e, q)
 
-accepted-text-same : (c call : Call) (out other : Outcome) → c .settings ≡ call .settings → c .finality ≡ call .finality → c .registry ≡ call .registry → out .finality ≡ other .finality → out .raised ≡ other .raised → out .closingRegistry ≡ other .closingRegistry → acceptedText c out ≡ acceptedText call other
+accepted-text-same : (c call : Call) (out other : Outcome) → c .rules .settings ≡ call .rules .settings → c .finality ≡ call .finality → c .registry ≡ call .registry → out .finality ≡ other .finality → out .raised ≡ other .raised → out .closingRegistry ≡ other .closingRegistry → acceptedText c out ≡ acceptedText call other
 unfolding acceptedText closeText
 accepted-text-same c call out other s i o f n r = rw (s, i, o, f, n, r)
 

@@ -9,13 +9,14 @@ ghost use Rattle.definitions.specs.Checked.{codeOf};
 ghost use Rattle.definitions.specs.Refusals.{registryShaped};
 ghost use Rattle.definitions.specs.Document.Phase0.Helpers.{«get_current_epoch»};
 ghost use Rattle.definitions.specs.Raised.{raisedTotals};
+ghost use Rattle.definitions.specs.Rules.{altairRules};
 ghost use Rattle.definitions.specs.Close.{charged};
 ghost use Rattle.close.specs.Called.{called};
 ghost use Rattle.decimals.specs.Put.{Put};
 ghost use Rattle.definitions_listing.specs.NetChange.{changeTests};
 ghost use Rattle.definitions_listing.specs.Lines.{headLine, lines, orRefused};
 ghost use Rattle.listing_close.specs.Listed.{ListedClose};
-use close::close;
+use close::close_as_altair;
 use listing_lines::changes;
 use listing_lines::head_core;
 use listing_lines::text::put_head;
@@ -60,9 +61,9 @@ pub fn list_close(
     text: &mut [u8],
 ) -> usize
     requires { ⌜ 207 + 127 * (length (now registry) / 10) ≤ length (now text) ⌝ }
-    ensures { λ r. ⌜ ListedClose (called s finality (now (registry .entry)) (now (slashings .entry)) (now (roots .entry)) (now («closing_registry» .entry)) (now («closing_slashings» .entry))) (now («closing_registry» .exit)) (now («closing_slashings» .exit)) (now (text .entry)) (now (text .exit)) r ⌝ }
+    ensures { λ r. ⌜ ListedClose (called (altairRules s) finality (now (registry .entry)) (now (slashings .entry)) (now (roots .entry)) (now («closing_registry» .entry)) (now («closing_slashings» .entry))) (now («closing_registry» .exit)) (now («closing_slashings» .exit)) (now (text .entry)) (now (text .exit)) r ⌝ }
 {
-    let closed = close(
+    let closed = close_as_altair(
         s,
         finality,
         registry,

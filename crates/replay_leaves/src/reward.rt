@@ -1,4 +1,5 @@
 // Leaves 24 to 29: rewards and penalties, finality, the square root.
+use rules::altair_rules;
 use types::Number;
 use vectors::Case;
 use vectors::deltas_agree;
@@ -41,9 +42,9 @@ fn get_flag_index_deltas(c: Case, words: &[u64]) -> bool {
 }
 
 fn get_inactivity_penalty_deltas(c: Case, words: &[u64]) -> bool {
-    let s = settings(c, words);
+    let rules = altair_rules(settings(c, words));
     let slot = number(c, words, 0);
-    let answer = rewards::get_inactivity_penalty_deltas(s, slot, lent(c, words));
+    let answer = rewards::get_inactivity_penalty_deltas(rules, slot, lent(c, words));
     deltas_agree(answer, c, words)
 }
 

@@ -10,6 +10,7 @@ use record_vectors::roots;
 use record_vectors::settings;
 use record_vectors::slashings;
 use record_vectors::slot;
+use rules::altair_rules;
 use types::Settings;
 
 // Which part of what comes back differs.
@@ -41,14 +42,14 @@ fn on_registry(
     match operation {
         2 => inactivity::process_inactivity_updates(s, slot, finalized_epoch, opening, closing),
         3 => rewards_step::process_rewards_and_penalties(
-            s,
+            altair_rules(s),
             slot,
             finalized_epoch,
             opening,
             closing,
         ),
         4 => registry::process_registry_updates(s, slot, finalized_epoch, opening, closing),
-        5 => slashings::process_slashings(s, slot, slashings, opening, closing),
+        5 => slashings::process_slashings(altair_rules(s), slot, slashings, opening, closing),
         6 => effective_balances::process_effective_balance_updates(s, opening, closing),
         _ => participation_flags::process_participation_flag_updates(opening, closing),
     }
@@ -86,7 +87,7 @@ pub fn close(
     closing_slashings: &mut [u64],
 ) -> u64 {
     let file = r.file;
-    let answer = close::close(
+    let answer = close::close_as_altair(
         settings(file, words),
         finality(file, words, bytes),
         registry(file, words, r.registry_words),

@@ -4,10 +4,10 @@ ghost use mathlib.Core.Path.{_≡_};
 ghost use Prim.Native.Nat.{_≤_, _<_};
 ghost use lib.ListN.{length, getD};
 ghost use Rattle.definitions.specs.Record.{decodeOne};
-ghost use Rattle.definitions.specs.Checked.{mul64};
+ghost use Rattle.definitions.specs.Checked.{codeOf, mul64};
 ghost use Rattle.definitions.specs.Answers.{Says, SaysDeltas};
 ghost use Rattle.definitions.specs.Refusals.{afterTests};
-ghost use Rattle.definitions.specs.LeafRefusals.{slotEntryTests};
+ghost use Rattle.definitions.specs.Rules.{settingsUnder, inactivityPenaltyTests};
 ghost use Rattle.definitions.specs.Rust.Altair.Helpers.{«PARTICIPATION_FLAG_WEIGHTS», «get_base_reward», hitDeltas, missDeltas, flagIndexDeltas, inactivityPenaltyDeltas, «get_inactivity_penalty_deltas»};
 ghost use Rattle.rewards.specs.Shared.{SharedBy, Shares, totalsOf};
 use arithmetic::mul64;
@@ -17,9 +17,12 @@ use entries::entry_is_participating;
 use leaf_refusals::current_epoch;
 use leaf_refusals::previous_epoch;
 use leaf_refusals::slot_entry_tests;
+use rules::rules_refusal;
+use rules::settings_under;
 use types::Deltas;
 use types::DeltasAnswer;
 use types::Number;
+use types::Rules;
 use types::Settings;
 
 // The same for all validators. The base reward of an increment, and 64 times the active increments, are answers: each may have left 64 bits
@@ -192,13 +195,21 @@ pub fn penalty_deltas(
     DeltasAnswer::Value(deltas)
 }
 
-pub fn get_inactivity_penalty_deltas(s: Settings, state_slot: u64, entry: &[u64]) -> DeltasAnswer
-    ensures { λ r. ⌜ SaysDeltas (afterTests (slotEntryTests s «state_slot» (now (entry .entry))) («get_inactivity_penalty_deltas» s (s .«inactivity_penalty_quotient_altair») «state_slot» (decodeOne (now (entry .entry))))) r ⌝ }
+fn penalty_tests(rules: Rules, state_slot: u64, entry: &[u64]) -> u64
+    ensures { λ r. ⌜ r ≡ codeOf (inactivityPenaltyTests rules «state_slot» (now (entry .entry))) ⌝ }
 {
-    let refusal = slot_entry_tests(s, state_slot, entry);
+    let by_settings = slot_entry_tests(rules.settings, state_slot, entry);
+    rules_refusal(rules, by_settings)
+}
+
+pub fn get_inactivity_penalty_deltas(rules: Rules, state_slot: u64, entry: &[u64]) -> DeltasAnswer
+    ensures { λ r. ⌜ SaysDeltas (afterTests (inactivityPenaltyTests rules «state_slot» (now (entry .entry))) («get_inactivity_penalty_deltas» (settingsUnder rules) (settingsUnder rules .«inactivity_penalty_quotient_altair») «state_slot» (decodeOne (now (entry .entry))))) r ⌝ }
+{
+    let refusal = penalty_tests(rules, state_slot, entry);
     if refusal != 0 {
         return DeltasAnswer::Refused(refusal);
     }
+    let s = settings_under(rules);
     let current = current_epoch(s, state_slot);
     let previous = previous_epoch(s, state_slot);
     let product = mul64(

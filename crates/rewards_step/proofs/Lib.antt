@@ -1,2 +1,3 @@
 -- The step from its totals, one after the other.
 pub mod Step
+mod Tests

@@ -4,9 +4,10 @@ ghost use mathlib.Core.Bool.{true};
 ghost use Prim.Native.Nat.{_*_, _/_, _≤_, _<_};
 ghost use lib.ListN.{length};
 ghost use Rattle.definitions.specs.Record.{decode, encode};
-ghost use Rattle.definitions.specs.Checked.{mul64, mapChecked};
+ghost use Rattle.definitions.specs.Checked.{codeOf, mul64, mapChecked};
 ghost use Rattle.definitions.specs.Answers.{Says};
-ghost use Rattle.definitions.specs.Refusals.{goodSettings, registryTests};
+ghost use Rattle.definitions.specs.Refusals.{goodSettings};
+ghost use Rattle.definitions.specs.Rules.{settingsUnder, rewardsTests};
 ghost use Rattle.definitions.specs.Rust.Altair.EpochProcessing.{rewardAndPenalize, «process_rewards_and_penalties»};
 ghost use Rattle.loops.specs.Ran.{Ran};
 ghost use Rattle.buffers.specs.Closes.{Closes};
@@ -15,15 +16,18 @@ ghost use Rattle.flag_rewards.specs.Totals.{flagTotalsOf};
 use arithmetic::mul64;
 use buffers::copy;
 use finality::inactivity_leak;
-use finalized::registry_tests;
+use finalized::finalized_registry_tests;
 use leaf_refusals::current_epoch;
 use leaf_refusals::previous_epoch;
 use reward_balances::entry_reward;
 use rewards::Shared;
 use rewards::shared_numbers;
+use rules::rules_refusal;
+use rules::settings_under;
 use totals::total_active;
 use totals::total_participating;
 use types::Number;
+use types::Rules;
 use types::Settings;
 use types::Truth;
 
@@ -144,19 +148,37 @@ pub fn rewards_core(
     )
 }
 
+fn rewards_tests(
+    rules: Rules,
+    state_slot: u64,
+    finalized_epoch: u64,
+    opening: &[u64],
+    closing: &[u64],
+) -> u64
+    ensures { λ r. ⌜ r ≡ codeOf (rewardsTests rules «state_slot» «finalized_epoch» (now (opening .entry)) (now (closing .entry))) ⌝ }
+{
+    if closing.len() != opening.len() {
+        return 1;
+    }
+    let settings = rules.settings;
+    let by_settings = finalized_registry_tests(settings, state_slot, finalized_epoch, opening);
+    rules_refusal(rules, by_settings)
+}
+
 pub fn process_rewards_and_penalties(
-    s: Settings,
+    rules: Rules,
     state_slot: u64,
     finalized_epoch: u64,
     opening: &[u64],
     closing: &mut [u64],
 ) -> u64
-    ensures { λ r. ⌜ Closes encode (registryTests s «state_slot» «finalized_epoch» (now (opening .entry)) (now (closing .entry))) («process_rewards_and_penalties» s (s .«inactivity_penalty_quotient_altair») «state_slot» «finalized_epoch» (decode (now (opening .entry)))) (now (opening .entry)) (now (closing .entry)) (now (closing .exit)) r ⌝ }
+    ensures { λ r. ⌜ Closes encode (rewardsTests rules «state_slot» «finalized_epoch» (now (opening .entry)) (now (closing .entry))) («process_rewards_and_penalties» (settingsUnder rules) (settingsUnder rules .«inactivity_penalty_quotient_altair») «state_slot» «finalized_epoch» (decode (now (opening .entry)))) (now (opening .entry)) (now (closing .entry)) (now (closing .exit)) r ⌝ }
 {
-    let refusal = registry_tests(s, state_slot, finalized_epoch, opening, closing);
+    let refusal = rewards_tests(rules, state_slot, finalized_epoch, opening, closing);
     if refusal != 0 {
         return refusal;
     }
+    let s = settings_under(rules);
     copy(opening, closing);
     let done = rewards_core(
         s,

@@ -6,25 +6,28 @@ use Prim.Native.Nat.{ℕ}
 use borrow.Author.Tests.{eqb-true}
 use lib.ListN.{length}
 use Rattle.types.specs.declared.Settings.{Settings}
+use Rattle.types.specs.declared.Rules.{Rules}
 use Rattle.definitions.specs.Checked.{codeOf}
-use Rattle.definitions.specs.Refusals.{settingsShaped, slashingsShaped, registryShaped, sameLength, isSmall, goodSettings, goodRegistry, slashingsTests, slashingsResetTests}
+use Rattle.definitions.specs.Refusals.{settingsShaped, slashingsShaped, registryShaped, sameLength, isSmall, goodSettings, goodRegistry, slashingsResetTests}
+use Rattle.definitions.specs.Rules.{settingsUnder, rulesShaped, goodRules, slashingsTests}
+use Rattle.laws.proofs.Rules.{good-under}
 use Rattle.agreement.specs.Bounds.{Passed}
 use Rattle.refusals.proofs.All.{both}
 use Rattle.refusals.proofs.Laws.{in-order, RegistryShape, registry-shaped}
 
-pub record SlashingsPassed (s : Settings) (opening closing : List ℕ) : Type 0 where
-  pub good : goodSettings s ≡ true
+pub record SlashingsPassed (r : Rules) (opening closing : List ℕ) : Type 0 where
+  pub good : goodSettings (settingsUnder r) ≡ true
   pub shape : RegistryShape opening
   pub same : length closing ≡ length opening
 
-pub slashings-passed : (s : Settings) (stateSlot : ℕ) (slashings opening closing : List ℕ) {x : ℕ} → x ≡ codeOf (slashingsTests s stateSlot slashings opening closing) → x ≡ 0 → SlashingsPassed s opening closing
+pub slashings-passed : (r : Rules) (stateSlot : ℕ) (slashings opening closing : List ℕ) {x : ℕ} → x ≡ codeOf (slashingsTests r stateSlot slashings opening closing) → x ≡ 0 → SlashingsPassed r opening closing
 unfolding slashingsTests
-slashings-passed s stateSlot slashings opening closing e z =
-    let own = settingsShaped s && slashingsShaped s slashings in
-    let p = in-order (own && registryShaped opening && sameLength opening closing) (goodSettings s) (isSmall stateSlot && goodRegistry opening) (sym e ∙ z) in
+slashings-passed r stateSlot slashings opening closing e z =
+    let own = rulesShaped r && slashingsShaped (r .settings) slashings in
+    let p = in-order (own && registryShaped opening && sameLength opening closing) (goodRules r) (isSmall stateSlot && goodRegistry opening) (sym e ∙ z) in
     let q = both (own && registryShaped opening) (sameLength opening closing) (p .first) in
     let t = both own (registryShaped opening) (q .first) in
-    record { good = p .second; shape = registry-shaped opening (t .second); same = eqb-true (length closing) (length opening) (q .second) }
+    record { good = good-under r (p .second); shape = registry-shaped opening (t .second); same = eqb-true (length closing) (length opening) (q .second) }
 
 pub record ResetPassed (s : Settings) (stateSlot : ℕ) (opening closing : List ℕ) : Type 0 where
   pub settings : Passed s stateSlot

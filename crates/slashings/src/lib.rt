@@ -7,7 +7,8 @@ ghost use lib.ListN.{length};
 ghost use Rattle.definitions.specs.Record.{decode, encode};
 ghost use Rattle.definitions.specs.Checked.{value, codeOf, sum64, mapChecked};
 ghost use Rattle.definitions.specs.Answers.{Says};
-ghost use Rattle.definitions.specs.Refusals.{goodSettings, slashingsTests, slashingsResetTests};
+ghost use Rattle.definitions.specs.Refusals.{goodSettings, slashingsResetTests};
+ghost use Rattle.definitions.specs.Rules.{settingsUnder, slashingsTests};
 ghost use Rattle.definitions.specs.Rust.Phase0.EpochProcessing.{resetSlashings};
 ghost use Rattle.definitions.specs.Rust.Altair.EpochProcessing.{slash, «process_slashings»};
 ghost use Rattle.agreement.specs.Bounds.{Passed};
@@ -24,8 +25,11 @@ use refusals::good_settings;
 use refusals::is_small;
 use refusals::settings_shaped;
 use registry_refusals::slot_registry_tests;
+use rules::rules_refusal;
+use rules::settings_under;
 use totals::total_active;
 use types::Number;
+use types::Rules;
 use types::Settings;
 
 // What was slashed, over the lent epochs.
@@ -121,36 +125,39 @@ pub fn slashings_core(
 }
 
 fn slashings_tests(
-    s: Settings,
+    rules: Rules,
     state_slot: u64,
     slashings: &[u64],
     opening: &[u64],
     closing: &[u64],
 ) -> u64
-    ensures { λ r. ⌜ r ≡ codeOf (slashingsTests s «state_slot» (now (slashings .entry)) (now (opening .entry)) (now (closing .entry))) ⌝ }
+    ensures { λ r. ⌜ r ≡ codeOf (slashingsTests rules «state_slot» (now (slashings .entry)) (now (opening .entry)) (now (closing .entry))) ⌝ }
 {
-    if slashings.len() as u64 != s.epochs_per_slashings_vector {
+    let settings = rules.settings;
+    if slashings.len() as u64 != settings.epochs_per_slashings_vector {
         return 1;
     }
     if closing.len() != opening.len() {
         return 1;
     }
-    slot_registry_tests(s, state_slot, opening)
+    let by_settings = slot_registry_tests(settings, state_slot, opening);
+    rules_refusal(rules, by_settings)
 }
 
 pub fn process_slashings(
-    s: Settings,
+    rules: Rules,
     state_slot: u64,
     slashings: &[u64],
     opening: &[u64],
     closing: &mut [u64],
 ) -> u64
-    ensures { λ r. ⌜ Closes encode (slashingsTests s «state_slot» (now (slashings .entry)) (now (opening .entry)) (now (closing .entry))) («process_slashings» s (s .«proportional_slashing_multiplier_altair») «state_slot» (now (slashings .entry)) (decode (now (opening .entry)))) (now (opening .entry)) (now (closing .entry)) (now (closing .exit)) r ⌝ }
+    ensures { λ r. ⌜ Closes encode (slashingsTests rules «state_slot» (now (slashings .entry)) (now (opening .entry)) (now (closing .entry))) («process_slashings» (settingsUnder rules) (settingsUnder rules .«proportional_slashing_multiplier_altair») «state_slot» (now (slashings .entry)) (decode (now (opening .entry)))) (now (opening .entry)) (now (closing .entry)) (now (closing .exit)) r ⌝ }
 {
-    let refusal = slashings_tests(s, state_slot, slashings, opening, closing);
+    let refusal = slashings_tests(rules, state_slot, slashings, opening, closing);
     if refusal != 0 {
         return refusal;
     }
+    let s = settings_under(rules);
     copy(opening, closing);
     let multiplier = s.proportional_slashing_multiplier_altair;
     let done = slashings_core(s, multiplier, state_slot, slashings, closing);

@@ -1,6 +1,7 @@
 use mathlib.Core.Path.{sym, ap, _∙_}
 use native.Mathlib.Omega.{arith}
 use borrow.Author.Needs.{needs}
+use Rattle.definitions.specs.Rules.{altairRules}
 use Rattle.definitions.specs.Close.{Call, Outcome}
 use Rattle.close.specs.Called.{called}
 use Rattle.definitions_listing.specs.Lines.{closeText, acceptedText}
@@ -10,10 +11,10 @@ use Rattle.listing_close.proofs.list_close.Statement.{statement}
 use Rattle.listing_close.proofs.list_close.Tie as tie
 
 abbrev handed : tie.Start → Call
-handed s = called (s .args .s) (s .args .finality) (s .args .registry .now) (s .args .slashings .now) (s .args .roots .now) (s .args .closing-registry .now) (s .args .closing-slashings .now)
+handed s = called (altairRules (s .args .s)) (s .args .finality) (s .args .registry .now) (s .args .slashings .now) (s .args .roots .now) (s .args .closing-registry .now) (s .args .closing-slashings .now)
 
-close-requires : tie.Need-close-requires
-close-requires c κs = search needs
+close-as-altair-requires : tie.Need-close-as-altair-requires
+close-as-altair-requires c κs = search needs
 
 put-refused-requires : tie.Need-put-refused-requires
 put-refused-requires c κs = search needs
@@ -30,11 +31,11 @@ same-length-3 c = search needs
 returns : tie.Need-returns
 returns c =
     let p = c .before .before .put-refused .ensures in
-    listed-refused (handed (c .before .before .before .before .before .before .before .before .before .before .before .before .before .before .before .before .before .before .before)) (c .before .before .before .before .before .before .before .before .before .before .close .ensures) (omega (arith, p .1, c .before .before .before .before .before .before .before .before .before .before .before .before .before .before .before .before .before .before .before .pre)) (c .before .before .before .before .if1 .taken) (p .0)
+    listed-refused (handed (c .before .before .before .before .before .before .before .before .before .before .before .before .before .before .before .before .before .before .before)) (c .before .before .before .before .before .before .before .before .before .before .close-as-altair .ensures) (omega (arith, p .1, c .before .before .before .before .before .before .before .before .before .before .before .before .before .before .before .before .before .before .before .pre)) (c .before .before .before .before .if1 .taken) (p .0)
 
 put-close-requires : tie.Need-put-close-requires
 put-close-requires c κs =
-    let a = accepted (handed (c .before .before .before .before .before .before .before .before .before .before .before .before .before .before .before .before .before .before)) (sym (ap (λ (o : Outcome). o .refusal) (c .before .before .before .before .before .before .before .before .before .close .ensures)) ∙ c .before .before .before .if1 .left) in
+    let a = accepted (handed (c .before .before .before .before .before .before .before .before .before .before .before .before .before .before .before .before .before .before)) (sym (ap (λ (o : Outcome). o .refusal) (c .before .before .before .before .before .before .before .before .before .close-as-altair .ensures)) ∙ c .before .before .before .if1 .left) in
     (a .epochs, ((a .shaped, omega (arith, a .alike, c .before .before .before .before .before .before .before .before .closing-registry .given)), c .before .before .before .before .before .before .before .before .before .before .before .before .before .before .before .before .before .before .pre))
 
 same-length-4 : tie.Need-same-length-4
@@ -51,7 +52,7 @@ unfolding closeText acceptedText
 returns-2 c =
     let p = c .before .before .put-close .ensures in
     let accepts = c .before .before .before .before .before .before .if1 .left in
-    let closed = c .before .before .before .before .before .before .before .before .before .before .before .before .close .ensures in
+    let closed = c .before .before .before .before .before .before .before .before .before .before .before .before .close-as-altair .ensures in
     let lent = handed (c .before .before .before .before .before .before .before .before .before .before .before .before .before .before .before .before .before .before .before .before .before) in
     let flags = ap (λ (o : Outcome). o .raised) closed ∙ accepted lent (sym (ap (λ (o : Outcome). o .refusal) closed) ∙ accepts) .raised in
     listed-close lent closed (p .1) accepts (rw (← flags) at (p .0))
@@ -60,7 +61,7 @@ pub list-close-spec : {M : Type 1} → statement M
 list-close-spec =
     tie.close
     (tie.spec
-    close-requires
+    close-as-altair-requires
     put-refused-requires
     same-length
     same-length-2

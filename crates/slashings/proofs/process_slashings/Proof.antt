@@ -1,6 +1,7 @@
 use native.Mathlib.Omega.{arith}
 use borrow.Author.Needs.{needs}
 use Rattle.definitions.specs.Record.{encode}
+use Rattle.definitions.specs.Rules.{settingsUnder}
 use Rattle.definitions.specs.Rust.Altair.EpochProcessing.{«process_slashings»}
 use Rattle.buffers.proofs.Closes.{closes-refused, step-done, step-restored}
 use Rattle.slashings.proofs.Passed.{slashings-passed}
@@ -16,30 +17,48 @@ same-length c = search needs
 returns : tie.Need-returns
 returns c = closes-refused encode _ (c .before .slashings-tests .ensures) _ (c .if1 .taken)
 
+settings-under-requires : tie.Need-settings-under-requires
+settings-under-requires c κs = search needs
+
 copy-requires : tie.Need-copy-requires
-copy-requires c κs = slashings-passed _ _ _ _ _ (c .before .before .slashings-tests .ensures) (c .before .if1 .left) .same
+copy-requires c κs = slashings-passed _ _ _ _ _ (c .before .before .before .slashings-tests .ensures) (c .before .before .if1 .left) .same
 
 slashings-core-requires : tie.Need-slashings-core-requires
 slashings-core-requires c κs =
-    let p = slashings-passed _ _ _ _ _ (c .before .before .before .before .before .before .slashings-tests .ensures) (c .before .before .before .before .before .if1 .left) in
-    (rw (c .before .before .before .copy .ensures) (p .shape .long), p .good)
+    let u = c .before .before .before .before .before in
+    let p = slashings-passed _ _ _ _ _ (u .before .before .slashings-tests .ensures) (u .before .if1 .left) in
+    (rw (c .before .before .before .copy .ensures) (p .shape .long), rw (u .settings-under .ensures) (p .good))
 
 copy-requires-2 : tie.Need-copy-requires-2
 copy-requires-2 c κs =
-    let p = slashings-passed _ _ _ _ _ (c .before .before .before .before .before .before .before .before .before .before .before .slashings-tests .ensures) (c .before .before .before .before .before .before .before .before .before .before .if1 .left) in
-    omega (arith, p .same)
+    let u = c .before .before .before .before .before .before .before .before .before .before in
+    omega (arith, slashings-passed _ _ _ _ _ (u .before .before .slashings-tests .ensures) (u .before .if1 .left) .same)
 
 same-length-2 : tie.Need-same-length-2
 same-length-2 c = search needs
 
 returns-2 : tie.Need-returns-2
-returns-2 c = step-restored («process_slashings» (c .before .before .before .before .before .before .before .before .before .before .before .before .before .before .before .before .before .before .before .args .s) (c .before .before .before .before .before .before .before .before .before .before .before .before .before .before .before .before .before .before .before .args .s .«proportional_slashing_multiplier_altair») (c .before .before .before .before .before .before .before .before .before .before .before .before .before .before .before .before .before .before .before .args .state-slot) (c .before .before .before .before .before .before .before .before .before .before .before .before .before .before .before .before .before .before .before .args .slashings .now)) _ (c .before .before .before .before .before .before .before .before .before .before .before .before .before .before .slashings-tests .ensures) (c .before .before .before .before .before .before .before .before .before .before .before .before .before .if1 .left) (c .before .before .before .before .before .before .before .before .before .before .before .copy .ensures) (c .before .before .before .before .before .before .before .slashings-core .ensures) (c .before .before .before .before .if2 .taken) (c .before .before .copy2 .ensures)
+returns-2 c =
+    let k = c .before .before .before .before .before .before .before in
+    let q = k .before .before .before .before in
+    let u = q .before .before in
+    let t = u .before in
+    let a = t .before .before .before .before .before .before .args in
+    let s = settingsUnder (a .rules) in
+    step-restored («process_slashings» s (s .«proportional_slashing_multiplier_altair») (a .state-slot) (a .slashings .now)) _ (t .before .slashings-tests .ensures) (t .if1 .left) (q .copy .ensures) (rw (u .settings-under .ensures) at (k .slashings-core .ensures)) (c .before .before .before .before .if2 .taken) (c .before .before .copy2 .ensures)
 
 same-length-3 : tie.Need-same-length-3
 same-length-3 c = search needs
 
 returns-3 : tie.Need-returns-3
-returns-3 c = step-done («process_slashings» (c .before .before .before .before .before .before .before .before .before .before .before .before .before .before .before .args .s) (c .before .before .before .before .before .before .before .before .before .before .before .before .before .before .before .args .s .«proportional_slashing_multiplier_altair») (c .before .before .before .before .before .before .before .before .before .before .before .before .before .before .before .args .state-slot) (c .before .before .before .before .before .before .before .before .before .before .before .before .before .before .before .args .slashings .now)) _ (c .before .before .before .before .before .before .before .before .before .before .slashings-tests .ensures) (c .before .before .before .before .before .before .before .before .before .if1 .left) (c .before .before .before .before .before .before .before .copy .ensures) (c .before .before .before .slashings-core .ensures) (c .if2 .left)
+returns-3 c =
+    let k = c .before .before .before in
+    let q = k .before .before .before .before in
+    let u = q .before .before in
+    let t = u .before in
+    let a = t .before .before .before .before .before .before .args in
+    let s = settingsUnder (a .rules) in
+    step-done («process_slashings» s (s .«proportional_slashing_multiplier_altair») (a .state-slot) (a .slashings .now)) _ (t .before .slashings-tests .ensures) (t .if1 .left) (q .copy .ensures) (rw (u .settings-under .ensures) at (k .slashings-core .ensures)) (c .if2 .left)
 
 pub process-slashings-spec : {M : Type 1} → statement M
 process-slashings-spec =
@@ -48,6 +67,7 @@ process-slashings-spec =
     slashings-tests-requires
     same-length
     returns
+    settings-under-requires
     copy-requires
     slashings-core-requires
     copy-requires-2

@@ -1,8 +1,10 @@
 use borrow.Author.Needs.{needs}
 use borrow.Author.Tests.{eq-eqb, ne-eqb}
-use Rattle.definitions.specs.Refusals.{inOrder, slashingsTests}
+use Rattle.definitions.specs.Refusals.{inOrder}
+use Rattle.definitions.specs.Rules.{slashingsTests}
 use Rattle.definitions.specs.LeafRefusals.{slotRegistryTests}
 use Rattle.leaf_refusals.proofs.Order.{and-true, and-false}
+use Rattle.rules.proofs.Tests.{rules-tested}
 use Rattle.slashings.proofs.slashings_tests.Statement.{statement}
 use Rattle.slashings.proofs.slashings_tests.Tie as tie
 
@@ -17,10 +19,13 @@ returns-2 c = rw (ne-eqb _ _ (c .if2 .taken)) (simp and-false)
 slot-registry-tests-requires : tie.Need-slot-registry-tests-requires
 slot-registry-tests-requires c κs = search needs
 
+rules-refusal-requires : tie.Need-rules-refusal-requires
+rules-refusal-requires c κs = search needs
+
 returns-3 : tie.Need-returns-3
 unfolding slashingsTests slotRegistryTests
-returns-3 c = rw (eq-eqb _ _ (c .before .before .if1 .left), eq-eqb _ _ (c .before .if2 .left)) (simp and-true (c .slot-registry-tests .ensures))
+returns-3 c = rw (eq-eqb _ _ (c .before .before .before .if1 .left), eq-eqb _ _ (c .before .before .if2 .left)) (simp and-true (rules-tested _ _ _ (c .rules-refusal .ensures) (c .before .slot-registry-tests .ensures)))
 
 pub slashings-tests-spec : {M : Type 1} → statement M
 slashings-tests-spec =
-    tie.close (tie.spec returns returns-2 slot-registry-tests-requires returns-3)
+    tie.close (tie.spec returns returns-2 slot-registry-tests-requires rules-refusal-requires returns-3)

@@ -1,0 +1,2 @@
+-- What the contracts of the rules' code cite.
+pub mod Refusal
