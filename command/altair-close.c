@@ -288,7 +288,7 @@ static int close_record(const char *path, const form *as, const char *target) {
     uint64_t *closing = room(r.numbers, sizeof *closing);
     uint64_t *closing_slashings = room(r.slashings_length, sizeof *closing_slashings);
     const altair_close_answer closed =
-        altair_close(r.settings, r.finality, r.registry, r.numbers, r.slashings, r.slashings_length, r.roots,
+        altair_close(altair_under_altair(r.settings), r.finality, r.registry, r.numbers, r.slashings, r.slashings_length, r.roots,
                      r.roots_length, closing, r.numbers, closing_slashings, r.slashings_length);
     if (closed.refusal != 0)
         return refused(path, closed.refusal, "");

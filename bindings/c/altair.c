@@ -32,6 +32,14 @@ const altair_settings *altair_preset(const char *name) {
     return NULL;
 }
 
+altair_rules altair_under_altair(altair_settings settings) {
+    return (altair_rules){settings, ALTAIR_FORK_ALTAIR, {0, 0}};
+}
+
+altair_rules altair_under_bellatrix(altair_settings settings, altair_bellatrix bellatrix) {
+    return (altair_rules){settings, ALTAIR_FORK_BELLATRIX, bellatrix};
+}
+
 /* -- The checked calls: each lists its buffers, and is the proved function where they are apart ------------------------- */
 
 typedef struct lent {
@@ -64,14 +72,14 @@ static int apart(const lent *buffers, size_t count) {
     return 1;
 }
 
-altair_close_answer altair_checked_close(altair_settings settings, altair_finality finality, const uint64_t *registry,
+altair_close_answer altair_checked_close(altair_rules rules, altair_finality finality, const uint64_t *registry,
                                          size_t registry_length, const uint64_t *slashings, size_t slashings_length,
                                          const uint8_t *roots, size_t roots_length, uint64_t *closing_registry,
                                          size_t closing_registry_length, uint64_t *closing_slashings,
                                          size_t closing_slashings_length) {
     if (!APART(READ(registry), READ(slashings), READ(roots), WRITTEN(closing_registry), WRITTEN(closing_slashings)))
         return (altair_close_answer){ALTAIR_BAD_SHAPE, finality, {0, 0, 0}};
-    return altair_close(settings, finality, registry, registry_length, slashings, slashings_length, roots, roots_length,
+    return altair_close(rules, finality, registry, registry_length, slashings, slashings_length, roots, roots_length,
                         closing_registry, closing_registry_length, closing_slashings, closing_slashings_length);
 }
 
@@ -92,18 +100,18 @@ uint64_t altair_checked_write_file(altair_settings settings, altair_finality fin
                              slashings_length, file, file_length);
 }
 
-#define CHECKED_BY_FINALITY(step)                                                                                      \
-    uint64_t altair_checked_##step(altair_settings settings, uint64_t state_slot, uint64_t finalized_epoch,            \
+#define CHECKED_BY_FINALITY(step, type, by)                                                                              \
+    uint64_t altair_checked_##step(type by, uint64_t state_slot, uint64_t finalized_epoch,            \
                                    const uint64_t *opening, size_t opening_length, uint64_t *closing,                  \
                                    size_t closing_length) {                                                            \
         if (!APART(READ(opening), WRITTEN(closing)))                                                                   \
             return ALTAIR_BAD_SHAPE;                                                                                   \
-        return altair_##step(settings, state_slot, finalized_epoch, opening, opening_length, closing, closing_length); \
+        return altair_##step(by, state_slot, finalized_epoch, opening, opening_length, closing, closing_length); \
     }
 
-CHECKED_BY_FINALITY(process_inactivity_updates)
-CHECKED_BY_FINALITY(process_rewards_and_penalties)
-CHECKED_BY_FINALITY(process_registry_updates)
+CHECKED_BY_FINALITY(process_inactivity_updates, altair_settings, settings)
+CHECKED_BY_FINALITY(process_rewards_and_penalties, altair_rules, rules)
+CHECKED_BY_FINALITY(process_registry_updates, altair_settings, settings)
 
 uint64_t altair_checked_process_registry_updates_to(uint64_t stop, altair_settings settings, uint64_t state_slot,
                                                     uint64_t finalized_epoch, const uint64_t *opening,
@@ -114,12 +122,12 @@ uint64_t altair_checked_process_registry_updates_to(uint64_t stop, altair_settin
                                               closing, closing_length);
 }
 
-uint64_t altair_checked_process_slashings(altair_settings settings, uint64_t state_slot, const uint64_t *slashings,
+uint64_t altair_checked_process_slashings(altair_rules rules, uint64_t state_slot, const uint64_t *slashings,
                                           size_t slashings_length, const uint64_t *opening, size_t opening_length,
                                           uint64_t *closing, size_t closing_length) {
     if (!APART(READ(slashings), READ(opening), WRITTEN(closing)))
         return ALTAIR_BAD_SHAPE;
-    return altair_process_slashings(settings, state_slot, slashings, slashings_length, opening, opening_length, closing,
+    return altair_process_slashings(rules, state_slot, slashings, slashings_length, opening, opening_length, closing,
                                     closing_length);
 }
 

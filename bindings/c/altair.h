@@ -23,9 +23,11 @@
  *        roots of 32 * S bytes; slashings of L numbers; a closing buffer as long as its opening;
  *        marks of N numbers; a file to be written of ALTAIR_FILE_LENGTH bytes; a file's N, S and L in these ranges, S and L like its settings;
  *        a validator's index below N; a flag index of 0 to 2 (0 to 7 for has_flag and add_flag);
- *        a participation epoch that is the previous or the current one; a total to divide by that is not 0
+ *        a participation epoch that is the previous or the current one; a total to divide by that is not 0;
+ *        a fork that is 0 or 1
  *   2  a setting is 0 where it divides, or 2^48 or more: slots_per_epoch, effective_balance_increment, hysteresis_quotient,
- *        inactivity_score_bias, inactivity_penalty_quotient_altair and churn_limit_quotient may not be 0
+ *        inactivity_score_bias, inactivity_penalty_quotient_altair and churn_limit_quotient may not be 0; under fork 1, and only
+ *        there, the same of the Bellatrix pair, whose quotient may not be 0
  *   14  a second is before genesis
  *   3  a slot, epoch, bit field or flag of the record is out of range: the state's slot and the checkpoints' epochs are below
  *        2^48, justification_bits is 0 to 15, slashed 0 or 1, each of the two flags 0 to 255, a mark 0 to 3; all else is any 64-bit number
@@ -45,7 +47,7 @@ extern "C" {
 #endif
 
 /* The number of this interface. altair_version() answers the number of the library that was linked. */
-#define ALTAIR_VERSION 2
+#define ALTAIR_VERSION 3
 
 /* 2^64 - 1, which means none: the activation epoch of one that is not activated, the exit epoch of one that does not leave. */
 #define ALTAIR_FAR_FUTURE_EPOCH UINT64_MAX
@@ -115,6 +117,26 @@ typedef struct altair_settings {
     {                                                                                                                  \
         8, 64, 64, 1000000000, 32000000000, 4, 1, 5, 64, 4, 4, 16, 50331648, 2, 4, 256, 16000000000, 2, 32             \
     }
+
+/* The two numbers that Bellatrix uses in place of inactivity_penalty_quotient_altair and proportional_slashing_multiplier_altair. */
+typedef struct altair_bellatrix {
+    uint64_t inactivity_penalty_quotient_bellatrix;
+    uint64_t proportional_slashing_multiplier_bellatrix;
+} altair_bellatrix;
+
+/* Mainnet's pair, which minimal has too, in braces. */
+#define ALTAIR_MAINNET_BELLATRIX                                                                                       \
+    { 16777216, 3 }
+
+enum altair_fork { ALTAIR_FORK_ALTAIR = 0, ALTAIR_FORK_BELLATRIX = 1 };
+
+/* What a close goes by: settings, fork and pair. Under fork 0 the pair is not read and may be anything; under fork 1 it stands in the
+ * place of the Altair two, which are tested all the same. altair_under_altair and altair_under_bellatrix make one. */
+typedef struct altair_rules {
+    altair_settings settings;
+    uint64_t fork;
+    altair_bellatrix bellatrix;
+} altair_rules;
 
 /* A network's clock. Seconds are those of Unix time; genesis_time is the first second of slot 0. */
 typedef struct altair_clock {
@@ -267,7 +289,7 @@ uint64_t altair_version(void);
 
 /* Answers the closed record's finality and which totals were raised, or 1 to 5 and the finality handed in.
  * Closing buffers hold the closed record; after 1, 2 and 3 what they held before, after 4 and 5 the opening's numbers. */
-altair_close_answer altair_close(altair_settings settings, altair_finality finality, const uint64_t *registry,
+altair_close_answer altair_close(altair_rules rules, altair_finality finality, const uint64_t *registry,
                                  size_t registry_length, const uint64_t *slashings, size_t slashings_length,
                                  const uint8_t *roots, size_t roots_length, uint64_t *closing_registry,
                                  size_t closing_registry_length, uint64_t *closing_slashings,
@@ -328,7 +350,7 @@ uint64_t altair_process_inactivity_updates(altair_settings settings, uint64_t st
 
 /* Answers 0, or 1, 2, 3 or 5.
  * closing holds the registry with the new balances; after 1, 2 and 3 what it held before, after 5 the opening's numbers. */
-uint64_t altair_process_rewards_and_penalties(altair_settings settings, uint64_t state_slot, uint64_t finalized_epoch,
+uint64_t altair_process_rewards_and_penalties(altair_rules rules, uint64_t state_slot, uint64_t finalized_epoch,
                                               const uint64_t *opening, size_t opening_length, uint64_t *closing,
                                               size_t closing_length);
 
@@ -346,7 +368,7 @@ uint64_t altair_process_registry_updates_to(uint64_t stop, altair_settings setti
 
 /* Answers 0, or 1, 2, 3 or 5.
  * closing holds the registry less the slashing penalties; after 1, 2 and 3 what it held before, after 5 the opening's numbers. */
-uint64_t altair_process_slashings(altair_settings settings, uint64_t state_slot, const uint64_t *slashings,
+uint64_t altair_process_slashings(altair_rules rules, uint64_t state_slot, const uint64_t *slashings,
                                   size_t slashings_length, const uint64_t *opening, size_t opening_length,
                                   uint64_t *closing, size_t closing_length);
 
@@ -522,7 +544,7 @@ altair_deltas_answer altair_get_flag_index_deltas(altair_settings settings, uint
 
 /* Answers what the validator loses by its score, or 1, 2, 3 or 5; reward is 0.
  * The ten numbers are read. */
-altair_deltas_answer altair_get_inactivity_penalty_deltas(altair_settings settings, uint64_t state_slot,
+altair_deltas_answer altair_get_inactivity_penalty_deltas(altair_rules rules, uint64_t state_slot,
                                                           const uint64_t *validator, size_t validator_length);
 
 /* -- Finality ---------------------------------------------------------------------------------------------------------- */
@@ -560,10 +582,16 @@ const char *altair_refusal_text(uint64_t number);
 /* Answers the settings of the preset "mainnet" or "minimal", or NULL. */
 const altair_settings *altair_preset(const char *name);
 
+/* Answer the rules of Altair, with a pair of zeros, and of Bellatrix, with this pair.
+ * There are no buffers. */
+altair_rules altair_under_altair(altair_settings settings);
+
+altair_rules altair_under_bellatrix(altair_settings settings, altair_bellatrix bellatrix);
+
 /* The calls above that write one buffer beside others, refused with 1 before any other test where a buffer that is written
  * overlaps another, or one that is not empty is NULL, not aligned or beyond the address space. Nothing is then written: the
  * finality handed in comes back, and of a file zeros. Else each is the function that it is named after. */
-altair_close_answer altair_checked_close(altair_settings settings, altair_finality finality, const uint64_t *registry,
+altair_close_answer altair_checked_close(altair_rules rules, altair_finality finality, const uint64_t *registry,
                                          size_t registry_length, const uint64_t *slashings, size_t slashings_length,
                                          const uint8_t *roots, size_t roots_length, uint64_t *closing_registry,
                                          size_t closing_registry_length, uint64_t *closing_slashings,
@@ -581,7 +609,7 @@ uint64_t altair_checked_process_inactivity_updates(altair_settings settings, uin
                                                    uint64_t finalized_epoch, const uint64_t *opening,
                                                    size_t opening_length, uint64_t *closing, size_t closing_length);
 
-uint64_t altair_checked_process_rewards_and_penalties(altair_settings settings, uint64_t state_slot,
+uint64_t altair_checked_process_rewards_and_penalties(altair_rules rules, uint64_t state_slot,
                                                       uint64_t finalized_epoch, const uint64_t *opening,
                                                       size_t opening_length, uint64_t *closing, size_t closing_length);
 
@@ -593,7 +621,7 @@ uint64_t altair_checked_process_registry_updates_to(uint64_t stop, altair_settin
                                                     uint64_t finalized_epoch, const uint64_t *opening,
                                                     size_t opening_length, uint64_t *closing, size_t closing_length);
 
-uint64_t altair_checked_process_slashings(altair_settings settings, uint64_t state_slot, const uint64_t *slashings,
+uint64_t altair_checked_process_slashings(altair_rules rules, uint64_t state_slot, const uint64_t *slashings,
                                           size_t slashings_length, const uint64_t *opening, size_t opening_length,
                                           uint64_t *closing, size_t closing_length);
 

@@ -73,7 +73,7 @@ int main(void) {
 
     const uint8_t *roots = file + ALTAIR_ROOTS_AT(header.validators);
     altair_close_answer closed =
-        altair_close(record.settings, record.finality, registry, numbers, slashings, slashings_length, roots,
+        altair_close(altair_under_altair(record.settings), record.finality, registry, numbers, slashings, slashings_length, roots,
                      32 * header.roots, closing, numbers, closing_slashings, slashings_length);
     if (closed.refusal != 0)
         return refused(closed.refusal);

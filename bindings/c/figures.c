@@ -14,6 +14,8 @@
 #define ENTRY ALTAIR_VALIDATOR_LENGTH
 
 static const altair_settings mainnet = ALTAIR_MAINNET;
+static const altair_rules altair = {ALTAIR_MAINNET, ALTAIR_FORK_ALTAIR, {0, 0}};
+static const altair_rules bellatrix = {ALTAIR_MAINNET, ALTAIR_FORK_BELLATRIX, ALTAIR_MAINNET_BELLATRIX};
 static int agreed, parted;
 
 static void same(uint64_t got, uint64_t wanted, const char *what, int line) {
@@ -183,8 +185,20 @@ static void one_validator(void) {
     fill(v, 1);
     v[ALTAIR_PREVIOUS_EPOCH_PARTICIPATION] = 5;
     v[ALTAIR_INACTIVITY_SCORE] = 100;
-    altair_deltas_answer lost = altair_get_inactivity_penalty_deltas(mainnet, 127, v, ENTRY);
+    altair_deltas_answer lost = altair_get_inactivity_penalty_deltas(altair, 127, v, ENTRY);
     SAME(lost.refusal, 0), SAME(lost.reward, 0), SAME(lost.penalty, 15894);
+    lost = altair_get_inactivity_penalty_deltas(bellatrix, 127, v, ENTRY);
+    SAME(lost.refusal, 0), SAME(lost.reward, 0), SAME(lost.penalty, 47683);
+
+    /* the pair is tested under fork 1 alone, the Altair two under either */
+    altair_rules rules = altair_under_bellatrix(mainnet, (altair_bellatrix){0, UINT64_MAX});
+    SAME(altair_get_inactivity_penalty_deltas(rules, 127, v, ENTRY).refusal, 2);
+    rules.fork = ALTAIR_FORK_ALTAIR;
+    SAME(altair_get_inactivity_penalty_deltas(rules, 127, v, ENTRY).penalty, 15894);
+    rules.fork = 2;
+    SAME(altair_get_inactivity_penalty_deltas(rules, 127, v, ENTRY).refusal, 1);
+    rules = bellatrix, rules.settings.inactivity_penalty_quotient_altair = 0;
+    SAME(altair_get_inactivity_penalty_deltas(rules, 127, v, ENTRY).refusal, 2);
 }
 
 static void block_roots(void) {
@@ -279,7 +293,7 @@ static void the_steps(void) {
     SAME(altair_process_inactivity_updates(mainnet, 127, 3, opening, FIVE, closing, FIVE), 5);
     SAME(memcmp(closing, opening, sizeof opening), 0);
 
-    SAME(altair_process_rewards_and_penalties(mainnet, 127, 1, opening, FIVE, closing, FIVE), 0);
+    SAME(altair_process_rewards_and_penalties(altair, 127, 1, opening, FIVE, closing, FIVE), 0);
     SAME(closing[ALTAIR_BALANCE], 32 * ETH + 1120000 + 2080000 + 1120000);
 
     opening[ENTRY + ALTAIR_ACTIVATION_EPOCH] = FAR;
@@ -310,8 +324,10 @@ static void the_steps(void) {
     slashings[3] = 32 * ETH;
     opening[ALTAIR_SLASHED] = 1;
     opening[ALTAIR_WITHDRAWABLE_EPOCH] = 3 + 8192 / 2;
-    SAME(altair_process_slashings(mainnet, 127, slashings, 8192, opening, FIVE, closing, FIVE), 0);
+    SAME(altair_process_slashings(altair, 127, slashings, 8192, opening, FIVE, closing, FIVE), 0);
     SAME(closing[ALTAIR_BALANCE], 20 * ETH), SAME(closing[ENTRY + ALTAIR_BALANCE], 32 * ETH);
+    SAME(altair_process_slashings(bellatrix, 127, slashings, 8192, opening, FIVE, closing, FIVE), 0);
+    SAME(closing[ALTAIR_BALANCE], 13 * ETH), SAME(closing[ENTRY + ALTAIR_BALANCE], 32 * ETH);
 
     opening[ALTAIR_BALANCE] = 31749999999;
     opening[ENTRY + ALTAIR_BALANCE] = 31750000000;
@@ -352,7 +368,7 @@ static void the_file(void) {
     SAME(memcmp(slashings_back, slashings, sizeof slashings), 0);
 
     altair_close_answer closed =
-        altair_close(s, f, registry, FIVE, slashings, 64, roots, sizeof roots, closing, FIVE, slashings_back, 64);
+        altair_close(altair_under_altair(s), f, registry, FIVE, slashings, 64, roots, sizeof roots, closing, FIVE, slashings_back, 64);
     SAME(closed.refusal, 0), SAME(closed.finality.finalized_checkpoint.epoch, 2);
     SAME(closing[ALTAIR_BALANCE], 32 * ETH + 1120000 + 2080000 + 1120000);
     altair_head head = altair_listing_head(s, 31, closed.finality, registry, FIVE);
@@ -363,7 +379,7 @@ static void the_file(void) {
     /* nobody hits the current epoch's target */
     for (size_t i = 0; i < 5; i++)
         registry[ENTRY * i + ALTAIR_CURRENT_EPOCH_PARTICIPATION] = 0;
-    closed = altair_close(s, f, registry, FIVE, slashings, 64, roots, sizeof roots, closing, FIVE, slashings_back, 64);
+    closed = altair_close(altair_under_altair(s), f, registry, FIVE, slashings, 64, roots, sizeof roots, closing, FIVE, slashings_back, 64);
     RAISED(closed, 0, 0, 1);
     RAISED(altair_listing_head(s, 31, closed.finality, registry, FIVE), 0, 0, 1);
     registry[ENTRY * 4 + ALTAIR_BALANCE] = 6, closing[ENTRY * 4 + ALTAIR_BALANCE] = 7;
@@ -381,12 +397,12 @@ static void the_file(void) {
 
     /* a balance that overflows: the opening's finality and numbers come back */
     registry[ALTAIR_BALANCE] = UINT64_MAX;
-    closed = altair_close(s, f, registry, FIVE, slashings, 64, roots, sizeof roots, closing, FIVE, slashings_back, 64);
+    closed = altair_close(altair_under_altair(s), f, registry, FIVE, slashings, 64, roots, sizeof roots, closing, FIVE, slashings_back, 64);
     SAME(closed.refusal, 5), SAME(memcmp(&closed.finality, &f, sizeof f), 0);
     SAME(memcmp(closing, registry, sizeof closing), 0), SAME(memcmp(slashings_back, slashings, sizeof slashings), 0);
     closing[0] = 99;
     f.finalized_checkpoint.epoch = UINT64_C(1) << 48;
-    closed = altair_close(s, f, registry, FIVE, slashings, 64, roots, sizeof roots, closing, FIVE, slashings_back, 64);
+    closed = altair_close(altair_under_altair(s), f, registry, FIVE, slashings, 64, roots, sizeof roots, closing, FIVE, slashings_back, 64);
     SAME(closed.refusal, 3), SAME(memcmp(&closed.finality, &f, sizeof f), 0), SAME(closing[0], 99);
 
     /* the second validator's flags are bad: reading stops there, and writes nothing */

@@ -1,10 +1,17 @@
 //! The reference's plain numbers as bindings/rust has them, and back.
-use crate::{record, types};
+use crate::{record, rules, types};
 
 /// The nineteen numbers, in the same order.
 pub fn settings(s: &record::Settings) -> types::Settings {
     // Settings is repr(C), nineteen u64
     unsafe { std::mem::transmute(*s) }
+}
+
+pub fn rules(s: &record::Settings, rules: rules::Rules) -> types::Rules {
+    let [inactivity_penalty_quotient_bellatrix, proportional_slashing_multiplier_bellatrix] = rules.pair;
+    let bellatrix =
+        types::Bellatrix { inactivity_penalty_quotient_bellatrix, proportional_slashing_multiplier_bellatrix };
+    types::Rules { settings: settings(s), fork: rules.fork, bellatrix }
 }
 
 pub fn numbers(s: &types::Settings) -> record::Settings {

@@ -3,6 +3,7 @@ use crate::{
     convert,
     library::answered,
     raw::{self, DeltasAnswer, NumberAnswer, RootAnswer, TotalAnswer, TruthAnswer},
+    rules::Rules,
 };
 use reference::{
     calls::{finality_words, root_words, Answer, Case, Leaf},
@@ -87,13 +88,13 @@ impl From<RootAnswer> for Answer {
     }
 }
 
-pub fn told(c: &Case) -> Told {
+pub fn told(c: &Case, rules: Rules) -> Told {
     let mut lent = c.registry.clone();
-    let answer = unsafe { asked(c, &mut lent) };
+    let answer = unsafe { asked(c, rules, &mut lent) };
     Told { answer, lent }
 }
 
-unsafe fn asked(c: &Case, lent: &mut [u64]) -> Answer {
+unsafe fn asked(c: &Case, rules: Rules, lent: &mut [u64]) -> Answer {
     let s = || convert::settings(&c.settings);
     let x = &c.numbers;
     let n = lent.len();
@@ -129,7 +130,9 @@ unsafe fn asked(c: &Case, lent: &mut [u64]) -> Answer {
         Leaf::GetBaseRewardPerIncrement => raw::altair_get_base_reward_per_increment(s(), x[0]).into(),
         Leaf::GetBaseReward => raw::altair_get_base_reward(s(), x[0], entry, n).into(),
         Leaf::GetFlagIndexDeltas => raw::altair_get_flag_index_deltas(s(), x[0], x[1], x[2], x[3], entry, n).into(),
-        Leaf::GetInactivityPenaltyDeltas => raw::altair_get_inactivity_penalty_deltas(s(), x[0], entry, n).into(),
+        Leaf::GetInactivityPenaltyDeltas => {
+            raw::altair_get_inactivity_penalty_deltas(convert::rules(&c.settings, rules), x[0], entry, n).into()
+        }
         Leaf::WeighJustificationAndFinalization => {
             let f = convert::finality(&c.finality);
             let (refusal, f) =

@@ -3,6 +3,7 @@ use crate::{
     convert,
     raw::{self, CloseAnswer, FinalityAnswer},
     record::{Finality, Settings},
+    rules::Rules,
 };
 
 /// 0 or the refusal's number, and the finality that comes back.
@@ -17,6 +18,7 @@ pub fn closed(a: CloseAnswer) -> (u64, Finality, [u64; 3]) {
 
 pub fn close(
     s: &Settings,
+    rules: Rules,
     f: &Finality,
     registry: &[u64],
     slashings: &[u64],
@@ -26,7 +28,7 @@ pub fn close(
 ) -> (u64, Finality, [u64; 3]) {
     closed(unsafe {
         raw::altair_close(
-            convert::settings(s),
+            convert::rules(s, rules),
             convert::finality(f),
             registry.as_ptr(),
             registry.len(),
@@ -65,7 +67,6 @@ macro_rules! step {
 }
 
 step!(inactivity, altair_process_inactivity_updates, slot: u64, finalized: u64);
-step!(rewards, altair_process_rewards_and_penalties, slot: u64, finalized: u64);
 step!(registry, altair_process_registry_updates, slot: u64, finalized: u64);
 step!(effective_balances, altair_process_effective_balance_updates,);
 step!(slashings_reset, altair_process_slashings_reset, slot: u64);
@@ -75,10 +76,22 @@ pub fn registry_to(stop: u64, s: &Settings, slot: u64, finalized: u64, opening: 
     unsafe { raw::altair_process_registry_updates_to(stop, convert::settings(s), slot, finalized, a, n, b, m) }
 }
 
-pub fn slashings(s: &Settings, slot: u64, slashings: &[u64], opening: &[u64], closing: &mut [u64]) -> u64 {
+pub fn rewards(s: &Settings, rules: Rules, slot: u64, finalized: u64, opening: &[u64], closing: &mut [u64]) -> u64 {
+    let (a, n, b, m) = (opening.as_ptr(), opening.len(), closing.as_mut_ptr(), closing.len());
+    unsafe { raw::altair_process_rewards_and_penalties(convert::rules(s, rules), slot, finalized, a, n, b, m) }
+}
+
+pub fn slashings(
+    s: &Settings,
+    rules: Rules,
+    slot: u64,
+    slashings: &[u64],
+    opening: &[u64],
+    closing: &mut [u64],
+) -> u64 {
     let (a, n, b, m) = (opening.as_ptr(), opening.len(), closing.as_mut_ptr(), closing.len());
     let (l, k) = (slashings.as_ptr(), slashings.len());
-    unsafe { raw::altair_process_slashings(convert::settings(s), slot, l, k, a, n, b, m) }
+    unsafe { raw::altair_process_slashings(convert::rules(s, rules), slot, l, k, a, n, b, m) }
 }
 
 pub fn participation_flags(opening: &[u64], closing: &mut [u64]) -> u64 {

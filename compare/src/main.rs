@@ -1,6 +1,6 @@
 //! The library's archive against the Rust of ethereum-consensus, in one process, on generated records: the close, each of the eight
 //! steps, the registry step with every stop, every leaf, and reading and writing a file. Every number that comes back or is left in a lent buffer is compared. The
-//! listing's lines, of which the Rust knows nothing, are held to a model.
+//! listing's lines, of which the Rust knows nothing, are held to a model. A Bellatrix call is judged by the Rust with the two numbers replaced.
 use reference::record;
 mod convert;
 mod crowd;
@@ -14,6 +14,7 @@ mod raw;
 #[allow(dead_code)]
 #[path = "../../bindings/rust/src/refusal.rs"]
 mod refusal;
+mod rules;
 mod steps;
 #[allow(dead_code)]
 #[path = "../../bindings/rust/src/types.rs"]
@@ -120,6 +121,8 @@ fn run(count: u64, seed: u64) -> Option<Difference> {
         start.elapsed().as_secs_f64()
     );
     println!("{} of them registry steps with a stop", counts.stops);
+    let [altair, bellatrix, other] = counts.forks;
+    println!("{altair} closes under Altair, {bellatrix} under Bellatrix, {other} under another fork");
     println!("{} lines and net changes held to the model, {} of them refused with 7", counts.lines, counts.wide);
     first.into_inner().expect("a worker panicked")
 }
@@ -143,12 +146,14 @@ struct Counts {
     stops: u64,
     lines: u64,
     wide: u64,
+    /// closes under Altair, under Bellatrix, and under another fork
+    forks: [u64; 3],
 }
 
 impl Default for Counts {
     fn default() -> Self {
         let report = Report { leaves: vec![Tally::default(); LEAVES.len()], ..Report::default() };
-        Counts { report, answers: 0, numbers: 0, stops: 0, lines: 0, wide: 0 }
+        Counts { report, answers: 0, numbers: 0, stops: 0, lines: 0, wide: 0, forks: [0; 3] }
     }
 }
 
@@ -167,6 +172,7 @@ impl Counts {
         self.stops += other.stops;
         self.lines += other.lines;
         self.wide += other.wide;
+        self.forks.iter_mut().zip(other.forks).for_each(|(a, b)| *a += b);
         self
     }
 
@@ -197,9 +203,11 @@ impl Counts {
 
     fn operations(&mut self, rng: &mut Random, record: &Record, kind: usize) -> Result<(), String> {
         let call = steps::call(rng, record);
+        let under = rules::drawn(rng);
+        self.forks[under.fork.min(2) as usize] += 1;
         let mut closed = None;
         for (i, operation) in OPERATIONS.into_iter().enumerate() {
-            let rust = judge::outcome(&call, operation);
+            let rust = rules::outcome(&call, operation, under);
             self.report.operations[i].count(rust.refusal);
             if i + 1 == OPERATIONS.len() {
                 self.report.closes[kind].count(rust.refusal);
@@ -211,9 +219,9 @@ impl Counts {
             }
             let asked = || {
                 let buffers = (&call.closing_registry, &call.closing_slashings);
-                format!("{} into {buffers:?}", operation.name())
+                format!("{} under {under:?} into {buffers:?}", operation.name())
             };
-            self.same(asked, rust, steps::outcome(&call, operation))?;
+            self.same(asked, rust, steps::outcome(&call, operation, under))?;
         }
         if call.record != *record {
             return Err("the opening was written to".to_string());
@@ -248,10 +256,11 @@ impl Counts {
     fn leaves(&mut self, rng: &mut Random, record: &Record) -> Result<(), String> {
         for (i, &leaf) in LEAVES.iter().enumerate() {
             let case = generate_leaves::case(rng, leaf, record);
-            let rust = leaves::called_for(&case, judge::answer(&case));
+            let under = rules::drawn(rng);
+            let rust = leaves::called_for(&case, rules::answer(&case, under));
             self.report.leaves[i].count(rust.answer.refusal);
             self.numbers += (1 + rust.answer.words.len() + rust.lent.len()) as u64;
-            self.same(|| format!("{case:?}"), rust, leaves::told(&case))?;
+            self.same(|| format!("{case:?} under {under:?}"), rust, leaves::told(&case, under))?;
         }
         Ok(())
     }

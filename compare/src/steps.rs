@@ -1,5 +1,5 @@
 //! The library's close and steps on a call of the reference, with its closing buffers in the middle of watched memory.
-use crate::library;
+use crate::{library, rules::Rules};
 use reference::{
     calls::{Call, Operation, Outcome},
     random::Random,
@@ -43,7 +43,7 @@ pub fn call(rng: &mut Random, record: &Record) -> Call {
     }
 }
 
-pub fn outcome(c: &Call, operation: Operation) -> Outcome {
+pub fn outcome(c: &Call, operation: Operation, rules: Rules) -> Outcome {
     let r = &c.record;
     let (s, f, opening) = (&r.settings, &r.finality, &r.registry);
     let (slot, finalized) = (f.slot, f.finalized.epoch);
@@ -51,12 +51,12 @@ pub fn outcome(c: &Call, operation: Operation) -> Outcome {
     let mut slashings = Watched::around(&c.closing_slashings);
     let closing = registry.lent();
     let (refusal, finality, raised) = match operation {
-        Operation::Close => library::close(s, f, opening, &r.slashings, &r.roots, closing, slashings.lent()),
+        Operation::Close => library::close(s, rules, f, opening, &r.slashings, &r.roots, closing, slashings.lent()),
         Operation::Justification => library::justification(s, f, &r.roots, opening),
         Operation::Inactivity => (library::inactivity(s, slot, finalized, opening, closing), *f, [0; 3]),
-        Operation::Rewards => (library::rewards(s, slot, finalized, opening, closing), *f, [0; 3]),
+        Operation::Rewards => (library::rewards(s, rules, slot, finalized, opening, closing), *f, [0; 3]),
         Operation::Registry => (library::registry(s, slot, finalized, opening, closing), *f, [0; 3]),
-        Operation::Slashings => (library::slashings(s, slot, &r.slashings, opening, closing), *f, [0; 3]),
+        Operation::Slashings => (library::slashings(s, rules, slot, &r.slashings, opening, closing), *f, [0; 3]),
         Operation::EffectiveBalances => (library::effective_balances(s, opening, closing), *f, [0; 3]),
         Operation::SlashingsReset => (library::slashings_reset(s, slot, &r.slashings, slashings.lent()), *f, [0; 3]),
         Operation::ParticipationFlags => (library::participation_flags(opening, closing), *f, [0; 3]),

@@ -2,7 +2,7 @@
  *
  * Buffers: R a registry, V one validator, S slashings, B roots, F a file, P a registry of which only the length is
  * tested, M marks, Q the first buffer's numbers with other balances. Behind '>' those that are written: R, S, F; r, v a registry and a
- * validator changed in place. Numbers that are tested: s the settings, f the finality, t the slot, z the finalized
+ * validator changed in place. Numbers that are tested: s the settings, k fork and pair, f the finality, t the slot, z the finalized
  * epoch, i an index, o a stop, which is c->index, g a flag index of 0 to 2, G one of 0 to 7, e a participation epoch,
  * d a total to divide by, c the clock, w a second, which is c->number. */
 #include "fuzz.h"
@@ -15,7 +15,7 @@
 /*      function, what it answers, buffers, numbers that are tested, refusals after the tests; arguments */
 #define FUNCTIONS(X)                                                                                                   \
     X(version, ITSELF, uint64_t, "", "", "")                                                                           \
-    X(close, FINALITY, altair_close_answer, "RSB>RS", "sf", "45", c->s, c->f, IN(0), IN(1), IN(2), OUT(0), OUT(1))     \
+    X(close, FINALITY, altair_close_answer, "RSB>RS", "skf", "45", c->rules, c->f, IN(0), IN(1), IN(2), OUT(0), OUT(1))     \
     X(charged, VALUES, altair_number_answer, "R", "st", "", c->s, c->slot, IN(0))                                      \
     X(listing_head, VALUES, altair_head, "R", "stf", "", c->s, c->slot, c->f, IN(0))                                   \
     X(listing_line, VALUES, altair_line, "PQ", "i", "7", IN(0), IN(1), c->index)                                       \
@@ -26,11 +26,11 @@
     X(process_justification_and_finalization, FINALITY, altair_close_answer, "BR", "sf", "45", c->s, IN(0), c->f,      \
       IN(1))                                                                                                           \
     X(process_inactivity_updates, NUMBER, uint64_t, "R>R", "stz", "5", c->s, c->slot, c->finalized, IN(0), OUT(0))     \
-    X(process_rewards_and_penalties, NUMBER, uint64_t, "R>R", "stz", "5", c->s, c->slot, c->finalized, IN(0), OUT(0))  \
+    X(process_rewards_and_penalties, NUMBER, uint64_t, "R>R", "sktz", "5", c->rules, c->slot, c->finalized, IN(0), OUT(0))  \
     X(process_registry_updates, NUMBER, uint64_t, "R>R", "stz", "5", c->s, c->slot, c->finalized, IN(0), OUT(0))       \
     X(process_registry_updates_to, NUMBER, uint64_t, "R>R", "ostz", "5", c->index, c->s, c->slot, c->finalized, IN(0), \
       OUT(0))                                                                                                          \
-    X(process_slashings, NUMBER, uint64_t, "SR>R", "st", "5", c->s, c->slot, IN(0), IN(1), OUT(0))                     \
+    X(process_slashings, NUMBER, uint64_t, "SR>R", "skt", "5", c->rules, c->slot, IN(0), IN(1), OUT(0))                     \
     X(process_effective_balance_updates, NUMBER, uint64_t, "R>R", "s", "5", c->s, IN(0), OUT(0))                       \
     X(process_slashings_reset, NUMBER, uint64_t, "S>S", "st", "", c->s, c->slot, IN(0), OUT(0))                        \
     X(process_participation_flag_updates, NUMBER, uint64_t, "R>R", "", "", IN(0), OUT(0))                              \
@@ -68,26 +68,26 @@
     X(get_base_reward, VALUES, altair_number_answer, "V", "sd", "5", c->s, c->totals[0], IN(0))                        \
     X(get_flag_index_deltas, VALUES, altair_deltas_answer, "R", "stzgi", "5", c->s, c->slot, c->finalized,             \
       c->flag_index, c->index, IN(0))                                                                                  \
-    X(get_inactivity_penalty_deltas, VALUES, altair_deltas_answer, "V", "st", "5", c->s, c->slot, IN(0))               \
+    X(get_inactivity_penalty_deltas, VALUES, altair_deltas_answer, "V", "skt", "5", c->rules, c->slot, IN(0))               \
     X(get_finality_delay, VALUES, altair_number_answer, "", "stz", "5", c->s, c->slot, c->finalized)                   \
     X(is_in_inactivity_leak, VALUES, altair_truth_answer, "", "stz", "5", c->s, c->slot, c->finalized)                 \
     X(weigh_justification_and_finalization, FINALITY, altair_finality_answer, "B", "sf", "45", c->s, IN(0), c->f,      \
       c->totals[0], c->totals[1], c->totals[2])                                                                        \
     X(unknown_votes, VALUES, altair_votes_answer, "BRM", "sf", "45", c->s, IN(0), c->f, IN(1), IN(2))                  \
     /* in C */                                                                                                         \
-    X(checked_close, FINALITY, altair_close_answer, "RSB>RS", "sf", "45", c->s, c->f, IN(0), IN(1), IN(2), OUT(0),     \
+    X(checked_close, FINALITY, altair_close_answer, "RSB>RS", "skf", "45", c->rules, c->f, IN(0), IN(1), IN(2), OUT(0),     \
       OUT(1))                                                                                                          \
     X(checked_read_file, READ, altair_read_answer, "F>RS", "", "", IN(0), OUT(0), OUT(1))                              \
     X(checked_write_file, NUMBER, uint64_t, "RBS>F", "sf", "", c->s, c->f, IN(0), IN(1), IN(2), OUT(0))                \
     X(checked_process_inactivity_updates, NUMBER, uint64_t, "R>R", "stz", "5", c->s, c->slot, c->finalized, IN(0),     \
       OUT(0))                                                                                                          \
-    X(checked_process_rewards_and_penalties, NUMBER, uint64_t, "R>R", "stz", "5", c->s, c->slot, c->finalized, IN(0),  \
+    X(checked_process_rewards_and_penalties, NUMBER, uint64_t, "R>R", "sktz", "5", c->rules, c->slot, c->finalized, IN(0),  \
       OUT(0))                                                                                                          \
     X(checked_process_registry_updates, NUMBER, uint64_t, "R>R", "stz", "5", c->s, c->slot, c->finalized, IN(0),       \
       OUT(0))                                                                                                          \
     X(checked_process_registry_updates_to, NUMBER, uint64_t, "R>R", "ostz", "5", c->index, c->s, c->slot,              \
       c->finalized, IN(0), OUT(0))                                                                                     \
-    X(checked_process_slashings, NUMBER, uint64_t, "SR>R", "st", "5", c->s, c->slot, IN(0), IN(1), OUT(0))             \
+    X(checked_process_slashings, NUMBER, uint64_t, "SR>R", "skt", "5", c->rules, c->slot, IN(0), IN(1), OUT(0))             \
     X(checked_process_effective_balance_updates, NUMBER, uint64_t, "R>R", "s", "5", c->s, IN(0), OUT(0))               \
     X(checked_process_slashings_reset, NUMBER, uint64_t, "S>S", "st", "", c->s, c->slot, IN(0), OUT(0))                \
     X(checked_process_participation_flag_updates, NUMBER, uint64_t, "R>R", "", "", IN(0), OUT(0))

@@ -156,9 +156,15 @@ uint64_t expected(const row *row, const lent *c) {
             good = good && shaped(written[i], c->out[i], c, validators);
     if (!good || (tests(row, 'i') && c->index >= validators) || (tests(row, 'o') && c->index > validators) ||
         (tests(row, 'g') && c->flag_index > 2) || (tests(row, 'G') && c->flag_index > 7) ||
-        (tests(row, 'd') && c->totals[0] == 0) || (tests(row, 'e') && !participation_epoch(c)))
+        (tests(row, 'd') && c->totals[0] == 0) || (tests(row, 'e') && !participation_epoch(c)) ||
+        (tests(row, 'k') && c->rules.fork > 1))
         return 1;
     if (tests(row, 's') && !good_settings(&c->s))
+        return 2;
+    const altair_bellatrix pair = c->rules.bellatrix;
+    if (tests(row, 'k') && c->rules.fork == 1 &&
+        (pair.inactivity_penalty_quotient_bellatrix == 0 || !is_small(pair.inactivity_penalty_quotient_bellatrix) ||
+         !is_small(pair.proportional_slashing_multiplier_bellatrix)))
         return 2;
     if (tests(row, 'c') && (c->clock.slots_per_epoch == 0 || !is_small(c->clock.slots_per_epoch)))
         return 2;

@@ -57,6 +57,7 @@ uint64_t number_at(const uint8_t *bytes);
 /* What a call is lent: in[] is read, out[] is written. */
 typedef struct lent {
     altair_settings s;
+    altair_rules rules; /* with these settings */
     altair_finality f;
     altair_clock clock;
     uint64_t slot, finalized, epoch, number, flag_index, index, totals[3];

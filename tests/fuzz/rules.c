@@ -34,8 +34,8 @@ static altair_raised count_raised(const record *r) {
 }
 
 /* The first refusal of the steps, each lent what the last one left; 0 and what all of them leave. */
-static uint64_t steps(const record *r, altair_finality *finality, altair_raised *raised, uint64_t *registry,
-                      uint64_t *slashings) {
+static uint64_t steps(const record *r, altair_rules rules, altair_finality *finality, altair_raised *raised,
+                      uint64_t *registry, uint64_t *slashings) {
     static uint64_t before[NUMBERS];
     const size_t numbers = 10 * r->validators;
     const altair_close_answer justified =
@@ -52,9 +52,9 @@ static uint64_t steps(const record *r, altair_finality *finality, altair_raised 
     if ((number = (call)) != 0)                                                                                        \
     return number
     STEP(altair_process_inactivity_updates(r->s, slot, finalized, before, numbers, registry, numbers));
-    STEP(altair_process_rewards_and_penalties(r->s, slot, finalized, before, numbers, registry, numbers));
+    STEP(altair_process_rewards_and_penalties(rules, slot, finalized, before, numbers, registry, numbers));
     STEP(altair_process_registry_updates(r->s, slot, finalized, before, numbers, registry, numbers));
-    STEP(altair_process_slashings(r->s, slot, r->slashings, r->slashings_length, before, numbers, registry, numbers));
+    STEP(altair_process_slashings(rules, slot, r->slashings, r->slashings_length, before, numbers, registry, numbers));
     STEP(altair_process_effective_balance_updates(r->s, before, numbers, registry, numbers));
     number =
         altair_process_slashings_reset(r->s, slot, r->slashings, r->slashings_length, slashings, r->slashings_length);
@@ -88,12 +88,13 @@ static altair_change_answer changed(uint64_t opening, uint64_t closing) {
 static void the_close(const record *r) {
     static uint64_t registry[NUMBERS], slashings[SLASHINGS], by_steps[NUMBERS], slashings_by_steps[SLASHINGS];
     const size_t numbers = 10 * r->validators;
+    const altair_rules rules = {r->s, below(2), {1 + below(one_in(2) ? 100 : 1 << 24), below(5)}};
     const altair_close_answer closed =
-        altair_close(r->s, r->f, r->registry, numbers, r->slashings, r->slashings_length, r->roots, r->roots_length,
+        altair_close(rules, r->f, r->registry, numbers, r->slashings, r->slashings_length, r->roots, r->roots_length,
                      registry, numbers, slashings, r->slashings_length);
     altair_finality finality;
     altair_raised raised;
-    MUST(steps(r, &finality, &raised, by_steps, slashings_by_steps) == closed.refusal);
+    MUST(steps(r, rules, &finality, &raised, by_steps, slashings_by_steps) == closed.refusal);
     if (closed.refusal != 0)
         return;
     MUST(same_finality(&finality, &closed.finality) && same_raised(&raised, &closed.raised));

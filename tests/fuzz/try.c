@@ -101,6 +101,12 @@ static void random_numbers(const record *r, lent *c) {
     c->flag_index = one_in(8) ? odd_number() : below(3);
     c->index = one_in(8) ? odd_number() : below(r->validators + 1);
     c->flags = (uint8_t)random_number();
+    c->rules = altair_under_bellatrix(r->s, (altair_bellatrix)ALTAIR_MAINNET_BELLATRIX);
+    c->rules.fork = one_in(12) ? odd_number() : below(2);
+    if (one_in(3))
+        c->rules.bellatrix.inactivity_penalty_quotient_bellatrix = one_in(2) ? odd_number() : below(100);
+    if (one_in(3))
+        c->rules.bellatrix.proportional_slashing_multiplier_bellatrix = one_in(2) ? odd_number() : below(100);
     c->clock = (altair_clock)ALTAIR_MAINNET_CLOCK;
     if (one_in(2))
         c->clock.genesis_time = one_in(2) ? 0 : odd_number();

@@ -19,11 +19,11 @@ from ._refusals import REFUSALS, Refused
 from ._signatures import VERSION, call as _call
 from ._steps import *
 from ._types import (ACTIVATION_ELIGIBILITY_EPOCH, ACTIVATION_EPOCH, BALANCE, BOTH_KNOWN, BOTH_UNKNOWN,
-                     CURRENT_EPOCH_PARTICIPATION, CURRENT_UNKNOWN, EFFECTIVE_BALANCE, EXIT_EPOCH,
-                     FAR_FUTURE_EPOCH, INACTIVITY_SCORE, MAINNET, MAINNET_CLOCK, MINIMAL, PASSES_IN_ALL,
-                     PASSES_IN_NONE, PASSES_IN_SOME, PRESETS, PREVIOUS_EPOCH_PARTICIPATION, PREVIOUS_UNKNOWN,
-                     SLASHED, VALIDATOR_LENGTH, WITHDRAWABLE_EPOCH, Checkpoint, Clock, Closed, Deltas,
-                     Finality, Head, Header, Justified, Line, Raised, Settings, Total, Votes)
+                     CURRENT_EPOCH_PARTICIPATION, CURRENT_UNKNOWN, EFFECTIVE_BALANCE, EXIT_EPOCH, FAR_FUTURE_EPOCH,
+                     FORK_ALTAIR, FORK_BELLATRIX, INACTIVITY_SCORE, MAINNET, MAINNET_BELLATRIX, MAINNET_CLOCK, MINIMAL,
+                     PASSES_IN_ALL, PASSES_IN_NONE, PASSES_IN_SOME, PRESETS, PREVIOUS_EPOCH_PARTICIPATION, PREVIOUS_UNKNOWN,
+                     SLASHED, VALIDATOR_LENGTH, WITHDRAWABLE_EPOCH, Bellatrix, Checkpoint, Clock, Closed, Deltas, Finality,
+                     Head, Header, Justified, Line, Raised, Rules, Settings, Total, Votes)
 
 
 def version():

@@ -166,6 +166,26 @@ class Fields:
         return (self.words[0].from_buffer_copy(struct.pack(f"<{len(fields)}Q", *numbers)),)
 
 
+class RulesWords(ctypes.Structure):
+    _fields_ = [("numbers", U64 * 22)]
+
+
+class Rules:
+    """Rules, or Settings, which are closed as Altair."""
+
+    words = (RulesWords,)
+
+    def lend(self, name, value, lent):
+        if isinstance(value, _types.Settings):
+            value = _types.Rules(value)
+        if not isinstance(value, _types.Rules) or len(value) != len(_types.Rules._fields):
+            raise TypeError(f"{name}: Rules or Settings are wanted, not {kind_of(value)}")
+        (settings,) = SETTINGS.lend(f"{name}.settings", value.settings, lent)
+        (pair,) = BELLATRIX.lend(f"{name}.bellatrix", value.bellatrix, lent)
+        fork = struct.pack("<Q", number(f"{name}.fork", value.fork))
+        return (RulesWords.from_buffer_copy(bytes(settings) + fork + bytes(pair)),)
+
+
 class FinalityWords(ctypes.Structure):
     _fields_ = [("numbers", U64 * 17)]
 
@@ -199,7 +219,8 @@ def finality_of(words):
     return _types.Finality(slot, bits, *(_types.Checkpoint(*rest[i : i + 2]) for i in (0, 2, 4)))
 
 
-SETTINGS, CLOCK, FINALITY = Fields(_types.Settings), Fields(_types.Clock), Finality()
+SETTINGS, BELLATRIX, RULES = Fields(_types.Settings), Fields(_types.Bellatrix), Rules()
+CLOCK, FINALITY = Fields(_types.Clock), Finality()
 NUMBER, FLAGS = Number(), Number(255, ctypes.c_uint8)
 REGISTRY, SLASHINGS, MARKS = Numbers(row=10), Numbers(), Numbers()
 VALIDATOR = REGISTRY  # ten numbers: C counts them

@@ -10,12 +10,12 @@ def pair(out):
     return out
 
 
-def close(settings, finality, registry, slashings, roots, *, out=(None, None)):
+def close(rules, finality, registry, slashings, roots, *, out=(None, None)):
     """The closed record, and which totals were raised. `out` is a pair of buffers for its registry and slashings, as long as the opening's.
 
-    Refused with 1, 2 or 3 the buffers of `out` keep what they held; with 4 or 5 they hold the opening's numbers.
+    `rules` are Rules, or Settings, by which it closes as Altair. Refused with 1, 2 or 3 the buffers of `out` keep what they held; with 4 or 5 they hold the opening's numbers.
     """
-    return call("close", settings, finality, registry, slashings, roots, *pair(out))
+    return call("close", rules, finality, registry, slashings, roots, *pair(out))
 
 
 def charged(settings, state_slot, registry):

@@ -178,9 +178,9 @@ def get_flag_index_deltas(settings, state_slot, finalized_epoch, flag_index, ind
     return _call("get_flag_index_deltas", settings, state_slot, finalized_epoch, flag_index, index, registry)
 
 
-def get_inactivity_penalty_deltas(settings, state_slot, validator):
-    """What the validator loses by its score."""
-    return _call("get_inactivity_penalty_deltas", settings, state_slot, validator)
+def get_inactivity_penalty_deltas(rules, state_slot, validator):
+    """What the validator loses by its score, by Rules, or as Altair by Settings."""
+    return _call("get_inactivity_penalty_deltas", rules, state_slot, validator)
 
 
 # Finality

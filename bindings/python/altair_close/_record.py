@@ -7,7 +7,7 @@ from ._close import charged, close, listing_head, listing_lines, pair
 from ._files import write_whole
 from ._refusals import Refused
 from ._signatures import call
-from ._types import Finality, Settings
+from ._types import FORK_ALTAIR, Bellatrix, Finality, Rules, Settings
 
 
 def read_header(file):
@@ -71,9 +71,9 @@ class Record(NamedTuple):
         """Writes the record's file to a path; what stood there stays where it cannot be written."""
         write_whole(path, [self.write()])
 
-    def close(self, *, out=(None, None)):
-        """The closed record; roots stay. `out` is as that of the function."""
-        closed = close(self.settings, self.finality, self.registry, self.slashings, self.roots, out=out)
+    def close(self, *, fork=FORK_ALTAIR, bellatrix=Bellatrix(0, 0), out=(None, None)):
+        """The closed record under a fork, with Bellatrix's pair; roots stay. `out` is as that of the function."""
+        closed = close(Rules(self.settings, fork, bellatrix), self.finality, self.registry, self.slashings, self.roots, out=out)
         return Record(self.settings, closed.finality, closed.registry, closed.slashings, self.roots)
 
     def charged(self):

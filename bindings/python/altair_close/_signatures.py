@@ -16,12 +16,12 @@ import ctypes
 from typing import Any, Callable, NamedTuple
 
 from . import _buffers, _layout, _library
-from ._arguments import (BYTES, CHANGED, CLOCK, FINALITY, FLAGS, MARKS, NUMBER, REGISTRY, ROOTS, SETTINGS, SLASHINGS, U64, VALIDATOR,
+from ._arguments import (BYTES, CHANGED, CLOCK, FINALITY, FLAGS, MARKS, NUMBER, REGISTRY, ROOTS, RULES, SETTINGS, SLASHINGS, U64, VALIDATOR,
                          Bytes, FinalityWords, Numbers, as_long_as, finality_of)
 from ._refusals import Refused
 from ._types import VALIDATOR_LENGTH, Closed, Deltas, Head, Header, Justified, Line, Raised, Settings, Total, Votes
 
-VERSION = 2
+VERSION = 3
 I64 = ctypes.c_int64
 
 
@@ -135,7 +135,7 @@ def file_length(lent):
 SIGNATURES = {
     "version": Signature(NUMBER_ITSELF),
     # the close
-    "close": Signature(CLOSED, settings=SETTINGS, finality=FINALITY, registry=REGISTRY, slashings=SLASHINGS, roots=ROOTS,
+    "close": Signature(CLOSED, rules=RULES, finality=FINALITY, registry=REGISTRY, slashings=SLASHINGS, roots=ROOTS,
                        closing_registry=written_registry("registry"), closing_slashings=written_slashings("slashings")),
     "charged": Signature(VALUE, settings=SETTINGS, state_slot=NUMBER, registry=REGISTRY),
     # the listing of a close
@@ -154,13 +154,13 @@ SIGNATURES = {
                                                         registry=REGISTRY),
     "process_inactivity_updates": Signature(WRITTEN, settings=SETTINGS, state_slot=NUMBER, finalized_epoch=NUMBER,
                                             opening=REGISTRY, closing=written_registry("opening")),
-    "process_rewards_and_penalties": Signature(WRITTEN, settings=SETTINGS, state_slot=NUMBER, finalized_epoch=NUMBER,
+    "process_rewards_and_penalties": Signature(WRITTEN, rules=RULES, state_slot=NUMBER, finalized_epoch=NUMBER,
                                                opening=REGISTRY, closing=written_registry("opening")),
     "process_registry_updates": Signature(WRITTEN, settings=SETTINGS, state_slot=NUMBER, finalized_epoch=NUMBER,
                                           opening=REGISTRY, closing=written_registry("opening")),
     "process_registry_updates_to": Signature(WRITTEN, stop=NUMBER, settings=SETTINGS, state_slot=NUMBER, finalized_epoch=NUMBER,
                                              opening=REGISTRY, closing=written_registry("opening")),
-    "process_slashings": Signature(WRITTEN, settings=SETTINGS, state_slot=NUMBER, slashings=SLASHINGS, opening=REGISTRY,
+    "process_slashings": Signature(WRITTEN, rules=RULES, state_slot=NUMBER, slashings=SLASHINGS, opening=REGISTRY,
                                    closing=written_registry("opening")),
     "process_effective_balance_updates": Signature(WRITTEN, settings=SETTINGS, opening=REGISTRY,
                                                    closing=written_registry("opening")),
@@ -207,7 +207,7 @@ SIGNATURES = {
     "get_base_reward": Signature(VALUE, settings=SETTINGS, total=NUMBER, validator=VALIDATOR),
     "get_flag_index_deltas": Signature(DELTAS, settings=SETTINGS, state_slot=NUMBER, finalized_epoch=NUMBER, flag_index=NUMBER,
                                        index=NUMBER, registry=REGISTRY),
-    "get_inactivity_penalty_deltas": Signature(DELTAS, settings=SETTINGS, state_slot=NUMBER, validator=VALIDATOR),
+    "get_inactivity_penalty_deltas": Signature(DELTAS, rules=RULES, state_slot=NUMBER, validator=VALIDATOR),
     # finality
     "get_finality_delay": Signature(VALUE, settings=SETTINGS, state_slot=NUMBER, finalized_epoch=NUMBER),
     "is_in_inactivity_leak": Signature(TRUTH, settings=SETTINGS, state_slot=NUMBER, finalized_epoch=NUMBER),

@@ -12,9 +12,9 @@ def process_inactivity_updates(settings, state_slot, finalized_epoch, opening, *
     return _call("process_inactivity_updates", settings, state_slot, finalized_epoch, opening, out)
 
 
-def process_rewards_and_penalties(settings, state_slot, finalized_epoch, opening, *, out=None):
-    """The registry with the new balances."""
-    return _call("process_rewards_and_penalties", settings, state_slot, finalized_epoch, opening, out)
+def process_rewards_and_penalties(rules, state_slot, finalized_epoch, opening, *, out=None):
+    """The registry with the new balances, by Rules, or as Altair by Settings."""
+    return _call("process_rewards_and_penalties", rules, state_slot, finalized_epoch, opening, out)
 
 
 def process_registry_updates(settings, state_slot, finalized_epoch, opening, *, out=None):
@@ -27,9 +27,9 @@ def process_registry_updates_to(stop, settings, state_slot, finalized_epoch, ope
     return _call("process_registry_updates_to", stop, settings, state_slot, finalized_epoch, opening, out)
 
 
-def process_slashings(settings, state_slot, slashings, opening, *, out=None):
-    """The registry less the slashing penalties."""
-    return _call("process_slashings", settings, state_slot, slashings, opening, out)
+def process_slashings(rules, state_slot, slashings, opening, *, out=None):
+    """The registry less the slashing penalties, by Rules, or as Altair by Settings."""
+    return _call("process_slashings", rules, state_slot, slashings, opening, out)
 
 
 def process_effective_balance_updates(settings, opening, *, out=None):

@@ -39,6 +39,28 @@ MINIMAL = MAINNET._replace(slots_per_epoch=8, slots_per_historical_root=64, epoc
 PRESETS = {"mainnet": MAINNET, "minimal": MINIMAL}
 
 
+class Bellatrix(NamedTuple):
+    """The two numbers that Bellatrix uses in place of inactivity_penalty_quotient_altair and
+    proportional_slashing_multiplier_altair."""
+
+    inactivity_penalty_quotient_bellatrix: int
+    proportional_slashing_multiplier_bellatrix: int
+
+
+# mainnet's, which minimal has too
+MAINNET_BELLATRIX = Bellatrix(16777216, 3)
+FORK_ALTAIR, FORK_BELLATRIX = range(2)
+
+
+class Rules(NamedTuple):
+    """What a close goes by. Under fork 0 the pair is not read and may be anything; under fork 1 it stands in the place of the
+    Altair two, which are tested all the same. Where Rules are wanted, Settings are those of Altair."""
+
+    settings: Settings
+    fork: int = FORK_ALTAIR
+    bellatrix: Bellatrix = Bellatrix(0, 0)
+
+
 class Clock(NamedTuple):
     """A network's clock. Seconds are those of Unix time; genesis_time is the first second of slot 0."""
 

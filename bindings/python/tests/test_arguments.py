@@ -24,7 +24,8 @@ def good(kind):
         return VALIDATOR
     if isinstance(kind, kinds.Bytes):
         return ROOTS
-    return {kinds.SETTINGS: MAINNET, kinds.CLOCK: altair.MAINNET_CLOCK, kinds.FINALITY: Finality(127)}.get(kind, 1)
+    values = {kinds.SETTINGS: MAINNET, kinds.RULES: altair.Rules(MAINNET), kinds.CLOCK: altair.MAINNET_CLOCK, kinds.FINALITY: Finality(127)}
+    return values.get(kind, 1)
 
 
 NEITHER = [1.5, "1", "far", {}, {1}, object(), Odd(), Exception, True, [[1]], [None], [1.0], [-1], [2**64], [True]]

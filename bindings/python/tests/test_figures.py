@@ -95,6 +95,15 @@ class Figures(unittest.TestCase):
         self.assertEqual(add_flag(5, 1), 7)
         missed = changed(HIT, previous_epoch_participation=5, inactivity_score=100)
         self.assertEqual(get_inactivity_penalty_deltas(MAINNET, 127, missed), Deltas(0, 15894))
+        bellatrix = Rules(MAINNET, FORK_BELLATRIX, MAINNET_BELLATRIX)
+        self.assertEqual(get_inactivity_penalty_deltas(bellatrix, 127, missed), Deltas(0, 47683))
+        # the pair is tested under fork 1 alone, the Altair two under either
+        bad = Bellatrix(0, FAR)
+        self.refused(2, get_inactivity_penalty_deltas, bellatrix._replace(bellatrix=bad), 127, missed)
+        self.assertEqual(get_inactivity_penalty_deltas(Rules(MAINNET, FORK_ALTAIR, bad), 127, missed), Deltas(0, 15894))
+        none = MAINNET._replace(inactivity_penalty_quotient_altair=0)
+        self.refused(2, get_inactivity_penalty_deltas, bellatrix._replace(settings=none), 127, missed)
+        self.refused(1, get_inactivity_penalty_deltas, Rules(MAINNET, 2), 127, missed)
 
     def test_block_roots_and_finality(self):
         roots = bytearray(32 * 8192)
@@ -161,6 +170,8 @@ class Figures(unittest.TestCase):
         slashings[3] = 32 * ETH
         slashed = changed(registry, slashed=1, withdrawable_epoch=3 + 8192 // 2)
         self.assertEqual(list(process_slashings(MAINNET, 127, slashings, slashed)), changed(slashed, balance=20 * ETH))
+        bellatrix = Rules(MAINNET, FORK_BELLATRIX, MAINNET_BELLATRIX)
+        self.assertEqual(list(process_slashings(bellatrix, 127, slashings, slashed)), changed(slashed, balance=13 * ETH))
         low = changed(changed(registry, balance=31749999999), at=1, balance=31750000000)
         self.assertEqual(list(process_effective_balance_updates(MAINNET, low)), changed(low, effective_balance=31 * ETH))
         reset = process_slashings_reset(MAINNET, 127, slashings[:4] + [6] + slashings[5:])

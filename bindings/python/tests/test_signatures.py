@@ -34,7 +34,7 @@ def text():
 def declared():
     """The functions of the header: name, answer, and arguments as (type, name); those of plain C are left out."""
     for answer, name, arguments in re.findall(r"^(\w+) altair_(\w+)\(([^)]*)\);", text(), flags=re.M):
-        if not name.startswith("checked_"):
+        if not name.startswith(("checked_", "under_")):
             words = [" ".join(word.split()) for word in arguments.split(",") if word.strip() != "void"]
             yield name, answer, [tuple(re.fullmatch(r"(.*?)(\w+)", word).groups()) for word in words]
 
@@ -47,7 +47,7 @@ def in_c(name, kind):
         return [("" if written else "const ") + element + " *", name, "size_t", name + "_length"]
     if isinstance(kind, kinds.Fields):
         return ["altair_" + kind.given.__name__.lower(), name]
-    return [{kinds.FinalityWords: "altair_finality", ctypes.c_uint8: "uint8_t"}.get(kind.words[0], "uint64_t"), name]
+    return [{kinds.FinalityWords: "altair_finality", kinds.RulesWords: "altair_rules", ctypes.c_uint8: "uint8_t"}.get(kind.words[0], "uint64_t"), name]
 
 
 def size(kind, structs):
@@ -82,6 +82,9 @@ class Table(unittest.TestCase):
         structs = dict(re.findall(r"typedef struct (\w+) \{(.*?)\}", text(), flags=re.S))
         names = {name: tuple(re.findall(r"(\w+)(?:\[\d+\])?;", fields)) for name, fields in structs.items()}
         self.assertEqual(names["altair_settings"], altair_close.Settings._fields)
+        self.assertEqual(names["altair_rules"], altair_close.Rules._fields)
+        self.assertEqual(names["altair_bellatrix"], altair_close.Bellatrix._fields)
+        self.assertEqual(ctypes.sizeof(kinds.RulesWords), size("altair_rules", structs))
         self.assertEqual(names["altair_clock"], altair_close.Clock._fields)
         self.assertEqual(names["altair_finality"], altair_close.Finality._fields)
         self.assertEqual(names["altair_checkpoint"], altair_close.Checkpoint._fields)
@@ -96,6 +99,8 @@ class Table(unittest.TestCase):
         for name, settings in altair_close.PRESETS.items():
             preset = re.search(rf"#define ALTAIR_{name.upper()}\b[\s\\]*\{{([^}}]*)\}}", header)
             self.assertEqual(tuple(map(int, re.findall(r"\d+", preset[1]))), settings, name)
+        pair = re.search(r"#define ALTAIR_MAINNET_BELLATRIX[\s\\]*\{([^}]*)\}", header)
+        self.assertEqual(tuple(map(int, re.findall(r"\d+", pair[1]))), altair_close.MAINNET_BELLATRIX)
         clock = re.search(r"#define ALTAIR_MAINNET_CLOCK[\s\\]*\{([^}]*)\}", header)
         self.assertEqual(tuple(map(int, re.findall(r"\d+", clock[1]))), altair_close.MAINNET_CLOCK)
         places = re.search(r"enum altair_validator \{(.*?)\}", header, flags=re.S)[1]

@@ -1,12 +1,13 @@
 //! The whole close, and the figures of its listing.
 use crate::raw;
 use crate::refusal::Refusal;
-use crate::types::{Closed, Finality, Head, Line, Settings};
+use crate::types::{Closed, Finality, Head, Line, Rules, Settings};
 
 /// Closes the opening record into the closing buffers, which are as long as the opening's, and gives its finality and which
 /// totals were raised.
 ///
-/// Refused with 1, 2 or 3 the closing buffers keep what they held; with 4 or 5 they hold the opening's numbers.
+/// Refused with 1, 2 or 3 the closing buffers keep what they held; with 4 or 5 they hold the opening's numbers. By
+/// `&Settings` it closes as Altair, by [`Rules`] as their fork.
 ///
 /// ```
 /// use altair_close::{close, validator, Finality, Refusal, Settings};
@@ -24,7 +25,7 @@ use crate::types::{Closed, Finality, Head, Line, Settings};
 /// # Ok::<(), Refusal>(())
 /// ```
 pub fn close(
-    settings: &Settings,
+    rules: impl Into<Rules>,
     finality: &Finality,
     registry: &[u64],
     slashings: &[u64],
@@ -34,7 +35,7 @@ pub fn close(
 ) -> Result<Closed, Refusal> {
     unsafe {
         raw::altair_close(
-            *settings,
+            rules.into(),
             *finality,
             registry.as_ptr(),
             registry.len(),

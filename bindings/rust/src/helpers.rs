@@ -1,7 +1,7 @@
 //! The leaves: what the steps are made of, each callable alone. `validator` is ten numbers.
 use crate::raw;
 use crate::refusal::Refusal;
-use crate::types::{Deltas, Finality, Settings, Total};
+use crate::types::{Deltas, Finality, Rules, Settings, Total};
 
 /// The largest number whose square is at most `n`.
 ///
@@ -238,12 +238,22 @@ pub fn get_flag_index_deltas(
 }
 
 /// What the validator loses by its score.
+///
+/// ```
+/// use altair_close::*;
+/// let mut v = validator::new(32_000_000_000);
+/// v[validator::INACTIVITY_SCORE] = 100;
+/// let lost = |rules: Rules| get_inactivity_penalty_deltas(&rules, 127, &v).map(|d| d.penalty);
+/// assert_eq!(lost(Rules::altair(&Settings::MAINNET)), Ok(15894));
+/// assert_eq!(lost(Rules::bellatrix(&Settings::MAINNET, &Bellatrix::MAINNET)), Ok(47683));
+/// assert_eq!(lost(Rules { fork: 2, ..Rules::altair(&Settings::MAINNET) }), Err(Refusal::Shape));
+/// ```
 pub fn get_inactivity_penalty_deltas(
-    settings: &Settings,
+    rules: impl Into<Rules>,
     state_slot: u64,
     validator: &[u64],
 ) -> Result<Deltas, Refusal> {
-    unsafe { raw::altair_get_inactivity_penalty_deltas(*settings, state_slot, validator.as_ptr(), validator.len()) }
+    unsafe { raw::altair_get_inactivity_penalty_deltas(rules.into(), state_slot, validator.as_ptr(), validator.len()) }
         .result()
 }
 

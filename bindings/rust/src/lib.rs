@@ -42,7 +42,7 @@ pub use types::*;
 pub use unknown_votes::unknown_votes;
 
 /// The number of the interface that this crate is written for.
-pub const VERSION: u64 = 2;
+pub const VERSION: u64 = 3;
 
 /// The number of the interface of the library that was linked.
 ///

@@ -1,6 +1,8 @@
 //! The library's functions as bindings/c/altair.h declares them: a slice is a pointer and a length in elements.
 use crate::refusal::Refusal;
-use crate::types::{Checkpoint, Clock, Closed, Deltas, Finality, Head, Line, Passes, Raised, Settings, Total, Votes};
+use crate::types::{
+    Checkpoint, Clock, Closed, Deltas, Finality, Head, Line, Passes, Raised, Rules, Settings, Total, Votes,
+};
 
 #[repr(C)]
 pub struct FinalityAnswer {
@@ -197,14 +199,14 @@ impl LineAnswer {
 
 // the sizes that the header has
 const _: () = assert!(size_of::<Settings>() == 152 && size_of::<Checkpoint>() == 40 && size_of::<Finality>() == 136);
-const _: () = assert!(size_of::<Clock>() == 24);
+const _: () = assert!(size_of::<Clock>() == 24 && size_of::<Rules>() == 176);
 
 extern "C" {
     pub fn altair_version() -> u64;
 
     // the close
     pub fn altair_close(
-        settings: Settings,
+        rules: Rules,
         finality: Finality,
         registry: *const u64,
         registry_length: usize,
@@ -278,7 +280,7 @@ extern "C" {
         closing_length: usize,
     ) -> u64;
     pub fn altair_process_rewards_and_penalties(
-        settings: Settings,
+        rules: Rules,
         state_slot: u64,
         finalized_epoch: u64,
         opening: *const u64,
@@ -306,7 +308,7 @@ extern "C" {
         closing_length: usize,
     ) -> u64;
     pub fn altair_process_slashings(
-        settings: Settings,
+        rules: Rules,
         state_slot: u64,
         slashings: *const u64,
         slashings_length: usize,
@@ -437,7 +439,7 @@ extern "C" {
         length: usize,
     ) -> DeltasAnswer;
     pub fn altair_get_inactivity_penalty_deltas(
-        settings: Settings,
+        rules: Rules,
         state_slot: u64,
         validator: *const u64,
         length: usize,

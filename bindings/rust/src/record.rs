@@ -1,6 +1,6 @@
 //! A record with vectors of its own.
 use crate::file::{read_file, read_header, write_file, Header, ReadRefused};
-use crate::types::{Finality, Settings};
+use crate::types::{Bellatrix, Finality, Rules, Settings};
 use crate::{charged, close, validator, Refusal};
 use std::error::Error;
 use std::path::Path;
@@ -76,12 +76,32 @@ impl Record {
         Ok(file)
     }
 
-    /// The closed record; roots stay.
+    /// The closed record, as Altair; roots stay.
     pub fn close(&self) -> Result<Record, Refusal> {
+        self.close_under(Rules::ALTAIR, &Bellatrix::default())
+    }
+
+    /// The closed record under a fork, with Bellatrix's pair.
+    ///
+    /// ```
+    /// use altair_close::{validator, Bellatrix, Finality, Record, Refusal, Rules, Settings};
+    /// let settings = Settings { slots_per_historical_root: 64, epochs_per_slashings_vector: 64, ..Settings::MAINNET };
+    /// let record = Record {
+    ///     settings,
+    ///     finality: Finality { slot: 127, ..Finality::default() },
+    ///     registry: validator::new(32_000_000_000).to_vec(),
+    ///     slashings: vec![0; 64],
+    ///     roots: vec![0; 32 * 64],
+    /// };
+    /// assert_eq!(record.close_under(Rules::ALTAIR, &Bellatrix::default()), record.close());
+    /// assert!(record.close_under(Rules::BELLATRIX, &Bellatrix::MAINNET).is_ok());
+    /// assert_eq!(record.close_under(Rules::BELLATRIX, &Bellatrix::default()), Err(Refusal::Settings));
+    /// ```
+    pub fn close_under(&self, fork: u64, pair: &Bellatrix) -> Result<Record, Refusal> {
         let mut registry = vec![0; self.registry.len()];
         let mut slashings = vec![0; self.slashings.len()];
         let closed = close(
-            &self.settings,
+            &Rules { settings: self.settings, fork, bellatrix: *pair },
             &self.finality,
             &self.registry,
             &self.slashings,

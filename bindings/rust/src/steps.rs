@@ -1,8 +1,8 @@
 //! The eight steps, in the order of the close. Refused with 1, 2 or 3 a step leaves its closing buffer as it was; with 5 the
-//! closing buffer holds the opening's numbers.
+//! closing buffer holds the opening's numbers. Rewards and slashings go by [`Rules`], or as Altair by `&Settings`.
 use crate::raw;
 use crate::refusal::Refusal;
-use crate::types::{Closed, Finality, Settings};
+use crate::types::{Closed, Finality, Rules, Settings};
 
 /// The finality after justification, and which totals were raised.
 ///
@@ -34,27 +34,19 @@ pub fn process_justification_and_finalization(
     .result()
 }
 
-type ByFinality = unsafe extern "C" fn(Settings, u64, u64, *const u64, usize, *mut u64, usize) -> u64;
+type ByFinality<By> = unsafe extern "C" fn(By, u64, u64, *const u64, usize, *mut u64, usize) -> u64;
 
 // the three steps over the registry that read the slot and the finalized epoch
-fn by_finality(
-    step: ByFinality,
-    settings: &Settings,
+fn by_finality<By>(
+    step: ByFinality<By>,
+    by: By,
     state_slot: u64,
     finalized_epoch: u64,
     opening: &[u64],
     closing: &mut [u64],
 ) -> Result<(), Refusal> {
     let number = unsafe {
-        step(
-            *settings,
-            state_slot,
-            finalized_epoch,
-            opening.as_ptr(),
-            opening.len(),
-            closing.as_mut_ptr(),
-            closing.len(),
-        )
+        step(by, state_slot, finalized_epoch, opening.as_ptr(), opening.len(), closing.as_mut_ptr(), closing.len())
     };
     Refusal::or(number, ())
 }
@@ -67,18 +59,18 @@ pub fn process_inactivity_updates(
     opening: &[u64],
     closing: &mut [u64],
 ) -> Result<(), Refusal> {
-    by_finality(raw::altair_process_inactivity_updates, settings, state_slot, finalized_epoch, opening, closing)
+    by_finality(raw::altair_process_inactivity_updates, *settings, state_slot, finalized_epoch, opening, closing)
 }
 
 /// The registry with the new balances.
 pub fn process_rewards_and_penalties(
-    settings: &Settings,
+    rules: impl Into<Rules>,
     state_slot: u64,
     finalized_epoch: u64,
     opening: &[u64],
     closing: &mut [u64],
 ) -> Result<(), Refusal> {
-    by_finality(raw::altair_process_rewards_and_penalties, settings, state_slot, finalized_epoch, opening, closing)
+    by_finality(raw::altair_process_rewards_and_penalties, rules.into(), state_slot, finalized_epoch, opening, closing)
 }
 
 /// The registry after queueing, ejecting and activating.
@@ -89,7 +81,7 @@ pub fn process_registry_updates(
     opening: &[u64],
     closing: &mut [u64],
 ) -> Result<(), Refusal> {
-    by_finality(raw::altair_process_registry_updates, settings, state_slot, finalized_epoch, opening, closing)
+    by_finality(raw::altair_process_registry_updates, *settings, state_slot, finalized_epoch, opening, closing)
 }
 
 /// The registry after queueing, ejecting and activating, with a stop: from that validator number up activation epochs stay,
@@ -130,7 +122,7 @@ pub fn process_registry_updates_to(
 
 /// The registry less the slashing penalties.
 pub fn process_slashings(
-    settings: &Settings,
+    rules: impl Into<Rules>,
     state_slot: u64,
     slashings: &[u64],
     opening: &[u64],
@@ -138,7 +130,7 @@ pub fn process_slashings(
 ) -> Result<(), Refusal> {
     let number = unsafe {
         raw::altair_process_slashings(
-            *settings,
+            rules.into(),
             state_slot,
             slashings.as_ptr(),
             slashings.len(),

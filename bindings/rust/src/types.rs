@@ -78,6 +78,62 @@ impl Settings {
     }
 }
 
+/// The two numbers that Bellatrix uses in place of `inactivity_penalty_quotient_altair` and
+/// `proportional_slashing_multiplier_altair`.
+#[repr(C)]
+#[derive(Clone, Copy, Debug, Default, PartialEq, Eq)]
+pub struct Bellatrix {
+    pub inactivity_penalty_quotient_bellatrix: u64,
+    pub proportional_slashing_multiplier_bellatrix: u64,
+}
+
+impl Bellatrix {
+    /// Mainnet's, which minimal has too.
+    pub const MAINNET: Bellatrix =
+        Bellatrix { inactivity_penalty_quotient_bellatrix: 16_777_216, proportional_slashing_multiplier_bellatrix: 3 };
+}
+
+/// What a close goes by. Under fork 0 the pair is not read and may be anything; under fork 1 it stands in the place of the
+/// Altair two, which are tested all the same. Where rules are wanted, `&Settings` are those of Altair.
+///
+/// ```
+/// use altair_close::{Bellatrix, Rules, Settings};
+/// assert_eq!(Rules::from(&Settings::MAINNET), Rules::altair(&Settings::MAINNET));
+/// assert_eq!(Rules::bellatrix(&Settings::MAINNET, &Bellatrix::MAINNET).fork, Rules::BELLATRIX);
+/// ```
+#[repr(C)]
+#[derive(Clone, Copy, Debug, PartialEq, Eq)]
+pub struct Rules {
+    pub settings: Settings,
+    pub fork: u64,
+    pub bellatrix: Bellatrix,
+}
+
+impl Rules {
+    pub const ALTAIR: u64 = 0;
+    pub const BELLATRIX: u64 = 1;
+
+    pub fn altair(settings: &Settings) -> Rules {
+        Rules { settings: *settings, fork: Rules::ALTAIR, bellatrix: Bellatrix::default() }
+    }
+
+    pub fn bellatrix(settings: &Settings, pair: &Bellatrix) -> Rules {
+        Rules { settings: *settings, fork: Rules::BELLATRIX, bellatrix: *pair }
+    }
+}
+
+impl From<&Settings> for Rules {
+    fn from(settings: &Settings) -> Rules {
+        Rules::altair(settings)
+    }
+}
+
+impl From<&Rules> for Rules {
+    fn from(rules: &Rules) -> Rules {
+        *rules
+    }
+}
+
 /// A network's clock. Seconds are those of Unix time; `genesis_time` is the first second of slot 0.
 #[repr(C)]
 #[derive(Clone, Copy, Debug, PartialEq, Eq)]

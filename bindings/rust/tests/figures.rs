@@ -87,6 +87,17 @@ fn one_validator() {
     let mut v = hit();
     (v[PREVIOUS_EPOCH_PARTICIPATION], v[INACTIVITY_SCORE]) = (5, 100);
     assert_eq!(get_inactivity_penalty_deltas(&MAINNET, 127, &v), Ok(Deltas { reward: 0, penalty: 15894 }));
+    let bellatrix = Rules::bellatrix(&MAINNET, &Bellatrix::MAINNET);
+    assert_eq!(get_inactivity_penalty_deltas(&bellatrix, 127, &v), Ok(Deltas { reward: 0, penalty: 47683 }));
+    // the pair is tested under fork 1 alone, the Altair two under either
+    let pair =
+        Bellatrix { inactivity_penalty_quotient_bellatrix: 0, proportional_slashing_multiplier_bellatrix: u64::MAX };
+    assert_eq!(get_inactivity_penalty_deltas(&Rules::bellatrix(&MAINNET, &pair), 127, &v), Err(Refusal::Settings));
+    let unread = Rules { bellatrix: pair, ..Rules::altair(&MAINNET) };
+    assert_eq!(get_inactivity_penalty_deltas(&unread, 127, &v), Ok(Deltas { reward: 0, penalty: 15894 }));
+    let mut none = bellatrix;
+    none.settings.inactivity_penalty_quotient_altair = 0;
+    assert_eq!(get_inactivity_penalty_deltas(&none, 127, &v), Err(Refusal::Settings));
 }
 
 #[test]
@@ -187,6 +198,9 @@ fn the_steps() {
     opening[WITHDRAWABLE_EPOCH] = 3 + 8192 / 2;
     assert_eq!(process_slashings(&MAINNET, 127, &slashings, &opening, &mut closing), Ok(()));
     assert_eq!((closing[BALANCE], closing[LENGTH + BALANCE]), (20 * ETH, 32 * ETH));
+    let bellatrix = Rules::bellatrix(&MAINNET, &Bellatrix::MAINNET);
+    assert_eq!(process_slashings(&bellatrix, 127, &slashings, &opening, &mut closing), Ok(()));
+    assert_eq!(closing[BALANCE], 13 * ETH);
 
     opening[BALANCE] = 31_749_999_999;
     opening[LENGTH + BALANCE] = 31_750_000_000;
@@ -282,7 +296,8 @@ fn the_close() {
 
 #[test]
 fn votes_not_yet_counted() {
-    let settings = Settings { slots_per_epoch: 8, slots_per_historical_root: 64, epochs_per_slashings_vector: 64, ..MAINNET };
+    let settings =
+        Settings { slots_per_epoch: 8, slots_per_historical_root: 64, epochs_per_slashings_vector: 64, ..MAINNET };
     let at = |epoch| Checkpoint { epoch, ..Checkpoint::default() };
     let standing = Finality {
         justification_bits: 2,
