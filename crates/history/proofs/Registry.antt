@@ -1,30 +1,31 @@
 -- The registry step, validator by validator: eligibility kept or written, then activation by rank.
 use mathlib.Core.Path.{_≡_, refl, sym, ap, _∙_, subst}
 use mathlib.Core.Bool.{Bool, true, false, cond, _&&_}
-use mathlib.Core.List.{List, map}
+use mathlib.Core.List.{List}
 use Prim.Native.Nat.{ℕ, zero, suc, _+_, _≤_, _<_}
 use native.Mathlib.Nat.{le-max-left}
 use native.Mathlib.Decide.{ℕ-discrete}
 use native.Mathlib.Omega.{arith}
 use lib.Dec.{T, eqb, eqb→eq}
 use lib.ListN.{length, getD, set, length-set}
-use lib.Seq.{getD-set-same, getD-set-other, map-set-same}
+use lib.Seq.{getD-set-same, getD-set-other}
 use Rattle.types.specs.declared.Settings.{Settings}
 use Rattle.definitions.specs.Lists.{range}
 use Rattle.definitions.specs.Record.{Validator, nobody, «FAR_FUTURE_EPOCH»}
-use Rattle.definitions.specs.Updates.{withEligibility, withExit}
+use Rattle.definitions.specs.Updates.{withEligibility}
 use Rattle.definitions.specs.Checked.{value, foldChecked}
 use Rattle.definitions.specs.Document.Phase0.Helpers.{«is_eligible_for_activation_queue»}
 use Rattle.definitions.specs.Document.Phase0.EpochProcessing.{queueEligible, isEjected, dequeued}
 use Rattle.definitions.specs.Rust.Phase0.Helpers.{«compute_activation_exit_epoch», «get_current_epoch», «get_validator_churn_limit», «initiate_validator_exit»}
 use Rattle.definitions.specs.Rust.Phase0.EpochProcessing.{updateRegistryAt, «process_registry_updates»}
 use Rattle.laws.proofs.Checked.{value-same, bound, add64-value}
+use Rattle.frames.proofs.Entries.{either}
+use Rattle.frames.proofs.Registry.{exit-writes}
 use Rattle.history.proofs.Waiting.{eligibilityAt, activationAt}
 use Rattle.history.proofs.Shape.{Marked, Registered}
 use Rattle.history.proofs.Counting.{T-left}
 use Rattle.history.proofs.Steps.{epochs, Spared, spared-given, spared-number, spared-eligibility, spared-activation}
 use Rattle.queue.proofs.Dequeued.{length-dequeued}
-use Rattle.queue.proofs.Stopped.{either}
 use Rattle.history.proofs.Queue.{dequeued-eligibility, dequeued-activation}
 
 -- the loop's turn at i: that entry's eligibility epoch is kept or written
@@ -86,14 +87,7 @@ turned-eligible s e i vs l =
 
 -- an exit spares both epochs
 exit-spares : (s : Settings) (stateSlot : ℕ) (vs : List Validator) (i : ℕ) {ws : List Validator} → «initiate_validator_exit» s stateSlot vs i ≡ value ws → Spared vs ws
-unfolding «initiate_validator_exit»
-exit-spares s stateSlot vs i =
-    either (Spared vs) (eqb (getD vs i nobody .«exit_epoch») «FAR_FUTURE_EPOCH»)
-    (λ p.
-    let a = bound _ _ p in
-    let b = bound _ _ (a .then) in
-    record { same = ap (map epochs) (sym (value-same (b .then))) ∙ map-set-same epochs vs i (withExit (a .first) (b .first) (getD vs i nobody)) nobody refl })
-    spared-given
+exit-spares s stateSlot vs i p = record { same = exit-writes epochs (λ exit withdrawable v. refl) s stateSlot vs i p }
 
 turn-turned : (s : Settings) (stateSlot : ℕ) (vs : List Validator) (i : ℕ) {ws : List Validator} → i < length vs → updateRegistryAt s stateSlot vs i ≡ value ws → Turned («get_current_epoch» s stateSlot) i vs ws
 unfolding updateRegistryAt

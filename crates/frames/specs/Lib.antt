@@ -1,0 +1,2 @@
+-- What each step writes.
+pub mod Frames
