@@ -1,0 +1,2 @@
+-- The figures of a tried outage.
+pub mod Figures

@@ -1,0 +1,1 @@
+// What a reader must believe of trying an outage: its specs.

@@ -1,0 +1,2 @@
+-- What the contract of trying an outage cites.
+pub mod Text

@@ -1,0 +1,46 @@
+-- The text of a file and a tail, by what their tests say.
+use mathlib.Core.Bool.{true, false}
+use mathlib.Core.List.{List}
+use mathlib.Core.Path.{_≡_, refl, sym, ap, _∙_}
+use Prim.Native.Nat.{ℕ, _*_}
+use native.Mathlib.Omega.{arith}
+use lib.ListN.{length, length-replicate, replicate}
+use Rattle.definitions.specs.Checked.{bind}
+use Rattle.definitions.specs.File.{Contents, goodHeader, countOf, slashingCountOf, contentsOf, readTests, readFile, read}
+use Rattle.definitions_listing.specs.Lines.{refusedLine}
+use Rattle.definitions_listing.specs.Listing.{opened}
+use Rattle.listing_close.proofs.Printed.{or-refused, or-text}
+use Rattle.listing.proofs.Opened.{read-accepted, alike}
+use Rattle.definitions_outage.specs.Input.{Plan, epochsIn, planFrom, goodTail}
+use Rattle.definitions_outage.specs.Run.{run}
+use Rattle.definitions_outage.specs.Outage.{runText, textOf}
+
+-- the buffers into which `opened` reads
+pub opened-same : (file registry slashings : List ℕ) → length registry ≡ 10 * countOf file → length slashings ≡ slashingCountOf file → read file registry slashings .refusal ≡ opened file .refusal
+opened-same file registry slashings l m =
+    alike file registry slashings (replicate (10 * countOf file) 0) (replicate (slashingCountOf file) 0) (l ∙ sym (length-replicate (10 * countOf file) 0)) (m ∙ sym (length-replicate (slashingCountOf file) 0))
+
+headless-six : (file : List ℕ) → goodHeader file ≡ false → 6 ≡ opened file .refusal
+unfolding read readFile readTests bind
+headless-six file g = rw g
+
+module _ (file tail : List ℕ) where
+  pub text-refused : {x : ℕ} → x ≡ opened file .refusal → (x ≡ 0 → ⊥) → textOf file tail ≡ refusedLine x
+  unfolding textOf
+  text-refused e z = or-refused _ e z
+
+  pub text-headless : goodHeader file ≡ false → textOf file tail ≡ refusedLine 6
+  text-headless g = text-refused (headless-six file g) (λ z. absurd (omega arith))
+
+  module _ (z : opened file .refusal ≡ 0) where
+    pub text-tail : goodTail (countOf file) tail ≡ false → textOf file tail ≡ refusedLine 1
+    unfolding textOf
+    text-tail g = or-text _ z ∙ rw g
+
+    opened-contents : opened file .contents ≡ contentsOf file
+    opened-contents = read-accepted file (replicate (10 * countOf file) 0) (replicate (slashingCountOf file) 0) z
+
+    -- `c` is the file's record
+    pub text-run : {c : Contents} {p : Plan} {epochs : ℕ} → c ≡ contentsOf file → p ≡ planFrom (countOf file) tail → epochs ≡ epochsIn tail → goodTail (countOf file) tail ≡ true → runText c (run p epochs c) ≡ textOf file tail
+    unfolding textOf
+    text-run a b d g = rw (a, b, d) (sym (or-text _ z ∙ rw (g, opened-contents)))

@@ -1,0 +1,29 @@
+use mathlib.Core.Path.{ap}
+use Prim.Native.Nat.{ℕ}
+use native.Mathlib.Omega.{arith}
+use borrow.Author.Tests.{eq-eqb, ne-eqb}
+use lib.Dec.{leb}
+use Rattle.definitions_outage.specs.Input.{goodTail}
+use borrow.Author.Needs.{needs}
+use Rattle.outage.proofs.good_tail.Statement.{statement}
+use Rattle.outage.proofs.good_tail.Tie as tie
+
+mul-if1 : tie.Need-mul-if1
+mul-if1 c = omega arith
+
+add-if1 : tie.Need-add-if1
+add-if1 c = omega arith
+
+returns : tie.Need-returns
+unfolding goodTail
+returns c = rw (ne-eqb _ _ (c .if1 .taken))
+
+read-number-requires : tie.Need-read-number-requires
+read-number-requires c κs = search needs
+
+returns-2 : tie.Need-returns-2
+unfolding goodTail
+returns-2 c = rw (eq-eqb _ _ (c .before .before .if1 .left)) (ap (λ (n : ℕ). leb n 4096) (c .before .read-number .ensures .0))
+
+pub good-tail-spec : {M : Type 1} → statement M
+good-tail-spec = tie.close (tie.spec mul-if1 add-if1 returns read-number-requires returns-2)

@@ -1,0 +1,48 @@
+use mathlib.Core.Path.{sym, _∙_}
+use native.Mathlib.Omega.{arith}
+use Rattle.refusals.proofs.Laws.{registry-shaped}
+use Rattle.decimals.proofs.Put.{put-length}
+use Rattle.listing_close.proofs.Printed.{or-refused, or-text}
+use Rattle.definitions_outage.specs.Outage.{linesText}
+use borrow.Author.Needs.{needs}
+use Rattle.outage.proofs.put_rows.Statement.{statement}
+use Rattle.outage.proofs.put_rows.Tie as tie
+
+changes-requires : tie.Need-changes-requires
+changes-requires c κs = (registry-shaped _ (c .before .before .before .pre .0 .0) .long, c .before .before .before .pre .0 .1)
+
+put-refused-requires : tie.Need-put-refused-requires
+put-refused-requires c κs = search needs
+
+same-length : tie.Need-same-length
+same-length c = search needs
+
+returns : tie.Need-returns
+unfolding linesText
+returns c =
+    let p = c .before .before .put-refused .ensures in
+    (rw (or-refused _ (c .before .before .before .before .before .changes .ensures) (c .before .before .before .before .if1 .taken)) (p .0), omega (arith, p .1, c .before .before .before .before .before .before .before .before .before .pre .1))
+
+put-lines-requires : tie.Need-put-lines-requires
+put-lines-requires c κs = search needs
+
+same-length-2 : tie.Need-same-length-2
+same-length-2 c = search needs
+
+returns-2 : tie.Need-returns-2
+unfolding linesText
+returns-2 c =
+    let p = c .before .before .put-lines .ensures in
+    (rw (or-text _ (sym (c .before .before .before .before .before .changes .ensures) ∙ c .before .before .before .before .if1 .left)) (p .0), p .1)
+
+pub put-rows-spec : {M : Type 1} → statement M
+put-rows-spec =
+    tie.close
+    (tie.spec
+    changes-requires
+    put-refused-requires
+    same-length
+    returns
+    put-lines-requires
+    same-length-2
+    returns-2)

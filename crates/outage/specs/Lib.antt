@@ -1,0 +1,2 @@
+-- What the contracts of trying an outage cite.
+pub mod Lent

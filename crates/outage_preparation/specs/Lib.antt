@@ -1,0 +1,2 @@
+-- What the contracts of a preparation cite.
+pub mod Ready
