@@ -1,5 +1,5 @@
 //! The reference's plain numbers as bindings/rust has them, and back.
-use crate::{record, rules, types};
+use crate::{record, types};
 
 /// The nineteen numbers, in the same order.
 pub fn settings(s: &record::Settings) -> types::Settings {
@@ -7,11 +7,11 @@ pub fn settings(s: &record::Settings) -> types::Settings {
     unsafe { std::mem::transmute(*s) }
 }
 
-pub fn rules(s: &record::Settings, rules: rules::Rules) -> types::Rules {
-    let [inactivity_penalty_quotient_bellatrix, proportional_slashing_multiplier_bellatrix] = rules.pair;
+pub fn rules(s: &record::Settings, fork: u64, pair: [u64; 2]) -> types::Rules {
+    let [inactivity_penalty_quotient_bellatrix, proportional_slashing_multiplier_bellatrix] = pair;
     let bellatrix =
         types::Bellatrix { inactivity_penalty_quotient_bellatrix, proportional_slashing_multiplier_bellatrix };
-    types::Rules { settings: settings(s), fork: rules.fork, bellatrix }
+    types::Rules { settings: settings(s), fork, bellatrix }
 }
 
 pub fn numbers(s: &types::Settings) -> record::Settings {

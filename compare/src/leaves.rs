@@ -131,7 +131,7 @@ unsafe fn asked(c: &Case, rules: Rules, lent: &mut [u64]) -> Answer {
         Leaf::GetBaseReward => raw::altair_get_base_reward(s(), x[0], entry, n).into(),
         Leaf::GetFlagIndexDeltas => raw::altair_get_flag_index_deltas(s(), x[0], x[1], x[2], x[3], entry, n).into(),
         Leaf::GetInactivityPenaltyDeltas => {
-            raw::altair_get_inactivity_penalty_deltas(convert::rules(&c.settings, rules), x[0], entry, n).into()
+            raw::altair_get_inactivity_penalty_deltas(convert::rules(&c.settings, rules.fork, rules.pair), x[0], entry, n).into()
         }
         Leaf::WeighJustificationAndFinalization => {
             let f = convert::finality(&c.finality);

@@ -28,7 +28,7 @@ pub fn close(
 ) -> (u64, Finality, [u64; 3]) {
     closed(unsafe {
         raw::altair_close(
-            convert::rules(s, rules),
+            convert::rules(s, rules.fork, rules.pair),
             convert::finality(f),
             registry.as_ptr(),
             registry.len(),
@@ -78,7 +78,7 @@ pub fn registry_to(stop: u64, s: &Settings, slot: u64, finalized: u64, opening: 
 
 pub fn rewards(s: &Settings, rules: Rules, slot: u64, finalized: u64, opening: &[u64], closing: &mut [u64]) -> u64 {
     let (a, n, b, m) = (opening.as_ptr(), opening.len(), closing.as_mut_ptr(), closing.len());
-    unsafe { raw::altair_process_rewards_and_penalties(convert::rules(s, rules), slot, finalized, a, n, b, m) }
+    unsafe { raw::altair_process_rewards_and_penalties(convert::rules(s, rules.fork, rules.pair), slot, finalized, a, n, b, m) }
 }
 
 pub fn slashings(
@@ -91,7 +91,7 @@ pub fn slashings(
 ) -> u64 {
     let (a, n, b, m) = (opening.as_ptr(), opening.len(), closing.as_mut_ptr(), closing.len());
     let (l, k) = (slashings.as_ptr(), slashings.len());
-    unsafe { raw::altair_process_slashings(convert::rules(s, rules), slot, l, k, a, n, b, m) }
+    unsafe { raw::altair_process_slashings(convert::rules(s, rules.fork, rules.pair), slot, l, k, a, n, b, m) }
 }
 
 pub fn participation_flags(opening: &[u64], closing: &mut [u64]) -> u64 {
