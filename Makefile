@@ -1,13 +1,13 @@
 # libaltair and the command altair-close, from the proved archive.
 #
-#   make                              target/altair: libaltair.a, libaltair.so.3, altair-close
+#   make                              target/altair: libaltair.a, libaltair.so.5, altair-close
 #   make install PREFIX=/usr/local    and below DESTDIR, where that is given; `make uninstall` takes the same words
 #   make release                      target/release: an archive to hand on and its sha256 sum, the same bytes each time
 #   make wheel                        target/release: the Python wheel, which carries the shared library, and its sha256 sum
 #   make test                         tests/run
 #
 # The proved functions are the archive that `rt staticlib exports` writes; PROVED=FILE names one that was made elsewhere.
-VERSION := 3.0.0
+VERSION := 5.0.0
 INTERFACE := $(firstword $(subst ., ,$(VERSION)))
 PREFIX ?= /usr/local
 DESTDIR ?=

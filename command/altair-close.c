@@ -19,7 +19,7 @@
 enum { CLOSED = 0, REFUSED = 1, TROUBLE = 2 };
 
 static const char help[] =
-    "altair-close [--json | --csv] [--out FILE] RECORD\n"
+    "altair-close [--amounts] [--json | --csv] [--store FILE] [--out FILE] RECORD\n"
     "\n"
     "Closes the epoch of a record file ('-' is standard input) and prints the listing: epoch, justified and finalized "
     "epoch,\n"
@@ -27,9 +27,13 @@ static const char help[] =
     "its index, opening and closing balance, effective balance and score after,\n"
     "and its net change, closing minus opening.\n"
     "\n"
+    "  --amounts     the statement by rule: which of the four finality tests, 1 to 4, set the finalized checkpoint, or 0; and for\n"
+    "                each validator its opening balance, the reward and the amount taken for source, target, head and\n"
+    "                inactivity, the amount taken by slashing, and its closing balance; with --json or --csv beside the listing\n"
     "  --json        the listing as one JSON object; numbers are whole, up to 2^64 - 1; a loss has a minus sign\n"
     "  --csv         the listing as lines of comma separated values, the epoch's figures on each line\n"
-    "  --out FILE    the closed record, written as a record file; it is there whole, or not at all\n"
+    "  --store FILE  closes by a store of settings by starting epoch (tools/store), in place of the record's own as Altair\n"
+    "  --out FILE    the closed record, written as a record file of version 2; it is there whole, or not at all\n"
     "  --help        this text\n"
     "  --version     the version\n"
     "\n"
@@ -64,6 +68,7 @@ typedef struct record {
     size_t length, numbers, slashings_length, roots_length;
     altair_settings settings;
     altair_finality finality;
+    altair_queue queue;
     uint64_t *registry, *slashings;
     const uint8_t *roots;
 } record;
@@ -109,8 +114,8 @@ static int refused(const char *path, uint64_t number, const char *where) {
     return REFUSED;
 }
 
-/* The place in the file at which reading stopped, in words. */
-static const char *place(uint64_t number, uint64_t position) {
+/* The place in the file at which reading stopped, in words. The validators of a file of version 2 stand behind the pair. */
+static const char *place(uint64_t number, uint64_t position, uint64_t version) {
     static const char *const fields[] = {
         "effective_balance",
         "slashed",
@@ -130,11 +135,35 @@ static const char *place(uint64_t number, uint64_t position) {
         return " (the header's sizes, or the settings')";
     if (number == ALTAIR_BAD_SETTINGS)
         return " (settings)";
+    if (number == ALTAIR_WRONG_QUEUE)
+        return " (exit_queue, at byte 368)";
     if (position == 368)
         return " (slot, justification_bits or a checkpoint's epoch)";
-    snprintf(words, sizeof words, " (validators[" U64 "].%s, at byte " U64 ")", (position - 368) / 80,
-             fields[(position - 368) % 80 / 8], position);
+    const uint64_t at = position - ALTAIR_ROOTS_AT(version, 0);
+    snprintf(words, sizeof words, " (validators[" U64 "].%s, at byte " U64 ")", at / 80, fields[at % 80 / 8], position);
     return words;
+}
+
+/* The numbers of a store file and how many entries it has, all of them in use. What is no store the close refuses. */
+static uint64_t *read_store(const char *path, size_t *numbers) {
+    enum { MOST = 1 << 16 };
+    FILE *in = fopen(path, "rb");
+    if (in == NULL)
+        trouble("%s: %s", path, strerror(errno));
+    uint8_t *bytes = room(8 * ALTAIR_ENTRY_LENGTH * MOST + 1, 1);
+    const size_t held = fread(bytes, 1, 8 * ALTAIR_ENTRY_LENGTH * MOST + 1, in);
+    if (ferror(in))
+        trouble("%s: %s", path, strerror(errno));
+    fclose(in);
+    if (held % (8 * ALTAIR_ENTRY_LENGTH) != 0)
+        trouble("%s: no store file: its length is not a multiple of %d bytes, or it has more than %d entries", path,
+                8 * ALTAIR_ENTRY_LENGTH, MOST);
+    *numbers = held / 8;
+    uint64_t *store = room(*numbers, sizeof *store);
+    for (size_t i = 0; i < *numbers; i++)
+        store[i] = number_at(bytes + 8 * i);
+    free(bytes);
+    return store;
 }
 
 /* -- Writing ------------------------------------------------------------------------------------------------------- */
@@ -144,63 +173,110 @@ static void finish(FILE *out, const char *path) {
         trouble("%s: %s", path, strerror(errno));
 }
 
+/* The numbers of a close: amounts, nine a validator, is NULL where they are not asked for. */
+typedef struct shown {
+    altair_head head;
+    uint64_t test;
+    const uint64_t *amounts;
+} shown;
+
+static const char *const rules[ALTAIR_AMOUNTS_LENGTH] = {
+    "source_reward", "source_taken",      "target_reward",    "target_taken",   "head_reward",
+    "head_taken",    "inactivity_reward", "inactivity_taken", "slashing_taken",
+};
+
+static const uint64_t *amounts_of(const shown *all, uint64_t index) {
+    return all->amounts + ALTAIR_AMOUNTS_LENGTH * index;
+}
+
 /* How a close is printed: what stands first, a line for each validator, and what stands last. */
 typedef struct form {
-    void (*first)(const altair_head *head, size_t validators);
-    void (*line)(const altair_head *head, const altair_line *line);
+    void (*first)(const shown *all, size_t validators);
+    void (*line)(const shown *all, const altair_line *line);
     const char *last;
 } form;
 
-static void listing_first(const altair_head *head, size_t validators) {
+static void listing_first(const shown *all, size_t validators) {
     (void)validators;
-    printf("epoch " U64 " justified " U64 " finalized " U64 " bits " U64 " charged " U64 " " U64 " " U64 " " U64 "\n",
+    const altair_head *head = &all->head;
+    printf("epoch " U64 " justified " U64 " finalized " U64 " bits " U64 " charged " U64 " " U64 " " U64 " " U64,
            head->epoch, head->justified_epoch, head->finalized_epoch, head->justification_bits, head->charged,
            head->raised.active, head->raised.previous, head->raised.current);
+    if (all->amounts == NULL) {
+        putchar('\n');
+        return;
+    }
+    printf(" test " U64 "\nindex opening_balance", all->test);
+    for (int i = 0; i < ALTAIR_AMOUNTS_LENGTH; i++)
+        printf(" %s", rules[i]);
+    puts(" closing_balance");
 }
 
-static void listing_line(const altair_head *head, const altair_line *line) {
-    (void)head;
-    printf(U64 " " U64 " " U64 " " U64 " " U64 " " I64 "\n", line->index, line->opening_balance, line->closing_balance,
-           line->effective_balance, line->inactivity_score, line->net_change);
+static void listing_line(const shown *all, const altair_line *line) {
+    if (all->amounts == NULL) {
+        printf(U64 " " U64 " " U64 " " U64 " " U64 " " I64 "\n", line->index, line->opening_balance,
+               line->closing_balance, line->effective_balance, line->inactivity_score, line->net_change);
+        return;
+    }
+    printf(U64 " " U64, line->index, line->opening_balance);
+    for (int i = 0; i < ALTAIR_AMOUNTS_LENGTH; i++)
+        printf(" " U64, amounts_of(all, line->index)[i]);
+    printf(" " U64 "\n", line->closing_balance);
 }
 
-static void json_first(const altair_head *head, size_t validators) {
+static void json_first(const shown *all, size_t validators) {
     (void)validators;
+    const altair_head *head = &all->head;
     printf("{\"epoch\": " U64 ", \"justified_epoch\": " U64 ", \"finalized_epoch\": " U64
            ", \"justification_bits\": " U64 ", \"charged\": " U64 ",\n \"raised_active\": " U64
-           ", \"raised_previous\": " U64 ", \"raised_current\": " U64 ",\n \"validators\": [",
+           ", \"raised_previous\": " U64 ", \"raised_current\": " U64,
            head->epoch, head->justified_epoch, head->finalized_epoch, head->justification_bits, head->charged,
            head->raised.active, head->raised.previous, head->raised.current);
+    if (all->amounts != NULL)
+        printf(", \"finalizing_test\": " U64, all->test);
+    printf(",\n \"validators\": [");
 }
 
-static void json_line(const altair_head *head, const altair_line *line) {
-    (void)head;
+static void json_line(const shown *all, const altair_line *line) {
     printf("%s\n  {\"index\": " U64 ", \"opening_balance\": " U64 ", \"closing_balance\": " U64
-           ", \"effective_balance\": " U64 ", \"inactivity_score\": " U64 ", \"net_change\": " I64 "}",
+           ", \"effective_balance\": " U64 ", \"inactivity_score\": " U64 ", \"net_change\": " I64,
            line->index == 0 ? "" : ",", line->index, line->opening_balance, line->closing_balance,
            line->effective_balance, line->inactivity_score, line->net_change);
+    for (int i = 0; all->amounts != NULL && i < ALTAIR_AMOUNTS_LENGTH; i++)
+        printf(", \"%s\": " U64, rules[i], amounts_of(all, line->index)[i]);
+    putchar('}');
 }
 
-static void csv_epoch(const altair_head *head) {
+static void csv_epoch(const shown *all) {
+    const altair_head *head = &all->head;
     printf(U64 "," U64 "," U64 "," U64 "," U64 "," U64 "," U64 "," U64 ",", head->epoch, head->justified_epoch,
            head->finalized_epoch, head->justification_bits, head->charged, head->raised.active, head->raised.previous,
            head->raised.current);
+    if (all->amounts != NULL)
+        printf(U64 ",", all->test);
 }
 
 /* with no validators one line stands for the epoch, and the validator's columns are empty */
-static void csv_first(const altair_head *head, size_t validators) {
-    puts("epoch,justified_epoch,finalized_epoch,justification_bits,charged,raised_active,raised_previous,raised_current,"
-         "index,opening_balance,closing_balance,effective_balance,inactivity_score,net_change");
+static void csv_first(const shown *all, size_t validators) {
+    printf("epoch,justified_epoch,finalized_epoch,justification_bits,charged,raised_active,raised_previous,raised_current,"
+           "%sindex,opening_balance,closing_balance,effective_balance,inactivity_score,net_change",
+           all->amounts != NULL ? "finalizing_test," : "");
+    for (int i = 0; all->amounts != NULL && i < ALTAIR_AMOUNTS_LENGTH; i++)
+        printf(",%s", rules[i]);
+    putchar('\n');
     if (validators == 0) {
-        csv_epoch(head);
-        puts(",,,,,");
+        csv_epoch(all);
+        puts(all->amounts != NULL ? ",,,,,,,,,,,,,," : ",,,,,");
     }
 }
 
-static void csv_line(const altair_head *head, const altair_line *line) {
-    csv_epoch(head);
-    printf(U64 "," U64 "," U64 "," U64 "," U64 "," I64 "\n", line->index, line->opening_balance, line->closing_balance,
+static void csv_line(const shown *all, const altair_line *line) {
+    csv_epoch(all);
+    printf(U64 "," U64 "," U64 "," U64 "," U64 "," I64, line->index, line->opening_balance, line->closing_balance,
            line->effective_balance, line->inactivity_score, line->net_change);
+    for (int i = 0; all->amounts != NULL && i < ALTAIR_AMOUNTS_LENGTH; i++)
+        printf("," U64, amounts_of(all, line->index)[i]);
+    putchar('\n');
 }
 
 static const form listing = {listing_first, listing_line, ""};
@@ -218,12 +294,12 @@ static uint64_t unprintable(const record *opening, const uint64_t *closing, uint
     return 0;
 }
 
-static void print(const form *as, const altair_head *head, const record *opening, const uint64_t *closing) {
+static void print(const form *as, const shown *all, const record *opening, const uint64_t *closing) {
     const size_t validators = opening->numbers / ALTAIR_VALIDATOR_LENGTH;
-    as->first(head, validators);
+    as->first(all, validators);
     for (uint64_t i = 0; i < validators && !ferror(stdout); i++) {
         const altair_line line = altair_listing_line(opening->registry, opening->numbers, closing, opening->numbers, i);
-        as->line(head, &line);
+        as->line(all, &line);
     }
     fputs(as->last, stdout);
     finish(stdout, "standard output");
@@ -264,37 +340,50 @@ static void write_record(const char *path, const uint8_t *bytes, size_t length) 
 
 /* -- The command --------------------------------------------------------------------------------------------------- */
 
-static int close_record(const char *path, const form *as, const char *target) {
+static int close_record(const char *path, const char *by, const form *as, int booked, const char *target) {
     record r;
     r.file = read_all(path, &r.length);
     const altair_header header = altair_read_header(r.file, r.length);
     if (header.refusal != 0)
-        return refused(path, header.refusal, place(header.refusal, r.length < 80 ? 0 : 80));
+        return refused(path, header.refusal, place(header.refusal, r.length < 80 ? 0 : 80, 1));
 
     /* the header's counts are below the file's length */
     r.numbers = ALTAIR_VALIDATOR_LENGTH * header.validators;
     r.slashings_length = header.slashings;
-    r.roots = r.file + ALTAIR_ROOTS_AT(header.validators);
+    r.roots = r.file + ALTAIR_ROOTS_AT(r.file[0], header.validators);
     r.roots_length = 32 * header.roots;
     r.registry = room(r.numbers, sizeof *r.registry);
     r.slashings = room(r.slashings_length, sizeof *r.slashings);
     const altair_read_answer read =
         altair_read_file(r.file, r.length, r.registry, r.numbers, r.slashings, r.slashings_length);
     if (read.refusal != 0)
-        return refused(path, read.refusal, place(read.refusal, read.position));
+        return refused(path, read.refusal, place(read.refusal, read.position, r.file[0]));
     r.settings = read.settings;
     r.finality = read.finality;
+    r.queue = read.queue;
 
     uint64_t *closing = room(r.numbers, sizeof *closing);
     uint64_t *closing_slashings = room(r.slashings_length, sizeof *closing_slashings);
-    const altair_close_answer closed =
-        altair_close(altair_under_altair(r.settings), r.finality, r.registry, r.numbers, r.slashings, r.slashings_length, r.roots,
-                     r.roots_length, closing, r.numbers, closing_slashings, r.slashings_length);
+    const size_t amounts_length = ALTAIR_AMOUNTS_LENGTH * header.validators;
+    uint64_t *amounts = room(amounts_length, sizeof *amounts);
+    size_t store_length = ALTAIR_ENTRY_LENGTH;
+    uint64_t *store = by != NULL ? read_store(by, &store_length) : room(store_length, sizeof *store);
+    if (by == NULL) /* of one entry: the file's settings, as Altair, from epoch 0 on */
+        altair_put_entry(store, 0, altair_under_altair(r.settings));
+    const altair_full_answer closed =
+        altair_close(store, store_length, store_length / ALTAIR_ENTRY_LENGTH, r.finality, r.queue, r.registry, r.numbers, r.slashings,
+                     r.slashings_length, r.roots, r.roots_length, closing, r.numbers, closing_slashings,
+                     r.slashings_length, amounts, amounts_length);
     if (closed.refusal != 0)
         return refused(path, closed.refusal, "");
-    const altair_head head = altair_listing_head(r.settings, r.finality.slot, closed.finality, r.registry, r.numbers);
-    if (head.refusal != 0)
-        return refused(path, head.refusal, " (the closed record)");
+    /* the entries of a store, of which there is one, have the same slots_per_epoch */
+    const uint64_t epoch = r.finality.slot / store[ALTAIR_ENTRY_SETTINGS];
+    const altair_settings settings =
+        altair_read_rules(store, store_length, store_length / ALTAIR_ENTRY_LENGTH, epoch).rules.settings;
+    const shown all = {altair_listing_head(settings, r.finality.slot, closed.finality, r.registry, r.numbers),
+                       closed.test, booked ? amounts : NULL};
+    if (all.head.refusal != 0)
+        return refused(path, all.head.refusal, " (the closed record)");
     uint64_t index;
     const uint64_t number = unprintable(&r, closing, &index);
     if (number != 0) {
@@ -304,17 +393,18 @@ static int close_record(const char *path, const form *as, const char *target) {
     }
 
     if (target != NULL) {
-        uint8_t *file = room(r.length, 1);
+        const size_t length = ALTAIR_FILE_LENGTH(header.validators, header.roots, header.slashings);
+        uint8_t *file = room(length, 1);
         const uint64_t number =
-            altair_write_file(r.settings, closed.finality, closing, r.numbers, r.roots, r.roots_length,
-                              closing_slashings, r.slashings_length, file, r.length);
+            altair_write_file(r.settings, closed.finality, closed.queue, closing, r.numbers, r.roots, r.roots_length,
+                              closing_slashings, r.slashings_length, file, length);
         if (number != 0)
             return refused(path, number, " (the closed record)");
-        write_record(target, file, r.length);
+        write_record(target, file, length);
         free(file);
     }
-    print(as, &head, &r, closing);
-    free(r.file), free(r.registry), free(r.slashings), free(closing), free(closing_slashings);
+    print(as, &all, &r, closing);
+    free(r.file), free(r.registry), free(r.slashings), free(closing), free(closing_slashings), free(amounts), free(store);
     return CLOSED;
 }
 
@@ -324,9 +414,9 @@ static _Noreturn void misused(const char *what, const char *word) {
 }
 
 int main(int count, char **words) {
-    const char *path = NULL, *target = NULL;
+    const char *path = NULL, *target = NULL, *by = NULL;
     const form *as = &listing;
-    int ended = 0;
+    int ended = 0, booked = 0;
     /* a closed pipe and a file beyond its limit are then errors of writing, and exit 2 */
     signal(SIGPIPE, SIG_IGN);
     signal(SIGXFSZ, SIG_IGN);
@@ -343,6 +433,12 @@ int main(int count, char **words) {
             if (as != &listing && as != wanted)
                 misused("--json or --csv, not both", "");
             as = wanted;
+        } else if (strcmp(word, "--amounts") == 0) {
+            booked = 1;
+        } else if (strcmp(word, "--store") == 0) {
+            if (++i == count)
+                misused("--store wants a file", "");
+            by = words[i];
         } else if (strcmp(word, "--out") == 0) {
             if (++i == count)
                 misused("--out wants a file", "");
@@ -361,5 +457,5 @@ int main(int count, char **words) {
     }
     if (path == NULL)
         misused("a record file is wanted", "");
-    return close_record(path, as, target);
+    return close_record(path, by, as, booked, target);
 }

@@ -18,6 +18,7 @@ mod measure;
 mod plain;
 mod plot;
 mod scenarios;
+mod shelf;
 mod stack;
 mod table;
 
@@ -45,7 +46,7 @@ fn main() {
             rows.push(row);
         }
     }
-    let text = table::markdown(&rows, stack::deepest());
+    let text = table::markdown(&rows, stack::deepest()) + "\n" + &shelf::text(&shelf::row());
     println!("\n{text}");
     let write = |name: &str, text: String| {
         let file = Path::new(&folder).join(name);

@@ -34,7 +34,7 @@ fn foreseen(before: Option<Time>, growth: f64) -> bool {
     before.is_none_or(|t| t.least * growth * growth < LONGEST.as_secs_f64() * 1e3)
 }
 
-fn time(mut all: Vec<Duration>) -> Time {
+pub fn time(mut all: Vec<Duration>) -> Time {
     all.sort();
     let ms = |d: Duration| d.as_secs_f64() * 1e3;
     Time { median: ms(all[all.len() / 2]), least: ms(all[0]) }
@@ -79,13 +79,19 @@ pub fn row(scenario: Scenario, validators: usize, before: Option<&Row>) -> Row {
 pub struct Buffers {
     settings: types::Settings,
     finality: types::Finality,
+    queue: types::ExitQueue,
     registry: Vec<u64>,
     slashings: Vec<u64>,
+    amounts: Vec<types::Amounts>,
 }
 
 impl Buffers {
     pub fn new(r: &Record) -> Self {
+        let booked = types::Amounts { slashing_taken: 1, ..types::Amounts::default() };
         Buffers {
+            // the record carries it, so that no close looks for it
+            queue: altair_close::exit_queue(&r.registry).unwrap_or_default(),
+            amounts: vec![booked; r.registry.len() / 10],
             settings: convert::settings(&r.settings),
             finality: convert::finality(&r.finality),
             registry: vec![1; r.registry.len()],
@@ -110,17 +116,18 @@ impl Buffers {
 
     pub fn closed(&mut self, r: &Record) -> Result<types::Finality, Refusal> {
         let (registry, slashings) = (&mut self.registry[..], &mut self.slashings[..]);
-        let (s, f) = (&self.settings, &self.finality);
-        altair_close::close(s, f, &r.registry, &r.slashings, &r.roots, registry, slashings).map(|closed| closed.finality)
+        let (s, f, queue) = (&self.settings, &self.finality, Some(&self.queue));
+        altair_close::close(s, f, queue, &r.registry, &r.slashings, &r.roots, registry, slashings, &mut self.amounts)
+            .map(|closed| closed.finality)
     }
 
     fn plain(&mut self, r: &Record) -> Duration {
         let start = Instant::now();
-        black_box(plain::close(black_box(r), &mut self.registry, &mut self.slashings));
+        black_box(plain::close(black_box(r), &mut self.registry, &mut self.slashings, &mut self.amounts));
         start.elapsed()
     }
 
-    /// The library's close and the plain one give the same: finality, registry and slashings. Or it is refused as foreseen, and the
+    /// The library's close and the plain one give the same: finality, registry, slashings and amounts. Or it is refused as foreseen, and the
     /// opening is there.
     fn checked(&mut self, r: &Record, refusal: Option<Refusal>) -> bool {
         let closed = self.closed(r);
@@ -129,12 +136,14 @@ impl Buffers {
             assert_eq!(closed.err(), refusal, "the library's answer");
             other.registry.copy_from_slice(&r.registry);
             other.slashings.copy_from_slice(&r.slashings);
+            other.amounts.fill(types::Amounts::default());
         } else {
-            let finality = plain::close(r, &mut other.registry, &mut other.slashings);
+            let finality = plain::close(r, &mut other.registry, &mut other.slashings, &mut other.amounts);
             assert!(closed == Ok(convert::finality(&finality)), "finality is not the same");
         }
         assert!(self.registry == other.registry, "the closing registry is not the same");
         assert!(self.slashings == other.slashings, "the closing slashings are not the same");
+        assert!(self.amounts == other.amounts, "the amounts are not the same");
         refusal.is_some()
     }
 

@@ -1,6 +1,7 @@
 //! The close as one would write it in Rust for speed alone: one pass that reads, one that writes, and nothing refused. It is for
 //! records in which no arithmetic leaves 64 bits and every root is kept; the benchmark holds its result to the library's.
 use crate::record::{at, of, Checkpoint, Finality, Record, Settings, FAR};
+use altair_close::Amounts;
 
 struct Totals {
     active: u64,
@@ -113,26 +114,41 @@ impl Shared<'_> {
         Row { rewards: [reward(14, 0), reward(26, 1), reward(14, 2)], penalties: [base * 14 / 64, base * 26 / 64, 0] }
     }
 
-    /// Score and balance after the second and the third step, of one who is eligible.
-    fn rewarded(&self, v: &[u64], row: &Row, participating: bool) -> (u64, u64) {
+    /// Score and balance after the second and the third step, of one who is eligible, and what was booked.
+    fn rewarded(&self, v: &[u64], row: &Row, participating: bool) -> (u64, u64, Amounts) {
         let s = self.s;
         let flags = when(participating, v[of::PREVIOUS]);
         let hit = flags & 2 != 0;
         let moved = if hit { v[of::SCORE].saturating_sub(1) } else { v[of::SCORE] + s[at::BIAS] };
         let score = moved.saturating_sub(when(!self.leaking, s[at::RECOVERY]));
         let mut balance = v[of::BALANCE];
+        let (mut gained, mut lost) = ([0; 3], [0; 4]);
         for k in 0..3 {
             if flags >> k & 1 != 0 {
-                balance += row.rewards[k];
+                gained[k] = row.rewards[k];
+                balance += gained[k];
             } else {
-                balance = balance.saturating_sub(row.penalties[k]);
+                lost[k] = row.penalties[k].min(balance);
+                balance -= lost[k];
             }
         }
         if !hit {
             let penalty = v[of::EFFECTIVE] * score / (s[at::BIAS] * s[at::PENALTY_QUOTIENT]);
-            balance = balance.saturating_sub(penalty);
+            lost[3] = penalty.min(balance);
+            balance -= lost[3];
         }
-        (score, balance)
+        let booked = Amounts {
+            source_reward: gained[0],
+            source_taken: lost[0],
+            target_reward: gained[1],
+            target_taken: lost[1],
+            head_reward: gained[2],
+            head_taken: lost[2],
+            inactivity_reward: 0,
+            inactivity_taken: lost[3],
+            slashing_taken: 0,
+        };
+        (score, balance, booked)
     }
 }
 
@@ -147,8 +163,8 @@ fn root_of(n: u64) -> u64 {
     r
 }
 
-/// Finality, and the closing buffers written. From epoch 2 on.
-pub fn close(r: &Record, closing: &mut [u64], closing_slashings: &mut [u64]) -> Finality {
+/// Finality, and the closing buffers and the amounts written. From epoch 2 on.
+pub fn close(r: &Record, closing: &mut [u64], closing_slashings: &mut [u64], amounts: &mut [Amounts]) -> Finality {
     let s = &r.settings;
     let epoch = r.finality.slot / s[at::SLOTS_PER_EPOCH];
     let mut t = totals(s, epoch, &r.registry);
@@ -166,26 +182,26 @@ pub fn close(r: &Record, closing: &mut [u64], closing_slashings: &mut [u64]) -> 
         down: s[at::INCREMENT] / s[at::HYSTERESIS_QUOTIENT] * s[at::DOWNWARD],
         up: s[at::INCREMENT] / s[at::HYSTERESIS_QUOTIENT] * s[at::UPWARD],
     };
-    write(&shared, &mut t, limit, &r.registry, closing);
+    write(&shared, &mut t, limit, &r.registry, closing, amounts);
     activate(&mut t.waiting, finality.finalized.epoch, limit, epoch + 1 + s[at::LOOKAHEAD], closing);
     closing_slashings.copy_from_slice(&r.slashings);
     closing_slashings[((epoch + 1) % s[at::L]) as usize] = 0;
     finality
 }
 
-fn write(h: &Shared, t: &mut Totals, limit: u64, opening: &[u64], closing: &mut [u64]) {
+fn write(h: &Shared, t: &mut Totals, limit: u64, opening: &[u64], closing: &mut [u64], amounts: &mut [Amounts]) {
     let s = h.s;
     let mut known = (0, h.row(0));
-    for (v, out) in opening.chunks_exact(10).zip(closing.chunks_exact_mut(10)) {
+    for ((v, out), booked) in opening.chunks_exact(10).zip(closing.chunks_exact_mut(10)).zip(amounts) {
         let effective = v[of::EFFECTIVE];
         if known.0 != effective {
             known = (effective, h.row(effective));
         }
         let before = active(v, h.epoch - 1);
         let slashed = v[of::SLASHED] == 1;
-        let (mut score, mut balance) = (v[of::SCORE], v[of::BALANCE]);
+        let (mut score, mut balance, mut given) = (v[of::SCORE], v[of::BALANCE], Amounts::default());
         if before || (slashed && h.epoch < v[of::WITHDRAWABLE]) {
-            (score, balance) = h.rewarded(v, &known.1, before && !slashed);
+            (score, balance, given) = h.rewarded(v, &known.1, before && !slashed);
         }
         let mut eligibility = v[of::ELIGIBILITY];
         if eligibility == FAR && effective == s[at::MAX_EFFECTIVE] {
@@ -201,8 +217,10 @@ fn write(h: &Shared, t: &mut Totals, limit: u64, opening: &[u64], closing: &mut 
         }
         if slashed && h.epoch + s[at::L] / 2 == withdrawable {
             let increments = effective / s[at::INCREMENT];
-            balance = balance.saturating_sub(increments * h.adjusted / h.active * s[at::INCREMENT]);
+            given.slashing_taken = balance.min(increments * h.adjusted / h.active * s[at::INCREMENT]);
+            balance -= given.slashing_taken;
         }
+        *booked = given;
         let moves = (balance + h.down < effective) | (effective + h.up < balance);
         let rounded = if moves { (balance - balance % s[at::INCREMENT]).min(s[at::MAX_EFFECTIVE]) } else { effective };
         let after = [

@@ -20,17 +20,24 @@
  *   6  a record file's header is not as it must be: docs/RECORD_FILE.md
  *   1  a length, a vector's size or an index is not the one called for:
  *        a registry of 10 * N numbers, N at most 2^24; one validator of 10 numbers; S and L each 1 to 65536;
- *        roots of 32 * S bytes; slashings of L numbers; a closing buffer as long as its opening;
+ *        roots of 32 * S bytes; slashings of L numbers; a closing buffer as long as its opening; amounts of 9 * N numbers;
  *        marks of N numbers; a file to be written of ALTAIR_FILE_LENGTH bytes; a file's N, S and L in these ranges, S and L like its settings;
  *        a validator's index below N; a flag index of 0 to 2 (0 to 7 for has_flag and add_flag);
  *        a participation epoch that is the previous or the current one; a total to divide by that is not 0;
- *        a fork that is 0 or 1
+ *        a fork that is 0 or 1; a store of 23 numbers an entry, at least as many entries as are in use, whose starts rise strictly and
+ *        whose slots_per_epoch, S and L are all the same; room for an entry that is added
  *   2  a setting is 0 where it divides, or 2^48 or more: slots_per_epoch, effective_balance_increment, hysteresis_quotient,
  *        inactivity_score_bias, inactivity_penalty_quotient_altair and churn_limit_quotient may not be 0; under fork 1, and only
- *        there, the same of the Bellatrix pair, whose quotient may not be 0
+ *        there, the same of the Bellatrix pair, whose quotient may not be 0; of a store it is asked of every entry in use
+ *   11  the list of exit orders is full
+ *   9  an exit order's validator is unknown, not active or leaving already
+ *   10  an exit order's start is ahead, or its validator has not been active for long enough
+ *   12  a new entry's start is not above that of the last entry
+ *   13  the store has no entry for the epoch
  *   14  a second is before genesis
  *   3  a slot, epoch, bit field or flag of the record is out of range: the state's slot and the checkpoints' epochs are below
  *        2^48, justification_bits is 0 to 15, slashed 0 or 1, each of the two flags 0 to 255, a mark 0 to 3; all else is any 64-bit number
+ *   8  the exit queue's pair is not that of the registry
  *   4  a block root is wanted that the record does not keep: at slot s, where s >= state's slot or state's slot > s + S
  *   5  a sum, product or difference that is evaluated leaves 64 bits
  *   7  a net change, closing minus opening balance, does not fit signed 64 bits
@@ -47,7 +54,7 @@ extern "C" {
 #endif
 
 /* The number of this interface. altair_version() answers the number of the library that was linked. */
-#define ALTAIR_VERSION 3
+#define ALTAIR_VERSION 5
 
 /* 2^64 - 1, which means none: the activation epoch of one that is not activated, the exit epoch of one that does not leave. */
 #define ALTAIR_FAR_FUTURE_EPOCH UINT64_MAX
@@ -66,6 +73,12 @@ enum altair_refusal {
     ALTAIR_OVERFLOW = 5,
     ALTAIR_BAD_FILE = 6,
     ALTAIR_SIGNED_OVERFLOW = 7,
+    ALTAIR_WRONG_QUEUE = 8,
+    ALTAIR_NO_EXIT = 9,
+    ALTAIR_TOO_EARLY = 10,
+    ALTAIR_FULL_LIST = 11,
+    ALTAIR_LATE_START = 12,
+    ALTAIR_NO_ENTRY = 13,
     ALTAIR_BEFORE_GENESIS = 14,
     ALTAIR_NO_SECONDS = 15
 };
@@ -83,6 +96,22 @@ enum altair_validator {
     ALTAIR_CURRENT_EPOCH_PARTICIPATION,
     ALTAIR_INACTIVITY_SCORE,
     ALTAIR_VALIDATOR_LENGTH
+};
+
+/* What a close books of a validator is nine numbers of the amounts; validator i has those from ALTAIR_AMOUNTS_LENGTH * i on. A reward
+ * was added, then what is taken, as far as there was balance: for source, target, head and inactivity, whose reward is 0, and at the end
+ * by slashing. Opening balance plus rewards less what was taken is the closing balance. */
+enum altair_amount {
+    ALTAIR_SOURCE_REWARD,
+    ALTAIR_SOURCE_TAKEN,
+    ALTAIR_TARGET_REWARD,
+    ALTAIR_TARGET_TAKEN,
+    ALTAIR_HEAD_REWARD,
+    ALTAIR_HEAD_TAKEN,
+    ALTAIR_INACTIVITY_REWARD,
+    ALTAIR_INACTIVITY_TAKEN,
+    ALTAIR_SLASHING_TAKEN,
+    ALTAIR_AMOUNTS_LENGTH
 };
 
 /* The nineteen settings of a network. */
@@ -138,6 +167,29 @@ typedef struct altair_rules {
     altair_bellatrix bellatrix;
 } altair_rules;
 
+/* Settings by starting epoch. A store is an array of entries of 23 numbers, lent with the count of those in use: starting epoch, fork,
+ * the nineteen settings and the pair. A read or a close goes by the last entry whose start is not above its epoch. Entries beyond the
+ * count are not looked at. altair_put_entry writes one, altair_add_rules adds one behind those in use. */
+enum altair_entry {
+    ALTAIR_ENTRY_START = 0,
+    ALTAIR_ENTRY_FORK = 1,
+    ALTAIR_ENTRY_SETTINGS = 2,
+    ALTAIR_ENTRY_BELLATRIX = 21,
+    ALTAIR_ENTRY_LENGTH = 23
+};
+
+/* The rules that were read, or the refusal and zeros. */
+typedef struct altair_rules_answer {
+    uint64_t refusal;
+    altair_rules rules;
+} altair_rules_answer;
+
+/* How many entries are in use after the call, or the refusal and the count that was handed in. */
+typedef struct altair_count_answer {
+    uint64_t refusal;
+    uint64_t count;
+} altair_count_answer;
+
 /* A network's clock. Seconds are those of Unix time; genesis_time is the first second of slot 0. */
 typedef struct altair_clock {
     uint64_t genesis_time;
@@ -163,6 +215,19 @@ typedef struct altair_finality {
     altair_checkpoint finalized_checkpoint;
 } altair_finality;
 
+/* The exit queue's pair of a registry: the largest exit epoch below FAR, or 0 where there is none, and how many validators have exactly
+ * it. altair_exit_queue works it out; a record carries it on, so that no call but that one searches for it. */
+typedef struct altair_queue {
+    uint64_t last_epoch;
+    uint64_t number;
+} altair_queue;
+
+/* The pair after the call, or the refusal and the pair that was handed in. */
+typedef struct altair_queue_answer {
+    uint64_t refusal;
+    altair_queue queue;
+} altair_queue_answer;
+
 /* The finality after the call, or the refusal and the finality that was handed in. */
 typedef struct altair_finality_answer {
     uint64_t refusal;
@@ -177,12 +242,40 @@ typedef struct altair_raised {
     uint64_t current;
 } altair_raised;
 
-/* The finality after the call and which totals were raised, or the refusal and the finality that was handed in. */
-typedef struct altair_close_answer {
+/* The finality after the call, which totals were raised, and which of the four finality tests, 1 to 4 in their order, last set the
+ * finalized checkpoint, or 0. Or the refusal, the finality that was handed in, and zeros. */
+typedef struct altair_justification_answer {
     uint64_t refusal;
     altair_finality finality;
     altair_raised raised;
-} altair_close_answer;
+    uint64_t test;
+} altair_justification_answer;
+
+/* The same with the exit queue's pair after the call; beside a refusal it is the one that was handed in. */
+typedef struct altair_full_answer {
+    uint64_t refusal;
+    altair_finality finality;
+    altair_queue queue;
+    altair_raised raised;
+    uint64_t test;
+} altair_full_answer;
+
+/* A close between its calls, which the caller hands in and takes back. done is how many of its nine calls are done, and 9 once it has
+ * ended, refused or not; answer is what the whole close answers, as far as it has come; orders is how many exit orders are in the list.
+ * Where done is 0 nothing else is read: {0} begins one. */
+typedef struct altair_running {
+    uint64_t done;
+    altair_full_answer answer;
+    uint64_t orders;
+} altair_running;
+
+/* 0 or the refusal's number; 1 where the close had ended before the call, and then nothing was tested and nothing changed, else 0; and
+ * the close as it is now. */
+typedef struct altair_running_answer {
+    uint64_t refusal;
+    uint64_t ended;
+    altair_running running;
+} altair_running_answer;
 
 /* A total balance; raised is 1 where its plain sum was below one increment, so that the total was raised to it, and else 0. */
 typedef struct altair_total_answer {
@@ -218,7 +311,7 @@ typedef struct altair_root_answer {
     uint8_t root[32];
 } altair_root_answer;
 
-/* How much a record file holds. Its roots are the 32 * roots bytes from ALTAIR_ROOTS_AT(validators) on. */
+/* How much a record file holds. Its roots are the 32 * roots bytes from ALTAIR_ROOTS_AT(file[0], validators) on. */
 typedef struct altair_header {
     uint64_t refusal;
     uint64_t validators;
@@ -226,15 +319,17 @@ typedef struct altair_header {
     uint64_t slashings;
 } altair_header;
 
-#define ALTAIR_ROOTS_AT(validators) (368 + 80 * (validators))
-#define ALTAIR_FILE_LENGTH(validators, roots, slashings) (368 + 80 * (validators) + 32 * (roots) + 8 * (slashings))
+/* A file's first byte is its version, 1 or 2; version 1 has no room for the exit queue's pair. Version 2 is written, and its length is this. */
+#define ALTAIR_ROOTS_AT(version, validators) (352 + 16 * (version) + 80 * (validators))
+#define ALTAIR_FILE_LENGTH(validators, roots, slashings) (384 + 80 * (validators) + 32 * (roots) + 8 * (slashings))
 
-/* position is where reading stopped: the file's length where it was accepted. */
+/* position is where reading stopped: the file's length where it was accepted. queue is the file's pair, of version 1 worked out. */
 typedef struct altair_read_answer {
     uint64_t refusal;
     uint64_t position;
     altair_settings settings;
     altair_finality finality;
+    altair_queue queue;
 } altair_read_answer;
 
 /* The numbers of a listing's first line. */
@@ -287,13 +382,25 @@ uint64_t altair_version(void);
 
 /* -- The close -------------------------------------------------------------------------------------------------------- */
 
-/* Answers the closed record's finality and which totals were raised, or 1 to 5 and the finality handed in.
- * Closing buffers hold the closed record; after 1, 2 and 3 what they held before, after 4 and 5 the opening's numbers. */
-altair_close_answer altair_close(altair_rules rules, altair_finality finality, const uint64_t *registry,
-                                 size_t registry_length, const uint64_t *slashings, size_t slashings_length,
-                                 const uint8_t *roots, size_t roots_length, uint64_t *closing_registry,
-                                 size_t closing_registry_length, uint64_t *closing_slashings,
-                                 size_t closing_slashings_length);
+/* Closes by the last of the store's `count` entries whose start is not above the record's epoch. Answers the closed record's finality and
+ * pair, which totals were raised and which test finalized, or 1, 2, 13, 3, 8, 4 or 5 and the finality and pair handed in. Closing buffers
+ * hold the closed record and amounts what each rule gave and took (enum altair_amount); after 1, 2, 13, 3 and 8 what they held before;
+ * after 4 and 5 closing buffers hold the opening's numbers, and amounts zeros. With a store of no entry lengths that a setting calls for
+ * are not tested. */
+altair_full_answer altair_close(const uint64_t *store, size_t store_length, uint64_t count, altair_finality finality,
+                                altair_queue queue, const uint64_t *registry, size_t registry_length, const uint64_t *slashings, size_t slashings_length,
+                                const uint8_t *roots, size_t roots_length, uint64_t *closing_registry,
+                                size_t closing_registry_length, uint64_t *closing_slashings,
+                                size_t closing_slashings_length, uint64_t *amounts, size_t amounts_length);
+
+/* Answers the rules of the last of the store's `count` entries whose start is not above the epoch, or 1, 2 or 13.
+ * The store is read. */
+altair_rules_answer altair_read_rules(const uint64_t *store, size_t store_length, uint64_t count, uint64_t epoch);
+
+/* Answers the count with one more, or 1, 2 or 12 and the count handed in. Reading an epoch below the start gives what it gave before.
+ * The store holds the new entry behind the `count` in use, and else what it held; after a refusal what it held before. */
+altair_count_answer altair_add_rules(uint64_t *store, size_t store_length, uint64_t count, uint64_t start,
+                                     altair_rules rules);
 
 /* Answers how many validators of the opening registry are charged: active in the previous epoch, or slashed with the previous
  * epoch + 1 below the withdrawable epoch; nobody at epoch 0. Or 1, 2 or 3. The registry is read. */
@@ -323,24 +430,70 @@ altair_change_answer altair_net_change(uint64_t opening, uint64_t closing);
  * The file is read. */
 altair_header altair_read_header(const uint8_t *file, size_t file_length);
 
-/* Answers settings, finality and where reading stopped, or 6, 1, 2 or 3. registry has ten numbers a validator of the header.
+/* Answers settings, finality, pair and where reading stopped, or 6, 1, 2, 3 or 8. registry has ten numbers a validator of the header.
  * Registry and slashings hold the file's numbers; after a refusal what they held before. */
 altair_read_answer altair_read_file(const uint8_t *file, size_t file_length, uint64_t *registry, size_t registry_length,
                                     uint64_t *slashings, size_t slashings_length);
-
-/* Answers 0, or 1, 2 or 3. The file is ALTAIR_FILE_LENGTH bytes long.
- * It holds the record's file; after a refusal what it held before. */
-uint64_t altair_write_file(altair_settings settings, altair_finality finality, const uint64_t *registry,
+/* Answers 0, or 1, 2, 3 or 8. The file is ALTAIR_FILE_LENGTH bytes long.
+ * It holds the record's file, of version 2; after a refusal what it held before. */
+uint64_t altair_write_file(altair_settings settings, altair_finality finality, altair_queue queue, const uint64_t *registry,
                            size_t registry_length, const uint8_t *roots, size_t roots_length, const uint64_t *slashings,
                            size_t slashings_length, uint8_t *file, size_t file_length);
 
+/* -- A shelf of records ------------------------------------------------------------------------------------------------ */
+
+/* Closes record files that stand one behind another in `files`, of these lengths, each as if it were alone; under one fork, with its pair.
+ * Answers 0, or 1 where the lengths do not add up to the bytes, closing has another length than files, a working list has fewer bytes than
+ * the longest file, or there are not as many answers as lengths. Nothing is then written, and else:
+ * answers holds 0 for each file that was closed, or 6, 1, 2, 3, 8, 4 or 5; only files of version 2 are taken, and 1 and 2 are also those of
+ * fork and pair. closing holds in a file's place the closed record's file; after 4 and 5 the file's own bytes, after another refusal what it
+ * held before. The working lists opening_numbers and closing_numbers hold anything. */
+uint64_t altair_close_shelf(const uint8_t *files, size_t files_length, const uint64_t *lengths, size_t lengths_length,
+                            uint8_t *closing, size_t closing_length, uint64_t *opening_numbers,
+                            size_t opening_numbers_length, uint64_t *closing_numbers, size_t closing_numbers_length,
+                            uint64_t *answers, size_t answers_length, uint64_t fork, altair_bellatrix bellatrix);
+
+/* -- A close by steps, and exit orders meanwhile ----------------------------------------------------------------------- */
+
+/* Between the calls of one close nobody else changes what it was lent or handed back. Eight calls of altair_close_step, 1 to 8 in their
+ * order, leave what altair_close leaves, amounts too, whatever orders come between them. */
+
+/* Runs step `number`: answers 0, or 1 for a call out of turn. The first call makes every test of the whole close and, refused, ends it. In
+ * a later one 1, 2, 3 and 8 turn away that call alone, which may be made again; it tests the record so far, and not the opening's
+ * contents again. 4 and 5 end the close.
+ * Closing buffers hold the record so far, and amounts what was booked so far; they are lent again at the next call. After 4 and 5 closing
+ * buffers hold the opening's numbers, and amounts zeros; after another refusal all is as before. */
+altair_running_answer altair_close_step(uint64_t number, altair_running running, altair_rules rules,
+                                        altair_finality finality, altair_queue queue, const uint64_t *registry,
+                                        size_t registry_length, const uint64_t *slashings, size_t slashings_length,
+                                        const uint8_t *roots, size_t roots_length, uint64_t *closing_registry,
+                                        size_t closing_registry_length, uint64_t *closing_slashings,
+                                        size_t closing_slashings_length, uint64_t *amounts, size_t amounts_length);
+
+/* Takes an exit order, a validator's number and a starting epoch, after the first step and before the end. orders has two numbers an
+ * order. Answers 0, or 1 or 11.
+ * The order stands behind those in the list; after a refusal all is as before. */
+altair_running_answer altair_take_order(altair_running running, uint64_t validator, uint64_t start, uint64_t *orders,
+                                        size_t orders_length);
+
+/* The ninth call, after the eight: tries the orders in order of arrival, each on the record as it then stands, as phase0's voluntary exits
+ * without the signature, and ends the close. answers has a number an order that there is room for. Answers 0, or 1, 2 (also for a
+ * shard_committee_period of 2^48 or more; mainnet's is 256), 3 or 8, and the call may be made again.
+ * closing_registry holds the record with the exits, answers 0, 9, 10 or 5 for each order that was tried and else what it held; after a
+ * refusal all is as before. */
+altair_running_answer altair_carry_out(altair_rules rules, uint64_t shard_committee_period, altair_running running,
+                                       uint64_t *closing_registry, size_t closing_registry_length,
+                                       const uint64_t *orders, size_t orders_length, uint64_t *answers,
+                                       size_t answers_length);
+
 /* -- The eight steps, in the order of the close ------------------------------------------------------------------------ */
 
-/* Answers the finality after justification and which totals were raised, or 1 to 5 and the finality handed in.
+/* Answers the finality after justification, which totals were raised and which test finalized, or 1 to 5 and the finality handed in.
  * Roots and registry are read. */
-altair_close_answer altair_process_justification_and_finalization(altair_settings settings, const uint8_t *roots,
-                                                                  size_t roots_length, altair_finality finality,
-                                                                  const uint64_t *registry, size_t registry_length);
+altair_justification_answer altair_process_justification_and_finalization(altair_settings settings, const uint8_t *roots,
+                                                                          size_t roots_length, altair_finality finality,
+                                                                          const uint64_t *registry,
+                                                                          size_t registry_length);
 
 /* Answers 0, or 1, 2, 3 or 5.
  * closing holds the registry with the new scores; after 1, 2 and 3 what it held before, after 5 the opening's numbers. */
@@ -354,17 +507,18 @@ uint64_t altair_process_rewards_and_penalties(altair_rules rules, uint64_t state
                                               const uint64_t *opening, size_t opening_length, uint64_t *closing,
                                               size_t closing_length);
 
-/* Answers 0, or 1, 2, 3 or 5.
- * closing holds the registry after queueing, ejecting and activating; after 1, 2 and 3 as before, after 5 the opening's. */
-uint64_t altair_process_registry_updates(altair_settings settings, uint64_t state_slot, uint64_t finalized_epoch,
-                                         const uint64_t *opening, size_t opening_length, uint64_t *closing,
-                                         size_t closing_length);
+/* Answers the pair after the step, which counts the ejections, or 1, 2, 3, 8 or 5 and the pair handed in.
+ * closing holds the registry after queueing, ejecting and activating; after 1, 2, 3 and 8 as before, after 5 the opening's. */
+altair_queue_answer altair_process_registry_updates(altair_settings settings, uint64_t state_slot, uint64_t finalized_epoch,
+                                                    altair_queue queue, const uint64_t *opening, size_t opening_length,
+                                                    uint64_t *closing, size_t closing_length);
 
-/* The same with a stop, a validator's number, or N: from it up activation epochs stay. Answers 0, or 1, 2, 3 or 5; 1 also above N.
+/* The same with a stop, a validator's number, or N: from it up activation epochs stay. 1 also above N.
  * closing holds the registry as above, from the stop up with the opening's activation epochs; after a refusal as above. */
-uint64_t altair_process_registry_updates_to(uint64_t stop, altair_settings settings, uint64_t state_slot,
-                                            uint64_t finalized_epoch, const uint64_t *opening, size_t opening_length,
-                                            uint64_t *closing, size_t closing_length);
+altair_queue_answer altair_process_registry_updates_to(uint64_t stop, altair_settings settings, uint64_t state_slot,
+                                                       uint64_t finalized_epoch, altair_queue queue,
+                                                       const uint64_t *opening, size_t opening_length, uint64_t *closing,
+                                                       size_t closing_length);
 
 /* Answers 0, or 1, 2, 3 or 5.
  * closing holds the registry less the slashing penalties; after 1, 2 and 3 what it held before, after 5 the opening's numbers. */
@@ -518,12 +672,17 @@ altair_total_answer altair_get_participating_balance(altair_settings settings, u
 altair_number_answer altair_get_validator_churn_limit(altair_settings settings, uint64_t state_slot,
                                                       const uint64_t *registry, size_t registry_length);
 
-/* Answers 0, or 1, 2, 3 or 5. A validator whose exit epoch is not FAR keeps it. Else it leaves at current epoch + 1 +
- * max_seed_lookahead or at the registry's last exit epoch below FAR, whichever is later; one epoch more where as many as the
- * churn limit leave then. It is withdrawable min_validator_withdrawability_delay later; with delay 0 both can come out as FAR.
+/* Answers the exit queue's pair of the registry, or 1 or 3 and zeros.
+ * The registry is read. */
+altair_queue_answer altair_exit_queue(const uint64_t *registry, size_t registry_length);
+
+/* Answers the pair afterwards, or 1, 2, 3, 8 or 5 and the pair handed in. A validator whose exit epoch is not FAR keeps it. Else it
+ * leaves at current epoch + 1 + max_seed_lookahead or at the pair's last epoch, whichever is later; one epoch more where as many as
+ * the churn limit leave then. It is withdrawable min_validator_withdrawability_delay later; with delay 0 both can come out as FAR,
+ * which counts for nothing in the pair.
  * Validator `index` has its exit and withdrawable epoch, no other number changes; after a refusal all is as before. */
-uint64_t altair_initiate_validator_exit(altair_settings settings, uint64_t state_slot, uint64_t index,
-                                        uint64_t *registry, size_t registry_length);
+altair_queue_answer altair_initiate_validator_exit(altair_settings settings, uint64_t state_slot, uint64_t index,
+                                                   altair_queue queue, uint64_t *registry, size_t registry_length);
 
 /* -- Rewards ----------------------------------------------------------------------------------------------------------- */
 
@@ -588,22 +747,46 @@ altair_rules altair_under_altair(altair_settings settings);
 
 altair_rules altair_under_bellatrix(altair_settings settings, altair_bellatrix bellatrix);
 
+/* Writes the 23 numbers of an entry, tested by nobody: with start 0 a store of one entry, by which every epoch is closed. */
+void altair_put_entry(uint64_t *entry, uint64_t start, altair_rules rules);
+
 /* The calls above that write one buffer beside others, refused with 1 before any other test where a buffer that is written
  * overlaps another, or one that is not empty is NULL, not aligned or beyond the address space. Nothing is then written: the
- * finality handed in comes back, and of a file zeros. Else each is the function that it is named after. */
-altair_close_answer altair_checked_close(altair_rules rules, altair_finality finality, const uint64_t *registry,
-                                         size_t registry_length, const uint64_t *slashings, size_t slashings_length,
-                                         const uint8_t *roots, size_t roots_length, uint64_t *closing_registry,
-                                         size_t closing_registry_length, uint64_t *closing_slashings,
-                                         size_t closing_slashings_length);
+ * finality, the pair and the close so far handed in come back, and of a file zeros. Else each is the function that it is named after. */
+altair_full_answer altair_checked_close(const uint64_t *store, size_t store_length, uint64_t count,
+                                        altair_finality finality, altair_queue queue, const uint64_t *registry,
+                                        size_t registry_length, const uint64_t *slashings,
+                                        size_t slashings_length, const uint8_t *roots, size_t roots_length,
+                                        uint64_t *closing_registry, size_t closing_registry_length,
+                                        uint64_t *closing_slashings, size_t closing_slashings_length, uint64_t *amounts,
+                                        size_t amounts_length);
 
 altair_read_answer altair_checked_read_file(const uint8_t *file, size_t file_length, uint64_t *registry,
                                             size_t registry_length, uint64_t *slashings, size_t slashings_length);
 
-uint64_t altair_checked_write_file(altair_settings settings, altair_finality finality, const uint64_t *registry,
-                                   size_t registry_length, const uint8_t *roots, size_t roots_length,
-                                   const uint64_t *slashings, size_t slashings_length, uint8_t *file,
+uint64_t altair_checked_write_file(altair_settings settings, altair_finality finality, altair_queue queue,
+                                   const uint64_t *registry, size_t registry_length, const uint8_t *roots,
+                                   size_t roots_length, const uint64_t *slashings, size_t slashings_length, uint8_t *file,
                                    size_t file_length);
+
+altair_running_answer altair_checked_close_step(uint64_t number, altair_running running, altair_rules rules,
+                                                altair_finality finality, altair_queue queue, const uint64_t *registry,
+                                                size_t registry_length, const uint64_t *slashings,
+                                                size_t slashings_length, const uint8_t *roots, size_t roots_length,
+                                                uint64_t *closing_registry, size_t closing_registry_length,
+                                                uint64_t *closing_slashings, size_t closing_slashings_length,
+                                                uint64_t *amounts, size_t amounts_length);
+
+altair_running_answer altair_checked_carry_out(altair_rules rules, uint64_t shard_committee_period,
+                                               altair_running running, uint64_t *closing_registry,
+                                               size_t closing_registry_length, const uint64_t *orders,
+                                               size_t orders_length, uint64_t *answers, size_t answers_length);
+
+uint64_t altair_checked_close_shelf(const uint8_t *files, size_t files_length, const uint64_t *lengths,
+                                    size_t lengths_length, uint8_t *closing, size_t closing_length,
+                                    uint64_t *opening_numbers, size_t opening_numbers_length, uint64_t *closing_numbers,
+                                    size_t closing_numbers_length, uint64_t *answers, size_t answers_length,
+                                    uint64_t fork, altair_bellatrix bellatrix);
 
 uint64_t altair_checked_process_inactivity_updates(altair_settings settings, uint64_t state_slot,
                                                    uint64_t finalized_epoch, const uint64_t *opening,
@@ -613,13 +796,16 @@ uint64_t altair_checked_process_rewards_and_penalties(altair_rules rules, uint64
                                                       uint64_t finalized_epoch, const uint64_t *opening,
                                                       size_t opening_length, uint64_t *closing, size_t closing_length);
 
-uint64_t altair_checked_process_registry_updates(altair_settings settings, uint64_t state_slot,
-                                                 uint64_t finalized_epoch, const uint64_t *opening,
-                                                 size_t opening_length, uint64_t *closing, size_t closing_length);
+altair_queue_answer altair_checked_process_registry_updates(altair_settings settings, uint64_t state_slot,
+                                                            uint64_t finalized_epoch, altair_queue queue,
+                                                            const uint64_t *opening, size_t opening_length,
+                                                            uint64_t *closing, size_t closing_length);
 
-uint64_t altair_checked_process_registry_updates_to(uint64_t stop, altair_settings settings, uint64_t state_slot,
-                                                    uint64_t finalized_epoch, const uint64_t *opening,
-                                                    size_t opening_length, uint64_t *closing, size_t closing_length);
+altair_queue_answer altair_checked_process_registry_updates_to(uint64_t stop, altair_settings settings,
+                                                               uint64_t state_slot, uint64_t finalized_epoch,
+                                                               altair_queue queue, const uint64_t *opening,
+                                                               size_t opening_length, uint64_t *closing,
+                                                               size_t closing_length);
 
 uint64_t altair_checked_process_slashings(altair_rules rules, uint64_t state_slot, const uint64_t *slashings,
                                           size_t slashings_length, const uint64_t *opening, size_t opening_length,

@@ -71,10 +71,15 @@ int main(void) {
     if (record.refusal != 0)
         return refused(record.refusal);
 
-    const uint8_t *roots = file + ALTAIR_ROOTS_AT(header.validators);
-    altair_close_answer closed =
-        altair_close(altair_under_altair(record.settings), record.finality, registry, numbers, slashings, slashings_length, roots,
-                     32 * header.roots, closing, numbers, closing_slashings, slashings_length);
+    const uint8_t *roots = file + ALTAIR_ROOTS_AT(file[0], header.validators);
+    size_t booked = ALTAIR_AMOUNTS_LENGTH * header.validators;
+    uint64_t *amounts = room(booked, sizeof *amounts);
+    uint64_t store[ALTAIR_ENTRY_LENGTH]; /* of one entry: the file's settings, as Altair, from epoch 0 on */
+    altair_put_entry(store, 0, altair_under_altair(record.settings));
+    altair_full_answer closed =
+        altair_close(store, ALTAIR_ENTRY_LENGTH, 1, record.finality, record.queue, registry, numbers, slashings,
+                     slashings_length, roots, 32 * header.roots, closing, numbers, closing_slashings, slashings_length,
+                     amounts, booked);
     if (closed.refusal != 0)
         return refused(closed.refusal);
 
@@ -96,6 +101,6 @@ int main(void) {
                line.net_change);
     }
     printed();
-    free(file), free(registry), free(closing), free(slashings), free(closing_slashings);
+    free(file), free(registry), free(closing), free(slashings), free(closing_slashings), free(amounts);
     return 0;
 }

@@ -262,10 +262,16 @@ static void the_registry(void) {
     d = altair_get_flag_index_deltas(mainnet, 127, 1, 1, 5, registry, FIVE);
     SAME(d.refusal, 1), SAME(d.reward, 0), SAME(d.penalty, 0);
 
-    SAME(altair_initiate_validator_exit(mainnet, 127, 1, registry, FIVE), 0);
+    const altair_queue none = altair_exit_queue(registry, FIVE).queue, wrong = {8, 1};
+    SAME(none.last_epoch, 0), SAME(none.number, 0);
+    SAME(altair_initiate_validator_exit(mainnet, 127, 1, wrong, registry, FIVE).refusal, 8);
+    const altair_queue_answer left = altair_initiate_validator_exit(mainnet, 127, 1, none, registry, FIVE);
+    SAME(left.refusal, 0), SAME(left.queue.last_epoch, 8), SAME(left.queue.number, 1);
+    const altair_queue found = altair_exit_queue(registry, FIVE).queue;
+    SAME(found.last_epoch, 8), SAME(found.number, 1), SAME(altair_exit_queue(registry, FIVE - 1).refusal, 1);
     SAME(registry[ENTRY + ALTAIR_EXIT_EPOCH], 8), SAME(registry[ENTRY + ALTAIR_WITHDRAWABLE_EPOCH], 264);
     SAME(registry[ALTAIR_EXIT_EPOCH], FAR);
-    SAME(altair_initiate_validator_exit(mainnet, 127, 5, registry, FIVE), 1);
+    SAME(altair_initiate_validator_exit(mainnet, 127, 5, found, registry, FIVE).refusal, 1);
 }
 
 static void the_steps(void) {
@@ -275,7 +281,7 @@ static void the_steps(void) {
     fill(opening, 5);
 
     altair_finality f = finality_at(127);
-    altair_close_answer justified =
+    altair_justification_answer justified =
         altair_process_justification_and_finalization(mainnet, roots, sizeof roots, f, opening, FIVE);
     SAME(justified.refusal, 0), SAME(justified.finality.justification_bits, 3);
     SAME(justified.finality.current_justified_checkpoint.epoch, 3);
@@ -297,10 +303,12 @@ static void the_steps(void) {
     SAME(closing[ALTAIR_BALANCE], 32 * ETH + 1120000 + 2080000 + 1120000);
 
     opening[ENTRY + ALTAIR_ACTIVATION_EPOCH] = FAR;
-    SAME(altair_process_registry_updates(mainnet, 127, 1, opening, FIVE, closing, FIVE), 0);
+    const altair_queue none = {0, 0}, wrong = {0, 1};
+    SAME(altair_process_registry_updates(mainnet, 127, 1, none, opening, FIVE, closing, FIVE).refusal, 0);
     SAME(closing[ENTRY + ALTAIR_ACTIVATION_EPOCH], 8);
     closing[0] = 99;
-    SAME(altair_process_registry_updates(mainnet, 127, 1, opening, FIVE, closing, FIVE - ENTRY), 1);
+    SAME(altair_process_registry_updates(mainnet, 127, 1, none, opening, FIVE, closing, FIVE - ENTRY).refusal, 1);
+    SAME(altair_process_registry_updates(mainnet, 127, 1, wrong, opening, FIVE, closing, FIVE).refusal, 8);
     SAME(closing[0], 99);
 
     /* validator 0 waits since a later epoch than 1 and 3; from the stop up nobody is activated, and each is still counted */
@@ -310,14 +318,14 @@ static void the_steps(void) {
     altair_settings two_at_a_time = mainnet;
     two_at_a_time.min_per_epoch_churn_limit = 2;
     for (uint64_t stop = 0; stop <= 5; stop++) {
-        SAME(altair_process_registry_updates_to(stop, two_at_a_time, 127, 1, opening, FIVE, closing, FIVE), 0);
+        SAME(altair_process_registry_updates_to(stop, two_at_a_time, 127, 1, none, opening, FIVE, closing, FIVE).refusal, 0);
         SAME(closing[ALTAIR_ACTIVATION_EPOCH], FAR);
         SAME(closing[ENTRY + ALTAIR_ACTIVATION_EPOCH], stop > 1 ? 8 : FAR);
         SAME(closing[3 * ENTRY + ALTAIR_ACTIVATION_EPOCH], stop > 3 ? 8 : FAR);
         SAME(closing[4 * ENTRY + ALTAIR_EXIT_EPOCH], 8);
     }
     closing[0] = 99;
-    SAME(altair_process_registry_updates_to(6, two_at_a_time, 127, 1, opening, FIVE, closing, FIVE), 1);
+    SAME(altair_process_registry_updates_to(6, two_at_a_time, 127, 1, none, opening, FIVE, closing, FIVE).refusal, 1);
     SAME(closing[0], 99);
 
     fill(opening, 5);
@@ -347,6 +355,8 @@ static void the_steps(void) {
 static void the_file(void) {
     static uint8_t file[ALTAIR_FILE_LENGTH(5, 64, 64)], roots[32 * 64];
     uint64_t registry[FIVE], slashings[64] = {0}, back[FIVE] = {0}, slashings_back[64], closing[FIVE];
+    uint64_t amounts[5 * ALTAIR_AMOUNTS_LENGTH];
+    const altair_queue none = {0, 0}, wrong = {7, 0};
     altair_settings s = mainnet;
     s.slots_per_epoch = 8, s.slots_per_historical_root = 64, s.epochs_per_slashings_vector = 64;
     altair_finality f = finality_at(31);
@@ -356,21 +366,42 @@ static void the_file(void) {
     f.finalized_checkpoint.epoch = 1;
     fill(registry, 5);
     roots[5] = 1;
-    SAME(altair_write_file(s, f, registry, FIVE, roots, sizeof roots, slashings, 64, file, sizeof file - 1), 1);
+    SAME(altair_write_file(s, f, none, registry, FIVE, roots, sizeof roots, slashings, 64, file, sizeof file - 1), 1);
+    SAME(altair_write_file(s, f, wrong, registry, FIVE, roots, sizeof roots, slashings, 64, file, sizeof file), 8);
     SAME(file[0], 0);
-    SAME(altair_write_file(s, f, registry, FIVE, roots, sizeof roots, slashings, 64, file, sizeof file), 0);
+    SAME(altair_write_file(s, f, none, registry, FIVE, roots, sizeof roots, slashings, 64, file, sizeof file), 0);
+    SAME(file[0], 2);
     altair_header header = altair_read_header(file, sizeof file);
     SAME(header.refusal, 0), SAME(header.validators, 5), SAME(header.roots, 64), SAME(header.slashings, 64);
-    SAME(memcmp(file + ALTAIR_ROOTS_AT(5), roots, sizeof roots), 0);
+    SAME(memcmp(file + ALTAIR_ROOTS_AT(file[0], 5), roots, sizeof roots), 0);
     altair_read_answer read = altair_read_file(file, sizeof file, back, FIVE, slashings_back, 64);
     SAME(read.refusal, 0), SAME(read.position, sizeof file), SAME(memcmp(&read.settings, &s, sizeof s), 0);
     SAME(memcmp(&read.finality, &f, sizeof f), 0), SAME(memcmp(back, registry, sizeof back), 0);
     SAME(memcmp(slashings_back, slashings, sizeof slashings), 0);
+    SAME(read.queue.last_epoch, 0), SAME(read.queue.number, 0);
 
-    altair_close_answer closed =
-        altair_close(altair_under_altair(s), f, registry, FIVE, slashings, 64, roots, sizeof roots, closing, FIVE, slashings_back, 64);
-    SAME(closed.refusal, 0), SAME(closed.finality.finalized_checkpoint.epoch, 2);
+    uint64_t store[2 * ALTAIR_ENTRY_LENGTH];
+    altair_put_entry(store, 0, altair_under_altair(s));
+#define CLOSE(queue) CLOSE_BY(1, queue)
+#define CLOSE_BY(count, queue)                                                                                         \
+    altair_close(store, 2 * ALTAIR_ENTRY_LENGTH, count, f, queue, registry, FIVE, slashings, 64, roots, sizeof roots, \
+                 closing, FIVE, slashings_back, 64, amounts, sizeof amounts / sizeof *amounts)
+    altair_full_answer closed = CLOSE(none);
+    SAME(closed.refusal, 0), SAME(closed.finality.finalized_checkpoint.epoch, 2), SAME(closed.test, 4);
+    SAME(closed.queue.last_epoch, 0), SAME(closed.queue.number, 0);
     SAME(closing[ALTAIR_BALANCE], 32 * ETH + 1120000 + 2080000 + 1120000);
+    SAME(amounts[ALTAIR_SOURCE_REWARD], 1120000), SAME(amounts[ALTAIR_TARGET_REWARD], 2080000);
+    SAME(amounts[ALTAIR_HEAD_REWARD], 1120000), SAME(amounts[ALTAIR_HEAD_TAKEN], 0);
+    SAME(amounts[ALTAIR_INACTIVITY_REWARD] + amounts[ALTAIR_INACTIVITY_TAKEN] + amounts[ALTAIR_SLASHING_TAKEN], 0);
+    closed = CLOSE(wrong);
+    SAME(closed.refusal, 8), SAME(closed.queue.last_epoch, 7), SAME(closed.test, 0);
+    SAME(amounts[ALTAIR_SOURCE_REWARD], 1120000);
+    SAME(altair_close(store, ALTAIR_ENTRY_LENGTH, 1, f, none, registry, FIVE, slashings, 64, roots, sizeof roots, closing,
+                      FIVE, slashings_back, 64, amounts, 44)
+             .refusal,
+         1);
+    SAME(CLOSE_BY(0, none).refusal, 13), SAME(CLOSE_BY(3, none).refusal, 1);
+    closed = CLOSE(none);
     altair_head head = altair_listing_head(s, 31, closed.finality, registry, FIVE);
     SAME(head.refusal, 0), SAME(head.epoch, 3), SAME(head.justified_epoch, 3), SAME(head.finalized_epoch, 2);
     SAME(head.justification_bits, 7), SAME(head.charged, 5);
@@ -379,7 +410,7 @@ static void the_file(void) {
     /* nobody hits the current epoch's target */
     for (size_t i = 0; i < 5; i++)
         registry[ENTRY * i + ALTAIR_CURRENT_EPOCH_PARTICIPATION] = 0;
-    closed = altair_close(altair_under_altair(s), f, registry, FIVE, slashings, 64, roots, sizeof roots, closing, FIVE, slashings_back, 64);
+    closed = CLOSE(none);
     RAISED(closed, 0, 0, 1);
     RAISED(altair_listing_head(s, 31, closed.finality, registry, FIVE), 0, 0, 1);
     registry[ENTRY * 4 + ALTAIR_BALANCE] = 6, closing[ENTRY * 4 + ALTAIR_BALANCE] = 7;
@@ -397,22 +428,93 @@ static void the_file(void) {
 
     /* a balance that overflows: the opening's finality and numbers come back */
     registry[ALTAIR_BALANCE] = UINT64_MAX;
-    closed = altair_close(altair_under_altair(s), f, registry, FIVE, slashings, 64, roots, sizeof roots, closing, FIVE, slashings_back, 64);
+    closed = CLOSE(none);
     SAME(closed.refusal, 5), SAME(memcmp(&closed.finality, &f, sizeof f), 0);
     SAME(memcmp(closing, registry, sizeof closing), 0), SAME(memcmp(slashings_back, slashings, sizeof slashings), 0);
+    SAME(amounts[ALTAIR_SOURCE_REWARD], 0), SAME(amounts[4 * ALTAIR_AMOUNTS_LENGTH], 0);
     closing[0] = 99;
     f.finalized_checkpoint.epoch = UINT64_C(1) << 48;
-    closed = altair_close(altair_under_altair(s), f, registry, FIVE, slashings, 64, roots, sizeof roots, closing, FIVE, slashings_back, 64);
+    closed = CLOSE(none);
     SAME(closed.refusal, 3), SAME(memcmp(&closed.finality, &f, sizeof f), 0), SAME(closing[0], 99);
 
     /* the second validator's flags are bad: reading stops there, and writes nothing */
-    file[368 + 80 + 8 * ALTAIR_CURRENT_EPOCH_PARTICIPATION + 1] = 1;
+    file[384 + 80 + 8 * ALTAIR_CURRENT_EPOCH_PARTICIPATION + 1] = 1;
     back[0] = 99;
     read = altair_read_file(file, sizeof file, back, FIVE, slashings_back, 64);
-    SAME(read.refusal, 3), SAME(read.position, 368 + 80 + 8 * ALTAIR_CURRENT_EPOCH_PARTICIPATION), SAME(back[0], 99);
-    file[0] = 2;
+    SAME(read.refusal, 3), SAME(read.position, 384 + 80 + 8 * ALTAIR_CURRENT_EPOCH_PARTICIPATION), SAME(back[0], 99);
+    /* the pair of another registry: it stands before the validators, and is tested after them */
+    file[384 + 80 + 8 * ALTAIR_CURRENT_EPOCH_PARTICIPATION + 1] = 0;
+    file[368] = 1;
+    read = altair_read_file(file, sizeof file, back, FIVE, slashings_back, 64);
+    SAME(read.refusal, 8), SAME(read.position, 368), SAME(back[0], 99), SAME(read.queue.last_epoch, 0);
+    file[0] = 3;
     header = altair_read_header(file, sizeof file);
     SAME(header.refusal, 6), SAME(header.validators, 0);
+}
+
+/* a close by steps, an order taken meanwhile, and what comes of it */
+static void by_steps(void) {
+    static uint8_t roots[32 * 8192];
+    static uint64_t slashings[8192], closing_slashings[8192];
+    uint64_t registry[FIVE], closing[FIVE], whole[FIVE], amounts[45], whole_amounts[45], orders[4], answers[] = {77, 77};
+    uint64_t store[ALTAIR_ENTRY_LENGTH];
+    const altair_queue none = {0, 0};
+    const altair_finality f = finality_at(127);
+    fill(registry, 5);
+    altair_put_entry(store, 0, altair);
+    const altair_full_answer all =
+        altair_close(store, ALTAIR_ENTRY_LENGTH, 1, f, none, registry, FIVE, slashings, 8192, roots, sizeof roots, whole, FIVE,
+                     closing_slashings, 8192, whole_amounts, 45);
+    altair_running_answer at = {.running = {0}};
+#define STEP_NUMBER(k)                                                                                                 \
+    altair_close_step(k, at.running, altair, f, none, registry, FIVE, slashings, 8192, roots, sizeof roots, closing, FIVE, \
+                      closing_slashings, 8192, amounts, 45)
+    SAME(STEP_NUMBER(2).refusal, 1), SAME(altair_take_order(at.running, 1, 0, orders, 4).refusal, 1);
+    for (uint64_t k = 1; k <= 8; k++) {
+        at = STEP_NUMBER(k);
+        SAME(at.refusal, 0), SAME(at.ended, 0), SAME(at.running.done, k);
+        SAME(STEP_NUMBER(k).refusal, 1);
+        if (k == 3 || k == 8)
+            at = altair_take_order(at.running, k == 3 ? 1 : 9, 0, orders, 4);
+    }
+    SAME(altair_take_order(at.running, 2, 0, orders, 4).refusal, 11), SAME(altair_take_order(at.running, 2, 0, orders, 3).refusal, 1);
+    SAME(memcmp(&at.running.answer, &all, sizeof all), 0), SAME(memcmp(closing, whole, sizeof whole), 0);
+    SAME(memcmp(amounts, whole_amounts, sizeof amounts), 0);
+    SAME(altair_carry_out(altair, UINT64_C(1) << 48, at.running, closing, FIVE, orders, 4, answers, 2).refusal, 2);
+    at = altair_carry_out(altair, 3, at.running, closing, FIVE, orders, 4, answers, 2);
+    SAME(at.refusal, 0), SAME(at.running.done, 9), SAME(at.running.orders, 0), SAME(answers[0], 0), SAME(answers[1], 9);
+    SAME(closing[ENTRY + ALTAIR_EXIT_EPOCH], 8), SAME(at.running.answer.queue.last_epoch, 8), SAME(at.running.answer.queue.number, 1);
+    SAME(STEP_NUMBER(1).ended, 1), SAME(altair_take_order(at.running, 2, 0, orders, 4).ended, 1);
+    SAME(altair_carry_out(altair, 3, at.running, closing, FIVE, orders, 4, answers, 2).ended, 1);
+}
+
+/* a good file, one of version 1 and a damaged one, closed in one call; each leaves its own part alone */
+static void the_shelf(void) {
+    enum { LENGTH = ALTAIR_FILE_LENGTH(1, 64, 64) };
+    static uint8_t files[3 * LENGTH], closing[3 * LENGTH], roots[32 * 64];
+    static uint64_t opening_numbers[LENGTH / 8], closing_numbers[LENGTH / 8];
+    uint64_t registry[10], slashings[64] = {0}, lengths[] = {LENGTH, LENGTH, LENGTH}, answers[] = {9, 9, 9};
+    const altair_bellatrix none = {0, 0};
+    altair_settings s = mainnet;
+    s.slots_per_historical_root = 64, s.epochs_per_slashings_vector = 64;
+    fill(registry, 1);
+    for (int i = 0; i < 3; i++)
+        SAME(altair_write_file(s, finality_at(127), (altair_queue){0, 0}, registry, 10, roots, sizeof roots, slashings, 64,
+                               files + i * LENGTH, LENGTH),
+             0);
+    files[LENGTH] = 1, files[2 * LENGTH + 240] = 16;
+    memset(closing, 99, sizeof closing);
+#define SHELF(count, fork, pair)                                                                                       \
+    altair_close_shelf(files, sizeof files, lengths, 3, closing, sizeof closing, opening_numbers, LENGTH / 8,          \
+                       closing_numbers, LENGTH / 8, answers, count, fork, pair)
+    SAME(SHELF(2, 0, none), 1), SAME(answers[0], 9), SAME(closing[0], 99);
+    SAME(SHELF(3, 0, none), 0), SAME(answers[0], 0), SAME(answers[1], 6), SAME(answers[2], 3);
+    SAME(closing[0], 2), SAME(closing[LENGTH], 99), SAME(closing[2 * LENGTH], 99);
+    SAME(closing[384 + 8 * ALTAIR_PREVIOUS_EPOCH_PARTICIPATION], 7), SAME(closing[384 + 8 * ALTAIR_CURRENT_EPOCH_PARTICIPATION], 0);
+    SAME(SHELF(3, 1, none), 0), SAME(answers[0], 2), SAME(SHELF(3, 2, none), 0), SAME(answers[0], 1);
+    lengths[2]--;
+    SAME(SHELF(3, 0, none), 1);
+    SAME(altair_close_shelf(NULL, 0, NULL, 0, NULL, 0, NULL, 0, NULL, 0, NULL, 0, 2, none), 0);
 }
 
 /* the functions that are plain C */
@@ -427,6 +529,31 @@ static void in_c(void) {
     /* a step from a registry into itself, one number on: refused, and nothing is written */
     SAME(altair_checked_process_participation_flag_updates(five, FIVE, five + 1, FIVE), 1), SAME(five[FIVE], 99);
     SAME(altair_checked_process_participation_flag_updates(NULL, 0, NULL, 0), 0);
+}
+
+/* settings by starting epoch */
+static void the_store(void) {
+    uint64_t store[2 * ALTAIR_ENTRY_LENGTH] = {0};
+    altair_settings more = mainnet;
+    more.min_per_epoch_churn_limit = 8;
+    SAME(altair_read_rules(store, 0, 0, 5).refusal, 13), SAME(altair_read_rules(store, 22, 0, 5).refusal, 1);
+    altair_count_answer added = altair_add_rules(store, 2 * ALTAIR_ENTRY_LENGTH, 0, 10, altair);
+    SAME(added.refusal, 0), SAME(added.count, 1);
+    SAME(altair_read_rules(store, 2 * ALTAIR_ENTRY_LENGTH, 1, 9).refusal, 13);
+    SAME(altair_read_rules(store, 2 * ALTAIR_ENTRY_LENGTH, 1, 10).rules.settings.min_per_epoch_churn_limit, 4);
+    added = altair_add_rules(store, 2 * ALTAIR_ENTRY_LENGTH, 1, 10, altair_under_altair(more));
+    SAME(added.refusal, 12), SAME(added.count, 1);
+    more.slots_per_epoch = 8;
+    SAME(altair_add_rules(store, 2 * ALTAIR_ENTRY_LENGTH, 1, 20, altair_under_altair(more)).refusal, 1);
+    more = mainnet, more.min_per_epoch_churn_limit = 8;
+    const altair_rules later = altair_under_bellatrix(more, (altair_bellatrix)ALTAIR_MAINNET_BELLATRIX);
+    SAME(altair_add_rules(store, 2 * ALTAIR_ENTRY_LENGTH, 1, 20, altair_under_bellatrix(more, (altair_bellatrix){0, 3})).refusal, 2);
+    added = altair_add_rules(store, 2 * ALTAIR_ENTRY_LENGTH, 1, 20, later);
+    SAME(added.refusal, 0), SAME(added.count, 2);
+    SAME(altair_read_rules(store, 2 * ALTAIR_ENTRY_LENGTH, 2, 19).rules.fork, 0);
+    const altair_rules_answer read = altair_read_rules(store, 2 * ALTAIR_ENTRY_LENGTH, 2, UINT64_MAX);
+    SAME(read.refusal, 0), SAME(memcmp(&read.rules, &later, sizeof later), 0);
+    SAME(altair_add_rules(store, 2 * ALTAIR_ENTRY_LENGTH, 2, 30, later).refusal, 1);
 }
 
 /* both ends of the range, and one beyond either */
@@ -453,6 +580,9 @@ int main(void) {
     the_registry();
     the_steps();
     the_file();
+    the_store();
+    by_steps();
+    the_shelf();
     net_changes();
     in_c();
     printf("%d figures agreed, %d did not\n", agreed, parted);

@@ -8,7 +8,7 @@ import time
 from array import array
 
 import altair_close
-from altair_close import FAR_FUTURE_EPOCH, MAINNET, Checkpoint, Finality, _signatures
+from altair_close import FAR_FUTURE_EPOCH, MAINNET, Checkpoint, ExitQueue, Finality, _signatures
 
 LIMIT = 1.3
 
@@ -21,7 +21,7 @@ def record(validators):
     for place in range(validators):
         registry[10 * place + altair_close.BALANCE] += place * 7919 % 10**9
     finality = Finality(32 * 200 - 1, 3, Checkpoint(197), Checkpoint(198), Checkpoint(197))
-    return MAINNET, finality, registry, array("Q", bytes(8 * 8192)), bytes(32 * 8192)
+    return MAINNET, finality, ExitQueue(0, 0), registry, array("Q", bytes(8 * 8192)), bytes(32 * 8192)
 
 
 def least(rounds, calls):
@@ -39,29 +39,32 @@ def least(rounds, calls):
 
 
 def calls(opening):
-    settings, finality, registry, slashings, roots = opening
-    out = array("Q", bytes(8 * len(registry))), array("Q", bytes(8 * 8192))
-    words = _signatures.lend("close", (*opening, *out), {})
+    settings, finality, queue, registry, slashings, roots = opening
+    out = array("Q", bytes(8 * len(registry))), array("Q", bytes(8 * 8192)), array("Q", bytes(72 * (len(registry) // 10)))
+    lent = {}
+    words = _signatures.lend("close", (*opening, *out), lent)
     close = _signatures.function("close")
     rows = memoryview(registry).cast("B").cast("Q", shape=[len(registry) // 10, 10])
     made = {
-        "the C function": lambda: close(*words),
+        "the C function": lambda: (close(*words).refusal, lent)[0],  # what is lent stays where it is
         "close, with out": lambda: altair_close.close(*opening, out=out),
         "close, new buffers": lambda: altair_close.close(*opening),
-        "close, a memoryview of two dimensions": lambda: altair_close.close(settings, finality, rows, slashings, roots, out=out),
+        "close, a memoryview of two dimensions": lambda: altair_close.close(settings, finality, queue, rows, slashings, roots, out=out),
     }
     try:
         import numpy
     except ImportError:
         return made
     table = numpy.frombuffer(registry, dtype=numpy.uint64).reshape(-1, 10)
-    room = numpy.zeros_like(table), numpy.zeros(8192, dtype=numpy.uint64)
-    made["close, numpy"] = lambda: altair_close.close(settings, finality, table, slashings, roots, out=room)
+    room = numpy.zeros_like(table), numpy.zeros(8192, dtype=numpy.uint64), numpy.zeros((len(table), 9), dtype=numpy.uint64)
+    made["close, numpy"] = lambda: altair_close.close(settings, finality, queue, table, slashings, roots, out=room)
     return made
 
 
 def main(validators=100000, rounds=40):
-    found = least(rounds, calls(record(validators)))
+    made = calls(record(validators))
+    assert made["the C function"]() == 0, "the record is closed"
+    found = least(rounds, made)
     alone = found["the C function"]
     for name, milliseconds in found.items():
         print(f"{name:40} {milliseconds:8.3f} ms  {milliseconds / alone:5.2f}")

@@ -14,6 +14,10 @@ pub fn rules(s: &record::Settings, fork: u64, pair: [u64; 2]) -> types::Rules {
     types::Rules { settings: settings(s), fork, bellatrix }
 }
 
+pub fn queue([last_epoch, number]: [u64; 2]) -> types::ExitQueue {
+    types::ExitQueue { last_epoch, number }
+}
+
 pub fn numbers(s: &types::Settings) -> record::Settings {
     unsafe { std::mem::transmute(*s) }
 }

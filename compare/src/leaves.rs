@@ -1,11 +1,13 @@
 //! The library's leaves on the questions of the reference.
 use crate::{
+    booked::Queue,
     convert,
-    library::answered,
+    library::{self, answered},
     raw::{self, DeltasAnswer, NumberAnswer, RootAnswer, TotalAnswer, TruthAnswer},
     rules::Rules,
 };
 use reference::{
+    booked,
     calls::{finality_words, root_words, Answer, Case, Leaf},
     record::of,
 };
@@ -17,9 +19,12 @@ pub struct Told {
     pub lent: Vec<u64>,
 }
 
-/// What the library must tell where the Rust answers this: zeros beside a refusal (the weighing hands the old finality back), and
-/// nothing written but the words that are.
-pub fn called_for(c: &Case, rust: Answer) -> Told {
+/// What the library must tell where the Rust answers this: zeros beside a refusal (the weighing hands the old finality back, the exit the
+/// old pair), and nothing written but the words that are.
+pub fn called_for(c: &Case, queue: Queue, rust: Answer) -> Told {
+    if c.leaf == Leaf::InitiateValidatorExit {
+        return exit_called_for(c, queue, rust);
+    }
     let mut lent = c.registry.clone();
     let mut answer = rust;
     if answer.refusal != 0 {
@@ -37,14 +42,26 @@ pub fn called_for(c: &Case, rust: Answer) -> Told {
     Told { answer, lent }
 }
 
+/// The exit: 8 after 3 for a pair that is not the registry's, and the pair afterwards.
+fn exit_called_for(c: &Case, queue: Queue, rust: Answer) -> Told {
+    let mut lent = c.registry.clone();
+    let refusal = match rust.refusal {
+        number @ 1..=3 => number,
+        _ if queue != booked::queue(&c.registry) => 8,
+        number => number,
+    };
+    if refusal == 0 {
+        let entry = 10 * c.numbers[1] as usize;
+        (lent[entry + of::EXIT], lent[entry + of::WITHDRAWABLE]) = (rust.words[0], rust.words[1]);
+    }
+    let words = if refusal == 0 { booked::queue(&lent) } else { queue }.to_vec();
+    Told { answer: Answer { refusal, words }, lent }
+}
+
 /// The places that a leaf writes, where it writes: its answer is there and not handed back.
 fn written(c: &Case) -> Option<Vec<usize>> {
     match c.leaf {
         Leaf::IncreaseBalance | Leaf::DecreaseBalance => Some(vec![of::BALANCE]),
-        Leaf::InitiateValidatorExit => {
-            let entry = c.numbers[1].wrapping_mul(10) as usize;
-            Some(vec![entry.wrapping_add(of::EXIT), entry.wrapping_add(of::WITHDRAWABLE)])
-        }
         _ => None,
     }
 }
@@ -88,13 +105,13 @@ impl From<RootAnswer> for Answer {
     }
 }
 
-pub fn told(c: &Case, rules: Rules) -> Told {
+pub fn told(c: &Case, queue: Queue, rules: Rules) -> Told {
     let mut lent = c.registry.clone();
-    let answer = unsafe { asked(c, rules, &mut lent) };
+    let answer = unsafe { asked(c, queue, rules, &mut lent) };
     Told { answer, lent }
 }
 
-unsafe fn asked(c: &Case, rules: Rules, lent: &mut [u64]) -> Answer {
+unsafe fn asked(c: &Case, queue: Queue, rules: Rules, lent: &mut [u64]) -> Answer {
     let s = || convert::settings(&c.settings);
     let x = &c.numbers;
     let n = lent.len();
@@ -126,13 +143,20 @@ unsafe fn asked(c: &Case, rules: Rules, lent: &mut [u64]) -> Answer {
         Leaf::Charged => raw::altair_charged(s(), x[0], entry, n).into(),
         Leaf::IncreaseBalance => wrote(raw::altair_increase_balance(out, n, x[0])),
         Leaf::DecreaseBalance => wrote(raw::altair_decrease_balance(out, n, x[0])),
-        Leaf::InitiateValidatorExit => wrote(raw::altair_initiate_validator_exit(s(), x[0], x[1], out, n)),
+        Leaf::InitiateValidatorExit => {
+            let (refusal, queue) = library::exit(&c.settings, x[0], x[1], queue, lent);
+            Answer { refusal, words: queue.to_vec() }
+        }
         Leaf::GetBaseRewardPerIncrement => raw::altair_get_base_reward_per_increment(s(), x[0]).into(),
         Leaf::GetBaseReward => raw::altair_get_base_reward(s(), x[0], entry, n).into(),
         Leaf::GetFlagIndexDeltas => raw::altair_get_flag_index_deltas(s(), x[0], x[1], x[2], x[3], entry, n).into(),
-        Leaf::GetInactivityPenaltyDeltas => {
-            raw::altair_get_inactivity_penalty_deltas(convert::rules(&c.settings, rules.fork, rules.pair), x[0], entry, n).into()
-        }
+        Leaf::GetInactivityPenaltyDeltas => raw::altair_get_inactivity_penalty_deltas(
+            convert::rules(&c.settings, rules.fork, rules.pair),
+            x[0],
+            entry,
+            n,
+        )
+        .into(),
         Leaf::WeighJustificationAndFinalization => {
             let f = convert::finality(&c.finality);
             let (refusal, f) =

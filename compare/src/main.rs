@@ -1,7 +1,9 @@
 //! The library's archive against the Rust of ethereum-consensus, in one process, on generated records: the close, each of the eight
 //! steps, the registry step with every stop, every leaf, and reading and writing a file. Every number that comes back or is left in a lent buffer is compared. The
-//! listing's lines, of which the Rust knows nothing, are held to a model. A Bellatrix call is judged by the Rust with the two numbers replaced.
+//! listing's lines, the exit queue's pair and the finalizing test, of which the Rust knows nothing, are held to models, and the amounts of a
+//! close to the Rust's own deltas. A Bellatrix call is judged by the Rust with the two numbers replaced.
 use reference::record;
+mod booked;
 mod convert;
 mod crowd;
 mod files;
@@ -15,16 +17,18 @@ mod raw;
 #[path = "../../bindings/rust/src/refusal.rs"]
 mod refusal;
 mod rules;
+mod shelf;
 mod steps;
 #[allow(dead_code)]
 #[path = "../../bindings/rust/src/types.rs"]
 mod types;
 
 use reference::{
-    calls::{Call, Operation, Outcome, LEAVES, OPERATIONS},
+    calls::{Call, Operation, LEAVES, OPERATIONS},
     generate_leaves, judge,
     random::Random,
     record::{describe, write_file, Record},
+    refusals,
     report::{self, Report, Tally},
 };
 use std::{
@@ -121,6 +125,13 @@ fn run(count: u64, seed: u64) -> Option<Difference> {
         start.elapsed().as_secs_f64()
     );
     println!("{} of them registry steps with a stop", counts.stops);
+    println!("{} amounts of accepted closes held to the Rust's deltas", counts.amounts);
+    println!(
+        "{} calls refused with 8, a pair that is not the registry's; finalizing tests 0 to 4: {:?}",
+        counts.queues, counts.tests
+    );
+    let [shelves, files, closed] = counts.shelves;
+    println!("{shelves} shelves of {files} files, {closed} of them closed");
     let [altair, bellatrix, other] = counts.forks;
     println!("{altair} closes under Altair, {bellatrix} under Bellatrix, {other} under another fork");
     println!("{} lines and net changes held to the model, {} of them refused with 7", counts.lines, counts.wide);
@@ -146,6 +157,13 @@ struct Counts {
     stops: u64,
     lines: u64,
     wide: u64,
+    amounts: u64,
+    /// shelves, their files, and how many of these were closed
+    shelves: [u64; 3],
+    /// refused with 8
+    queues: u64,
+    /// accepted closes by their finalizing test
+    tests: [u64; 5],
     /// closes under Altair, under Bellatrix, and under another fork
     forks: [u64; 3],
 }
@@ -153,7 +171,19 @@ struct Counts {
 impl Default for Counts {
     fn default() -> Self {
         let report = Report { leaves: vec![Tally::default(); LEAVES.len()], ..Report::default() };
-        Counts { report, answers: 0, numbers: 0, stops: 0, lines: 0, wide: 0, forks: [0; 3] }
+        Counts {
+            report,
+            answers: 0,
+            numbers: 0,
+            stops: 0,
+            lines: 0,
+            wide: 0,
+            amounts: 0,
+            shelves: [0; 3],
+            queues: 0,
+            tests: [0; 5],
+            forks: [0; 3],
+        }
     }
 }
 
@@ -172,6 +202,10 @@ impl Counts {
         self.stops += other.stops;
         self.lines += other.lines;
         self.wide += other.wide;
+        self.amounts += other.amounts;
+        self.shelves.iter_mut().zip(other.shelves).for_each(|(a, b)| *a += b);
+        self.queues += other.queues;
+        self.tests.iter_mut().zip(other.tests).for_each(|(a, b)| *a += b);
         self.forks.iter_mut().zip(other.forks).for_each(|(a, b)| *a += b);
         self
     }
@@ -198,12 +232,14 @@ impl Counts {
         self.operations(&mut rng, &record, kind)
             .and_then(|()| self.leaves(&mut rng, &record))
             .and_then(|()| self.files(&mut rng, &record))
+            .and_then(|()| self.shelf(&mut rng, seed, i))
             .map_err(|text| (text, record))
     }
 
     fn operations(&mut self, rng: &mut Random, record: &Record, kind: usize) -> Result<(), String> {
         let call = steps::call(rng, record);
         let under = rules::drawn(rng);
+        let given = booked::given(rng, record);
         self.forks[under.fork.min(2) as usize] += 1;
         let mut closed = None;
         for (i, operation) in OPERATIONS.into_iter().enumerate() {
@@ -213,29 +249,47 @@ impl Counts {
                 self.report.closes[kind].count(rust.refusal);
                 closed = (rust.refusal == 0).then(|| rust.registry.clone());
             }
-            self.numbers += (21 + rust.registry.len() + rust.slashings.len()) as u64;
+            let wanted = booked::called_for(&call, &given, operation, under, rust);
+            self.numbers += (24 + wanted.outcome.registry.len() + wanted.outcome.slashings.len()) as u64;
+            self.queues += u64::from(wanted.outcome.refusal == 8);
+            if operation == Operation::Close && wanted.outcome.refusal == 0 {
+                self.amounts += wanted.amounts.len() as u64;
+                self.tests[wanted.test as usize] += 1;
+            }
             if operation == Operation::Registry {
-                self.stops(rng, &call, &rust)?;
+                self.stops(rng, &call, &given, &wanted)?;
             }
             let asked = || {
-                let buffers = (&call.closing_registry, &call.closing_slashings);
-                format!("{} under {under:?} into {buffers:?}", operation.name())
+                let buffers = (&call.closing_registry, &call.closing_slashings, &given.amounts);
+                format!("{} under {under:?} with the pair {:?} into {buffers:?}", operation.name(), given.queue)
             };
-            self.same(asked, rust, steps::outcome(&call, operation, under))?;
+            self.same(asked, wanted, steps::told(&call, &given, operation, under))?;
         }
+        let pair = reference::booked::queue(&record.registry);
+        let counted = match judge_registry(record) {
+            0 => (0, pair),
+            refusal => (refusal, [0; 2]),
+        };
+        self.same(|| "the exit queue's pair".to_string(), counted, library::exit_queue(&record.registry))?;
         if call.record != *record {
             return Err("the opening was written to".to_string());
         }
         closed.map_or(Ok(()), |closed| self.listing(rng, &record.registry, &closed))
     }
 
-    fn stops(&mut self, rng: &mut Random, call: &Call, step: &Outcome) -> Result<(), String> {
+    fn stops(
+        &mut self,
+        rng: &mut Random,
+        call: &Call,
+        given: &booked::Given,
+        step: &booked::Told,
+    ) -> Result<(), String> {
         for stop in steps::stops(rng, &call.record) {
-            let rust = steps::stopped_called_for(call, step, stop);
+            let rust = steps::stopped_called_for(call, given, step, stop);
             self.stops += 1;
-            self.numbers += 1 + rust.1.len() as u64;
+            self.numbers += 3 + rust.2.len() as u64;
             let asked = || format!("the registry step to stop {stop} into {:?}", call.closing_registry);
-            self.same(asked, rust, steps::stopped(call, stop))?;
+            self.same(asked, rust, steps::stopped(call, given, stop))?;
         }
         Ok(())
     }
@@ -257,22 +311,48 @@ impl Counts {
         for (i, &leaf) in LEAVES.iter().enumerate() {
             let case = generate_leaves::case(rng, leaf, record);
             let under = rules::drawn(rng);
-            let rust = leaves::called_for(&case, rules::answer(&case, under));
-            self.report.leaves[i].count(rust.answer.refusal);
+            let queue = booked::queue(rng, &case.registry);
+            let answer = rules::answer(&case, under);
+            self.report.leaves[i].count(answer.refusal);
+            let rust = leaves::called_for(&case, queue, answer);
             self.numbers += (1 + rust.answer.words.len() + rust.lent.len()) as u64;
-            self.same(|| format!("{case:?} under {under:?}"), rust, leaves::told(&case, under))?;
+            let asked = || format!("{case:?} under {under:?} with the pair {queue:?}");
+            self.same(asked, rust, leaves::told(&case, queue, under))?;
         }
+        Ok(())
+    }
+
+    /// Now and then a shelf of this record and those behind it.
+    fn shelf(&mut self, rng: &mut Random, seed: u64, i: u64) -> Result<(), String> {
+        if i % shelf::ONE_IN != 0 {
+            return Ok(());
+        }
+        let (files, closed) = shelf::compared(rng, |k| report::drawn(seed, i + k).2)?;
+        self.answers += 1 + files;
+        self.shelves[0] += 1;
+        self.shelves[1] += files;
+        self.shelves[2] += closed;
         Ok(())
     }
 
     fn files(&mut self, rng: &mut Random, record: &Record) -> Result<(), String> {
         let reading = files::reading(rng, record);
         let read = files::called_for(&reading);
-        self.report.files.count(read.refusal);
+        match read.refusal {
+            8 => self.queues += 1,
+            refusal => self.report.files.count(refusal),
+        }
         let asked = || format!("reading the {} bytes {:?}", reading.bytes.len(), reading.bytes);
         self.same(asked, read, files::told(&reading))?;
         let length = files::length(rng, record);
-        let asked = || format!("writing into {length} bytes");
-        self.same(asked, files::write_called_for(record, length), files::written(record, length))
+        let queue = booked::queue(rng, &record.registry);
+        let asked = || format!("writing into {length} bytes with the pair {queue:?}");
+        self.same(asked, files::write_called_for(record, queue, length), files::written(record, queue, length))
     }
+}
+
+/// Tests 1 and 3 of a registry lent alone.
+fn judge_registry(r: &Record) -> u64 {
+    let call = Call { record: r.clone(), closing_registry: r.registry.clone(), closing_slashings: Vec::new() };
+    refusals::operation(&call, Operation::ParticipationFlags)
 }

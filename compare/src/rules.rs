@@ -42,6 +42,15 @@ fn under<T>(rules: Rules, settings: &Settings, refused: impl Fn(u64) -> T, asked
     }
 }
 
+/// The settings that a close under these rules goes by.
+pub fn settings(s: &Settings, rules: Rules) -> Settings {
+    if rules.fork == 1 {
+        replaced(s, rules.pair)
+    } else {
+        *s
+    }
+}
+
 pub fn outcome(c: &Call, operation: Operation, rules: Rules) -> Outcome {
     if !matches!(operation, Operation::Close | Operation::Rewards | Operation::Slashings) {
         return judge::outcome(c, operation);

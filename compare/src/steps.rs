@@ -1,5 +1,9 @@
 //! The library's close and steps on a call of the reference, with its closing buffers in the middle of watched memory.
-use crate::{library, rules::Rules};
+use crate::{
+    booked::{self, Given, Told},
+    library,
+    rules::Rules,
+};
 use reference::{
     calls::{Call, Operation, Outcome},
     random::Random,
@@ -9,20 +13,20 @@ use reference::{
 const MARGIN: usize = 32;
 
 /// A lent buffer with numbers on both sides that must stay as they are.
-struct Watched(Vec<u64>);
+pub struct Watched(Vec<u64>);
 
 impl Watched {
-    fn around(middle: &[u64]) -> Self {
+    pub fn around(middle: &[u64]) -> Self {
         let edge = (0..MARGIN as u64).map(|i| !i);
         Watched(edge.clone().chain(middle.iter().copied()).chain(edge).collect())
     }
 
-    fn lent(&mut self) -> &mut [u64] {
+    pub fn lent(&mut self) -> &mut [u64] {
         let end = self.0.len() - MARGIN;
         &mut self.0[MARGIN..end]
     }
 
-    fn after(mut self) -> Vec<u64> {
+    pub fn after(mut self) -> Vec<u64> {
         let middle = self.lent().to_vec();
         assert!(self.0 == Watched::around(&middle).0, "the library wrote outside of a lent buffer");
         middle
@@ -43,25 +47,39 @@ pub fn call(rng: &mut Random, record: &Record) -> Call {
     }
 }
 
-pub fn outcome(c: &Call, operation: Operation, rules: Rules) -> Outcome {
+pub fn told(c: &Call, given: &Given, operation: Operation, rules: Rules) -> Told {
     let r = &c.record;
     let (s, f, opening) = (&r.settings, &r.finality, &r.registry);
     let (slot, finalized) = (f.slot, f.finalized.epoch);
     let mut registry = Watched::around(&c.closing_registry);
     let mut slashings = Watched::around(&c.closing_slashings);
+    let mut amounts = Watched::around(&given.amounts);
     let closing = registry.lent();
-    let (refusal, finality, raised) = match operation {
-        Operation::Close => library::close(s, rules, f, opening, &r.slashings, &r.roots, closing, slashings.lent()),
-        Operation::Justification => library::justification(s, f, &r.roots, opening),
-        Operation::Inactivity => (library::inactivity(s, slot, finalized, opening, closing), *f, [0; 3]),
-        Operation::Rewards => (library::rewards(s, rules, slot, finalized, opening, closing), *f, [0; 3]),
-        Operation::Registry => (library::registry(s, slot, finalized, opening, closing), *f, [0; 3]),
-        Operation::Slashings => (library::slashings(s, rules, slot, &r.slashings, opening, closing), *f, [0; 3]),
-        Operation::EffectiveBalances => (library::effective_balances(s, opening, closing), *f, [0; 3]),
-        Operation::SlashingsReset => (library::slashings_reset(s, slot, &r.slashings, slashings.lent()), *f, [0; 3]),
-        Operation::ParticipationFlags => (library::participation_flags(opening, closing), *f, [0; 3]),
+    let alone = |refusal| (refusal, *f, [0; 3], given.queue, 0);
+    let (refusal, finality, raised, queue, test) = match operation {
+        Operation::Close => {
+            let (store, count) = booked::store(given, r, rules);
+            let (slashed, booked) = (slashings.lent(), amounts.lent());
+            let by = (&store[..], count);
+            library::close(by, f, given.queue, opening, &r.slashings, &r.roots, closing, slashed, booked)
+        }
+        Operation::Justification => {
+            let (refusal, finality, raised, test) = library::justification(s, f, &r.roots, opening);
+            (refusal, finality, raised, given.queue, test)
+        }
+        Operation::Inactivity => alone(library::inactivity(s, slot, finalized, opening, closing)),
+        Operation::Rewards => alone(library::rewards(s, rules, slot, finalized, opening, closing)),
+        Operation::Registry => {
+            let (refusal, queue) = library::registry(None, s, slot, finalized, given.queue, opening, closing);
+            (refusal, *f, [0; 3], queue, 0)
+        }
+        Operation::Slashings => alone(library::slashings(s, rules, slot, &r.slashings, opening, closing)),
+        Operation::EffectiveBalances => alone(library::effective_balances(s, opening, closing)),
+        Operation::SlashingsReset => alone(library::slashings_reset(s, slot, &r.slashings, slashings.lent())),
+        Operation::ParticipationFlags => alone(library::participation_flags(opening, closing)),
     };
-    Outcome { refusal, finality, raised, registry: registry.after(), slashings: slashings.after() }
+    let outcome = Outcome { refusal, finality, raised, registry: registry.after(), slashings: slashings.after() };
+    Told { outcome, queue, test, amounts: amounts.after() }
 }
 
 /// The stops that are tried: every one of a small record and the one behind them all, a few of a large one.
@@ -73,25 +91,27 @@ pub fn stops(rng: &mut Random, record: &Record) -> Vec<u64> {
     }
 }
 
-/// The registry step with a stop, by the Rust's step: its activation epochs below the stop, the opening's from it up.
-pub fn stopped_called_for(c: &Call, step: &Outcome, stop: u64) -> (u64, Vec<u64>) {
+/// The registry step with a stop, by what is called for of the step: its activation epochs below the stop, the opening's from it up. Exits
+/// are those of the step, and so is the pair.
+pub fn stopped_called_for(c: &Call, given: &Given, step: &Told, stop: u64) -> (u64, [u64; 2], Vec<u64>) {
     let opening = &c.record.registry;
     if stop as usize > opening.len() / 10 {
-        return (1, c.closing_registry.clone());
+        return (1, given.queue, c.closing_registry.clone());
     }
-    let mut registry = step.registry.clone();
-    if step.refusal == 0 {
+    let mut registry = step.outcome.registry.clone();
+    if step.outcome.refusal == 0 {
         for i in (10 * stop as usize..registry.len()).step_by(10) {
             registry[i + of::ACTIVATION] = opening[i + of::ACTIVATION];
         }
     }
-    (step.refusal, registry)
+    (step.outcome.refusal, step.queue, registry)
 }
 
-pub fn stopped(c: &Call, stop: u64) -> (u64, Vec<u64>) {
+pub fn stopped(c: &Call, given: &Given, stop: u64) -> (u64, [u64; 2], Vec<u64>) {
     let (s, f) = (&c.record.settings, &c.record.finality);
     let mut registry = Watched::around(&c.closing_registry);
     let opening = &c.record.registry;
-    let refusal = library::registry_to(stop, s, f.slot, f.finalized.epoch, opening, registry.lent());
-    (refusal, registry.after())
+    let (refusal, queue) =
+        library::registry(Some(stop), s, f.slot, f.finalized.epoch, given.queue, opening, registry.lent());
+    (refusal, queue, registry.after())
 }

@@ -77,6 +77,13 @@ macro_rules! pairs {
             }
         }
 
+        fn run_booked(pair: (u64, u64), r: &Record) -> Result<Vec<u64>, u64> {
+            match pair {
+                $(($s, $l) => booked_at::<$s, $l>(r),)*
+                _ => no_pair(r),
+            }
+        }
+
         fn run_roots(pair: (u64, u64), c: &Case, r: &Record) -> Result<Vec<u64>, u64> {
             match pair {
                 $(($s, $l) => with_roots::<$s, $l>(c, r),)*
@@ -147,6 +154,49 @@ pub fn outcome(c: &Call, operation: Operation) -> Outcome {
         out.slashings = after.2;
     }
     out
+}
+
+/// The nine amounts of every validator of a record whose close is accepted: the Rust's deltas on the state after its inactivity step,
+/// reward by reward, each penalty as far as there is balance; then what its slashings step takes. The balances that the cut amounts lead
+/// to must be those that the Rust's rewards step leaves.
+pub fn booked(r: &Record) -> Result<Vec<u64>, u64> {
+    run_booked(pair_for(&r.settings, true, true), r)
+}
+
+fn booked_at<const S: usize, const L: usize>(r: &Record) -> Result<Vec<u64>, u64> {
+    let mut state = state_of::<S, L>(r);
+    let context = context_of(&r.settings);
+    let mut amounts = vec![0; 9 * r.validators()];
+    let mut balances = state.balances.to_vec();
+    let mut same = true;
+    judged(|| {
+        step(&mut state, &context, Operation::Justification)?;
+        step(&mut state, &context, Operation::Inactivity)?;
+        if altair::get_current_epoch(&state, &context) > 0 {
+            let flags = (0..3).map(|flag| altair::get_flag_index_deltas(&state, flag, &context));
+            let inactivity = std::iter::once_with(|| altair::get_inactivity_penalty_deltas(&state, &context));
+            for (k, deltas) in flags.chain(inactivity).enumerate() {
+                let (rewards, penalties) = deltas?;
+                for (i, balance) in balances.iter_mut().enumerate() {
+                    *balance += rewards[i];
+                    let taken = penalties[i].min(*balance);
+                    *balance -= taken;
+                    (amounts[9 * i + 2 * k], amounts[9 * i + 2 * k + 1]) = (rewards[i], taken);
+                }
+            }
+        }
+        step(&mut state, &context, Operation::Rewards)?;
+        same = balances == state.balances.to_vec();
+        step(&mut state, &context, Operation::Registry)?;
+        step(&mut state, &context, Operation::Slashings)
+    })?;
+    if !same {
+        return Err(unexpected("the cut deltas do not lead to the balances of the rewards step".to_string()));
+    }
+    for (i, balance) in state.balances.iter().enumerate() {
+        amounts[9 * i + 8] = balances[i] - balance;
+    }
+    Ok(amounts)
 }
 
 /// process_epoch itself, with the steps that are left out, on a record that passed the tests. Asked only where S is at least

@@ -33,6 +33,7 @@ mod ssz;
 mod state_transition;
 use error::Error;
 
+pub mod booked;
 pub mod calls;
 pub mod figures;
 pub mod generate;

@@ -1,10 +1,12 @@
 /* The table of the functions, one line for each. A new function is one line more.
  *
- * Buffers: R a registry, V one validator, S slashings, B roots, F a file, P a registry of which only the length is
- * tested, M marks, Q the first buffer's numbers with other balances. Behind '>' those that are written: R, S, F; r, v a registry and a
- * validator changed in place. Numbers that are tested: s the settings, k fork and pair, f the finality, t the slot, z the finalized
+ * Buffers: T a store, of which c->count entries are in use, R a registry, V one validator, S slashings, B roots, F a file, P a registry of which only the length is
+ * tested, M marks, Q the first buffer's numbers with other balances. H files one behind another and L their
+ * lengths, O a list of orders. Behind '>' those that are written: R, S, F, A amounts, C the closed files, W a working list, N an answer for each; r, v, u,
+ * s, a, o, m a registry, a validator, a store, slashings, amounts, orders and their answers changed in place. Numbers that are tested: s the settings, k fork and pair, f the finality, q the exit
+ * queue's pair, t the slot, z the finalized
  * epoch, i an index, o a stop, which is c->index, g a flag index of 0 to 2, G one of 0 to 7, e a participation epoch,
- * d a total to divide by, c the clock, w a second, which is c->number. */
+ * j a step's number, which is c->number, in the turn of c->running, y the same of the ninth call, with its period in c->number, n a new start, which is c->epoch, x the epoch of a read, which is c->epoch too, p that an order can be taken, d a total to divide by, c the clock, w a second, which is c->number. */
 #include "fuzz.h"
 
 #include <string.h>
@@ -15,21 +17,32 @@
 /*      function, what it answers, buffers, numbers that are tested, refusals after the tests; arguments */
 #define FUNCTIONS(X)                                                                                                   \
     X(version, ITSELF, uint64_t, "", "", "")                                                                           \
-    X(close, FINALITY, altair_close_answer, "RSB>RS", "skf", "45", c->rules, c->f, IN(0), IN(1), IN(2), OUT(0), OUT(1))     \
+    X(close, FULL, altair_full_answer, "TRSB>RSA", "fq", "45", IN(0), c->count, c->f, c->queue, IN(1), IN(2), IN(3),    \
+      OUT(0), OUT(1), OUT(2))                                                                                          \
+    X(read_rules, VALUES, altair_rules_answer, "T", "x", "", IN(0), c->count, c->epoch)                                \
+    X(add_rules, COUNT, altair_count_answer, ">u", "skn", "", OUT(0), c->count, c->epoch, c->rules)                     \
     X(charged, VALUES, altair_number_answer, "R", "st", "", c->s, c->slot, IN(0))                                      \
     X(listing_head, VALUES, altair_head, "R", "stf", "", c->s, c->slot, c->f, IN(0))                                   \
     X(listing_line, VALUES, altair_line, "PQ", "i", "7", IN(0), IN(1), c->index)                                       \
     X(net_change, VALUES, altair_change_answer, "", "", "7", c->number, c->totals[0])                                  \
     X(read_header, VALUES, altair_header, "F", "", "", IN(0))                                                          \
     X(read_file, READ, altair_read_answer, "F>RS", "", "", IN(0), OUT(0), OUT(1))                                      \
-    X(write_file, NUMBER, uint64_t, "RBS>F", "sf", "", c->s, c->f, IN(0), IN(1), IN(2), OUT(0))                        \
-    X(process_justification_and_finalization, FINALITY, altair_close_answer, "BR", "sf", "45", c->s, IN(0), c->f,      \
+    X(write_file, NUMBER, uint64_t, "RBS>F", "sfq", "", c->s, c->f, c->queue, IN(0), IN(1), IN(2), OUT(0))              \
+    X(close_step, RUNNING, altair_running_answer, "RSB>rsa", "skfqj", "45", c->number, c->running, c->rules, c->f,       \
+      c->queue, IN(0), IN(1), IN(2), OUT(0), OUT(1), OUT(2))                                                           \
+    X(take_order, RUNNING, altair_running_answer, ">o", "p", "", c->running, c->number, c->epoch, OUT(0))               \
+    X(carry_out, RUNNING, altair_running_answer, "O>rm", "skfqy", "", c->rules, c->number, c->running, OUT(0), IN(0),   \
+      OUT(1))                                                                                                          \
+    X(close_shelf, NUMBER, uint64_t, "HL>CWWN", "", "", IN(0), IN(1), OUT(0), OUT(1), OUT(2), OUT(3), c->rules.fork,     \
+      c->rules.bellatrix)                                                                                              \
+    X(process_justification_and_finalization, FINALITY, altair_justification_answer, "BR", "sf", "45", c->s, IN(0), c->f,      \
       IN(1))                                                                                                           \
     X(process_inactivity_updates, NUMBER, uint64_t, "R>R", "stz", "5", c->s, c->slot, c->finalized, IN(0), OUT(0))     \
     X(process_rewards_and_penalties, NUMBER, uint64_t, "R>R", "sktz", "5", c->rules, c->slot, c->finalized, IN(0), OUT(0))  \
-    X(process_registry_updates, NUMBER, uint64_t, "R>R", "stz", "5", c->s, c->slot, c->finalized, IN(0), OUT(0))       \
-    X(process_registry_updates_to, NUMBER, uint64_t, "R>R", "ostz", "5", c->index, c->s, c->slot, c->finalized, IN(0), \
-      OUT(0))                                                                                                          \
+    X(process_registry_updates, QUEUE, altair_queue_answer, "R>R", "stzq", "5", c->s, c->slot, c->finalized, c->queue,  \
+      IN(0), OUT(0))                                                                                                   \
+    X(process_registry_updates_to, QUEUE, altair_queue_answer, "R>R", "ostzq", "5", c->index, c->s, c->slot,           \
+      c->finalized, c->queue, IN(0), OUT(0))                                                                           \
     X(process_slashings, NUMBER, uint64_t, "SR>R", "skt", "5", c->rules, c->slot, IN(0), IN(1), OUT(0))                     \
     X(process_effective_balance_updates, NUMBER, uint64_t, "R>R", "s", "5", c->s, IN(0), OUT(0))                       \
     X(process_slashings_reset, NUMBER, uint64_t, "S>S", "st", "", c->s, c->slot, IN(0), OUT(0))                        \
@@ -63,7 +76,8 @@
     X(get_participating_balance, VALUES, altair_total_answer, "R", "stge", "5", c->s, c->slot, c->flag_index,          \
       c->epoch, IN(0))                                                                                                 \
     X(get_validator_churn_limit, VALUES, altair_number_answer, "R", "st", "", c->s, c->slot, IN(0))                    \
-    X(initiate_validator_exit, NUMBER, uint64_t, ">r", "sti", "5", c->s, c->slot, c->index, OUT(0))                    \
+    X(exit_queue, VALUES, altair_queue_answer, "R", "", "", IN(0))                                                     \
+    X(initiate_validator_exit, QUEUE, altair_queue_answer, ">r", "stiq", "5", c->s, c->slot, c->index, c->queue, OUT(0)) \
     X(get_base_reward_per_increment, VALUES, altair_number_answer, "", "sd", "5", c->s, c->totals[0])                  \
     X(get_base_reward, VALUES, altair_number_answer, "V", "sd", "5", c->s, c->totals[0], IN(0))                        \
     X(get_flag_index_deltas, VALUES, altair_deltas_answer, "R", "stzgi", "5", c->s, c->slot, c->finalized,             \
@@ -75,18 +89,24 @@
       c->totals[0], c->totals[1], c->totals[2])                                                                        \
     X(unknown_votes, VALUES, altair_votes_answer, "BRM", "sf", "45", c->s, IN(0), c->f, IN(1), IN(2))                  \
     /* in C */                                                                                                         \
-    X(checked_close, FINALITY, altair_close_answer, "RSB>RS", "skf", "45", c->rules, c->f, IN(0), IN(1), IN(2), OUT(0),     \
-      OUT(1))                                                                                                          \
+    X(checked_close, FULL, altair_full_answer, "TRSB>RSA", "fq", "45", IN(0), c->count, c->f, c->queue, IN(1), IN(2),   \
+      IN(3), OUT(0), OUT(1), OUT(2))                                                                                   \
     X(checked_read_file, READ, altair_read_answer, "F>RS", "", "", IN(0), OUT(0), OUT(1))                              \
-    X(checked_write_file, NUMBER, uint64_t, "RBS>F", "sf", "", c->s, c->f, IN(0), IN(1), IN(2), OUT(0))                \
+    X(checked_write_file, NUMBER, uint64_t, "RBS>F", "sfq", "", c->s, c->f, c->queue, IN(0), IN(1), IN(2), OUT(0))      \
+    X(checked_close_step, RUNNING, altair_running_answer, "RSB>rsa", "skfqj", "45", c->number, c->running, c->rules,    \
+      c->f, c->queue, IN(0), IN(1), IN(2), OUT(0), OUT(1), OUT(2))                                                     \
+    X(checked_carry_out, RUNNING, altair_running_answer, "O>rm", "skfqy", "", c->rules, c->number, c->running, OUT(0),  \
+      IN(0), OUT(1))                                                                                                   \
+    X(checked_close_shelf, NUMBER, uint64_t, "HL>CWWN", "", "", IN(0), IN(1), OUT(0), OUT(1), OUT(2), OUT(3),           \
+      c->rules.fork, c->rules.bellatrix)                                                                               \
     X(checked_process_inactivity_updates, NUMBER, uint64_t, "R>R", "stz", "5", c->s, c->slot, c->finalized, IN(0),     \
       OUT(0))                                                                                                          \
     X(checked_process_rewards_and_penalties, NUMBER, uint64_t, "R>R", "sktz", "5", c->rules, c->slot, c->finalized, IN(0),  \
       OUT(0))                                                                                                          \
-    X(checked_process_registry_updates, NUMBER, uint64_t, "R>R", "stz", "5", c->s, c->slot, c->finalized, IN(0),       \
-      OUT(0))                                                                                                          \
-    X(checked_process_registry_updates_to, NUMBER, uint64_t, "R>R", "ostz", "5", c->index, c->s, c->slot,              \
-      c->finalized, IN(0), OUT(0))                                                                                     \
+    X(checked_process_registry_updates, QUEUE, altair_queue_answer, "R>R", "stzq", "5", c->s, c->slot, c->finalized,   \
+      c->queue, IN(0), OUT(0))                                                                                         \
+    X(checked_process_registry_updates_to, QUEUE, altair_queue_answer, "R>R", "ostzq", "5", c->index, c->s, c->slot,   \
+      c->finalized, c->queue, IN(0), OUT(0))                                                                           \
     X(checked_process_slashings, NUMBER, uint64_t, "SR>R", "skt", "5", c->rules, c->slot, IN(0), IN(1), OUT(0))             \
     X(checked_process_effective_balance_updates, NUMBER, uint64_t, "R>R", "s", "5", c->s, IN(0), OUT(0))               \
     X(checked_process_slashings_reset, NUMBER, uint64_t, "S>S", "st", "", c->s, c->slot, IN(0), OUT(0))                \

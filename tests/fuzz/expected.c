@@ -1,4 +1,4 @@
-/* What altair.h says of the tests: the first that fails, in the order 15, 6, 1, 2, 14, 3. */
+/* What altair.h says of the tests: the first that fails, in the order 15, 6, 1, 2, 12, 13, 14, 3, 8. */
 #include "fuzz.h"
 
 #include <string.h>
@@ -37,6 +37,11 @@ static size_t first_bad(const uint64_t *registry, size_t validators) {
     return 10 * validators;
 }
 
+static bool is_queue_of(altair_queue q, const uint64_t *registry, size_t validators) {
+    const altair_queue right = count_queue(registry, validators);
+    return q.last_epoch == right.last_epoch && q.number == right.number;
+}
+
 static bool good_marks(buffer marks) {
     for (size_t i = 0; i < marks.length; i++)
         if (((const uint64_t *)marks.at)[i] > 3)
@@ -44,17 +49,72 @@ static bool good_marks(buffer marks) {
     return true;
 }
 
+static bool good_pair(uint64_t fork, altair_bellatrix pair) {
+    return fork != 1 || (pair.inactivity_penalty_quotient_bellatrix != 0 &&
+                         is_small(pair.inactivity_penalty_quotient_bellatrix) &&
+                         is_small(pair.proportional_slashing_multiplier_bellatrix));
+}
+
+/* -- A store */
+
+static altair_settings settings_of(const uint64_t *entry) {
+    altair_settings s;
+    memcpy(&s, entry + ALTAIR_ENTRY_SETTINGS, sizeof s);
+    return s;
+}
+
+/* the three settings that are the same in all entries */
+static bool same_lengths(altair_settings a, altair_settings b) {
+    return a.slots_per_epoch == b.slots_per_epoch && a.slots_per_historical_root == b.slots_per_historical_root &&
+           a.epochs_per_slashings_vector == b.epochs_per_slashings_vector;
+}
+
+static bool shaped_rules(uint64_t fork, altair_settings s) {
+    return fork <= 1 && is_vector(s.slots_per_historical_root) && is_vector(s.epochs_per_slashings_vector);
+}
+
+static bool shaped_store(buffer store, uint64_t count) {
+    const uint64_t *e = store.at;
+    if (store.length % ALTAIR_ENTRY_LENGTH != 0 || count > store.length / ALTAIR_ENTRY_LENGTH)
+        return false;
+    for (uint64_t i = 0; i < count; i++, e += ALTAIR_ENTRY_LENGTH)
+        if (!shaped_rules(e[ALTAIR_ENTRY_FORK], settings_of(e)) ||
+            (i > 0 && (e[-ALTAIR_ENTRY_LENGTH] >= e[0] ||
+                       !same_lengths(settings_of(e - ALTAIR_ENTRY_LENGTH), settings_of(e)))))
+            return false;
+    return true;
+}
+
+static bool good_store(buffer store, uint64_t count) {
+    const uint64_t *e = store.at;
+    for (uint64_t i = 0; i < count; i++, e += ALTAIR_ENTRY_LENGTH) {
+        const altair_settings s = settings_of(e);
+        const altair_bellatrix pair = {e[ALTAIR_ENTRY_BELLATRIX], e[ALTAIR_ENTRY_BELLATRIX + 1]};
+        if (!good_settings(&s) || !good_pair(e[ALTAIR_ENTRY_FORK], pair))
+            return false;
+    }
+    return true;
+}
+
+/* whether an entry of a good store starts at the epoch or before it: the first does */
+static bool has_entry(buffer store, uint64_t count, uint64_t epoch) {
+    return count > 0 && ((const uint64_t *)store.at)[ALTAIR_ENTRY_START] <= epoch;
+}
+
 /* -- A file */
+
+/* where the validators stand: behind the pair in version 2 */
+static uint64_t first_at(const uint8_t *file) { return number_at(file) == 2 ? 384 : 368; }
 
 static bool good_header(buffer file) {
     const uint8_t *b = file.at;
     if (file.length < 80)
         return false;
-    const unsigned __int128 n = number_at(b + 16), s = number_at(b + 24), l = number_at(b + 32);
-    const unsigned __int128 roots_at = 368 + 80 * n, slashings_at = roots_at + 32 * s, length = slashings_at + 8 * l;
-    return number_at(b) == 1 && number_at(b + 8) == length && file.length == length && number_at(b + 40) == 80 &&
-           number_at(b + 48) == 232 && number_at(b + 56) == 368 && number_at(b + 64) == roots_at &&
-           number_at(b + 72) == slashings_at;
+    const unsigned __int128 n = number_at(b + 16), s = number_at(b + 24), l = number_at(b + 32), first = first_at(b);
+    const unsigned __int128 roots_at = first + 80 * n, slashings_at = roots_at + 32 * s, length = slashings_at + 8 * l;
+    return (number_at(b) == 1 || number_at(b) == 2) && number_at(b + 8) == length && file.length == length &&
+           number_at(b + 40) == 80 && number_at(b + 48) == 232 && number_at(b + 56) == first &&
+           number_at(b + 64) == roots_at && number_at(b + 72) == slashings_at;
 }
 
 /* the tests of read_file, and the position at which reading stops */
@@ -77,13 +137,18 @@ static uint64_t file_tests(const lent *c, uint64_t *position) {
     *position = 368;
     if (!good_finality(&f))
         return 3;
-    for (size_t i = 0; i < n; i++) {
-        uint64_t v[10];
-        memcpy(v, b + 368 + 80 * i, sizeof v);
-        *position = 368 + 80 * i + 8 * bad_place(v);
-        if (bad_place(v) != ALTAIR_VALIDATOR_LENGTH)
-            return 3;
-    }
+    static uint64_t registry[10 * 400];
+    if (n > sizeof registry / 80)
+        fail("a file of %zu validators", (size_t)n);
+    memcpy(registry, b + first_at(b), 80 * n);
+    *position = first_at(b) + 8 * first_bad(registry, n);
+    if (first_bad(registry, n) != 10 * n)
+        return 3;
+    *position = 368;
+    altair_queue stored;
+    memcpy(&stored, b + 368, sizeof stored);
+    if (number_at(b) == 2 && !is_queue_of(stored, registry, n))
+        return 8;
     *position = c->in[0].length;
     return 0;
 }
@@ -98,6 +163,9 @@ uint64_t expected_position(const lent *c) {
 
 static bool tests(const row *row, char letter) { return strchr(row->tests, letter) != NULL; }
 
+/* a store without entries: what a setting calls for is not asked */
+static bool by_no_entry(const lent *c) { return c->by_store && c->count == 0; }
+
 static bool shaped(char letter, buffer b, const lent *c, size_t validators) {
     switch (letter) {
     case 'R':
@@ -108,14 +176,28 @@ static bool shaped(char letter, buffer b, const lent *c, size_t validators) {
     case 'v':
         return b.length == 10;
     case 'S':
-        return b.length == c->s.epochs_per_slashings_vector;
+        return by_no_entry(c) || b.length == c->s.epochs_per_slashings_vector;
     case 'B':
-        return b.length == 32 * c->s.slots_per_historical_root;
+        return by_no_entry(c) || b.length == 32 * c->s.slots_per_historical_root;
+    case 'T':
+    case 'u':
+        return shaped_store(b, c->count);
+    case 's': /* the record so far is as long as the opening */
+        return b.length == c->in[1].length && b.length == c->s.epochs_per_slashings_vector;
+    case 'a':
+        return b.length == ALTAIR_AMOUNTS_LENGTH * validators;
+    case 'O':
+    case 'o':
+        return b.length % 2 == 0 && c->running.orders <= b.length / 2;
+    case 'm':
+        return b.length == c->in[0].length / 2;
     case 'F':
         return b.length ==
                ALTAIR_FILE_LENGTH(validators, c->s.slots_per_historical_root, c->s.epochs_per_slashings_vector);
     case 'M':
         return b.length == validators;
+    case 'A':
+        return b.length == ALTAIR_AMOUNTS_LENGTH * validators;
     default: /* Q */
         return b.length == c->in[0].length;
     }
@@ -128,8 +210,30 @@ static bool participation_epoch(const lent *c) {
     return c->epoch == current || c->epoch == previous;
 }
 
+/* a shelf as a whole: 1, or the call is answered, and each file by itself */
+static uint64_t shelf_tests(const lent *c) {
+    const uint64_t *lengths = c->in[1].at;
+    unsigned __int128 sum = 0, longest = 0;
+    for (size_t i = 0; i < c->in[1].length; i++) {
+        sum += lengths[i];
+        longest = longest < lengths[i] ? lengths[i] : longest;
+    }
+    return sum != c->in[0].length || c->out[0].length != c->in[0].length || bytes_of(c->out[1]) < longest ||
+           bytes_of(c->out[2]) < longest || c->out[3].length != c->in[1].length;
+}
+
 uint64_t expected(const row *row, const lent *c) {
     uint64_t position;
+    if (row->lends[0] == 'H')
+        return shelf_tests(c);
+    if (row->kind == RUNNING && c->running.done == 9)
+        return 0; /* it has ended, and says so before any test */
+    if ((tests(row, 'j') && (c->running.done > 8 || c->number != c->running.done + 1 || c->number > 8)) ||
+        (tests(row, 'y') && c->running.done != 8) ||
+        (tests(row, 'p') && (c->running.done < 1 || c->running.done > 8)))
+        return 1;
+    if (tests(row, 'p'))
+        return !shaped('o', c->out[0], c, 0) ? 1 : c->running.orders == c->out[0].length / 2 ? 11 : 0;
     if (tests(row, 'c') && c->clock.seconds_per_slot == 0)
         return 15;
     if (row->lends[0] == 'F')
@@ -144,6 +248,8 @@ uint64_t expected(const row *row, const lent *c) {
     if (writes > 0 && (written[0] == 'r' || written[0] == 'v'))
         registry = c->out[0];
     const size_t validators = registry.length / 10;
+    if (writes > 0 && written[0] == 'u')
+        whole = false;
 
     if (tests(row, 's'))
         good = is_vector(c->s.slots_per_historical_root) && is_vector(c->s.epochs_per_slashings_vector);
@@ -154,18 +260,32 @@ uint64_t expected(const row *row, const lent *c) {
             good = good && c->out[i].length == c->in[(const char *)memchr(read, written[i], reads) - read].length;
         else
             good = good && shaped(written[i], c->out[i], c, validators);
+    if (tests(row, 'j'))
+        good = good && c->out[0].length == c->in[0].length;
     if (!good || (tests(row, 'i') && c->index >= validators) || (tests(row, 'o') && c->index > validators) ||
         (tests(row, 'g') && c->flag_index > 2) || (tests(row, 'G') && c->flag_index > 7) ||
         (tests(row, 'd') && c->totals[0] == 0) || (tests(row, 'e') && !participation_epoch(c)) ||
         (tests(row, 'k') && c->rules.fork > 1))
         return 1;
+    if (tests(row, 'n') && (c->count == c->out[0].length / ALTAIR_ENTRY_LENGTH ||
+                            (c->count > 0 && !same_lengths(settings_of(c->out[0].at), c->s))))
+        return 1;
     if (tests(row, 's') && !good_settings(&c->s))
         return 2;
-    const altair_bellatrix pair = c->rules.bellatrix;
-    if (tests(row, 'k') && c->rules.fork == 1 &&
-        (pair.inactivity_penalty_quotient_bellatrix == 0 || !is_small(pair.inactivity_penalty_quotient_bellatrix) ||
-         !is_small(pair.proportional_slashing_multiplier_bellatrix)))
+    if (tests(row, 'k') && !good_pair(c->rules.fork, c->rules.bellatrix))
         return 2;
+    if (tests(row, 'y') && !is_small(c->number))
+        return 2;
+    if (c->by_store && !good_store(read[0] == 'T' ? c->in[0] : c->out[0], c->count))
+        return 2;
+    if (tests(row, 'n') && c->count > 0 &&
+        ((const uint64_t *)c->out[0].at)[ALTAIR_ENTRY_LENGTH * (c->count - 1)] >= c->epoch)
+        return 12;
+    if (read[0] == 'T' && !has_entry(c->in[0], c->count,
+                                     tests(row, 'x') ? c->epoch
+                                     : c->count == 0 ? 0
+                                                     : c->f.slot / settings_of(c->in[0].at).slots_per_epoch))
+        return 13;
     if (tests(row, 'c') && (c->clock.slots_per_epoch == 0 || !is_small(c->clock.slots_per_epoch)))
         return 2;
     if (tests(row, 'w') && c->number < c->clock.genesis_time)
@@ -176,5 +296,5 @@ uint64_t expected(const row *row, const lent *c) {
     for (size_t i = 0; i < reads; i++)
         if (read[i] == 'M' && !good_marks(c->in[i]))
             return 3;
-    return 0;
+    return tests(row, 'q') && !is_queue_of(c->queue, registry.at, validators) ? 8 : 0;
 }

@@ -54,9 +54,17 @@ static int unseen(void) {
         for (const char *n = row->may; *n != '\0'; n++)
             named[*n - '0'] = true;
         named[1] = file ? reads_file : row->lends[0] != '\0' || strpbrk(row->tests, "sigGed") != NULL;
-        named[2] = reads_file || strpbrk(row->tests, "sc") != NULL;
+        named[2] = reads_file || strpbrk(row->tests, "sc") != NULL || row->lends[0] == 'T';
+        named[12] = strchr(row->tests, 'n') != NULL;
+        named[13] = row->lends[0] == 'T';
+        named[11] = strchr(row->tests, 'p') != NULL;
+        if (strchr(row->tests, 'p') != NULL)
+            named[2] = false;
+        if (row->lends[0] == 'H')
+            named[2] = false;
         named[3] = reads_file || (!file && (strpbrk(row->lends, "RVrv") != NULL || strpbrk(row->tests, "tzf") != NULL));
         named[6] = file;
+        named[8] = reads_file || strchr(row->tests, 'q') != NULL;
         named[14] = strchr(row->tests, 'w') != NULL;
         named[15] = strchr(row->tests, 'c') != NULL;
         for (int n = 0; n < 16; n++)

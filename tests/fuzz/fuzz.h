@@ -25,7 +25,7 @@ typedef struct buffer {
     size_t length, size; /* in elements, and bytes of one */
 } buffer;
 
-enum { SLOTS = 8 };
+enum { SLOTS = 9 };
 void buffers_start(bool on_heap);
 /* a buffer in a slot, with bytes around it that must stay */
 buffer lend(int slot, size_t length, size_t size);
@@ -39,6 +39,7 @@ static inline size_t bytes_of(buffer b) { return b.length * b.size; }
 typedef struct record {
     altair_settings s;
     altair_finality f;
+    altair_queue queue; /* now and then not that of the registry */
     size_t validators;
     uint64_t *registry, *slashings;
     uint8_t *roots;
@@ -47,25 +48,31 @@ typedef struct record {
 
 record random_record(void);
 void random_validator(const altair_settings *s, uint64_t epoch, uint64_t *validator);
-/* the record's file, written here and not by the library; its length is file_length(r) */
-size_t file_length(const record *r);
-void write_bytes(const record *r, uint8_t *file);
+/* the exit queue's pair, counted here */
+altair_queue count_queue(const uint64_t *registry, size_t validators);
+/* the record's file of version 1 or 2, written here and not by the library */
+size_t file_length(const record *r, uint64_t version);
+void write_bytes(const record *r, uint64_t version, uint8_t *file);
 uint64_t number_at(const uint8_t *bytes);
 
 /* -- calls.c: the table of the functions */
 
+enum { READS = 4 };
 /* What a call is lent: in[] is read, out[] is written. */
 typedef struct lent {
     altair_settings s;
     altair_rules rules; /* with these settings */
     altair_finality f;
+    altair_queue queue;
+    altair_running running; /* with this finality and pair */
     altair_clock clock;
-    uint64_t slot, finalized, epoch, number, flag_index, index, totals[3];
+    uint64_t slot, finalized, epoch, number, flag_index, index, count, totals[3];
     uint8_t flags;
-    buffer in[3], out[2];
+    bool by_store; /* what is lent first is a store, with entries of the record's settings or nearly so */
+    buffer in[READS], out[4];
 } lent;
 
-typedef enum answer { ITSELF, NUMBER, VALUES, FINALITY, READ } answer;
+typedef enum answer { ITSELF, NUMBER, VALUES, FINALITY, FULL, QUEUE, COUNT, RUNNING, READ } answer;
 
 typedef struct row {
     const char *name;
@@ -81,7 +88,7 @@ extern const row rows[];
 extern const size_t row_count;
 const char *written_letters(const row *row);
 
-/* -- expected.c: what altair.h says of the tests 15, 6, 1, 2, 14 and 3: the number, or 0 where they pass */
+/* -- expected.c: what altair.h says of the tests 15, 6, 1, 2, 12, 13, 14, 3 and 8: the number, or 0 where they pass */
 
 uint64_t expected(const row *row, const lent *c);
 uint64_t expected_position(const lent *c);

@@ -56,6 +56,17 @@ void random_validator(const altair_settings *s, uint64_t epoch, uint64_t *valida
     memcpy(validator, v, sizeof v);
 }
 
+altair_queue count_queue(const uint64_t *registry, size_t validators) {
+    altair_queue q = {0, 0};
+    for (size_t i = 0; i < validators; i++) {
+        const uint64_t epoch = registry[10 * i + ALTAIR_EXIT_EPOCH];
+        if (epoch != ALTAIR_FAR_FUTURE_EPOCH && epoch > q.last_epoch)
+            q = (altair_queue){epoch, 0};
+        q.number += epoch == q.last_epoch;
+    }
+    return q;
+}
+
 record random_record(void) {
     record r = {.s = random_settings()};
     const uint64_t epoch = one_in(6) ? below(2) : below(30);
@@ -84,6 +95,11 @@ record random_record(void) {
                                     ALTAIR_FAR_FUTURE_EPOCH, below(100), 7, 7, 0};
             memcpy(registry + 10 * i, v, sizeof v);
         }
+    r.queue = count_queue(registry, r.validators);
+    if (one_in(24)) {
+        r.queue.last_epoch += one_in(2) ? 0 : below(3) - 1;
+        r.queue.number = one_in(2) ? odd_number() : r.queue.number + below(3) - 1;
+    }
     r.roots_length = 32 * (r.s.slots_per_historical_root < 65537 ? r.s.slots_per_historical_root : 65537);
     r.slashings_length = r.s.epochs_per_slashings_vector < SLASHINGS ? r.s.epochs_per_slashings_vector : SLASHINGS;
     for (size_t i = 0; i < r.roots_length; i += 8) {
@@ -118,12 +134,17 @@ uint64_t number_at(const uint8_t *bytes) {
     return n;
 }
 
-size_t file_length(const record *r) { return 368 + 80 * r->validators + r->roots_length + 8 * r->slashings_length; }
+static uint64_t validators_at(uint64_t version) { return version == 2 ? 384 : 368; }
 
-void write_bytes(const record *r, uint8_t *file) {
-    const uint64_t roots_at = 368 + 80 * r->validators, slashings_at = roots_at + r->roots_length;
-    const uint64_t header[] = {1,   file_length(r), r->validators, r->roots_length / 32, r->slashings_length, 80, 232,
-                               368, roots_at,       slashings_at};
+size_t file_length(const record *r, uint64_t version) {
+    return validators_at(version) + 80 * r->validators + r->roots_length + 8 * r->slashings_length;
+}
+
+void write_bytes(const record *r, uint64_t version, uint8_t *file) {
+    const uint64_t first = validators_at(version), roots_at = first + 80 * r->validators;
+    const uint64_t header[] = {
+        version, file_length(r, version), r->validators, r->roots_length / 32, r->slashings_length, 80, 232, first,
+        roots_at, roots_at + r->roots_length};
     uint64_t settings[19];
     memcpy(settings, &r->s, sizeof settings);
     file = put_all(put_all(file, header, 10), settings, 19);
@@ -135,6 +156,8 @@ void write_bytes(const record *r, uint8_t *file) {
         memcpy(file, checkpoints[i].root, 32);
         file += 32;
     }
+    if (version == 2)
+        file = put(put(file, r->queue.last_epoch), r->queue.number);
     file = put_all(file, r->registry, 10 * r->validators);
     memcpy(file, r->roots, r->roots_length);
     put_all(file + r->roots_length, r->slashings, r->slashings_length);

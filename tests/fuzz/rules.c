@@ -33,18 +33,61 @@ static altair_raised count_raised(const record *r) {
                            below_increment(r, epoch, ALTAIR_CURRENT_EPOCH_PARTICIPATION)};
 }
 
+/* The last of the four tests that the old checkpoints and the new bits pass, from epoch 2 on; or 0. */
+static uint64_t last_test(const record *r, const altair_finality *after) {
+    static const uint64_t wanted[] = {0, 14, 6, 7, 3}, back[] = {0, 3, 2, 2, 1};
+    const uint64_t epoch = r->f.slot / r->s.slots_per_epoch, bits = after->justification_bits;
+    uint64_t last = 0;
+    for (uint64_t i = 1; i <= 4 && epoch > 1; i++) {
+        const altair_checkpoint old =
+            i <= 2 ? r->f.previous_justified_checkpoint : r->f.current_justified_checkpoint;
+        if ((bits & wanted[i]) == wanted[i] && old.epoch + back[i] == epoch)
+            last = i;
+    }
+    return last;
+}
+
+static bool same_queue(altair_queue a, altair_queue b) { return a.last_epoch == b.last_epoch && a.number == b.number; }
+
+/* The amounts are the delta leaves' on the registry with the new scores, each cut where the balance ends; what slashing took is the
+ * rest. So opening balance and rewards are closing balance and what was taken. */
+static void the_amounts(const record *r, altair_rules rules, uint64_t finalized, const uint64_t *closing,
+                        const uint64_t *amounts) {
+    static uint64_t scored[NUMBERS];
+    const size_t numbers = 10 * r->validators;
+    const uint64_t slot = r->f.slot;
+    altair_settings s = r->s; /* under fork 1 the pair stands in the place of the Altair two, which no flag's delta reads */
+    MUST(altair_process_inactivity_updates(s, slot, finalized, r->registry, numbers, scored, numbers) == 0);
+    for (size_t i = 0; i < r->validators; i++) {
+        const uint64_t *booked = amounts + ALTAIR_AMOUNTS_LENGTH * i;
+        unsigned __int128 balance = r->registry[10 * i + ALTAIR_BALANCE];
+        for (uint64_t k = 0; k < 4; k++) {
+            altair_deltas_answer d = {0, 0, 0};
+            if (slot / s.slots_per_epoch > 0)
+                d = k < 3 ? altair_get_flag_index_deltas(s, slot, finalized, k, i, scored, numbers)
+                          : altair_get_inactivity_penalty_deltas(rules, slot, scored + 10 * i, 10);
+            MUST(d.refusal == 0 && booked[2 * k] == d.reward);
+            balance += d.reward;
+            MUST(booked[2 * k + 1] == (d.penalty < balance ? d.penalty : balance));
+            balance -= booked[2 * k + 1];
+        }
+        MUST(booked[ALTAIR_INACTIVITY_REWARD] == 0 && booked[ALTAIR_SLASHING_TAKEN] <= balance);
+        MUST(balance - booked[ALTAIR_SLASHING_TAKEN] == closing[10 * i + ALTAIR_BALANCE]);
+    }
+}
+
 /* The first refusal of the steps, each lent what the last one left; 0 and what all of them leave. */
-static uint64_t steps(const record *r, altair_rules rules, altair_finality *finality, altair_raised *raised,
+static uint64_t steps(const record *r, altair_rules rules, altair_justification_answer *said, altair_queue *queue,
                       uint64_t *registry, uint64_t *slashings) {
     static uint64_t before[NUMBERS];
     const size_t numbers = 10 * r->validators;
-    const altair_close_answer justified =
+    const altair_justification_answer justified =
         altair_process_justification_and_finalization(r->s, r->roots, r->roots_length, r->f, r->registry, numbers);
     if (justified.refusal != 0)
         return justified.refusal;
-    *finality = justified.finality;
-    *raised = justified.raised;
-    const uint64_t slot = r->f.slot, finalized = finality->finalized_checkpoint.epoch;
+    *said = justified;
+    const uint64_t slot = r->f.slot, finalized = justified.finality.finalized_checkpoint.epoch;
+    altair_queue_answer queued;
     uint64_t number;
     memcpy(registry, r->registry, 8 * numbers);
 #define STEP(call)                                                                                                     \
@@ -53,7 +96,10 @@ static uint64_t steps(const record *r, altair_rules rules, altair_finality *fina
     return number
     STEP(altair_process_inactivity_updates(r->s, slot, finalized, before, numbers, registry, numbers));
     STEP(altair_process_rewards_and_penalties(rules, slot, finalized, before, numbers, registry, numbers));
-    STEP(altair_process_registry_updates(r->s, slot, finalized, before, numbers, registry, numbers));
+    STEP((queued = altair_process_registry_updates(r->s, slot, finalized, count_queue(before, r->validators), before,
+                                                   numbers, registry, numbers))
+             .refusal);
+    *queue = queued.queue;
     STEP(altair_process_slashings(rules, slot, r->slashings, r->slashings_length, before, numbers, registry, numbers));
     STEP(altair_process_effective_balance_updates(r->s, before, numbers, registry, numbers));
     number =
@@ -69,12 +115,16 @@ static void the_stop(const record *r) {
     static uint64_t whole[NUMBERS], stopped[NUMBERS];
     const size_t numbers = 10 * r->validators, stop = below(r->validators + 1);
     const uint64_t slot = r->f.slot, finalized = r->f.finalized_checkpoint.epoch;
-    const uint64_t number =
-        altair_process_registry_updates(r->s, slot, finalized, r->registry, numbers, whole, numbers);
+    const altair_queue queue = count_queue(r->registry, r->validators);
+    const altair_queue_answer step =
+        altair_process_registry_updates(r->s, slot, finalized, queue, r->registry, numbers, whole, numbers);
+    MUST(same_queue(step.queue, step.refusal == 0 ? count_queue(whole, r->validators) : queue));
+    MUST(same_queue(queue, altair_exit_queue(r->registry, numbers).queue));
     for (size_t i = 10 * stop; i < numbers; i += 10)
         whole[i + ALTAIR_ACTIVATION_EPOCH] = r->registry[i + ALTAIR_ACTIVATION_EPOCH];
-    MUST(altair_process_registry_updates_to(stop, r->s, slot, finalized, r->registry, numbers, stopped, numbers) ==
-         number);
+    const altair_queue_answer to =
+        altair_process_registry_updates_to(stop, r->s, slot, finalized, queue, r->registry, numbers, stopped, numbers);
+    MUST(to.refusal == step.refusal && same_queue(to.queue, step.queue));
     MUST(memcmp(whole, stopped, 8 * numbers) == 0);
 }
 
@@ -87,17 +137,25 @@ static altair_change_answer changed(uint64_t opening, uint64_t closing) {
 
 static void the_close(const record *r) {
     static uint64_t registry[NUMBERS], slashings[SLASHINGS], by_steps[NUMBERS], slashings_by_steps[SLASHINGS];
+    static uint64_t amounts[NUMBERS / 10 * ALTAIR_AMOUNTS_LENGTH];
     const size_t numbers = 10 * r->validators;
     const altair_rules rules = {r->s, below(2), {1 + below(one_in(2) ? 100 : 1 << 24), below(5)}};
-    const altair_close_answer closed =
-        altair_close(rules, r->f, r->registry, numbers, r->slashings, r->slashings_length, r->roots, r->roots_length,
-                     registry, numbers, slashings, r->slashings_length);
-    altair_finality finality;
-    altair_raised raised;
-    MUST(steps(r, rules, &finality, &raised, by_steps, slashings_by_steps) == closed.refusal);
+    uint64_t store[ALTAIR_ENTRY_LENGTH];
+    altair_put_entry(store, below(r->f.slot / r->s.slots_per_epoch + 1), rules);
+    const altair_full_answer closed =
+        altair_close(store, ALTAIR_ENTRY_LENGTH, 1, r->f, count_queue(r->registry, r->validators), r->registry, numbers,
+                     r->slashings, r->slashings_length, r->roots, r->roots_length, registry, numbers, slashings,
+                     r->slashings_length, amounts, ALTAIR_AMOUNTS_LENGTH * r->validators);
+    altair_justification_answer justified = {0};
+    altair_queue queue = {0, 0};
+    MUST(steps(r, rules, &justified, &queue, by_steps, slashings_by_steps) == closed.refusal);
     if (closed.refusal != 0)
         return;
-    MUST(same_finality(&finality, &closed.finality) && same_raised(&raised, &closed.raised));
+    const altair_finality finality = justified.finality;
+    MUST(same_finality(&finality, &closed.finality) && same_raised(&justified.raised, &closed.raised));
+    MUST(closed.test == justified.test && closed.test == last_test(r, &closed.finality));
+    MUST(same_queue(closed.queue, queue) && same_queue(queue, count_queue(registry, r->validators)));
+    the_amounts(r, rules, finality.finalized_checkpoint.epoch, registry, amounts);
     const altair_raised counted = count_raised(r);
     MUST(same_raised(&counted, &closed.raised));
     MUST(memcmp(registry, by_steps, 8 * numbers) == 0);
@@ -126,13 +184,19 @@ static void the_close(const record *r) {
 
 static void the_file(const record *r) {
     static uint64_t registry[NUMBERS], slashings[SLASHINGS];
-    const size_t length = file_length(r), numbers = 10 * r->validators;
-    uint8_t *here = malloc(length), *file = malloc(length);
+    record right = *r;
+    right.queue = count_queue(r->registry, r->validators);
+    const size_t numbers = 10 * r->validators, whole = file_length(r, 2);
+    uint8_t *here = malloc(whole), *file = malloc(whole);
     MUST(here != NULL && file != NULL);
-    write_bytes(r, here);
-    MUST(altair_write_file(r->s, r->f, r->registry, numbers, r->roots, r->roots_length, r->slashings,
-                           r->slashings_length, file, length) == 0);
-    MUST(memcmp(file, here, length) == 0);
+    write_bytes(&right, 2, here);
+    MUST(altair_write_file(r->s, r->f, right.queue, r->registry, numbers, r->roots, r->roots_length, r->slashings,
+                           r->slashings_length, file, whole) == 0);
+    MUST(memcmp(file, here, whole) == 0);
+    /* read back, and as often from version 1 */
+    const uint64_t version = 1 + below(2);
+    const size_t length = file_length(r, version);
+    write_bytes(&right, version, file);
     const altair_header header = altair_read_header(file, length);
     MUST(header.refusal == 0 && header.validators == r->validators);
     MUST(32 * header.roots == r->roots_length && header.slashings == r->slashings_length);
@@ -140,8 +204,55 @@ static void the_file(const record *r) {
     MUST(read.refusal == 0 && read.position == length && memcmp(&read.settings, &r->s, sizeof r->s) == 0);
     MUST(same_finality(&read.finality, &r->f) && memcmp(registry, r->registry, 8 * numbers) == 0);
     MUST(memcmp(slashings, r->slashings, 8 * r->slashings_length) == 0);
-    MUST(memcmp(file + ALTAIR_ROOTS_AT(r->validators), r->roots, r->roots_length) == 0);
+    MUST(memcmp(file + ALTAIR_ROOTS_AT(file[0], r->validators), r->roots, r->roots_length) == 0);
+    MUST(same_queue(read.queue, right.queue));
     free(here), free(file);
+}
+
+/* three files closed together: each as by itself, from its own bytes, whatever stands beside it */
+static void the_shelf(const record *r) {
+    record right = *r;
+    right.queue = count_queue(r->registry, r->validators);
+    const size_t length = file_length(r, 2), numbers = 10 * r->validators;
+    if (length > 100000)
+        return;
+    uint8_t *files = malloc(3 * length), *closing = malloc(3 * length), *alone = malloc(length);
+    uint64_t *working = malloc(2 * (length + 8)), *registry = malloc(8 * numbers + 8), *slashings = malloc(8 * r->slashings_length);
+    uint64_t *amounts = malloc(72 * r->validators + 8);
+    MUST(files != NULL && closing != NULL && alone != NULL && working != NULL && registry != NULL && slashings != NULL && amounts != NULL);
+    for (size_t i = 0; i < 3; i++)
+        write_bytes(&right, 2, files + i * length);
+    const size_t bad = below(4); /* 3: none */
+    if (bad < 3)
+        files[bad * length + below(one_in(2) ? 80 : length)] ^= (uint8_t)(1 + below(255));
+    memset(closing, 0xa5, 3 * length);
+    const altair_rules rules = {r->s, below(2), {1 + below(100), below(5)}};
+    const size_t words = (length + 7) / 8;
+    uint64_t lengths[] = {length, length, length}, answers[3], one[1], only[] = {length};
+    MUST(altair_close_shelf(files, 3 * length, lengths, 3, closing, 3 * length, working, words, working + words, words,
+                            answers, 3, rules.fork, rules.bellatrix) == 0);
+    for (size_t i = 0; i < 3; i++) {
+        memset(alone, 0xa5, length);
+        MUST(altair_close_shelf(files + i * length, length, only, 1, alone, length, working, words, working + words, words,
+                                one, 1, rules.fork, rules.bellatrix) == 0);
+        MUST(answers[i] == one[0] && memcmp(closing + i * length, alone, length) == 0);
+        if (i == bad)
+            continue;
+        uint64_t store[ALTAIR_ENTRY_LENGTH];
+        altair_put_entry(store, 0, rules);
+        const altair_full_answer closed =
+            altair_close(store, ALTAIR_ENTRY_LENGTH, 1, r->f, right.queue, r->registry, numbers, r->slashings,
+                         r->slashings_length, r->roots, r->roots_length, registry, numbers, slashings,
+                         r->slashings_length, amounts, 9 * r->validators);
+        MUST(closed.refusal == answers[i]);
+        if (closed.refusal == 0)
+            MUST(altair_write_file(r->s, closed.finality, closed.queue, registry, numbers, r->roots, r->roots_length,
+                                   slashings, r->slashings_length, alone, length) == 0);
+        else
+            memcpy(alone, files + i * length, length);
+        MUST(memcmp(closing + i * length, alone, length) == 0);
+    }
+    free(files), free(closing), free(alone), free(working), free(registry), free(slashings), free(amounts);
 }
 
 /* a slot or epoch to its seconds and back, wherever they are answered; neighbours; and the closing window */
@@ -182,7 +293,7 @@ static void the_votes(const record *r) {
     }
     const altair_votes_answer votes =
         altair_unknown_votes(r->s, r->roots, r->roots_length, r->f, r->registry, numbers, marks, r->validators);
-    const altair_close_answer step =
+    const altair_justification_answer step =
         altair_process_justification_and_finalization(r->s, r->roots, r->roots_length, r->f, filled, numbers);
     const uint64_t finalized = step.finality.finalized_checkpoint.epoch;
     if (votes.refusal != 0) {
@@ -201,6 +312,27 @@ static void the_votes(const record *r) {
         altair_unknown_votes(r->s, r->roots, r->roots_length, r->f, filled, numbers, marks, r->validators);
     MUST(known.refusal == 0 && known.count == 1 && known.finalized_epochs[0] == finalized);
     MUST(known.previous_target != ALTAIR_PASSES_IN_SOME && known.current_target != ALTAIR_PASSES_IN_SOME);
+}
+
+/* entries added one after the other: what was read below a new start is read as before, and from it on the new rules */
+static void the_store(const record *r) {
+    uint64_t store[4 * ALTAIR_ENTRY_LENGTH], before[4 * ALTAIR_ENTRY_LENGTH], count = 0, start = below(5);
+    altair_rules rules = altair_under_altair(r->s);
+    for (size_t i = 0; i < 4; i++, start += 1 + below(5)) {
+        const uint64_t below_start = start == 0 ? 0 : below(start);
+        const altair_rules_answer was = altair_read_rules(store, 4 * ALTAIR_ENTRY_LENGTH, count, below_start);
+        rules.settings.base_reward_factor = i;
+        memcpy(before, store, sizeof store);
+        const altair_count_answer added = altair_add_rules(store, 4 * ALTAIR_ENTRY_LENGTH, count, start, rules);
+        MUST(added.refusal == 0 && added.count == count + 1);
+        MUST(memcmp(store, before, 8 * ALTAIR_ENTRY_LENGTH * count) == 0);
+        count = added.count;
+        const altair_rules_answer is = altair_read_rules(store, 4 * ALTAIR_ENTRY_LENGTH, count, below_start);
+        MUST(start == 0 || memcmp(&is, &was, sizeof is) == 0);
+        const altair_rules_answer from = altair_read_rules(store, 4 * ALTAIR_ENTRY_LENGTH, count, start + below(3));
+        MUST(from.refusal == 0 && memcmp(&from.rules, &rules, sizeof rules) == 0);
+        MUST(altair_add_rules(store, 4 * ALTAIR_ENTRY_LENGTH, count, start, rules).refusal == (i == 3 ? 1 : 12));
+    }
 }
 
 static void the_leaves(const record *r) {
@@ -251,6 +383,8 @@ void rules_hold(const record *r) {
     the_close(r);
     the_stop(r);
     the_file(r);
+    the_store(r);
+    the_shelf(r);
     the_leaves(r);
     the_votes(r);
 }

@@ -7,8 +7,10 @@
 #include <string.h>
 
 enum { LARGEST = 4 * 1024 * 1024, ANSWER = 512 };
+static bool zeros(const uint8_t *bytes, size_t length);
 
-/* -- What a call is lent: slots 0 to 2 for what is read, 3 and 4 for what is written */
+/* -- What a call is lent: slots 0 to 3 for what is read, WRITTEN to 7 for what is written, 8 for both side by side */
+enum { WRITTEN = READS };
 
 static uint8_t saved[SLOTS][LARGEST]; /* what each buffer holds before the call */
 
@@ -33,8 +35,9 @@ static buffer with(int slot, const void *contents, size_t length, size_t size) {
 
 static buffer random_file(const record *r, int slot) {
     static uint8_t file[LARGEST];
-    size_t length = file_length(r);
-    write_bytes(r, file);
+    const uint64_t version = 1 + below(2);
+    size_t length = file_length(r, version);
+    write_bytes(r, version, file);
     if (one_in(12))
         file[below(80)] ^= (uint8_t)(1 + below(255));
     if (one_in(12))
@@ -44,11 +47,97 @@ static buffer random_file(const record *r, int slot) {
     return with(slot, file, length, 1);
 }
 
-static buffer read_buffer(char letter, const record *r, const lent *c, int slot) {
+/* Up to three files one behind another, the record's own and damaged ones, and their lengths. */
+static size_t shelf_lengths[3], shelf_count;
+
+static buffer random_shelf(const record *r, int slot) {
+    static uint8_t files[LARGEST];
+    size_t held = 0;
+    shelf_count = one_in(12) ? 0 : 1 + below(3);
+    for (size_t i = 0; i < shelf_count; i++) {
+        const uint64_t version = one_in(8) ? 1 : 2;
+        const size_t length = file_length(r, version);
+        shelf_lengths[i] = one_in(12) ? below(100) : length;
+        if (held + length > LARGEST / 2)
+            shelf_lengths[i] = below(100);
+        else
+            write_bytes(r, version, files + held);
+        if (one_in(6) && shelf_lengths[i] > 0)
+            files[held + below(one_in(2) && shelf_lengths[i] > 400 ? 400 : shelf_lengths[i])] ^= (uint8_t)(1 + below(255));
+        held += shelf_lengths[i];
+    }
+    return with(slot, files, held, 1);
+}
+
+static buffer random_lengths(int slot) {
+    uint64_t lengths[3];
+    for (size_t i = 0; i < shelf_count; i++)
+        lengths[i] = one_in(40) ? odd_number() : shelf_lengths[i];
+    return with(slot, lengths, shelf_count, 8);
+}
+
+static size_t longest_file(void) {
+    size_t longest = 0;
+    for (size_t i = 0; i < shelf_count; i++)
+        longest = longest < shelf_lengths[i] ? shelf_lengths[i] : longest;
+    return longest;
+}
+
+/* A close about as far as its step's number says, with the record's finality and pair, and orders in a list. */
+static void random_running(const record *r, lent *c) {
+    memset(&c->running, 0, sizeof c->running);
+    c->running.done = one_in(12) ? odd_number() : below(10);
+    c->running.answer.finality = r->f;
+    c->running.answer.queue = r->queue;
+    c->running.answer.raised.active = below(2);
+    c->running.answer.test = below(5);
+    c->running.orders = one_in(24) ? odd_number() : below(4);
+}
+
+/* Entries with starts about the record's epoch, of its settings or nearly so, and room behind them now and then. */
+static buffer random_store(const record *r, lent *c, int slot) {
+    static uint64_t store[8 * ALTAIR_ENTRY_LENGTH];
+    const uint64_t epoch = r->s.slots_per_epoch == 0 ? 0 : r->f.slot / r->s.slots_per_epoch;
+    const size_t entries = one_in(12) ? 0 : 1 + below(3), room = entries + (one_in(2) ? below(3) : 0);
+    uint64_t start = one_in(8) ? odd_number() : epoch - below(epoch < 9 ? epoch + 1 : 9);
+    for (size_t i = 0; i < room; i++, start += one_in(16) ? 0 : 1 + below(4)) {
+        altair_rules rules = c->rules;
+        rules.settings = r->s;
+        if (!one_in(12) && rules.fork > 1)
+            rules.fork = below(2);
+        if (one_in(3)) /* a setting that may change, and now and then one that may not */
+            rules.settings.min_epochs_to_inactivity_penalty ^= 1;
+        if (one_in(40))
+            rules.settings.slots_per_epoch ^= 1;
+        if (one_in(40))
+            rules.settings.hysteresis_quotient = odd_number();
+        altair_put_entry(store + ALTAIR_ENTRY_LENGTH * i, i >= entries ? random_number() : start, rules);
+    }
+    c->count = one_in(40) ? odd_number() : entries;
+    c->by_store = true;
+    return with(slot, store, ALTAIR_ENTRY_LENGTH * room, 8);
+}
+
+static buffer random_orders(const record *r, int slot) {
+    uint64_t orders[2 * 4];
+    for (size_t i = 0; i < 4; i++)
+        orders[2 * i] = below(r->validators + 2), orders[2 * i + 1] = one_in(3) ? odd_number() : below(9);
+    return with(slot, orders, 2 * (2 + below(3)), 8);
+}
+
+static buffer read_buffer(char letter, const record *r, lent *c, int slot) {
     static uint64_t marks[LARGEST / 80];
     uint64_t validator[10];
     buffer like;
     switch (letter) {
+    case 'T':
+        return random_store(r, c, slot);
+    case 'O':
+        return random_orders(r, slot);
+    case 'H':
+        return random_shelf(r, slot);
+    case 'L':
+        return random_lengths(slot);
     case 'R':
     case 'P':
         return with(slot, r->registry, 10 * r->validators, 8);
@@ -76,7 +165,9 @@ static buffer read_buffer(char letter, const record *r, const lent *c, int slot)
 }
 
 /* what is written holds poison before, but for a buffer that is changed in place */
-static buffer written_buffer(char letter, const row *row, const record *r, const lent *c, int slot) {
+static const uint64_t no_amounts[ALTAIR_AMOUNTS_LENGTH * 400];
+
+static buffer written_buffer(char letter, const row *row, const record *r, lent *c, int slot) {
     uint64_t validator[10];
     const char *opening = memchr(row->lends, letter, strcspn(row->lends, ">"));
     size_t length = opening != NULL ? c->in[opening - row->lends].length
@@ -88,8 +179,26 @@ static buffer written_buffer(char letter, const row *row, const record *r, const
     case 'v':
         random_validator(&r->s, 3, validator);
         return with(slot, validator, 10, 8);
+    case 'u':
+        return random_store(r, c, slot);
+    case 's':
+        return with(slot, r->slashings, r->slashings_length, 8);
+    case 'a':
+        return with(slot, no_amounts, ALTAIR_AMOUNTS_LENGTH * r->validators, 8);
+    case 'o':
+        return random_orders(r, slot);
+    case 'm':
+        return with(slot, no_amounts, c->in[0].length / 2, 8);
     case 'F':
-        return lend(slot, odd_length(file_length(r)), 1);
+        return lend(slot, odd_length(file_length(r, 2)), 1);
+    case 'C':
+        return lend(slot, odd_length(c->in[0].length), 1);
+    case 'W':
+        return lend(slot, odd_length((longest_file() + 7) / 8 + below(3)), 8);
+    case 'N':
+        return lend(slot, odd_length(c->in[1].length), 8);
+    case 'A':
+        return lend(slot, odd_length(ALTAIR_AMOUNTS_LENGTH * r->validators), 8);
     }
     return lend(slot, odd_length(length), 8);
 }
@@ -101,6 +210,7 @@ static void random_numbers(const record *r, lent *c) {
     c->flag_index = one_in(8) ? odd_number() : below(3);
     c->index = one_in(8) ? odd_number() : below(r->validators + 1);
     c->flags = (uint8_t)random_number();
+    random_running(r, c);
     c->rules = altair_under_bellatrix(r->s, (altair_bellatrix)ALTAIR_MAINNET_BELLATRIX);
     c->rules.fork = one_in(12) ? odd_number() : below(2);
     if (one_in(3))
@@ -134,7 +244,7 @@ static void one_run(const row *row, const lent *c, uint8_t *answer, uint8_t befo
     for (size_t i = 0; i < reads; i++)
         MUST(kept_within((int)i));
     for (size_t k = 0; k < writes; k++)
-        MUST(kept_within(3 + (int)k));
+        MUST(kept_within(WRITTEN + (int)k));
     for (size_t i = row->size; i < ANSWER; i++)
         MUST(answer[i] == before);
 }
@@ -144,6 +254,19 @@ static bool zeros(const uint8_t *bytes, size_t length) {
         if (*bytes++ != 0)
             return false;
     return true;
+}
+
+/* A close by steps that is refused: at the first call, or with 4 or 5, it is ended as the whole close is refused; else it is as it was. */
+static void refused_running(const row *row, const lent *c, const altair_running_answer *a) {
+    MUST(a->ended == 0);
+    const bool in_turn = strchr(row->tests, 'j') != NULL && c->running.done < 8 && c->number == c->running.done + 1;
+    if (!in_turn || !(c->running.done == 0 || a->refusal == 4 || a->refusal == 5)) {
+        MUST(memcmp(&a->running, &c->running, sizeof a->running) == 0);
+        return;
+    }
+    altair_running ended = {.done = 9, .answer = {a->refusal, c->f, c->queue, {0, 0, 0}, 0}};
+    ended.orders = c->running.done == 0 ? 0 : c->running.orders;
+    MUST(memcmp(&a->running, &ended, sizeof ended) == 0);
 }
 
 /* an answer beside a refusal's number */
@@ -161,19 +284,37 @@ static void refused_answer(const row *row, const lent *c, const uint8_t *answer)
         MUST(memcmp(answer + 8, &c->f, sizeof c->f) == 0);
         MUST(zeros(answer + 8 + sizeof c->f, row->size - 8 - sizeof c->f));
         return;
+    case FULL:
+        MUST(memcmp(answer + 8, &c->f, sizeof c->f) == 0);
+        MUST(memcmp(answer + 8 + sizeof c->f, &c->queue, sizeof c->queue) == 0);
+        MUST(zeros(answer + 24 + sizeof c->f, row->size - 24 - sizeof c->f));
+        return;
+    case QUEUE:
+        MUST(memcmp(answer + 8, &c->queue, sizeof c->queue) == 0);
+        return;
+    case COUNT:
+        MUST(memcmp(answer + 8, &c->count, 8) == 0);
+        return;
+    case RUNNING:
+        refused_running(row, c, (const altair_running_answer *)(const void *)answer);
+        return;
     case READ:
         memcpy(&read, answer, sizeof read);
         MUST(read.position == expected_position(c) && zeros(answer + 16, row->size - 16));
     }
 }
 
-/* what a written buffer holds after a refusal: what stood in it, or after 4 and 5 the opening's numbers */
+/* what a written buffer holds after a refusal: what stood in it, or after 4 and 5 the opening's numbers, and of amounts zeros */
 static void refused_buffers(const row *row, const lent *c, uint64_t number) {
     const char *written = written_letters(row);
     for (size_t k = 0; k < strlen(written); k++) {
+        if (written[k] == 'A' && (number == 4 || number == 5)) {
+            MUST(zeros(c->out[k].at, bytes_of(c->out[k])));
+            continue;
+        }
         const char *opening = memchr(row->lends, written[k], strcspn(row->lends, ">"));
         const void *held =
-            opening != NULL && (number == 4 || number == 5) ? c->in[opening - row->lends].at : saved[3 + k];
+            opening != NULL && (number == 4 || number == 5) ? c->in[opening - row->lends].at : saved[WRITTEN + k];
         MUST(bytes_of(c->out[k]) == 0 || memcmp(c->out[k].at, held, bytes_of(c->out[k])) == 0);
     }
 }
@@ -189,16 +330,18 @@ static void refuses(const row *row, lent c, buffer written) {
     _Alignas(16) uint8_t answer[ANSWER];
     uint64_t number;
     for (size_t k = 0; k < strlen(written_letters(row)); k++)
-        save(3 + (int)k, c.out[k]);
+        save(WRITTEN + (int)k, c.out[k]);
     const buffer whole = c.out[0];
     c.out[0] = written;
     one_run(row, &c, answer, 0x5a);
     memcpy(&number, answer, 8);
     MUST(number == 1);
-    if (row->kind == FINALITY)
-        MUST(memcmp(answer + 8, &c.f, sizeof c.f) == 0 && zeros(answer + 8 + sizeof c.f, row->size - 8 - sizeof c.f));
-    if (row->kind == READ)
+    if (row->kind == READ) /* before anything is read */
         MUST(zeros(answer + 8, row->size - 8));
+    else if (row->kind == RUNNING) /* the close as it was, also at the first call */
+        MUST(zeros(answer + 8, 8) && memcmp(answer + 16, &c.running, sizeof c.running) == 0);
+    else
+        refused_answer(row, &c, answer);
     c.out[0] = whole;
     refused_buffers(row, &c, 1);
 }
@@ -225,7 +368,7 @@ static void try_checked(const row *row, const lent *c, const uint8_t *accepted) 
         }
     if (strcmp(row->lends, "R>R") == 0) { /* side by side they are apart */
         lent beside = *c;
-        beside.in[0].at = lend(5, c->in[0].length + whole.length, 8).at;
+        beside.in[0].at = lend(8, c->in[0].length + whole.length, 8).at;
         beside.out[0].at = (uint8_t *)beside.in[0].at + bytes_of(c->in[0]);
         if (bytes_of(c->in[0]) > 0)
             memcpy(beside.in[0].at, saved[0], bytes_of(c->in[0]));
@@ -238,18 +381,24 @@ void try_row(size_t place, const record *r) {
     const row *row = &rows[place];
     const char *written = written_letters(row);
     const size_t reads = strcspn(row->lends, ">"), writes = strlen(written);
-    lent c = {.s = r->s, .f = r->f, .slot = r->f.slot, .finalized = r->f.finalized_checkpoint.epoch};
+    lent c = {.s = r->s, .f = r->f, .queue = r->queue, .slot = r->f.slot, .finalized = r->f.finalized_checkpoint.epoch};
     calling = row->name;
     random_numbers(r, &c);
+    if (strchr(row->tests, 'j') != NULL) /* mostly the step whose turn it is */
+        c.number = one_in(12) ? odd_number() : c.running.done + 1;
+    if (strchr(row->tests, 'y') != NULL) {
+        c.running.done = one_in(4) ? c.running.done : 8;
+        c.number = one_in(6) ? odd_number() : below(300);
+    }
     for (size_t i = 0; i < reads; i++) {
         c.in[i] = read_buffer(row->lends[i], r, &c, (int)i);
         save((int)i, c.in[i]);
     }
     for (size_t k = 0; k < writes; k++) {
-        c.out[k] = written_buffer(written[k], row, r, &c, 3 + (int)k);
-        if (bytes_of(c.out[k]) > 0 && written[k] != 'r' && written[k] != 'v')
+        c.out[k] = written_buffer(written[k], row, r, &c, WRITTEN + (int)k);
+        if (bytes_of(c.out[k]) > 0 && strchr("rvusaom", written[k]) == NULL)
             memset(c.out[k].at, 0xa5, bytes_of(c.out[k]));
-        save(3 + (int)k, c.out[k]);
+        save(WRITTEN + (int)k, c.out[k]);
     }
 
     const uint64_t wanted = expected(row, &c);
@@ -265,27 +414,32 @@ void try_row(size_t place, const record *r) {
     if (number != 0) {
         refused_answer(row, &c, answer);
         refused_buffers(row, &c, number);
+    } else if (row->kind == RUNNING && c.running.done == 9) { /* ended: it says so, and nothing has changed */
+        const altair_running_answer *a = (const altair_running_answer *)(const void *)answer;
+        MUST(a->ended == 1 && memcmp(&a->running, &c.running, sizeof c.running) == 0);
+        refused_buffers(row, &c, 1);
     }
 
     /* again, with other poison and in another place: the same answer, and the same numbers where they were written */
-    static uint8_t left[2][LARGEST];
+    static uint8_t left[4][LARGEST];
     for (size_t k = 0; k < writes; k++) {
         if (bytes_of(c.out[k]) > 0)
             memcpy(left[k], c.out[k].at, bytes_of(c.out[k]));
-        c.out[k] = lend(3 + (int)k, c.out[k].length, c.out[k].size);
-        if (bytes_of(c.out[k]) > 0 && (written[k] == 'r' || written[k] == 'v'))
-            memcpy(c.out[k].at, saved[3 + k], bytes_of(c.out[k]));
+        c.out[k] = lend(WRITTEN + (int)k, c.out[k].length, c.out[k].size);
+        if (bytes_of(c.out[k]) > 0 && strchr("rvusaom", written[k]) != NULL)
+            memcpy(c.out[k].at, saved[WRITTEN + k], bytes_of(c.out[k]));
         else if (bytes_of(c.out[k]) > 0)
             memset(c.out[k].at, 0x5a, bytes_of(c.out[k]));
-        save(3 + (int)k, c.out[k]);
+        save(WRITTEN + (int)k, c.out[k]);
     }
     one_run(row, &c, again, 0x5a);
     MUST(memcmp(answer, again, row->size) == 0);
     if (number != 0)
         refused_buffers(row, &c, number);
     else
-        for (size_t k = 0; k < writes; k++)
-            MUST(bytes_of(c.out[k]) == 0 || memcmp(c.out[k].at, left[k], bytes_of(c.out[k])) == 0);
+        for (size_t k = 0; k < writes; k++) /* a working list holds anything, and a refused file's part what it held before */
+            MUST(bytes_of(c.out[k]) == 0 || strchr("CW", written[k]) != NULL ||
+                 memcmp(c.out[k].at, left[k], bytes_of(c.out[k])) == 0);
     if (strncmp(row->name, "altair_checked_", 15) == 0 && writes > 0 && bytes_of(c.out[0]) > 0)
         try_checked(row, &c, answer);
 }

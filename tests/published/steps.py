@@ -8,6 +8,11 @@ def _by_finalized_epoch(step):
     return lambda r: r._replace(registry=step(r.settings, r.finality.slot, r.finality.finalized_checkpoint.epoch, r.registry))
 
 
+def _registry_updates(r):
+    finalized = r.finality.finalized_checkpoint.epoch
+    return r._replace(**library.process_registry_updates(r.settings, r.finality.slot, finalized, r.queue, r.registry)._asdict())
+
+
 # by the names that the published tests give them, in the order of the close
 STEPS = {
     "justification_and_finalization": lambda r: r._replace(
@@ -15,7 +20,7 @@ STEPS = {
     ),
     "inactivity_updates": _by_finalized_epoch(library.process_inactivity_updates),
     "rewards_and_penalties": _by_finalized_epoch(library.process_rewards_and_penalties),
-    "registry_updates": _by_finalized_epoch(library.process_registry_updates),
+    "registry_updates": _registry_updates,
     "slashings": lambda r: r._replace(registry=library.process_slashings(r.settings, r.finality.slot, r.slashings, r.registry)),
     "effective_balance_updates": lambda r: r._replace(registry=library.process_effective_balance_updates(r.settings, r.registry)),
     "slashings_reset": lambda r: r._replace(slashings=library.process_slashings_reset(r.settings, r.finality.slot, r.slashings)),

@@ -159,13 +159,15 @@ def text(s, version=None, **layout):
 
 
 def record(s, settings):
-    """The record file, as document 01 lays it out."""
+    """The record file of version 2, as documents 01 and 02 lay it out."""
     n, roots, slashings = len(s["validators"]), len(s["block_roots"]), len(s["slashings"])
-    at = 368 + 80 * n
-    parts = [words(1, at + 32 * roots + 8 * slashings, n, roots, slashings, 80, 232, 368, at, at + 32 * roots), words(*settings)]
+    at = 384 + 80 * n
+    parts = [words(2, at + 32 * roots + 8 * slashings, n, roots, slashings, 80, 232, 384, at, at + 32 * roots), words(*settings)]
     parts.append(words(s["slot"], s["justification_bits"][0]))
     for name in "previous_justified_checkpoint", "current_justified_checkpoint", "finalized_checkpoint":
         parts += [words(s[name]["epoch"]), s[name]["root"]]
+    exits = sorted(v["exit_epoch"] for v in s["validators"] if v["exit_epoch"] < 2**64 - 1)
+    parts.append(words(exits[-1], exits.count(exits[-1])) if exits else words(0, 0))
     for i, v in enumerate(s["validators"]):
         parts.append(
             words(

@@ -187,14 +187,15 @@ class Damaged(unittest.TestCase):
                 return run("back", "--preset", "minimal", "--force", at / "state", at / "closed", at / "made")
 
             for at_byte, new, part in [
-                (0, b"\2", "header, byte 0: 2, and 1 is wanted"),
+                (0, b"\3", "header, byte 0: 3, and 1 or 2 is wanted"),
+                (0, b"\1", "header, byte 8: "),
                 (16, b"\4", "header, byte 8"),
                 (232, bytes([good[232] ^ 1]), "slot, byte 232"),
                 (240, b"\x10", "justification_bits, byte 240: 16"),
-                (368 + 8, b"\2", "validators[0].slashed, byte 376: 2"),
-                (368 + 80 + 56 + 1, b"\1", "validators[1].previous_epoch_participation, byte 504"),
-                (368 + 160 + 64 + 7, b"\x80", "validators[2].current_epoch_participation, byte 592"),
-                (368 + 240 + 33, bytes([good[368 + 240 + 33] ^ 1]), "block_roots[1], byte 640"),
+                (384 + 8, b"\2", "validators[0].slashed, byte 392: 2"),
+                (384 + 80 + 56 + 1, b"\1", "validators[1].previous_epoch_participation, byte 520"),
+                (384 + 160 + 64 + 7, b"\x80", "validators[2].current_epoch_participation, byte 608"),
+                (384 + 240 + 33, bytes([good[384 + 240 + 33] ^ 1]), "block_roots[1], byte 656"),
             ]:
                 said = back(self.patched(good, at_byte, new))
                 self.assertEqual(said.code, 1)

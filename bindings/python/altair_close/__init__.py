@@ -13,17 +13,22 @@ with the number. Python's standard library alone, CPython 3.8 or later.
     160000
 """
 from ._close import charged, close, listing_head, listing_line, listing_lines, net_change
+from ._desk import Desk, Ended, carry_out, close_step, take_order
 from ._helpers import *
 from ._record import Record, read_file, read_header, write_file
 from ._refusals import REFUSALS, Refused
+from ._shelf import close_files, close_shelf
 from ._signatures import VERSION, call as _call
 from ._steps import *
-from ._types import (ACTIVATION_ELIGIBILITY_EPOCH, ACTIVATION_EPOCH, BALANCE, BOTH_KNOWN, BOTH_UNKNOWN,
-                     CURRENT_EPOCH_PARTICIPATION, CURRENT_UNKNOWN, EFFECTIVE_BALANCE, EXIT_EPOCH, FAR_FUTURE_EPOCH,
-                     FORK_ALTAIR, FORK_BELLATRIX, INACTIVITY_SCORE, MAINNET, MAINNET_BELLATRIX, MAINNET_CLOCK, MINIMAL,
-                     PASSES_IN_ALL, PASSES_IN_NONE, PASSES_IN_SOME, PRESETS, PREVIOUS_EPOCH_PARTICIPATION, PREVIOUS_UNKNOWN,
-                     SLASHED, VALIDATOR_LENGTH, WITHDRAWABLE_EPOCH, Bellatrix, Checkpoint, Clock, Closed, Deltas, Finality,
-                     Head, Header, Justified, Line, Raised, Rules, Settings, Total, Votes)
+from ._store import Store, add_rules, read_rules
+from ._types import (ACTIVATION_ELIGIBILITY_EPOCH, ACTIVATION_EPOCH, AMOUNTS_LENGTH, BALANCE, BOTH_KNOWN, BOTH_UNKNOWN,
+                     ENTRY_LENGTH, CURRENT_EPOCH_PARTICIPATION, CURRENT_UNKNOWN, EFFECTIVE_BALANCE, EXIT_EPOCH, FAR_FUTURE_EPOCH,
+                     FORK_ALTAIR, FORK_BELLATRIX, HEAD_REWARD, HEAD_TAKEN, INACTIVITY_REWARD, INACTIVITY_SCORE, INACTIVITY_TAKEN,
+                     MAINNET, MAINNET_BELLATRIX, MAINNET_CLOCK, MINIMAL, PASSES_IN_ALL, PASSES_IN_NONE, PASSES_IN_SOME, PRESETS,
+                     PREVIOUS_EPOCH_PARTICIPATION, PREVIOUS_UNKNOWN, SLASHED, SLASHING_TAKEN, SOURCE_REWARD, SOURCE_TAKEN,
+                     TARGET_REWARD, TARGET_TAKEN, VALIDATOR_LENGTH, WITHDRAWABLE_EPOCH, Amounts, Bellatrix, Checkpoint, Clock,
+                     Closed, Deltas, Entry, ExitQueue, Finality, Head, Header, Justified, Line, Queued, Raised, Rules, Running, Settings,
+                     Shelf, Told, Total, Votes)
 
 
 def version():

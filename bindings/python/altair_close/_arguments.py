@@ -75,9 +75,10 @@ class Buffer:
     words = (ctypes.c_void_p, ctypes.c_size_t)
     format, size, wanted, or_else = "", 0, "", ""
 
-    def __init__(self, row=None, written=None):
-        """row: how many elements a row of a 2-D buffer has. written: how long one is made where None is given, from `lent`."""
-        self.row, self.written = row, written
+    def __init__(self, row=None, written=None, blank=False):
+        """row: how many elements a row of a 2-D buffer has. written: how long one is made where None is given, from `lent`. blank: it is
+        made of zeros, since an accepted call need not fill all of it."""
+        self.row, self.written, self.blank = row, written, blank
 
     def checked(self, name, value, written):
         wanted = self.wanted if written else self.or_else + self.wanted
@@ -102,7 +103,7 @@ class Buffer:
     def lend(self, name, value, lent):
         if self.written:
             if value is None:
-                value = _buffers.fresh(self.written(lent), self.size)
+                value = (_buffers.zeros if self.blank else _buffers.fresh)(self.written(lent), self.size)
             found = self.checked(f"out ({name})", value, True)
         else:
             found = self.checked(name, self.made(name, value), False)
@@ -142,6 +143,44 @@ class Changed(Numbers):
         return found.address, found.count
 
 
+class Store:
+    """A store, or Rules or Settings, which are a store of one entry that starts at epoch 0: its numbers, and how many entries are in use."""
+
+    words = (*Buffer.words, U64)
+    numbers = Numbers(row=_types.ENTRY_LENGTH)
+
+    def lend(self, name, value, lent):
+        if isinstance(value, (_types.Rules, _types.Settings)):
+            value = [_types.entry_numbers(0, checked_rules(name, value)), 1]
+        if not isinstance(value, (tuple, list)) or len(value) != 2 or hasattr(value, "_fields") and value._fields != ("numbers", "count"):
+            raise TypeError(f"{name}: a Store, Rules or Settings are wanted, not {kind_of(value)}")
+        count = number(f"{name}.count", value[1])
+        return (*self.lend_numbers(name, value[0], lent), count)
+
+    def lend_numbers(self, name, value, lent):
+        return self.numbers.lend(name, value, lent)
+
+
+class ChangedStore(Store):
+    """A store that C adds to: it is handed a copy, which comes back."""
+
+    numbers = Changed(row=_types.ENTRY_LENGTH)
+
+    def lend(self, name, value, lent):
+        store, out = value
+        if isinstance(store, (_types.Rules, _types.Settings)):
+            raise TypeError(f"{name}: a Store is wanted, not {kind_of(store)}")
+        return super().lend(name, store, lent)
+
+    def lend_numbers(self, name, value, lent):
+        return self.numbers.lend(name, (value, None), lent)
+
+
+def held_by_the_caller(lent):
+    """For a buffer that is changed from call to call: none is made in its place."""
+    raise TypeError("out: a buffer that stays from call to call is wanted, not None")
+
+
 def as_long_as(other):
     """For a buffer that is written: as many elements as another argument has."""
     return lambda lent: lent[other].count
@@ -170,20 +209,31 @@ class RulesWords(ctypes.Structure):
     _fields_ = [("numbers", U64 * 22)]
 
 
+def checked_rules(name, value):
+    """Rules of numbers that C takes; Settings are Altair's."""
+    if isinstance(value, _types.Settings):
+        value = _types.Rules(value)
+    if not isinstance(value, _types.Rules) or len(value) != len(_types.Rules._fields):
+        raise TypeError(f"{name}: Rules or Settings are wanted, not {kind_of(value)}")
+    SETTINGS.lend(f"{name}.settings", value.settings, {})
+    BELLATRIX.lend(f"{name}.bellatrix", value.bellatrix, {})
+    number(f"{name}.fork", value.fork)
+    return value
+
+
 class Rules:
     """Rules, or Settings, which are closed as Altair."""
 
     words = (RulesWords,)
 
     def lend(self, name, value, lent):
-        if isinstance(value, _types.Settings):
-            value = _types.Rules(value)
-        if not isinstance(value, _types.Rules) or len(value) != len(_types.Rules._fields):
-            raise TypeError(f"{name}: Rules or Settings are wanted, not {kind_of(value)}")
-        (settings,) = SETTINGS.lend(f"{name}.settings", value.settings, lent)
-        (pair,) = BELLATRIX.lend(f"{name}.bellatrix", value.bellatrix, lent)
-        fork = struct.pack("<Q", number(f"{name}.fork", value.fork))
-        return (RulesWords.from_buffer_copy(bytes(settings) + fork + bytes(pair)),)
+        settings, fork, pair = checked_rules(name, value)
+        return (RulesWords.from_buffer_copy(struct.pack("<22Q", *settings, fork, *pair)),)
+
+
+def rules_of(words):
+    numbers = words.numbers[:]
+    return _types.Rules(_types.Settings(*numbers[:19]), numbers[19], _types.Bellatrix(*numbers[20:]))
 
 
 class FinalityWords(ctypes.Structure):
@@ -214,15 +264,48 @@ class Finality:
         return number(f"{name}.epoch", value.epoch), bytes(root.view)
 
 
+class RunningWords(ctypes.Structure):
+    _fields_ = [("numbers", U64 * 26)]
+
+
+class Running:
+    words = (RunningWords,)
+
+    def lend(self, name, value, lent):
+        if not isinstance(value, _types.Running) or len(value) != len(_types.Running._fields):
+            raise TypeError(f"{name}: Running is wanted, not {kind_of(value)}")
+        done, refusal, finality, queue, raised, test, orders = value
+        (by_finality,) = FINALITY.lend(f"{name}.finality", finality, lent)
+        (by_queue,) = QUEUE.lend(f"{name}.queue", queue, lent)
+        if not isinstance(raised, _types.Raised) or len(raised) != 3:
+            raise TypeError(f"{name}.raised: Raised is wanted, not {kind_of(raised)}")
+        numbers = [number(f"{name}.{field}", n) for field, n in (("done", done), ("refusal", refusal), ("test", test), ("orders", orders))]
+        parts = struct.pack("<2Q", *numbers[:2]), bytes(by_finality), bytes(by_queue), struct.pack("<5Q", *map(bool, raised), *numbers[2:])
+        return (RunningWords.from_buffer_copy(b"".join(parts)),)
+
+
+def running_of(words):
+    data = bytes(words)
+    done, refusal = struct.unpack_from("<2Q", data)
+    last, count, *raised, test, orders = struct.unpack_from("<7Q", data, 152)
+    raised = _types.Raised(*(n == 1 for n in raised))
+    return _types.Running(done, refusal, finality_of(data[16:152]), _types.ExitQueue(last, count), raised, test, orders)
+
+
 def finality_of(words):
     slot, bits, *rest = _FINALITY.unpack(bytes(words))
     return _types.Finality(slot, bits, *(_types.Checkpoint(*rest[i : i + 2]) for i in (0, 2, 4)))
 
 
 SETTINGS, BELLATRIX, RULES = Fields(_types.Settings), Fields(_types.Bellatrix), Rules()
-CLOCK, FINALITY = Fields(_types.Clock), Finality()
+CLOCK, FINALITY, QUEUE = Fields(_types.Clock), Finality(), Fields(_types.ExitQueue)
 NUMBER, FLAGS = Number(), Number(255, ctypes.c_uint8)
-REGISTRY, SLASHINGS, MARKS = Numbers(row=10), Numbers(), Numbers()
+REGISTRY, SLASHINGS, MARKS = Numbers(row=_types.VALIDATOR_LENGTH), Numbers(), Numbers()
 VALIDATOR = REGISTRY  # ten numbers: C counts them
 ROOTS, BYTES = Bytes(row=32), Bytes()
-CHANGED = Changed(row=10)
+CHANGED = Changed(row=_types.VALIDATOR_LENGTH)
+STORE, CHANGED_STORE = Store(), ChangedStore()
+RUNNING = Running()
+# what the caller holds from call to call, and C changes there: never a list, of which C would change a copy
+KEPT_REGISTRY = Numbers(row=_types.VALIDATOR_LENGTH, written=held_by_the_caller)
+KEPT, KEPT_AMOUNTS = Numbers(written=held_by_the_caller), Numbers(row=_types.AMOUNTS_LENGTH, written=held_by_the_caller)

@@ -76,3 +76,9 @@ def fresh(count, size):
     """Room for `count` elements of `size` bytes, with any contents: C fills all of it, or the call is refused."""
     room = memoryview(_api.PyByteArray_FromStringAndSize(None, count * size))
     return room.cast("Q") if size == 8 else room
+
+
+def zeros(count, size):
+    """Room of zeros, of which C may leave parts as they are."""
+    room = memoryview(bytearray(count * size))
+    return room.cast("Q") if size == 8 else room

@@ -1,21 +1,24 @@
 """The whole close, and the figures of its listing."""
 from ._refusals import Refused
-from ._signatures import LINE, call, function, lend
+from ._signatures import LINE, call, function, lend, pair_of
 from ._types import VALIDATOR_LENGTH
 
 
-def pair(out):
-    if not isinstance(out, (tuple, list)) or len(out) != 2:
-        raise TypeError("out: a pair of buffers is wanted, for the registry and for the slashings")
+def buffers(out, *names):
+    if not isinstance(out, (tuple, list)) or len(out) != len(names):
+        raise TypeError(f"out: {len(names)} buffers are wanted, for {', '.join(names)}")
     return out
 
 
-def close(rules, finality, registry, slashings, roots, *, out=(None, None)):
-    """The closed record, and which totals were raised. `out` is a pair of buffers for its registry and slashings, as long as the opening's.
+def close(store, finality, queue, registry, slashings, roots, *, out=(None, None, None)):
+    """The closed record, what each rule gave and took, which totals were raised and which test finalized: Closed.
 
-    `rules` are Rules, or Settings, by which it closes as Altair. Refused with 1, 2 or 3 the buffers of `out` keep what they held; with 4 or 5 they hold the opening's numbers.
+    `store` is a Store, or Rules, or Settings, by which it closes as Altair. `queue` is the exit queue's pair of the registry, or None, and it is
+    worked out. `out` is three buffers, for registry and slashings as long as the opening's, and nine numbers a validator for the
+    amounts. Refused with 1, 2, 13, 3 or 8 they keep what they held; with 4 or 5 they hold the opening's numbers, and the amounts zeros.
     """
-    return call("close", rules, finality, registry, slashings, roots, *pair(out))
+    queue = pair_of(queue, registry)
+    return call("close", store, finality, queue, registry, slashings, roots, *buffers(out, "registry", "slashings", "amounts"))
 
 
 def charged(settings, state_slot, registry):

@@ -1,10 +1,11 @@
 """record: a record file from a readable text, and back.
 
-  {0} write [--unchecked] TEXT.json RECORD    the record file of a text
-  {0} show RECORD TEXT.json                   the text of a record file
-  {0} check RECORD                            whether the library reads a file, or why not
+  {0} write [--unchecked] [--version 1] TEXT.json RECORD    the record file of a text
+  {0} show RECORD TEXT.json                                 the text of a record file
+  {0} check RECORD                                          whether the library reads a file, or why not
 
-'-' is standard input or output. The text is JSON, and altair_close/text.py says what it holds; in the repository
+'-' is standard input or output. A file is written in version 2, which carries the exit queue's pair, unless --version 1 is asked for;
+both are read. The text is JSON, and altair_close/text.py says what it holds; in the repository
 samples/example.json is one. What is no record is refused with the field that is at fault; --unchecked also writes records that
 the library refuses.
 Exit status: 0; 1 where text or file is no record that the library takes; 2 where it could not be read or written."""
@@ -45,12 +46,12 @@ def put(target, parts):
         write_whole(target, parts)
 
 
-def write(source, target, unchecked):
+def write(source, target, unchecked, version):
     try:
         given = read(source).decode("utf-8")
     except UnicodeDecodeError as error:
         raise text.Bad(f"not JSON: byte {error.start} is not of UTF-8") from None
-    put(target, [text.write(given, unchecked=unchecked)])
+    put(target, [text.write(given, unchecked=unchecked, version=version)])
     return 0
 
 
@@ -68,14 +69,24 @@ def show(source, target):
     return refused(file)
 
 
+def versioned(words):
+    """The words without --version and its number, and that number; None for one that is not 1 or 2."""
+    if "--version" not in words:
+        return words, _layout.FILE_VERSION
+    place = words.index("--version")
+    known = {str(version): version for version in _layout.VERSIONS}
+    return words[:place] + words[place + 2 :], known.get(" ".join(words[place + 1 : place + 2]))
+
+
 def chosen(words):
     """The work that the words ask for, or None."""
-    unchecked = "--unchecked" in words
-    verb, *paths = [word for word in words if word != "--unchecked"] or [""]
-    if any(path.startswith("-") and path != "-" for path in paths) or unchecked and verb != "write":
+    rest, version = versioned(words)
+    unchecked = "--unchecked" in rest
+    verb, *paths = [word for word in rest if word != "--unchecked"] or [""]
+    if any(path.startswith("-") and path != "-" for path in paths) or version is None or verb != "write" and len(words) > 1 + len(paths):
         return None
     works = {
-        ("write", 2): lambda: write(*paths, unchecked),
+        ("write", 2): lambda: write(*paths, unchecked, version),
         ("show", 2): lambda: show(*paths),
         ("check", 1): lambda: refused(read(*paths)),
     }

@@ -3,7 +3,7 @@
 Three of them change numbers. What comes back is a copy with the change, or `out`, as long as what is handed in; `out` may be the
 buffer that is handed in, which is then changed in place. Refused, nothing is written.
 """
-from ._signatures import call as _call
+from ._signatures import call as _call, pair_of as _pair_of
 
 # Slots and epochs
 
@@ -155,9 +155,15 @@ def get_validator_churn_limit(settings, state_slot, registry):
     return _call("get_validator_churn_limit", settings, state_slot, registry)
 
 
-def initiate_validator_exit(settings, state_slot, index, registry, *, out=None):
-    """The registry with an exit and a withdrawable epoch for validator `index`, where it has none."""
-    return _call("initiate_validator_exit", settings, state_slot, index, (registry, out))
+def exit_queue(registry):
+    """The exit queue's pair of the registry."""
+    return _call("exit_queue", registry)
+
+
+def initiate_validator_exit(settings, state_slot, index, queue, registry, *, out=None):
+    """The registry with an exit and a withdrawable epoch for validator `index` where it has none, and its exit queue's pair. `queue` is
+    the pair of the registry before, or None."""
+    return _call("initiate_validator_exit", settings, state_slot, index, _pair_of(queue, registry), (registry, out))
 
 
 # Rewards

@@ -5,7 +5,7 @@ from pathlib import Path
 
 NAMED = "ALTAIR_LIBRARY"
 BESIDE = Path(__file__).resolve().parent / "libaltair.so"  # where a wheel puts it
-BUILT = Path(__file__).resolve().parents[3] / "target/altair/libaltair.so.3"  # where make puts it, in the repository
+BUILT = Path(__file__).resolve().parents[3] / "target/altair/libaltair.so.5"  # where make puts it, in the repository
 
 
 def path():

@@ -1,13 +1,13 @@
 """A record: its file over lent buffers, and one with buffers of its own."""
 from pathlib import Path
-from typing import Any, NamedTuple
+from typing import Any, NamedTuple, Optional
 
 from . import _layout
-from ._close import charged, close, listing_head, listing_lines, pair
+from ._close import buffers, charged, close, listing_head, listing_lines
 from ._files import write_whole
 from ._refusals import Refused
-from ._signatures import call
-from ._types import FORK_ALTAIR, Bellatrix, Finality, Rules, Settings
+from ._signatures import call, pair_of
+from ._types import FORK_ALTAIR, Bellatrix, ExitQueue, Finality, Rules, Settings
 
 
 def read_header(file):
@@ -16,28 +16,31 @@ def read_header(file):
 
 
 def read_file(file, *, out=(None, None)):
-    """The record of a file. `out` is a pair of buffers for its registry and slashings, as long as the header says.
+    """The record of a file of version 1 or 2. `out` is a pair of buffers for its registry and slashings, as long as the header says.
 
     Refused has the position at which reading stopped and the field at fault; nothing is then written.
     """
     try:
-        settings, finality, registry, slashings = call("read_file", file, *pair(out))
+        settings, finality, registry, slashings, queue = call("read_file", file, *buffers(out, "registry", "slashings"))
     except Refused as refused:
         fault = _layout.fault(file)
         same = fault and (fault.refusal, fault.position) == (refused.number, refused.position)
         raise Refused(refused.number, refused.position, fault.field if same else None) from None
     validators, roots, _ = read_header(file)
-    part = slice(_layout.roots_at(validators), _layout.slashings_at(validators, roots))
-    return Record(settings, finality, registry, slashings, bytes(memoryview(file)[part]))
+    version = memoryview(file).cast("B")[0]
+    part = slice(_layout.roots_at(validators, version), _layout.slashings_at(validators, roots, version))
+    return Record(settings, finality, registry, slashings, bytes(memoryview(file)[part]), queue)
 
 
-def write_file(settings, finality, registry, roots, slashings, *, out=None):
-    """The file of a record, in `out`, a buffer of as many bytes as it has, or in a memoryview. Refused, nothing is written."""
-    return call("write_file", settings, finality, registry, roots, slashings, out)
+def write_file(settings, finality, queue, registry, roots, slashings, *, out=None):
+    """The file of a record, of version 2, in `out`, a buffer of as many bytes as it has, or in a memoryview. `queue` is the exit queue's
+    pair of the registry, or None. Refused, nothing is written."""
+    return call("write_file", settings, finality, pair_of(queue, registry), registry, roots, slashings, out)
 
 
 class Record(NamedTuple):
-    """All that a close is handed, and hands back: registry and slashings are buffers of 64-bit numbers, roots are bytes.
+    """All that a close is handed, and hands back: registry and slashings are buffers of 64-bit numbers, roots are bytes. `queue` is the
+    exit queue's pair; None has it worked out.
 
     >>> from altair_close import MAINNET, Finality, Record
     >>> settings = MAINNET._replace(slots_per_epoch=8, slots_per_historical_root=64, epochs_per_slashings_vector=64)
@@ -45,6 +48,8 @@ class Record(NamedTuple):
     >>> record = Record(settings, Finality(31), validator * 5, [0] * 64, bytes(32 * 64))
     >>> record.close().registry[6]
     31996800000
+    >>> next(record.closing().booked()).target_taken
+    2080000
     """
 
     settings: Settings
@@ -52,6 +57,7 @@ class Record(NamedTuple):
     registry: Any
     slashings: Any
     roots: Any
+    queue: Optional[ExitQueue] = None
 
     @classmethod
     def read(cls, file):
@@ -65,16 +71,22 @@ class Record(NamedTuple):
 
     def write(self):
         """The bytes of the record's file."""
-        return bytes(write_file(self.settings, self.finality, self.registry, self.roots, self.slashings))
+        return bytes(write_file(self.settings, self.finality, self.queue, self.registry, self.roots, self.slashings))
 
     def save(self, path):
         """Writes the record's file to a path; what stood there stays where it cannot be written."""
         write_whole(path, [self.write()])
 
-    def close(self, *, fork=FORK_ALTAIR, bellatrix=Bellatrix(0, 0), out=(None, None)):
-        """The closed record under a fork, with Bellatrix's pair; roots stay. `out` is as that of the function."""
-        closed = close(Rules(self.settings, fork, bellatrix), self.finality, self.registry, self.slashings, self.roots, out=out)
-        return Record(self.settings, closed.finality, closed.registry, closed.slashings, self.roots)
+    def closing(self, *, fork=FORK_ALTAIR, bellatrix=Bellatrix(0, 0), store=None, out=(None, None, None)):
+        """What the close says of this record, amounts too, under a fork with Bellatrix's pair: Closed. `out` is as that of the function.
+        A `store` stands in the place of the record's settings, fork and pair."""
+        by = Rules(self.settings, fork, bellatrix) if store is None else store
+        return close(by, self.finality, self.queue, self.registry, self.slashings, self.roots, out=out)
+
+    def close(self, **how):
+        """The closed record, as `closing` gives it; roots stay."""
+        closed = self.closing(**how)
+        return Record(self.settings, closed.finality, closed.registry, closed.slashings, self.roots, closed.queue)
 
     def charged(self):
         """How many validators are charged."""

@@ -8,6 +8,12 @@ REFUSALS = {
     5: "a sum, product or difference that is evaluated leaves 64 bits",
     6: "a record file's header is not as it must be",
     7: "a net change, closing minus opening balance, does not fit signed 64 bits",
+    8: "the exit queue's pair is not that of the registry",
+    9: "an exit order's validator is unknown, not active or leaving already",
+    10: "an exit order's start is ahead, or its validator has not been active for long enough",
+    11: "the list of exit orders is full",
+    12: "a new entry's start is not above that of the last entry",
+    13: "the store has no entry for the epoch",
     14: "a second is before genesis",
     15: "seconds_per_slot is 0",
 }

@@ -16,12 +16,14 @@ import ctypes
 from typing import Any, Callable, NamedTuple
 
 from . import _buffers, _layout, _library
-from ._arguments import (BYTES, CHANGED, CLOCK, FINALITY, FLAGS, MARKS, NUMBER, REGISTRY, ROOTS, RULES, SETTINGS, SLASHINGS, U64, VALIDATOR,
-                         Bytes, FinalityWords, Numbers, as_long_as, finality_of)
+from ._arguments import (BELLATRIX, BYTES, CHANGED, CHANGED_STORE, CLOCK, FINALITY, FLAGS, KEPT, KEPT_AMOUNTS, KEPT_REGISTRY, MARKS, NUMBER, QUEUE, REGISTRY, ROOTS, RULES, RUNNING,
+                         SETTINGS, SLASHINGS, STORE, U64, VALIDATOR, Bytes, FinalityWords, Numbers, RulesWords, RunningWords, as_long_as,
+                         finality_of, rules_of, running_of)
 from ._refusals import Refused
-from ._types import VALIDATOR_LENGTH, Closed, Deltas, Head, Header, Justified, Line, Raised, Settings, Total, Votes
+from ._types import (AMOUNTS_LENGTH, VALIDATOR_LENGTH, Closed, Deltas, ExitQueue, Head, Header, Justified, Line, Queued, Raised, Settings,
+                     Told, Total, Votes)
 
-VERSION = 3
+VERSION = 5
 I64 = ctypes.c_int64
 
 
@@ -41,8 +43,16 @@ class FinalityAnswer(ctypes.Structure):
     _fields_ = [("refusal", U64), ("finality", FinalityWords)]
 
 
-class CloseAnswer(ctypes.Structure):
-    _fields_ = [("refusal", U64), ("finality", FinalityWords), ("raised", U64 * 3)]
+class JustificationAnswer(ctypes.Structure):
+    _fields_ = [("refusal", U64), ("finality", FinalityWords), ("raised", U64 * 3), ("test", U64)]
+
+
+class FullAnswer(ctypes.Structure):
+    _fields_ = [("refusal", U64), ("finality", FinalityWords), ("queue", U64 * 2), ("raised", U64 * 3), ("test", U64)]
+
+
+class QueueAnswer(ctypes.Structure):
+    _fields_ = [("refusal", U64), ("queue", U64 * 2)]
 
 
 class TotalAnswer(ctypes.Structure):
@@ -66,11 +76,23 @@ class ChangeAnswer(ctypes.Structure):
 
 
 class ReadAnswer(ctypes.Structure):
-    _fields_ = [("refusal", U64), ("position", U64), ("settings", SETTINGS.words[0]), ("finality", FinalityWords)]
+    _fields_ = [("refusal", U64), ("position", U64), ("settings", SETTINGS.words[0]), ("finality", FinalityWords), ("queue", U64 * 2)]
 
 
 class VotesAnswer(ctypes.Structure):
     _fields_ = [("refusal", U64), ("count", U64), ("finalized_epochs", U64 * 3), ("previous_target", U64), ("current_target", U64)]
+
+
+class RunningAnswer(ctypes.Structure):
+    _fields_ = [("refusal", U64), ("ended", U64), ("running", RunningWords)]
+
+
+class RulesAnswer(ctypes.Structure):
+    _fields_ = [("refusal", U64), ("rules", RulesWords)]
+
+
+class CountAnswer(ctypes.Structure):
+    _fields_ = [("refusal", U64), ("count", U64)]
 
 
 def raised_of(numbers):
@@ -87,19 +109,28 @@ class Answer(NamedTuple):
 
 NUMBER_ITSELF = Answer(U64, lambda number: number, lambda number: 0)  # of a function that refuses nothing
 WRITTEN = Answer(U64, lambda number, *written: written[0], lambda number: number)  # what was written comes back
+SHELVED = Answer(U64, lambda number, *written: written, lambda number: number)  # all that was written
 VALUE = Answer(NumberAnswer, lambda answer: answer.value)
 TRUTH = Answer(NumberAnswer, lambda answer: answer.value == 1)
 DELTAS = Answer(DeltasAnswer, lambda answer: Deltas(answer.reward, answer.penalty))
 ROOT = Answer(RootAnswer, lambda answer: bytes(answer.root))
 FINALITY_AFTER = Answer(FinalityAnswer, lambda answer: finality_of(answer.finality))
 TOTAL = Answer(TotalAnswer, lambda answer: Total(answer.balance, answer.raised == 1))
-JUSTIFIED = Answer(CloseAnswer, lambda answer: Justified(finality_of(answer.finality), raised_of(answer.raised)))
-CLOSED = Answer(CloseAnswer, lambda answer, *written: Closed(finality_of(answer.finality), *written, raised_of(answer.raised)))
+JUSTIFIED = Answer(JustificationAnswer, lambda answer: Justified(finality_of(answer.finality), raised_of(answer.raised), answer.test))
+CLOSED = Answer(FullAnswer, lambda answer, *written: Closed(finality_of(answer.finality), ExitQueue(*answer.queue), *written,
+                                                            raised_of(answer.raised), answer.test))
+# a refusal is told, and not raised: the close as it is now comes with it
+TOLD = Answer(RunningAnswer, lambda answer, *written: Told(answer.refusal, answer.ended == 1, running_of(answer.running)), lambda answer: 0)
+RULES_READ = Answer(RulesAnswer, lambda answer: rules_of(answer.rules))
+ADDED = Answer(CountAnswer, lambda answer, *written: (*written, answer.count))
+PAIR = Answer(QueueAnswer, lambda answer: ExitQueue(*answer.queue))
+QUEUED = Answer(QueueAnswer, lambda answer, *written: Queued(*written, ExitQueue(*answer.queue)))
 HEAD = Answer(HeadAnswer, lambda answer: Head(*answer.numbers[:], raised_of(answer.raised)))
 LINE = Answer(LineAnswer, lambda answer: Line(*answer.numbers[:], answer.net_change))
 CHANGE = Answer(ChangeAnswer, lambda answer: answer.value)
 HEADER = Answer(HeaderAnswer, lambda answer: Header(*answer.numbers[:]))
-READ = Answer(ReadAnswer, lambda answer, *written: (Settings(*answer.settings.numbers), finality_of(answer.finality), *written))
+READ = Answer(ReadAnswer, lambda answer, *written: (Settings(*answer.settings.numbers), finality_of(answer.finality), *written,
+                                                    ExitQueue(*answer.queue)))
 
 VOTES = Answer(VotesAnswer, lambda answer: Votes(tuple(answer.finalized_epochs[: answer.count]), answer.previous_target,
                                                  answer.current_target))
@@ -119,6 +150,16 @@ def written_slashings(other):
     return Numbers(written=as_long_as(other))
 
 
+def written_amounts(lent):
+    return AMOUNTS_LENGTH * (lent["registry"].count // VALIDATOR_LENGTH)
+
+
+def working(lent):
+    """Numbers with as many bytes as the longest file; one that is longer than all of them is refused."""
+    longest = max(lent["lengths"].view.cast("B").cast("Q"), default=0) if lent["lengths"].count else 0
+    return -(-min(longest, lent["files"].count) // 8)
+
+
 def held(lent):
     """What the file's header says; nothing where it is refused, and the read then answers that refusal with its position."""
     try:
@@ -135,8 +176,11 @@ def file_length(lent):
 SIGNATURES = {
     "version": Signature(NUMBER_ITSELF),
     # the close
-    "close": Signature(CLOSED, rules=RULES, finality=FINALITY, registry=REGISTRY, slashings=SLASHINGS, roots=ROOTS,
-                       closing_registry=written_registry("registry"), closing_slashings=written_slashings("slashings")),
+    "close": Signature(CLOSED, store=STORE, finality=FINALITY, queue=QUEUE, registry=REGISTRY, slashings=SLASHINGS, roots=ROOTS,
+                       closing_registry=written_registry("registry"), closing_slashings=written_slashings("slashings"),
+                       amounts=Numbers(row=AMOUNTS_LENGTH, written=written_amounts)),
+    "read_rules": Signature(RULES_READ, store=STORE, epoch=NUMBER),
+    "add_rules": Signature(ADDED, store=CHANGED_STORE, start=NUMBER, rules=RULES),
     "charged": Signature(VALUE, settings=SETTINGS, state_slot=NUMBER, registry=REGISTRY),
     # the listing of a close
     "listing_head": Signature(HEAD, settings=SETTINGS, state_slot=NUMBER, closing=FINALITY, opening=REGISTRY),
@@ -147,8 +191,19 @@ SIGNATURES = {
     "read_file": Signature(READ, file=BYTES,
                            registry=Numbers(row=VALIDATOR_LENGTH, written=lambda lent: VALIDATOR_LENGTH * held(lent).validators),
                            slashings=Numbers(written=lambda lent: held(lent).slashings)),
-    "write_file": Signature(WRITTEN, settings=SETTINGS, finality=FINALITY, registry=REGISTRY, roots=ROOTS, slashings=SLASHINGS,
+    "write_file": Signature(WRITTEN, settings=SETTINGS, finality=FINALITY, queue=QUEUE, registry=REGISTRY, roots=ROOTS, slashings=SLASHINGS,
                             file=Bytes(written=file_length)),
+    # a shelf of records
+    "close_shelf": Signature(SHELVED, files=BYTES, lengths=MARKS, closing=Bytes(written=as_long_as("files"), blank=True),
+                             opening_numbers=Numbers(written=working), closing_numbers=Numbers(written=working),
+                             answers=Numbers(written=as_long_as("lengths")), fork=NUMBER, bellatrix=BELLATRIX),
+    # a close by steps
+    "close_step": Signature(TOLD, number=NUMBER, running=RUNNING, rules=RULES, finality=FINALITY, queue=QUEUE, registry=REGISTRY,
+                            slashings=SLASHINGS, roots=ROOTS, closing_registry=KEPT_REGISTRY, closing_slashings=KEPT,
+                            amounts=KEPT_AMOUNTS),
+    "take_order": Signature(TOLD, running=RUNNING, validator=NUMBER, start=NUMBER, orders=KEPT),
+    "carry_out": Signature(TOLD, rules=RULES, shard_committee_period=NUMBER, running=RUNNING, closing_registry=KEPT_REGISTRY, orders=SLASHINGS,
+                           answers=KEPT),
     # the eight steps, in the order of the close
     "process_justification_and_finalization": Signature(JUSTIFIED, settings=SETTINGS, roots=ROOTS, finality=FINALITY,
                                                         registry=REGISTRY),
@@ -156,10 +211,10 @@ SIGNATURES = {
                                             opening=REGISTRY, closing=written_registry("opening")),
     "process_rewards_and_penalties": Signature(WRITTEN, rules=RULES, state_slot=NUMBER, finalized_epoch=NUMBER,
                                                opening=REGISTRY, closing=written_registry("opening")),
-    "process_registry_updates": Signature(WRITTEN, settings=SETTINGS, state_slot=NUMBER, finalized_epoch=NUMBER,
+    "process_registry_updates": Signature(QUEUED, settings=SETTINGS, state_slot=NUMBER, finalized_epoch=NUMBER, queue=QUEUE,
                                           opening=REGISTRY, closing=written_registry("opening")),
-    "process_registry_updates_to": Signature(WRITTEN, stop=NUMBER, settings=SETTINGS, state_slot=NUMBER, finalized_epoch=NUMBER,
-                                             opening=REGISTRY, closing=written_registry("opening")),
+    "process_registry_updates_to": Signature(QUEUED, stop=NUMBER, settings=SETTINGS, state_slot=NUMBER, finalized_epoch=NUMBER,
+                                             queue=QUEUE, opening=REGISTRY, closing=written_registry("opening")),
     "process_slashings": Signature(WRITTEN, rules=RULES, state_slot=NUMBER, slashings=SLASHINGS, opening=REGISTRY,
                                    closing=written_registry("opening")),
     "process_effective_balance_updates": Signature(WRITTEN, settings=SETTINGS, opening=REGISTRY,
@@ -201,7 +256,8 @@ SIGNATURES = {
     "get_participating_balance": Signature(TOTAL, settings=SETTINGS, state_slot=NUMBER, flag_index=NUMBER, epoch=NUMBER,
                                            registry=REGISTRY),
     "get_validator_churn_limit": Signature(VALUE, settings=SETTINGS, state_slot=NUMBER, registry=REGISTRY),
-    "initiate_validator_exit": Signature(WRITTEN, settings=SETTINGS, state_slot=NUMBER, index=NUMBER, registry=CHANGED),
+    "exit_queue": Signature(PAIR, registry=REGISTRY),
+    "initiate_validator_exit": Signature(QUEUED, settings=SETTINGS, state_slot=NUMBER, index=NUMBER, queue=QUEUE, registry=CHANGED),
     # rewards
     "get_base_reward_per_increment": Signature(VALUE, settings=SETTINGS, total=NUMBER),
     "get_base_reward": Signature(VALUE, settings=SETTINGS, total=NUMBER, validator=VALIDATOR),
@@ -234,6 +290,16 @@ def lend(name, values, lent):
         words += kind.lend(argument, value, lent)
     _buffers.apart(lent.values())
     return words
+
+
+def pair_of(queue, registry):
+    """The exit queue's pair, or where None is given the registry's; of one that the call itself will refuse, any."""
+    if queue is not None:
+        return queue
+    try:
+        return call("exit_queue", registry)
+    except (Refused, TypeError, ValueError):
+        return ExitQueue(0, 0)
 
 
 def call(name, *values):

@@ -1,9 +1,9 @@
 """The eight steps, in the order of the close. `out` is a buffer for the closing numbers, as long as the opening's."""
-from ._signatures import call as _call
+from ._signatures import call as _call, pair_of as _pair_of
 
 
 def process_justification_and_finalization(settings, roots, finality, registry):
-    """The finality after justification, and which totals were raised."""
+    """The finality after justification, which totals were raised, and which test finalized."""
     return _call("process_justification_and_finalization", settings, roots, finality, registry)
 
 
@@ -17,14 +17,14 @@ def process_rewards_and_penalties(rules, state_slot, finalized_epoch, opening, *
     return _call("process_rewards_and_penalties", rules, state_slot, finalized_epoch, opening, out)
 
 
-def process_registry_updates(settings, state_slot, finalized_epoch, opening, *, out=None):
-    """The registry after queueing, ejecting and activating."""
-    return _call("process_registry_updates", settings, state_slot, finalized_epoch, opening, out)
+def process_registry_updates(settings, state_slot, finalized_epoch, queue, opening, *, out=None):
+    """The registry after queueing, ejecting and activating, and its exit queue's pair. `queue` is the opening's pair, or None."""
+    return _call("process_registry_updates", settings, state_slot, finalized_epoch, _pair_of(queue, opening), opening, out)
 
 
-def process_registry_updates_to(stop, settings, state_slot, finalized_epoch, opening, *, out=None):
+def process_registry_updates_to(stop, settings, state_slot, finalized_epoch, queue, opening, *, out=None):
     """The same with a stop: from that validator number up activation epochs stay."""
-    return _call("process_registry_updates_to", stop, settings, state_slot, finalized_epoch, opening, out)
+    return _call("process_registry_updates_to", stop, settings, state_slot, finalized_epoch, _pair_of(queue, opening), opening, out)
 
 
 def process_slashings(rules, state_slot, slashings, opening, *, out=None):

@@ -7,6 +7,10 @@ FAR_FUTURE_EPOCH = 2**64 - 1
 (EFFECTIVE_BALANCE, SLASHED, ACTIVATION_ELIGIBILITY_EPOCH, ACTIVATION_EPOCH, EXIT_EPOCH, WITHDRAWABLE_EPOCH, BALANCE,
  PREVIOUS_EPOCH_PARTICIPATION, CURRENT_EPOCH_PARTICIPATION, INACTIVITY_SCORE, VALIDATOR_LENGTH) = range(11)
 
+# the places of the nine numbers that a close books of a validator, by the rule behind each
+(SOURCE_REWARD, SOURCE_TAKEN, TARGET_REWARD, TARGET_TAKEN, HEAD_REWARD, HEAD_TAKEN, INACTIVITY_REWARD, INACTIVITY_TAKEN,
+ SLASHING_TAKEN, AMOUNTS_LENGTH) = range(10)
+
 
 class Settings(NamedTuple):
     """The nineteen settings of a network. MAINNET._replace(slots_per_epoch=8) changes one."""
@@ -61,6 +65,21 @@ class Rules(NamedTuple):
     bellatrix: Bellatrix = Bellatrix(0, 0)
 
 
+ENTRY_LENGTH = 23
+
+
+class Entry(NamedTuple):
+    """An entry of a store: from the start on, up to the next entry's, a close goes by these rules."""
+
+    start: int
+    rules: Rules
+
+
+def entry_numbers(start, rules):
+    """The 23 numbers of an entry: start, fork, the nineteen settings and the pair."""
+    return [start, rules.fork, *rules.settings, *rules.bellatrix]
+
+
 class Clock(NamedTuple):
     """A network's clock. Seconds are those of Unix time; genesis_time is the first second of slot 0."""
 
@@ -89,6 +108,34 @@ class Finality(NamedTuple):
     finalized_checkpoint: Checkpoint = Checkpoint()
 
 
+class ExitQueue(NamedTuple):
+    """The exit queue's pair of a registry: the largest exit epoch below FAR, or 0 where there is none, and how many validators have
+    exactly it. exit_queue works it out; where a call is handed None in its place, so does the call."""
+
+    last_epoch: int
+    number: int
+
+
+class Amounts(NamedTuple):
+    """What a close gave and took of one validator, by the rule behind it. Each reward was added before what was taken, as far as there
+    was balance; the inactivity reward is 0. Opening balance plus rewards less what was taken is the closing balance."""
+
+    source_reward: int
+    source_taken: int
+    target_reward: int
+    target_taken: int
+    head_reward: int
+    head_taken: int
+    inactivity_reward: int
+    inactivity_taken: int
+    slashing_taken: int
+
+    @property
+    def net(self):
+        """Closing minus opening balance."""
+        return sum(self[:SLASHING_TAKEN:2]) - sum(self[1:SLASHING_TAKEN:2]) - self.slashing_taken
+
+
 class Deltas(NamedTuple):
     """What one validator gains and loses by one rule."""
 
@@ -113,19 +160,67 @@ class Raised(NamedTuple):
 
 
 class Justified(NamedTuple):
-    """What justification gives."""
+    """What justification gives. `test` is which of the four finality tests, 1 to 4 in their order, last set the finalized checkpoint,
+    or 0."""
 
     finality: Finality
     raised: Raised
+    test: int
+
+
+class Queued(NamedTuple):
+    """A registry after the registry step or an exit, and its exit queue's pair."""
+
+    registry: Any
+    queue: ExitQueue
 
 
 class Closed(NamedTuple):
-    """A closed record: registry and slashings are the buffers of `out`, or memoryviews of 64-bit numbers. And which totals were raised."""
+    """A closed record with its exit queue's pair: registry, slashings and amounts, nine numbers a validator, are the buffers of `out`,
+    or memoryviews of 64-bit numbers. And which totals were raised, and which test finalized, as in Justified."""
 
     finality: Finality
+    queue: ExitQueue
     registry: Any
     slashings: Any
+    amounts: Any
     raised: Raised
+    test: int
+
+    def booked(self):
+        """The Amounts of every validator, in order."""
+        numbers = memoryview(self.amounts).cast("B").cast("Q")
+        return (Amounts(*numbers[at : at + AMOUNTS_LENGTH]) for at in range(0, len(numbers), AMOUNTS_LENGTH))
+
+
+class Running(NamedTuple):
+    """A close between its calls. done is how many of its nine calls are done, 9 once it has ended, refused or not; refusal to test are what
+    the whole close answers, as far as it has come; orders is how many exit orders are in the list. Running() begins one."""
+
+    done: int = 0
+    refusal: int = 0
+    finality: Finality = Finality(0)
+    queue: ExitQueue = ExitQueue(0, 0)
+    raised: Raised = Raised(False, False, False)
+    test: int = 0
+    orders: int = 0
+
+
+class Told(NamedTuple):
+    """What a call of a close by steps answers: 0 or the refusal's number, whether the close had ended before the call, and the close as it
+    is now."""
+
+    refusal: int
+    ended: bool
+    running: Running
+
+
+class Shelf(NamedTuple):
+    """A shelf after its close: the closed files, each in its place, and an answer for each, 0 or the refusal's number. The part of a file
+    that is refused with 4 or 5 has its own bytes; with another number it is as it was before."""
+
+    closing: Any
+    answers: Any
 
 
 class Head(NamedTuple):

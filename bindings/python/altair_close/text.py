@@ -1,17 +1,19 @@
 """A record as a readable text, JSON, and its file: `write` makes the file of a text, `show` the text of a file.
 
 The text has the keys settings, slot, justification_bits, previous_justified_checkpoint, current_justified_checkpoint,
-finalized_checkpoint, validators, block_roots and slashings. Numbers are 0 to 2^64 - 1, "far" stands for 2^64 - 1, roots are 64
-hexadecimal digits. `block_roots` and `slashings` may be left out, or hold fewer than the settings ask for: the rest is zeros."""
+finalized_checkpoint, exit_queue, validators, block_roots and slashings. Numbers are 0 to 2^64 - 1, "far" stands for 2^64 - 1, roots
+are 64 hexadecimal digits. `block_roots` and `slashings` may be left out, or hold fewer than the settings ask for: the rest is zeros.
+`exit_queue` has the keys last_epoch and number; where it is left out, it is that of the validators."""
 import json
 import re
 import struct
 
 from . import _layout
 from ._layout import CHECKPOINTS, VALIDATOR
-from ._types import FAR_FUTURE_EPOCH, VALIDATOR_LENGTH, Settings
+from ._types import FAR_FUTURE_EPOCH, VALIDATOR_LENGTH, ExitQueue, Settings
 
-NAMES = ("settings", "slot", "justification_bits", *CHECKPOINTS, "validators", "block_roots", "slashings")
+NAMES = ("settings", "slot", "justification_bits", *CHECKPOINTS, "exit_queue", "validators", "block_roots", "slashings")
+MAY_MISS = ("exit_queue", "block_roots", "slashings")
 ROOT = re.compile("(?:0x)?([0-9a-fA-F]{64})")
 
 
@@ -113,9 +115,23 @@ def _validator(value, where):
     return struct.pack("<10Q", *(_number_of(each, f"{where}.{name}") for name, each in zip(VALIDATOR, fields)))
 
 
-def write(text, *, unchecked=False):
+def _queue(value, registry, version):
+    """The bytes of the exit queue's pair, none of them in version 1, which cannot hold another pair than that of the validators."""
+    right = _layout.queue_of(memoryview(registry).cast("Q"))
+    given = right
+    if value != []:
+        fields = _fields(value, ExitQueue._fields, "exit_queue")
+        given = ExitQueue(*(_number_of(each, f"exit_queue.{name}") for name, each in zip(ExitQueue._fields, fields)))
+    if version > 1:
+        return struct.pack("<2Q", *given)
+    if given != right:
+        raise Bad(f"exit_queue: a file of version 1 has no place for {tuple(given)}, which is not that of the validators, {tuple(right)}")
+    return b""
+
+
+def write(text, *, unchecked=False, version=_layout.FILE_VERSION):
     """The bytes of the record file of a text. Bad where it is none, or, unless unchecked, one that the library refuses."""
-    values = dict(zip(NAMES, _fields(_parsed(text), NAMES, "the record", may_miss=("block_roots", "slashings"))))
+    values = dict(zip(NAMES, _fields(_parsed(text), NAMES, "the record", may_miss=MAY_MISS)))
     settings = _settings(values["settings"])
     roots, slashings = settings.slots_per_historical_root, settings.epochs_per_slashings_vector
     finality = [struct.pack("<Q", _number_of(values[name], name)) for name in ("slot", "justification_bits")]
@@ -123,9 +139,10 @@ def write(text, *, unchecked=False):
     registry = _list(values["validators"], _validator, _layout.MOST_VALIDATORS, "validators")
     block_roots = b"".join(_list(values["block_roots"], _root, roots, "block_roots"))
     slashed = _list(values["slashings"], _number_of, slashings, "slashings")
-    header = struct.pack("<10Q", *_layout.header(len(registry), roots, slashings))
+    header = struct.pack("<10Q", *_layout.header(len(registry), roots, slashings, version))
+    queue = _queue(values["exit_queue"], b"".join(registry), version)
     file = b"".join([
-        header, struct.pack("<19Q", *settings), *finality, *registry, block_roots.ljust(32 * roots, b"\0"),
+        header, struct.pack("<19Q", *settings), *finality, queue, *registry, block_roots.ljust(32 * roots, b"\0"),
         struct.pack(f"<{len(slashed)}Q", *slashed).ljust(8 * slashings, b"\0"),
     ])
     found = None if unchecked else _layout.fault(file)
@@ -162,22 +179,26 @@ def show(file):
 
 
 def _text(file):
-    validators, roots, slashings = _layout.numbers(file, 16, 3)
+    version, _, validators, roots, slashings = _layout.numbers(file, 0, 5)
     slot, bits = _layout.numbers(file, _layout.FINALITY_AT, 2)
     settings = dict(zip(Settings._fields, _layout.numbers(file, _layout.SETTINGS_AT, 19)))
     head = {"settings": settings, "slot": slot, "justification_bits": bits}
     for name, at in _layout.CHECKPOINTS_AT.items():
         epoch = _layout.numbers(file, at, 1)[0]
         head[name] = {"epoch": "far" if epoch == FAR_FUTURE_EPOCH else epoch, "root": bytes(file[at + 8 : at + 40]).hex()}
+    if version > 1:
+        last, number = _layout.numbers(file, _layout.QUEUE_AT, 2)
+        head["exit_queue"] = {"last_epoch": "far" if last == FAR_FUTURE_EPOCH else last, "number": number}
     yield json.dumps(head, indent=2)[:-2]
 
     lines = "{\n" + ",\n".join(f'  "{name}": %s' for name in VALIDATOR) + "\n}"
-    entries = (_layout.numbers(file, _layout.VALIDATORS_AT + 80 * i, VALIDATOR_LENGTH) for i in range(validators))
+    first = _layout.validators_at(version)
+    entries = (_layout.numbers(file, first + 80 * i, VALIDATOR_LENGTH) for i in range(validators))
     yield from _items("validators", (lines % tuple(map(_shown, entry)) for entry in entries))
-    at = _layout.roots_at(validators)
+    at = _layout.roots_at(validators, version)
     block_roots = [bytes(file[at + 32 * i : at + 32 * i + 32]) for i in range(roots)]
     shown = _without_zeros(block_roots, bytes(32))
     yield from _items("block_roots", (f'"{root.hex()}"' for root in block_roots[:shown]))
-    numbers = _layout.numbers(file, _layout.slashings_at(validators, roots), slashings)
+    numbers = _layout.numbers(file, _layout.slashings_at(validators, roots, version), slashings)
     yield from _items("slashings", map(_shown, numbers[: _without_zeros(numbers, 0)]))
     yield "\n}\n"

@@ -64,13 +64,13 @@ def bytes_of():
 
 class Buffers(unittest.TestCase):
     def setUp(self):
-        self.closed = altair.close(MINIMAL, FINALITY, NUMBERS, SLASHINGS, ROOTS)
+        self.closed = altair.close(MINIMAL, FINALITY, None, NUMBERS, SLASHINGS, ROOTS)
 
     def test_every_kind_of_buffer(self):
         for kind, registry in registries():
             for roots_kind, roots in bytes_of():
                 with self.subTest(kind, roots=roots_kind):
-                    self.assertEqual(altair.close(MINIMAL, FINALITY, registry, SLASHINGS, roots), self.closed)
+                    self.assertEqual(altair.close(MINIMAL, FINALITY, None, registry, SLASHINGS, roots), self.closed)
             self.assertEqual(altair.charged(MINIMAL, 31, registry), VALIDATORS)
 
     def test_buffers_are_not_copied(self):
@@ -87,27 +87,38 @@ class Buffers(unittest.TestCase):
     def test_out(self):
         for make in (lambda count: array("Q", bytes(8 * count)), lambda count: (ctypes.c_uint64 * count)(),
                      lambda count: memoryview(bytearray(8 * count)).cast("Q")):
-            registry, slashings = make(len(NUMBERS)), make(64)
-            closed = altair.close(MINIMAL, FINALITY, NUMBERS, SLASHINGS, ROOTS, out=(registry, slashings))
+            registry, slashings, amounts = make(len(NUMBERS)), make(64), make(9 * VALIDATORS)
+            closed = altair.close(MINIMAL, FINALITY, None, NUMBERS, SLASHINGS, ROOTS, out=(registry, slashings, amounts))
             self.assertIs(closed.registry, registry)
             self.assertIs(closed.slashings, slashings)
+            self.assertIs(closed.amounts, amounts)
             self.assertEqual((list(registry), list(slashings)), (list(self.closed.registry), list(self.closed.slashings)))
+            self.assertEqual((list(amounts), list(closed.booked())), (list(self.closed.amounts), list(self.closed.booked())))
         rows = memoryview(bytearray(8 * len(NUMBERS))).cast("Q", shape=[VALIDATORS, 10])
-        altair.close(MINIMAL, FINALITY, NUMBERS, SLASHINGS, ROOTS, out=[rows, None])
+        altair.close(MINIMAL, FINALITY, None, NUMBERS, SLASHINGS, ROOTS, out=[rows, None, None])
         self.assertEqual(rows.tobytes(), self.closed.registry.tobytes())
+        table = memoryview(bytearray(72 * VALIDATORS)).cast("Q", shape=[VALIDATORS, 9])
+        closed = altair.close(MINIMAL, FINALITY, None, NUMBERS, SLASHINGS, ROOTS, out=(None, None, table))
+        self.assertEqual((table.tobytes(), list(closed.booked())), (self.closed.amounts.tobytes(), list(self.closed.booked())))
 
     def test_a_refused_close_and_its_out(self):
-        out = array("Q", [5]) * len(NUMBERS), array("Q", [6]) * 64
+        out = array("Q", [5]) * len(NUMBERS), array("Q", [6]) * 64, array("Q", [7]) * (9 * VALIDATORS)
         with self.assertRaises(Refused) as caught:
-            altair.close(MINIMAL, FINALITY._replace(slot=2**48), NUMBERS, SLASHINGS, ROOTS, out=out)
-        self.assertEqual((caught.exception.number, set(out[0]), set(out[1])), (3, {5}, {6}))
+            altair.close(MINIMAL, FINALITY._replace(slot=2**48), None, NUMBERS, SLASHINGS, ROOTS, out=out)
+        self.assertEqual((caught.exception.number, *map(set, out)), (3, {5}, {6}, {7}))
+        with self.assertRaises(Refused) as caught:
+            altair.close(MINIMAL, FINALITY, altair.ExitQueue(0, 1), NUMBERS, SLASHINGS, ROOTS, out=out)
+        self.assertEqual((caught.exception.number, *map(set, out)), (8, {5}, {6}, {7}))
         rich = array("Q", NUMBERS)
         rich[6] = FAR
         with self.assertRaises(Refused) as caught:
-            altair.close(MINIMAL, FINALITY, rich, SLASHINGS, ROOTS, out=out)
-        self.assertEqual((caught.exception.number, out), (5, (rich, SLASHINGS)))
+            altair.close(MINIMAL, FINALITY, None, rich, SLASHINGS, ROOTS, out=out)
+        self.assertEqual((caught.exception.number, out), (5, (rich, SLASHINGS, array("Q", bytes(72 * VALIDATORS)))))
         with self.assertRaises(Refused) as caught:
-            altair.close(MINIMAL, FINALITY, NUMBERS, SLASHINGS, ROOTS, out=(out[0][1:], None))
+            altair.close(MINIMAL, FINALITY, None, NUMBERS, SLASHINGS, ROOTS, out=(out[0][1:], None, None))
+        self.assertEqual(caught.exception.number, 1)
+        with self.assertRaises(Refused) as caught:
+            altair.close(MINIMAL, FINALITY, None, NUMBERS, SLASHINGS, ROOTS, out=(None, None, out[2][1:]))
         self.assertEqual(caught.exception.number, 1)
 
     def test_a_bad_out(self):
@@ -122,12 +133,14 @@ class Buffers(unittest.TestCase):
         with self.assertRaisesRegex(ValueError, r"^out \(closing\): .*overlaps opening"):
             step(numbers[:70], out=numbers[69:79])
         step(numbers[:40], out=numbers[40:])
-        for bad in (None, NUMBERS, (NUMBERS,), 1, (None, None, None), {}):
+        for bad in (None, NUMBERS, (NUMBERS,), 1, (None, None), {}):
             with self.assertRaisesRegex(TypeError, "^out: "):
-                altair.close(MINIMAL, FINALITY, NUMBERS, SLASHINGS, ROOTS, out=bad)
+                altair.close(MINIMAL, FINALITY, None, NUMBERS, SLASHINGS, ROOTS, out=bad)
         both = array("Q", bytes(8 * 70))
         with self.assertRaisesRegex(ValueError, "overlaps"):
-            altair.close(MINIMAL, FINALITY, NUMBERS, SLASHINGS, ROOTS, out=(both, memoryview(both)[:64]))
+            altair.close(MINIMAL, FINALITY, None, NUMBERS, SLASHINGS, ROOTS, out=(both, memoryview(both)[:64], None))
+        with self.assertRaisesRegex(ValueError, "overlaps"):
+            altair.close(MINIMAL, FINALITY, None, NUMBERS, SLASHINGS, ROOTS, out=(both, None, memoryview(both)[:63]))
 
     def test_what_is_changed(self):
         validator = array("Q", NUMBERS[:10])
@@ -149,14 +162,19 @@ class Buffers(unittest.TestCase):
                 altair.increase_balance(room, 1, out=bad)
         with self.assertRaisesRegex(TypeError, "^out: "):
             altair.increase_balance(list(room), 1, out=list(room))
-        left = altair.initiate_validator_exit(MINIMAL, 31, 0, memoryview(NUMBERS.tobytes()).cast("Q", shape=[VALIDATORS, 10]))
-        self.assertEqual((left[4], left[14]), (8, FAR))
+        rows = memoryview(NUMBERS.tobytes()).cast("Q", shape=[VALIDATORS, 10])
+        left, queue = altair.initiate_validator_exit(MINIMAL, 31, 0, None, rows)
+        self.assertEqual((left[4], left[14], queue), (8, FAR, (8, 1)))
+        room = array("Q", NUMBERS)
+        self.assertIs(altair.initiate_validator_exit(MINIMAL, 31, 0, altair.ExitQueue(0, 0), room, out=room).registry, room)
+        self.assertEqual(altair.exit_queue(room), (8, 1))
 
     def test_files(self):
-        record = altair.Record(MINIMAL, FINALITY, NUMBERS, SLASHINGS, ROOTS)
+        record = altair.Record(MINIMAL, FINALITY, NUMBERS, SLASHINGS, ROOTS, altair.ExitQueue(0, 0))
         file = record.write()
+        self.assertEqual(record._replace(queue=None).write(), file)
         room = bytearray(len(file))
-        self.assertIs(altair.write_file(MINIMAL, FINALITY, NUMBERS, ROOTS, SLASHINGS, out=room), room)
+        self.assertIs(altair.write_file(MINIMAL, FINALITY, None, NUMBERS, ROOTS, SLASHINGS, out=room), room)
         self.assertEqual(room, file)
         registry, slashings = array("Q", bytes(8 * 70)), array("Q", [1]) * 64
         read = altair.read_file(memoryview(file), out=(registry, slashings))
@@ -165,16 +183,17 @@ class Buffers(unittest.TestCase):
         with self.assertRaisesRegex(ValueError, "overlaps"):
             altair.read_file(room, out=(memoryview(room)[:560].cast("Q"), None))
         with self.assertRaises(Refused):
-            altair.write_file(MINIMAL, FINALITY, NUMBERS, ROOTS, SLASHINGS, out=bytearray(len(file) - 1))
+            altair.write_file(MINIMAL, FINALITY, None, NUMBERS, ROOTS, SLASHINGS, out=bytearray(len(file) - 1))
 
     def test_records_by_path(self):
         with tempfile.TemporaryDirectory() as folder:
             path = Path(folder, "my.record")
-            record = altair.Record(MINIMAL, FINALITY, NUMBERS, SLASHINGS, ROOTS)
+            record = altair.Record(MINIMAL, FINALITY, NUMBERS, SLASHINGS, ROOTS, altair.ExitQueue(0, 0))
             record.save(path)
             self.assertEqual(altair.Record.open(str(path)), record)
             closed = altair.Record.open(path).close()
-            self.assertEqual(closed, altair.Record(MINIMAL, *self.closed[:3], ROOTS))
+            finality, queue, registry, slashings, *_ = self.closed
+            self.assertEqual(closed, altair.Record(MINIMAL, finality, registry, slashings, ROOTS, queue))
             with self.assertRaises(Refused):
                 record._replace(roots=b"").save(path)
             self.assertEqual(altair.Record.open(path), record)
@@ -185,7 +204,7 @@ class Buffers(unittest.TestCase):
         registries_ = [array("Q", NUMBERS) for _ in range(8)]
         for place, registry in enumerate(registries_):
             registry[6] += place
-        close = lambda registry: altair.close(MINIMAL, FINALITY, registry, SLASHINGS, ROOTS)
+        close = lambda registry: altair.close(MINIMAL, FINALITY, None, registry, SLASHINGS, ROOTS)
         with ThreadPoolExecutor(4) as pool:
             self.assertEqual(list(pool.map(close, registries_ * 50)), list(map(close, registries_)) * 50)
 
@@ -199,7 +218,7 @@ class Buffers(unittest.TestCase):
         registry.append(1)
 
     def test_empty(self):
-        closed = altair.close(MINIMAL, FINALITY, [], SLASHINGS, ROOTS)
+        closed = altair.close(MINIMAL, FINALITY, None, [], SLASHINGS, ROOTS)
         self.assertEqual((len(closed.registry), closed.finality.current_justified_checkpoint.epoch), (0, 3))
         self.assertEqual(altair.charged(MINIMAL, 31, array("Q")), 0)
 

@@ -144,15 +144,22 @@ class Figures(unittest.TestCase):
         self.assertEqual(get_flag_index_deltas(MAINNET, 127, 1, 1, 0, missed), Deltas(1664000, 0))
         self.assertEqual(get_flag_index_deltas(MAINNET, 127, 1, 1, 4, missed), Deltas(0, 2080000))
         self.refused(1, get_flag_index_deltas, MAINNET, 127, 1, 1, 5, missed)
-        left = list(initiate_validator_exit(MAINNET, 127, 1, registry))
-        self.assertEqual(left, changed(registry, at=1, exit_epoch=8, withdrawable_epoch=264))
-        self.refused(1, initiate_validator_exit, MAINNET, 127, 5, registry)
+        self.assertEqual(exit_queue(registry), ExitQueue(0, 0))
+        left, queue = initiate_validator_exit(MAINNET, 127, 1, None, registry)
+        self.assertEqual(list(left), changed(registry, at=1, exit_epoch=8, withdrawable_epoch=264))
+        self.assertEqual((queue, exit_queue(left)), (ExitQueue(8, 1), ExitQueue(8, 1)))
+        self.assertEqual(exit_queue(initiate_validator_exit(MAINNET, 127, 2, queue, left).registry), ExitQueue(8, 2))
+        self.refused(1, initiate_validator_exit, MAINNET, 127, 5, None, registry)
+        self.refused(8, initiate_validator_exit, MAINNET, 127, 1, queue, registry)
+        self.refused(1, exit_queue, registry[1:])
+        self.refused(3, exit_queue, changed(registry, slashed=2))
+        self.assertEqual(exit_queue(changed(registry, exit_epoch=0)), ExitQueue(0, 1), "an exit epoch of 0 is counted")
 
     def test_the_steps(self):
         registry = HIT * 5
         after = process_justification_and_finalization(MAINNET, bytes(32 * 8192), Finality(127), registry)
         self.assertEqual((after.finality.justification_bits, after.finality.current_justified_checkpoint.epoch), (3, 3))
-        self.assertEqual(after.raised, altair.Raised(False, False, False))
+        self.assertEqual((after.raised, after.test), (altair.Raised(False, False, False), 0))
         raised = lambda slot: process_justification_and_finalization(MAINNET, bytes(32 * 8192), Finality(slot), []).raised
         self.assertEqual(raised(127), altair.Raised(True, True, True))
         self.assertEqual(raised(63), altair.Raised(False, False, False), "up to epoch 1")
@@ -162,10 +169,15 @@ class Figures(unittest.TestCase):
         paid = process_rewards_and_penalties(MAINNET, 127, 1, registry)
         self.assertEqual(paid[BALANCE], 32 * ETH + 1120000 + 2080000 + 1120000)
         waiting = changed(registry, at=1, activation_epoch=FAR)
-        self.assertEqual(list(process_registry_updates(MAINNET, 127, 1, waiting)), changed(waiting, at=1, activation_epoch=8))
-        self.assertEqual(list(process_registry_updates_to(2, MAINNET, 127, 1, waiting)), changed(waiting, at=1, activation_epoch=8))
-        self.assertEqual(list(process_registry_updates_to(1, MAINNET, 127, 1, waiting)), waiting)
-        self.refused(1, process_registry_updates_to, 6, MAINNET, 127, 1, waiting)
+        none, activated = ExitQueue(0, 0), changed(waiting, at=1, activation_epoch=8)
+        updated = process_registry_updates(MAINNET, 127, 1, None, waiting)
+        self.assertEqual((list(updated.registry), updated.queue), (activated, none))
+        self.assertEqual(list(process_registry_updates_to(2, MAINNET, 127, 1, none, waiting).registry), activated)
+        self.assertEqual(list(process_registry_updates_to(1, MAINNET, 127, 1, none, waiting).registry), waiting)
+        self.refused(1, process_registry_updates_to, 6, MAINNET, 127, 1, none, waiting)
+        self.refused(8, process_registry_updates, MAINNET, 127, 1, ExitQueue(8, 1), waiting)
+        ejected = process_registry_updates(MAINNET, 127, 1, none, changed(waiting, at=2, effective_balance=16 * ETH))
+        self.assertEqual((ejected.registry[20 + EXIT_EPOCH], ejected.queue), (8, ExitQueue(8, 1)))
         slashings = [0] * 8192
         slashings[3] = 32 * ETH
         slashed = changed(registry, slashed=1, withdrawable_epoch=3 + 8192 // 2)
@@ -180,6 +192,101 @@ class Figures(unittest.TestCase):
         self.assertEqual(list(turned), changed(HIT, previous_epoch_participation=5, current_epoch_participation=0))
         self.refused(1, process_participation_flag_updates, HIT[1:])
 
+    def test_the_store(self):
+        later = MAINNET._replace(min_per_epoch_churn_limit=8)
+        bellatrix = Rules(later, FORK_BELLATRIX, MAINNET_BELLATRIX)
+        store = Store.of((10, MAINNET), (20, bellatrix))
+        self.assertEqual([entry.start for entry in store.entries()], [10, 20])
+        self.assertEqual([rules for _, rules in store.entries()], [Rules(MAINNET), bellatrix])
+        self.assertEqual((read_rules(store, 19), read_rules(store, FAR)), (Rules(MAINNET), bellatrix))
+        self.assertEqual(read_rules(Rules(MAINNET), 0), Rules(MAINNET), "rules alone start at epoch 0")
+        self.refused(13, store.rules_at, 9)
+        self.refused(13, Store().rules_at, 9)
+        self.refused(12, store.adding, 20, MAINNET)
+        self.refused(1, store.adding, 30, MAINNET._replace(slots_per_epoch=8))
+        self.refused(1, store.adding, 30, Rules(MAINNET, 2))
+        self.refused(2, store.adding, 30, bellatrix._replace(bellatrix=Bellatrix(0, 3)))
+        self.refused(1, add_rules, store, 30, MAINNET)  # a full store
+        self.refused(1, read_rules, Store(store.numbers, 3), 9)
+        self.refused(1, read_rules, Store(list(store.numbers)[1:], 1), 9)
+        self.refused(1, read_rules, Store([*list(store.numbers)[23:], *list(store.numbers)[:23]], 2), 9)
+        # what lies beyond the count is not looked at, and what is handed in stays
+        roomy = Store([*list(store.numbers), *[FAR] * 23], 2)
+        grown = add_rules(roomy, 30, MAINNET)
+        self.assertEqual((read_rules(roomy, 40).fork, grown.count, read_rules(grown, 40).fork), (1, 3, 0))
+        self.assertEqual([read_rules(grown, epoch) for epoch in (10, 29)], [read_rules(roomy, epoch) for epoch in (10, 29)])
+
+        settings = MINIMAL
+        record = Record(settings, Finality(31, 3, Checkpoint(1), Checkpoint(2), Checkpoint(1)), HIT * 5, [0] * 64, bytes(32 * 64))
+        store = Store.of((2, settings._replace(base_reward_factor=1)), (3, settings), (4, settings._replace(base_reward_factor=1)))
+        self.assertEqual(record.closing(store=store), record.closing())
+        self.assertEqual(record.closing(store=Rules(settings)), record.closing())
+        self.refused(13, lambda: record.closing(store=Store.of((4, settings))))
+        self.refused(13, lambda: record._replace(roots=b"").closing(store=Store()))  # no setting says how many roots are wanted
+        self.refused(1, lambda: record._replace(roots=b"").closing(store=store))
+        self.refused(13, lambda: record._replace(finality=Finality(2**48)).closing(store=Store.of((2**46, settings))))
+
+    def test_the_shelf(self):
+        record = Record(MINIMAL, Finality(31, 3, Checkpoint(1), Checkpoint(2), Checkpoint(1)), HIT * 5, [0] * 64, bytes(32 * 64))
+        rich = record._replace(registry=changed(HIT * 5, balance=FAR))
+        good, overflowing, damaged = record.write(), rich.write(), bytes(80)
+        closed = record.close().write()
+        found = close_files([good, overflowing, damaged, b"", good])
+        self.assertEqual((found[0], found[4]), (closed, closed))
+        self.assertEqual([refused.number for refused in found[1:4]], [5, 6, 6])
+        self.assertEqual(close_files([]), [])
+        under = dict(fork=FORK_BELLATRIX, bellatrix=MAINNET_BELLATRIX)
+        self.assertEqual(close_files([good], **under), [record.close(**under).write()])
+        self.assertEqual([close_files([good], fork=2)[0].number, close_files([good], fork=1)[0].number], [1, 2])
+        # parts of their own: 4 and 5 leave the file's bytes, other refusals the part as it was, and a bad shelf everything
+        files, lengths = good + overflowing + damaged, [len(good), len(overflowing), 80]
+        closing, answers = bytearray(b"\7" * len(files)), [9, 9, 9]
+        shelf = close_shelf(files, lengths, FORK_ALTAIR, Bellatrix(0, 0), out=(closing, None, None, None))
+        self.assertEqual((bytes(shelf.closing), list(shelf.answers)), (closed + overflowing + b"\7" * 80, [0, 5, 6]))
+        self.refused(1, close_shelf, files, lengths[:2], FORK_ALTAIR, Bellatrix(0, 0))
+        self.refused(1, close_shelf, files, [*lengths[:2], 81], FORK_ALTAIR, Bellatrix(0, 0))
+        self.refused(1, close_shelf, files[:-1], lengths, FORK_ALTAIR, Bellatrix(0, 0))
+        with self.assertRaises(Refused) as caught:
+            close_shelf(files, lengths, FORK_ALTAIR, Bellatrix(0, 0), out=(closing, memoryview(bytearray(8)).cast("Q"), None, None))
+        self.assertEqual((caught.exception.number, closing[-1]), (1, 7))
+
+    def test_a_close_by_steps(self):
+        record = Record(MINIMAL, Finality(31, 3, Checkpoint(1), Checkpoint(2), Checkpoint(1)), HIT * 5, [0] * 64, bytes(32 * 64))
+        desk = Desk(record, MINIMAL, room=3)
+        self.refused(1, desk.order, 1, 0)
+        for step in range(8):
+            desk.step()
+            self.assertEqual(desk.running.done, step + 1)
+            if step in (0, 4, 7):
+                desk.order(step, 3 if step < 7 else 4)
+        self.refused(11, desk.order, 1, 0)
+        whole = record.closing()
+        self.assertEqual((desk.registry.tobytes(), desk.amounts.tobytes()), (whole.registry.tobytes(), whole.amounts.tobytes()))
+        self.assertEqual((desk.running.finality, desk.running.queue, desk.running.test), (whole.finality, whole.queue, whole.test))
+        self.assertIsNone(desk.closed())
+        self.refused(1, desk.step)
+        self.refused(2, desk.carry_out, 2**48)
+        self.assertEqual(desk.carry_out(3), [0, 0, 9])
+        self.assertEqual((desk.closed().queue, desk.running.orders), (ExitQueue(8, 2), 0))
+        for call in (desk.step, lambda: desk.order(1, 0), lambda: desk.carry_out(3)):
+            self.assertRaises(altair.Ended, call)
+        # a close that is refused: the opening is put back, and the orders stay
+        rich = record._replace(registry=changed(HIT * 5, balance=FAR))
+        desk = Desk(rich, MINIMAL, room=1)
+        desk.step(), desk.order(1, 0), desk.step()
+        self.refused(5, desk.step)
+        self.assertEqual((desk.running.done, desk.running.refusal, desk.running.orders), (9, 5, 1))
+        self.assertEqual((list(desk.registry), set(desk.amounts), desk.closed()), (rich.registry, {0}, None))
+        self.assertRaises(altair.Ended, desk.carry_out, 3)
+        # what is wrong with an argument is told with its name
+        for bad in (None, 1, (0,) * 7, altair.Running(done=-1), altair.Running(raised=(1, 0, 0)), altair.Running(queue=None)):
+            with self.assertRaisesRegex((TypeError, ValueError), "^running"):
+                altair.take_order(bad, 1, 0, desk.orders)
+        with self.assertRaisesRegex(TypeError, "^out"):
+            altair.take_order(altair.Running(), 1, 0, None)
+        with self.assertRaisesRegex(TypeError, "orders"):
+            altair.take_order(altair.Running(), 1, 0, [0, 0])
+
     def test_net_changes(self):
         """Both ends of the range, and one beyond either."""
         for opening, closing, change in [(7, 7, 0), (32 * ETH, 31996800000, -3200000), (0, 2**63 - 1, 2**63 - 1),
@@ -193,7 +300,8 @@ class Figures(unittest.TestCase):
         finality = Finality(31, 3, Checkpoint(1), Checkpoint(2), Checkpoint(1))
         registry = changed(HIT * 5, at=4, previous_epoch_participation=0, current_epoch_participation=0)
         slashings, roots = [0] * 64, bytes(32 * 64)
-        file = write_file(settings, finality, registry, roots, slashings)
+        file = write_file(settings, finality, None, registry, roots, slashings)
+        self.refused(8, write_file, settings, finality, ExitQueue(7, 0), registry, roots, slashings)
         self.assertEqual(tuple(read_header(file)), (5, 64, 64))
         record = read_file(file)
         self.assertEqual(record, Record.read(file))
@@ -201,8 +309,12 @@ class Figures(unittest.TestCase):
         self.assertEqual((record.settings, record.finality, record.roots), (settings, finality, roots))
         self.assertEqual((list(record.registry), list(record.slashings)), (registry, slashings))
 
-        closed = close(settings, finality, registry, slashings, roots)
-        self.assertEqual(record.close(), Record(settings, closed.finality, closed.registry, closed.slashings, roots))
+        closed = close(settings, finality, record.queue, registry, slashings, roots)
+        self.assertEqual(record.close(), Record(settings, closed.finality, closed.registry, closed.slashings, roots, closed.queue))
+        self.assertEqual((closed.queue, closed.test), (ExitQueue(0, 0), 4))
+        hit, missed = Amounts(896000, 0, 1664000, 0, 896000, 0, 0, 0, 0), Amounts(0, 1120000, 0, 2080000, 0, 0, 0, 0, 0)
+        self.assertEqual(list(closed.booked()), [hit] * 4 + [missed])
+        self.assertEqual((hit.net, missed.net, list(record.closing().booked())), (3456000, -3200000, [hit] * 4 + [missed]))
         self.assertEqual(record.charged(), 5)
         self.assertEqual(list(closed.registry[BALANCE::10]), [32003456000] * 4 + [31996800000])
         self.assertEqual(closed.finality.finalized_checkpoint.epoch, 2)
@@ -223,19 +335,20 @@ class Figures(unittest.TestCase):
         self.refused(7, listing_line, registry, wide.registry, 4)
         lines = record.listing(wide)
         self.refused(7, next, lines)  # before the head
-        self.refused(5, close, settings, finality, changed(registry, balance=2**64 - 1), slashings, roots)
-        self.refused(3, close, settings, finality._replace(slot=2**48), registry, slashings, roots)
-        self.refused(1, close, settings, finality, registry, slashings, roots[1:])
+        self.refused(5, close, settings, finality, None, changed(registry, balance=2**64 - 1), slashings, roots)
+        self.refused(3, close, settings, finality._replace(slot=2**48), None, registry, slashings, roots)
+        self.refused(1, close, settings, finality, None, registry, slashings, roots[1:])
+        self.refused(8, close, settings, finality, ExitQueue(0, 1), registry, slashings, roots)
 
         # the second validator's flags are bad: reading stops there
-        at = 368 + 80 + 8 * altair.CURRENT_EPOCH_PARTICIPATION
+        at = 384 + 80 + 8 * altair.CURRENT_EPOCH_PARTICIPATION
         bad = bytearray(file)
         bad[at + 1] = 1
         self.assertEqual(self.refused(3, read_file, bad).position, at)
         self.assertEqual(self.refused(6, read_file, file[1:]).position, 80)
         self.assertEqual(self.refused(6, read_file, b"").position, 0)
         self.refused(6, read_header, b"")
-        self.refused(1, write_file, settings, finality, registry[1:], roots, slashings)
+        self.refused(1, write_file, settings, finality, None, registry[1:], roots, slashings)
 
 
 if __name__ == "__main__":

@@ -19,6 +19,14 @@ def record(validators, roots=64, slashings=64):
     return Record(settings, finality, HIT * validators, [5] * slashings, b"\4" * 32 * roots)
 
 
+def in_version_1(file):
+    """The file without the pair: later offsets and the length are 16 less."""
+    old = bytearray(file[:368] + file[384:])
+    header = struct.unpack_from("<10Q", old)
+    struct.pack_into("<10Q", old, 0, *(n - {0: 1, 1: 16, 7: 16, 8: 16, 9: 16}.get(i, 0) for i, n in enumerate(header)))
+    return bytes(old)
+
+
 def bent(random_, file):
     """The file with a few numbers, bytes or its length changed."""
     file = bytearray(file)
@@ -33,6 +41,7 @@ def bent(random_, file):
         elif len(file) >= 8:
             most = random_.choice((80, 232, 368, 448, len(file)))
             at = 8 * random_.randrange(min(most, len(file)) // 8)
+            at = random_.choice((at, at, at, 368, 376)) if len(file) > 384 else at
             struct.pack_into("<Q", file, at, random_.choice(ENDS))
     return bytes(file)
 
@@ -49,18 +58,23 @@ def answered(file):
 class Layout(unittest.TestCase):
     def test_as_the_library(self):
         random_, seen = random.Random(17), {}
-        files = [record(n, *vectors).write() for n in (0, 1, 3) for vectors in ((64, 64), (1, 1), (3, 65536))]
+        files = [record(n, *vectors).write() for vectors in ((64, 64), (1, 1), (3, 65536)) for n in (0, 1, 3)]
+        leaving = record(3)
+        leaving.registry[4] = leaving.registry[14] = 9
+        files.insert(0, leaving.write())
+        self.assertEqual(struct.unpack_from("<2Q", files[0], 368), (9, 2))
+        files[:0] = map(in_version_1, files[:7])
         for _ in range(12000):
-            file = bent(random_, random_.choice(files[:6] if random_.random() < 0.95 else files))
+            file = bent(random_, random_.choice(files[:14] if random_.random() < 0.95 else files))
             found = fault(file)
             self.assertEqual(found and (found.refusal, found.position), answered(file))
             seen[found and found.refusal] = seen.get(found and found.refusal, 0) + 1
-        self.assertTrue(all(seen.get(number, 0) > 100 for number in (None, 1, 2, 3, 6)), seen)
+        self.assertTrue(all(seen.get(number, 0) > 100 for number in (None, 1, 2, 3, 6, 8)), seen)
 
     def test_more_validators_than_are_taken(self):
         most = 2**24 + 1
         file = mmap.mmap(-1, _layout.file_length(most, 64, 64))  # its pages are made where they are read
-        file[80:368] = record(0).write()[80:368]
+        file[80:384] = record(0).write()[80:384]
         for validators, refusal in ((most, 1), (most + 1, 6)):
             file[:80] = struct.pack("<10Q", *_layout.header(validators, 64, 64))
             self.assertEqual(fault(file).refusal, refusal)
@@ -69,10 +83,10 @@ class Layout(unittest.TestCase):
     def test_the_field_is_named(self):
         file = bytearray(record(2).write())
         for at, number, field in (
-            (0, 2, "header: version"), (80, 0, "settings.slots_per_epoch"), (88, 63, "settings.slots_per_historical_root"),
+            (0, 3, "header: version"), (0, 1, "header: length"), (80, 0, "settings.slots_per_epoch"), (88, 63, "settings.slots_per_historical_root"),
             (224, 2**48, "settings.churn_limit_quotient"), (232, 2**48, "slot"), (240, 16, "justification_bits"),
-            (328, FAR, "finalized_checkpoint.epoch"), (432, 256, "validators[0].current_epoch_participation"),
-            (456, 2, "validators[1].slashed"),
+            (328, FAR, "finalized_checkpoint.epoch"), (448, 256, "validators[0].current_epoch_participation"),
+            (472, 2, "validators[1].slashed"), (368, 1, "exit_queue.last_epoch"), (376, 1, "exit_queue.number"),
         ):
             bad = bytearray(file)
             struct.pack_into("<Q", bad, at, number)

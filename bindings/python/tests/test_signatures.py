@@ -16,7 +16,12 @@ ANSWERS = {
     "altair_deltas_answer": (_signatures.DeltasAnswer,),
     "altair_root_answer": (_signatures.RootAnswer,),
     "altair_finality_answer": (_signatures.FinalityAnswer,),
-    "altair_close_answer": (_signatures.CloseAnswer,),
+    "altair_justification_answer": (_signatures.JustificationAnswer,),
+    "altair_full_answer": (_signatures.FullAnswer,),
+    "altair_queue_answer": (_signatures.QueueAnswer,),
+    "altair_running_answer": (_signatures.RunningAnswer,),
+    "altair_rules_answer": (_signatures.RulesAnswer,),
+    "altair_count_answer": (_signatures.CountAnswer,),
     "altair_total_answer": (_signatures.TotalAnswer,),
     "altair_header": (_signatures.HeaderAnswer,),
     "altair_read_answer": (_signatures.ReadAnswer,),
@@ -27,6 +32,10 @@ ANSWERS = {
 }
 
 
+# where C's name is another one: altair_exit_queue is a function
+IN_C = {altair_close.ExitQueue: "altair_queue"}
+
+
 def text():
     return re.sub(r"/\*.*?\*/|^#.*?[^\\]$", "", HEADER.read_text(), flags=re.S | re.M)
 
@@ -34,7 +43,7 @@ def text():
 def declared():
     """The functions of the header: name, answer, and arguments as (type, name); those of plain C are left out."""
     for answer, name, arguments in re.findall(r"^(\w+) altair_(\w+)\(([^)]*)\);", text(), flags=re.M):
-        if not name.startswith(("checked_", "under_")):
+        if not name.startswith(("checked_", "under_", "put_")):
             words = [" ".join(word.split()) for word in arguments.split(",") if word.strip() != "void"]
             yield name, answer, [tuple(re.fullmatch(r"(.*?)(\w+)", word).groups()) for word in words]
 
@@ -45,9 +54,11 @@ def in_c(name, kind):
         element = "uint8_t" if kind.size == 1 else "uint64_t"
         written = kind.written or isinstance(kind, kinds.Changed)
         return [("" if written else "const ") + element + " *", name, "size_t", name + "_length"]
+    if isinstance(kind, kinds.Store):
+        return [("" if kind is kinds.CHANGED_STORE else "const ") + "uint64_t *", name, "size_t", name + "_length", "uint64_t", "count"]
     if isinstance(kind, kinds.Fields):
-        return ["altair_" + kind.given.__name__.lower(), name]
-    return [{kinds.FinalityWords: "altair_finality", kinds.RulesWords: "altair_rules", ctypes.c_uint8: "uint8_t"}.get(kind.words[0], "uint64_t"), name]
+        return [IN_C.get(kind.given, "altair_" + kind.given.__name__.lower()), name]
+    return [{kinds.FinalityWords: "altair_finality", kinds.RulesWords: "altair_rules", kinds.RunningWords: "altair_running", ctypes.c_uint8: "uint8_t"}.get(kind.words[0], "uint64_t"), name]
 
 
 def size(kind, structs):
@@ -72,6 +83,10 @@ class Table(unittest.TestCase):
     def test_each_has_a_function_with_its_arguments(self):
         for name, signature in _signatures.SIGNATURES.items():
             parameters = inspect.signature(getattr(altair_close, name)).parameters
+            self.assertTrue(getattr(altair_close, name).__doc__, name)
+            if name in ("take_order", "carry_out"):  # what is written stays from call to call, and is handed in
+                self.assertEqual(list(parameters), list(signature.arguments), name)
+                continue
             read = [argument for argument, kind in signature.arguments.items() if not getattr(kind, "written", None)]
             self.assertEqual([parameter for parameter in parameters if parameter != "out"], read, name)
             writes = any(getattr(kind, "written", None) or kind is kinds.CHANGED for kind in signature.arguments.values())
@@ -85,7 +100,10 @@ class Table(unittest.TestCase):
         self.assertEqual(names["altair_rules"], altair_close.Rules._fields)
         self.assertEqual(names["altair_bellatrix"], altair_close.Bellatrix._fields)
         self.assertEqual(ctypes.sizeof(kinds.RulesWords), size("altair_rules", structs))
+        entry = re.search(r"ALTAIR_ENTRY_LENGTH = (\d+)", HEADER.read_text())
+        self.assertEqual(int(entry[1]), altair_close.ENTRY_LENGTH)
         self.assertEqual(names["altair_clock"], altair_close.Clock._fields)
+        self.assertEqual(names["altair_queue"], altair_close.ExitQueue._fields)
         self.assertEqual(names["altair_finality"], altair_close.Finality._fields)
         self.assertEqual(names["altair_checkpoint"], altair_close.Checkpoint._fields)
         for struct, given in (("head", altair_close.Head), ("line", altair_close.Line), ("header", altair_close.Header)):
@@ -105,6 +123,10 @@ class Table(unittest.TestCase):
         self.assertEqual(tuple(map(int, re.findall(r"\d+", clock[1]))), altair_close.MAINNET_CLOCK)
         places = re.search(r"enum altair_validator \{(.*?)\}", header, flags=re.S)[1]
         for place, name in enumerate(re.findall(r"ALTAIR_(\w+)", places)):
+            self.assertEqual(getattr(altair_close, name), place, name)
+        booked = re.findall(r"ALTAIR_(\w+)", re.search(r"enum altair_amount \{(.*?)\}", header, flags=re.S)[1])
+        self.assertEqual(tuple(map(str.lower, booked[:-1])), altair_close.Amounts._fields)
+        for place, name in enumerate(booked):
             self.assertEqual(getattr(altair_close, name), place, name)
 
 

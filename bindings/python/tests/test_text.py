@@ -42,10 +42,24 @@ class Text(unittest.TestCase):
 
     def test_there_and_back(self):
         for sample in sorted((ROOT / "samples").glob("*.json")):
-            file = text.write(sample.read_text(), unchecked=True)
-            shown = "".join(text.show(file))
-            self.assertEqual(text.write(shown, unchecked=True), file, sample)
-            json.loads(shown)
+            for version in (1, 2):
+                if version == 1 and sample.stem == "refused_8":
+                    self.assertRaises(Bad, text.write, sample.read_text(), unchecked=True, version=1)
+                    continue
+                file = text.write(sample.read_text(), unchecked=True, version=version)
+                shown = "".join(text.show(file))
+                self.assertEqual(text.write(shown, unchecked=True, version=version), file, sample)
+                self.assertEqual("exit_queue" in json.loads(shown), version == 2)
+
+    def test_the_exit_queue(self):
+        two = with_(["validators", 1, "exit_epoch"], 9, with_(["validators", 3, "exit_epoch"], 9))
+        file = text.write(two)
+        self.assertEqual(_layout.numbers(file, 368, 2), (9, 2))
+        self.assertEqual(text.write(with_(["exit_queue"], {"last_epoch": 9, "number": 2}, two)), file)
+        for last, number, said in ((9, 1, "exit_queue.number: it is 1"), (8, 2, "exit_queue.last_epoch: it is 8")):
+            self.bad(with_(["exit_queue"], {"last_epoch": last, "number": number}, two), said)
+        self.bad(with_(["exit_queue"], {"last_epoch": 9}, two), 'exit_queue: the key "number" is missing')
+        self.bad(with_(["exit_queue"], 9, two), "exit_queue: an object with the keys last_epoch, number is wanted")
 
     def test_one_set_of_limits(self):
         for name in ("slots_per_historical_root", "epochs_per_slashings_vector"):
@@ -59,8 +73,9 @@ class Text(unittest.TestCase):
         self.bad(with_(["finalized_checkpoint", "epoch"], "far"), "finalized_checkpoint.epoch: ")
         self.bad(with_(["validators", 0, "current_epoch_participation"], 256), "validators[0].current_epoch_participation: ")
         self.bad(with_(["validators", 4, "slashed"], 2), "validators[4].slashed: ")
+        self.bad(with_(["exit_queue"], {"last_epoch": 0, "number": 1}), "exit_queue.number: ")
         self.bad(with_(["slashings"], [0] * 65), "slashings: at most 64")
-        self.assertEqual(len(text.write(with_(["validators", 4, "slashed"], 2), unchecked=True)), 3328)
+        self.assertEqual(len(text.write(with_(["validators", 4, "slashed"], 2), unchecked=True)), 3344)
 
     def test_keys(self):
         twice = EXAMPLE.rstrip().rstrip("}") + ', "slot": 31}'
@@ -126,23 +141,32 @@ class Command(unittest.TestCase):
             self.assertEqual((status, error), (0, ""))
             self.assertIn(b"tools/record write", out)
         for words in ([], ["write"], ["write", "a"], ["show", "a", "b", "c"], ["--nothing"], ["write", "--x", "-", "-"],
-                      ["show", "--unchecked", "-", "-"]):
+                      ["show", "--unchecked", "-", "-"], ["write", "--version", "3", "-", "-"], ["write", "-", "-", "--version"],
+                      ["show", "--version", "1", "-", "-"]):
             status, out, error = self.run_(*words)
             self.assertEqual((status, out), (2, b""))
             self.assertIn("tools/record write", error)
 
     def test_there_and_back(self):
         status, file, error = self.run_("write", "-", "-", given=EXAMPLE.encode())
-        self.assertEqual((status, error, len(file)), (0, "", 3328))
+        self.assertEqual((status, error, len(file)), (0, "", 3344))
+        status, old, error = self.run_("write", "--version", "1", "-", "-", given=EXAMPLE.encode())
+        self.assertEqual((status, error, len(old), old[0]), (0, "", 3328, 1))
+        self.assertEqual(self.run_("check", "-", given=old), (0, b"", ""))
         status, shown, error = self.run_("show", "-", "-", given=file)
         self.assertEqual((status, error, json.loads(shown)["slot"]), (0, "", 31))
         self.assertEqual(self.run_("check", "-", given=file), (0, b"", ""))
         bad = bytearray(file)
-        bad[433] = 1
+        bad[449] = 1
         for words in (["check", "-"], ["show", "-", "-"]):
             status, _, error = self.run_(*words, given=bytes(bad))
             self.assertEqual(status, 1)
-            self.assertIn("under 3, at byte 432: validators[0].current_epoch_participation: 0 to 255 is wanted, not 263", error)
+            self.assertIn("under 3, at byte 448: validators[0].current_epoch_participation: 0 to 255 is wanted, not 263", error)
+        bad = bytearray(file)
+        bad[376] = 2
+        status, _, error = self.run_("check", "-", given=bytes(bad))
+        self.assertEqual(status, 1)
+        self.assertIn("under 8, at byte 368: exit_queue.number: it is 2, and that of the validators is 0", error)
 
     def test_what_cannot_be_read_or_written(self):
         with tempfile.TemporaryDirectory() as folder:

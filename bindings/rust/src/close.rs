@@ -1,42 +1,54 @@
 //! The whole close, and the figures of its listing.
+use crate::exit_queue;
 use crate::raw;
 use crate::refusal::Refusal;
-use crate::types::{Closed, Finality, Head, Line, Rules, Settings};
+use crate::store::By;
+use crate::types::{Amounts, Closed, ExitQueue, Finality, Head, Line, Settings};
 
-/// Closes the opening record into the closing buffers, which are as long as the opening's, and gives its finality and which
-/// totals were raised.
+/// Closes the opening record into the closing buffers, which are as long as the opening's, books what each rule gave and took of each
+/// validator in `amounts`, and gives the finality, the exit queue's pair, which totals were raised and which test finalized.
 ///
-/// Refused with 1, 2 or 3 the closing buffers keep what they held; with 4 or 5 they hold the opening's numbers. By
-/// `&Settings` it closes as Altair, by [`Rules`] as their fork.
+/// Refused with 1, 2, 13, 3 or 8 the buffers keep what they held; with 4 or 5 the closing ones hold the opening's numbers, and `amounts`
+/// zeros. By `&Settings` it closes as Altair, by `&Rules` as their fork, by a `&Store` as its entry for the epoch. With `None` for the
+/// pair it is worked out from the registry.
 ///
 /// ```
-/// use altair_close::{close, validator, Finality, Refusal, Settings};
+/// use altair_close::{close, validator, Amounts, Finality, Refusal, Settings};
 ///
 /// let settings = Settings { slots_per_historical_root: 64, epochs_per_slashings_vector: 64, ..Settings::MAINNET };
 /// let finality = Finality { slot: 31, ..Finality::default() };
 /// let registry = validator::new(32_000_000_000);
 /// let (slashings, roots) = (vec![0; 64], vec![0; 32 * 64]);
-/// let (mut closing, mut closing_slashings) = (vec![0; 10], vec![0; 64]);
-/// let closed = close(&settings, &finality, &registry, &slashings, &roots, &mut closing, &mut closing_slashings)?;
-/// assert_eq!((closed.finality.slot, closing[validator::BALANCE]), (31, 32_000_000_000));
-///
-/// let short = close(&settings, &finality, &registry, &slashings, &roots[1..], &mut closing, &mut closing_slashings);
-/// assert_eq!(short, Err(Refusal::Shape));
+/// let (mut closing, mut closing_slashings, mut amounts) = (vec![0; 10], vec![0; 64], vec![Amounts::default(); 1]);
+/// let mut closed = |roots| {
+///     close(&settings, &finality, None, &registry, &slashings, roots, &mut closing, &mut closing_slashings, &mut amounts)
+/// };
+/// assert_eq!(closed(&roots)?.finality.slot, 31);
+/// assert_eq!(closed(&roots[1..]), Err(Refusal::Shape));
+/// assert_eq!((closing[validator::BALANCE], amounts[0].net()), (32_000_000_000, 0));
 /// # Ok::<(), Refusal>(())
 /// ```
-pub fn close(
-    rules: impl Into<Rules>,
+#[allow(clippy::too_many_arguments)]
+pub fn close<'a>(
+    by: impl Into<By<'a>>,
     finality: &Finality,
+    queue: Option<&ExitQueue>,
     registry: &[u64],
     slashings: &[u64],
     roots: &[u8],
     closing_registry: &mut [u64],
     closing_slashings: &mut [u64],
+    amounts: &mut [Amounts],
 ) -> Result<Closed, Refusal> {
+    let by = by.into();
+    let (store, count) = by.lent();
     unsafe {
         raw::altair_close(
-            rules.into(),
+            store.as_ptr(),
+            store.len(),
+            count,
             *finality,
+            pair_of(queue, registry),
             registry.as_ptr(),
             registry.len(),
             slashings.as_ptr(),
@@ -47,9 +59,16 @@ pub fn close(
             closing_registry.len(),
             closing_slashings.as_mut_ptr(),
             closing_slashings.len(),
+            amounts.as_mut_ptr().cast(),
+            9 * amounts.len(),
         )
     }
     .result()
+}
+
+/// The pair, or the registry's; of a registry that every call refuses before it asks for the pair, any.
+pub(crate) fn pair_of(queue: Option<&ExitQueue>, registry: &[u64]) -> ExitQueue {
+    queue.copied().unwrap_or_else(|| exit_queue(registry).unwrap_or_default())
 }
 
 /// How many validators of the opening registry are charged: active in the previous epoch, or slashed with the previous

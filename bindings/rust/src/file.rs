@@ -1,20 +1,25 @@
 //! A record file over lent slices. [`crate::Record`] does the same with vectors of its own.
+use crate::close::pair_of;
 use crate::raw;
 use crate::refusal::Refusal;
-use crate::types::{Finality, Settings};
+use crate::types::{ExitQueue, Finality, Settings};
 use std::error::Error;
 use std::fmt;
 use std::ops::Range;
 
-/// How much a record file holds.
+/// How much a record file holds. `version` is 1 or 2; version 1 has no room for the exit queue's pair, and version 2 is written.
 #[derive(Clone, Copy, Debug, PartialEq, Eq)]
 pub struct Header {
+    pub version: usize,
     pub validators: usize,
     pub roots: usize,
     pub slashings: usize,
 }
 
 impl Header {
+    /// The version that is written.
+    pub const VERSION: usize = 2;
+
     /// How long the file is.
     pub fn file_length(&self) -> usize {
         self.roots_part().end + 8 * self.slashings
@@ -22,7 +27,7 @@ impl Header {
 
     /// The part of the file that holds the roots.
     pub fn roots_part(&self) -> Range<usize> {
-        let start = 368 + 80 * self.validators;
+        let start = 352 + 16 * self.version + 80 * self.validators;
         start..start + 32 * self.roots
     }
 }
@@ -58,16 +63,17 @@ pub fn read_header(file: &[u8]) -> Result<Header, Refusal> {
     let found = unsafe { raw::altair_read_header(file.as_ptr(), file.len()) };
     // each is below the file's length
     let [validators, roots, slashings] = [found.validators, found.roots, found.slashings].map(|n| n as usize);
-    Refusal::or(found.refusal, Header { validators, roots, slashings })
+    let version = file.first().copied().unwrap_or_default().into();
+    Refusal::or(found.refusal, Header { version, validators, roots, slashings })
 }
 
-/// Settings and finality; registry and slashings go into slices as long as the header says, ten numbers a validator.
+/// Settings, finality and the exit queue's pair, which of version 1 is worked out; registry and slashings go into slices as long as the header says, ten numbers a validator.
 /// Refused, the slices are as before.
 pub fn read_file(
     file: &[u8],
     registry: &mut [u64],
     slashings: &mut [u64],
-) -> Result<(Settings, Finality), ReadRefused> {
+) -> Result<(Settings, Finality, ExitQueue), ReadRefused> {
     let read = unsafe {
         raw::altair_read_file(
             file.as_ptr(),
@@ -78,14 +84,15 @@ pub fn read_file(
             slashings.len(),
         )
     };
-    Refusal::or(read.refusal, (read.settings, read.finality))
+    Refusal::or(read.refusal, (read.settings, read.finality, read.queue))
         .map_err(|refusal| ReadRefused { refusal, position: read.position })
 }
 
-/// The record's file, into a slice of [`Header::file_length`] bytes. Refused, the slice is as before.
+/// The record's file, of version 2, into a slice of [`Header::file_length`] bytes. Refused, the slice is as before.
 pub fn write_file(
     settings: &Settings,
     finality: &Finality,
+    queue: Option<&ExitQueue>,
     registry: &[u64],
     roots: &[u8],
     slashings: &[u64],
@@ -95,6 +102,7 @@ pub fn write_file(
         raw::altair_write_file(
             *settings,
             *finality,
+            pair_of(queue, registry),
             registry.as_ptr(),
             registry.len(),
             roots.as_ptr(),

@@ -1,7 +1,8 @@
 //! The leaves: what the steps are made of, each callable alone. `validator` is ten numbers.
+use crate::close::pair_of;
 use crate::raw;
 use crate::refusal::Refusal;
-use crate::types::{Deltas, Finality, Rules, Settings, Total};
+use crate::types::{Deltas, ExitQueue, Finality, Rules, Settings, Total};
 
 /// The largest number whose square is at most `n`.
 ///
@@ -175,17 +176,30 @@ pub fn get_validator_churn_limit(settings: &Settings, state_slot: u64, registry:
     unsafe { raw::altair_get_validator_churn_limit(*settings, state_slot, registry.as_ptr(), registry.len()) }.result()
 }
 
-/// Gives validator `index` an exit and a withdrawable epoch where it has none; refused, all is as before.
+/// The exit queue's pair of the registry.
+///
+/// ```
+/// use altair_close::{exit_queue, validator, ExitQueue};
+/// let mut registry = validator::new(32_000_000_000).repeat(3);
+/// assert_eq!(exit_queue(&registry), Ok(ExitQueue::default()));
+/// registry[validator::EXIT_EPOCH] = 9;
+/// assert_eq!(exit_queue(&registry), Ok(ExitQueue { last_epoch: 9, number: 1 }));
+/// ```
+pub fn exit_queue(registry: &[u64]) -> Result<ExitQueue, Refusal> {
+    unsafe { raw::altair_exit_queue(registry.as_ptr(), registry.len()) }.result()
+}
+
+/// Gives validator `index` an exit and a withdrawable epoch where it has none, and answers the pair afterwards; refused, all is as before.
 pub fn initiate_validator_exit(
     settings: &Settings,
     state_slot: u64,
     index: u64,
+    queue: Option<&ExitQueue>,
     registry: &mut [u64],
-) -> Result<(), Refusal> {
-    let number = unsafe {
-        raw::altair_initiate_validator_exit(*settings, state_slot, index, registry.as_mut_ptr(), registry.len())
-    };
-    Refusal::or(number, ())
+) -> Result<ExitQueue, Refusal> {
+    let queue = pair_of(queue, registry);
+    let (at, length) = (registry.as_mut_ptr(), registry.len());
+    unsafe { raw::altair_initiate_validator_exit(*settings, state_slot, index, queue, at, length) }.result()
 }
 
 // rewards

@@ -14,35 +14,43 @@
 //!     registry: validator::new(32_000_000_000).repeat(5),
 //!     slashings: vec![0; 64],
 //!     roots: vec![0; 32 * 64],
+//!     queue: None,
 //! };
 //! let file = record.write()?;
 //! let closed = Record::read(&file)?.close()?;
 //! assert_eq!(closed.registry[validator::BALANCE], 31_996_800_000);
+//! assert_eq!(closed.amounts[0].target_taken, 2_080_000);
 //! # Ok::<(), altair_close::Refusal>(())
 //! ```
 mod close;
+mod desk;
 mod file;
 mod helpers;
 mod opening_hours;
 mod raw;
 mod record;
 mod refusal;
+mod shelf;
 mod steps;
+mod store;
 mod types;
 mod unknown_votes;
 pub mod validator;
 
 pub use close::*;
+pub use desk::{Desk, NotDone};
 pub use file::*;
 pub use helpers::*;
-pub use record::{OpenError, Record};
+pub use record::{ClosedRecord, OpenError, Record};
 pub use refusal::Refusal;
+pub use shelf::*;
 pub use steps::*;
+pub use store::*;
 pub use types::*;
 pub use unknown_votes::unknown_votes;
 
 /// The number of the interface that this crate is written for.
-pub const VERSION: u64 = 3;
+pub const VERSION: u64 = 5;
 
 /// The number of the interface of the library that was linked.
 ///

@@ -1,7 +1,8 @@
 //! The library's functions as bindings/c/altair.h declares them: a slice is a pointer and a length in elements.
 use crate::refusal::Refusal;
 use crate::types::{
-    Checkpoint, Clock, Closed, Deltas, Finality, Head, Line, Passes, Raised, Rules, Settings, Total, Votes,
+    Amounts, Bellatrix, Checkpoint, Clock, Closed, Deltas, ExitQueue, Finality, Head, Justified, Line, Passes,
+    RaisedNumbers, Rules, Running, Settings, Total, Votes,
 };
 
 #[repr(C)]
@@ -11,17 +12,33 @@ pub struct FinalityAnswer {
 }
 
 #[repr(C)]
-pub struct RaisedNumbers {
-    pub active: u64,
-    pub previous: u64,
-    pub current: u64,
-}
-
-#[repr(C)]
-pub struct CloseAnswer {
+pub struct JustificationAnswer {
     pub refusal: u64,
     pub finality: Finality,
     pub raised: RaisedNumbers,
+    pub test: u64,
+}
+
+#[repr(C)]
+pub struct FullAnswer {
+    pub refusal: u64,
+    pub finality: Finality,
+    pub queue: ExitQueue,
+    pub raised: RaisedNumbers,
+    pub test: u64,
+}
+
+#[repr(C)]
+pub struct RunningAnswer {
+    pub refusal: u64,
+    pub ended: u64,
+    pub running: Running,
+}
+
+#[repr(C)]
+pub struct QueueAnswer {
+    pub refusal: u64,
+    pub queue: ExitQueue,
 }
 
 #[repr(C)]
@@ -76,6 +93,7 @@ pub struct ReadAnswer {
     pub position: u64,
     pub settings: Settings,
     pub finality: Finality,
+    pub queue: ExitQueue,
 }
 
 #[repr(C)]
@@ -109,6 +127,18 @@ pub struct VotesAnswer {
     current_target: u64,
 }
 
+#[repr(C)]
+pub struct RulesAnswer {
+    pub refusal: u64,
+    pub rules: Rules,
+}
+
+#[repr(C)]
+pub struct CountAnswer {
+    pub refusal: u64,
+    pub count: u64,
+}
+
 impl VotesAnswer {
     pub fn result(self) -> Result<Votes, Refusal> {
         let passes = |number| [Passes::InNone, Passes::InSome, Passes::InAll][number as usize];
@@ -127,15 +157,23 @@ impl FinalityAnswer {
     }
 }
 
-impl RaisedNumbers {
-    fn told(&self) -> Raised {
-        Raised { active: self.active == 1, previous: self.previous == 1, current: self.current == 1 }
+impl JustificationAnswer {
+    pub fn result(self) -> Result<Justified, Refusal> {
+        let justified = Justified { finality: self.finality, raised: self.raised.told(), test: self.test };
+        Refusal::or(self.refusal, justified)
     }
 }
 
-impl CloseAnswer {
+impl FullAnswer {
     pub fn result(self) -> Result<Closed, Refusal> {
-        Refusal::or(self.refusal, Closed { finality: self.finality, raised: self.raised.told() })
+        let FullAnswer { refusal, finality, queue, raised, test } = self;
+        Refusal::or(refusal, Closed { finality, queue, raised: raised.told(), test })
+    }
+}
+
+impl QueueAnswer {
+    pub fn result(self) -> Result<ExitQueue, Refusal> {
+        Refusal::or(self.refusal, self.queue)
     }
 }
 
@@ -200,14 +238,18 @@ impl LineAnswer {
 // the sizes that the header has
 const _: () = assert!(size_of::<Settings>() == 152 && size_of::<Checkpoint>() == 40 && size_of::<Finality>() == 136);
 const _: () = assert!(size_of::<Clock>() == 24 && size_of::<Rules>() == 176);
+const _: () = assert!(size_of::<ExitQueue>() == 16 && size_of::<Amounts>() == 72);
 
 extern "C" {
     pub fn altair_version() -> u64;
 
     // the close
     pub fn altair_close(
-        rules: Rules,
+        store: *const u64,
+        store_length: usize,
+        count: u64,
         finality: Finality,
+        queue: ExitQueue,
         registry: *const u64,
         registry_length: usize,
         slashings: *const u64,
@@ -218,7 +260,11 @@ extern "C" {
         closing_registry_length: usize,
         closing_slashings: *mut u64,
         closing_slashings_length: usize,
-    ) -> CloseAnswer;
+        amounts: *mut u64,
+        amounts_length: usize,
+    ) -> FullAnswer;
+    pub fn altair_read_rules(store: *const u64, store_length: usize, count: u64, epoch: u64) -> RulesAnswer;
+    pub fn altair_add_rules(store: *mut u64, store_length: usize, count: u64, start: u64, rules: Rules) -> CountAnswer;
     pub fn altair_charged(settings: Settings, state_slot: u64, registry: *const u64, length: usize) -> NumberAnswer;
 
     // the listing of a close
@@ -251,6 +297,7 @@ extern "C" {
     pub fn altair_write_file(
         settings: Settings,
         finality: Finality,
+        queue: ExitQueue,
         registry: *const u64,
         registry_length: usize,
         roots: *const u8,
@@ -261,6 +308,63 @@ extern "C" {
         file_length: usize,
     ) -> u64;
 
+    // a close by steps
+    pub fn altair_close_step(
+        number: u64,
+        running: Running,
+        rules: Rules,
+        finality: Finality,
+        queue: ExitQueue,
+        registry: *const u64,
+        registry_length: usize,
+        slashings: *const u64,
+        slashings_length: usize,
+        roots: *const u8,
+        roots_length: usize,
+        closing_registry: *mut u64,
+        closing_registry_length: usize,
+        closing_slashings: *mut u64,
+        closing_slashings_length: usize,
+        amounts: *mut u64,
+        amounts_length: usize,
+    ) -> RunningAnswer;
+    pub fn altair_take_order(
+        running: Running,
+        validator: u64,
+        start: u64,
+        orders: *mut u64,
+        orders_length: usize,
+    ) -> RunningAnswer;
+    pub fn altair_carry_out(
+        rules: Rules,
+        shard_committee_period: u64,
+        running: Running,
+        closing_registry: *mut u64,
+        closing_registry_length: usize,
+        orders: *const u64,
+        orders_length: usize,
+        answers: *mut u64,
+        answers_length: usize,
+    ) -> RunningAnswer;
+
+    // a shelf of records
+    pub fn altair_close_shelf(
+        files: *const u8,
+        files_length: usize,
+        lengths: *const u64,
+        lengths_length: usize,
+        closing: *mut u8,
+        closing_length: usize,
+        opening_numbers: *mut u64,
+        opening_numbers_length: usize,
+        closing_numbers: *mut u64,
+        closing_numbers_length: usize,
+        answers: *mut u64,
+        answers_length: usize,
+        fork: u64,
+        bellatrix: Bellatrix,
+    ) -> u64;
+
     // the eight steps
     pub fn altair_process_justification_and_finalization(
         settings: Settings,
@@ -269,7 +373,7 @@ extern "C" {
         finality: Finality,
         registry: *const u64,
         registry_length: usize,
-    ) -> CloseAnswer;
+    ) -> JustificationAnswer;
     pub fn altair_process_inactivity_updates(
         settings: Settings,
         state_slot: u64,
@@ -292,21 +396,23 @@ extern "C" {
         settings: Settings,
         state_slot: u64,
         finalized_epoch: u64,
+        queue: ExitQueue,
         opening: *const u64,
         opening_length: usize,
         closing: *mut u64,
         closing_length: usize,
-    ) -> u64;
+    ) -> QueueAnswer;
     pub fn altair_process_registry_updates_to(
         stop: u64,
         settings: Settings,
         state_slot: u64,
         finalized_epoch: u64,
+        queue: ExitQueue,
         opening: *const u64,
         opening_length: usize,
         closing: *mut u64,
         closing_length: usize,
-    ) -> u64;
+    ) -> QueueAnswer;
     pub fn altair_process_slashings(
         rules: Rules,
         state_slot: u64,
@@ -417,13 +523,15 @@ extern "C" {
         registry: *const u64,
         length: usize,
     ) -> NumberAnswer;
+    pub fn altair_exit_queue(registry: *const u64, length: usize) -> QueueAnswer;
     pub fn altair_initiate_validator_exit(
         settings: Settings,
         state_slot: u64,
         index: u64,
+        queue: ExitQueue,
         registry: *mut u64,
         length: usize,
-    ) -> u64;
+    ) -> QueueAnswer;
 
     // rewards
     pub fn altair_get_base_reward_per_increment(settings: Settings, total: u64) -> NumberAnswer;

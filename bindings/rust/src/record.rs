@@ -1,8 +1,10 @@
 //! A record with vectors of its own.
 use crate::file::{read_file, read_header, write_file, Header, ReadRefused};
-use crate::types::{Bellatrix, Finality, Rules, Settings};
+use crate::store::By;
+use crate::types::{Amounts, Bellatrix, ExitQueue, Finality, Raised, Rules, Settings};
 use crate::{charged, close, validator, Refusal};
 use std::error::Error;
+use std::ops::Deref;
 use std::path::Path;
 use std::{fmt, fs, io};
 
@@ -16,6 +18,27 @@ pub struct Record {
     pub slashings: Vec<u64>,
     /// 32 bytes a root.
     pub roots: Vec<u8>,
+    /// The exit queue's pair; `None` has it worked out from the registry.
+    pub queue: Option<ExitQueue>,
+}
+
+/// A closed record, and what the close says besides. It can be used as the record that it holds.
+#[derive(Clone, Debug, PartialEq, Eq)]
+pub struct ClosedRecord {
+    pub record: Record,
+    /// What each rule gave and took, validator by validator.
+    pub amounts: Vec<Amounts>,
+    pub raised: Raised,
+    /// Which of the four finality tests, 1 to 4, last set the finalized checkpoint, or 0.
+    pub test: u64,
+}
+
+impl Deref for ClosedRecord {
+    type Target = Record;
+
+    fn deref(&self) -> &Record {
+        &self.record
+    }
 }
 
 /// Why a record file was not opened: it could not be read, or it was refused.
@@ -56,28 +79,30 @@ impl Record {
     /// ```
     pub fn read(file: &[u8]) -> Result<Record, ReadRefused> {
         // the header's own refusal comes from the read below, with the position
-        let header = read_header(file).unwrap_or(Header { validators: 0, roots: 0, slashings: 0 });
+        let header = read_header(file).unwrap_or(Header { version: 0, validators: 0, roots: 0, slashings: 0 });
         let mut registry = vec![0; validator::LENGTH * header.validators];
         let mut slashings = vec![0; header.slashings];
-        let (settings, finality) = read_file(file, &mut registry, &mut slashings)?;
+        let (settings, finality, queue) = read_file(file, &mut registry, &mut slashings)?;
         let roots = file[header.roots_part()].to_vec();
-        Ok(Record { settings, finality, registry, slashings, roots })
+        Ok(Record { settings, finality, registry, slashings, roots, queue: Some(queue) })
     }
 
-    /// The file of the record.
+    /// The file of the record, of version 2.
     pub fn write(&self) -> Result<Vec<u8>, Refusal> {
         let held = Header {
+            version: Header::VERSION,
             validators: self.registry.len() / validator::LENGTH,
             roots: self.roots.len() / 32,
             slashings: self.slashings.len(),
         };
         let mut file = vec![0; held.file_length()];
-        write_file(&self.settings, &self.finality, &self.registry, &self.roots, &self.slashings, &mut file)?;
+        let queue = self.queue.as_ref();
+        write_file(&self.settings, &self.finality, queue, &self.registry, &self.roots, &self.slashings, &mut file)?;
         Ok(file)
     }
 
     /// The closed record, as Altair; roots stay.
-    pub fn close(&self) -> Result<Record, Refusal> {
+    pub fn close(&self) -> Result<ClosedRecord, Refusal> {
         self.close_under(Rules::ALTAIR, &Bellatrix::default())
     }
 
@@ -92,30 +117,59 @@ impl Record {
     ///     registry: validator::new(32_000_000_000).to_vec(),
     ///     slashings: vec![0; 64],
     ///     roots: vec![0; 32 * 64],
+    ///     queue: None,
     /// };
     /// assert_eq!(record.close_under(Rules::ALTAIR, &Bellatrix::default()), record.close());
     /// assert!(record.close_under(Rules::BELLATRIX, &Bellatrix::MAINNET).is_ok());
     /// assert_eq!(record.close_under(Rules::BELLATRIX, &Bellatrix::default()), Err(Refusal::Settings));
     /// ```
-    pub fn close_under(&self, fork: u64, pair: &Bellatrix) -> Result<Record, Refusal> {
+    pub fn close_under(&self, fork: u64, pair: &Bellatrix) -> Result<ClosedRecord, Refusal> {
+        self.close_by(&Rules { settings: self.settings, fork, bellatrix: *pair })
+    }
+
+    /// The closed record by a store of settings by starting epoch, in place of the record's own; these stay in the closed record.
+    ///
+    /// ```
+    /// use altair_close::{validator, Finality, Record, Refusal, Rules, Settings, Store};
+    /// let settings = Settings { slots_per_historical_root: 64, epochs_per_slashings_vector: 64, ..Settings::MAINNET };
+    /// let record = Record {
+    ///     settings,
+    ///     finality: Finality { slot: 127, ..Finality::default() },
+    ///     registry: validator::new(32_000_000_000).to_vec(),
+    ///     slashings: vec![0; 64],
+    ///     roots: vec![0; 32 * 64],
+    ///     queue: None,
+    /// };
+    /// let mut store = Store::new();
+    /// assert_eq!(record.close_by(&store), Err(Refusal::NoEntry));
+    /// store.add(3, &Rules::altair(&settings))?;
+    /// assert_eq!(record.close_by(&store), record.close());
+    /// # Ok::<(), Refusal>(())
+    /// ```
+    pub fn close_by<'a>(&self, by: impl Into<By<'a>>) -> Result<ClosedRecord, Refusal> {
         let mut registry = vec![0; self.registry.len()];
         let mut slashings = vec![0; self.slashings.len()];
+        let mut amounts = vec![Amounts::default(); self.registry.len() / validator::LENGTH];
         let closed = close(
-            &Rules { settings: self.settings, fork, bellatrix: *pair },
+            by,
             &self.finality,
+            self.queue.as_ref(),
             &self.registry,
             &self.slashings,
             &self.roots,
             &mut registry,
             &mut slashings,
+            &mut amounts,
         )?;
-        Ok(Record {
+        let record = Record {
             settings: self.settings,
             finality: closed.finality,
             registry,
             slashings,
             roots: self.roots.clone(),
-        })
+            queue: Some(closed.queue),
+        };
+        Ok(ClosedRecord { record, amounts, raised: closed.raised, test: closed.test })
     }
 
     /// How many validators were active in the previous epoch.

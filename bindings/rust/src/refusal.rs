@@ -21,6 +21,18 @@ pub enum Refusal {
     File = 6,
     /// A net change, closing minus opening balance, does not fit signed 64 bits. There was nothing to write: the close was accepted.
     SignedOverflow = 7,
+    /// The exit queue's pair is not that of the registry. Nothing was written.
+    Queue = 8,
+    /// An exit order's validator is unknown, not active or leaving already. Nothing changed.
+    NoExit = 9,
+    /// An exit order's start is ahead, or its validator has not been active for long enough. Nothing changed.
+    TooEarly = 10,
+    /// The list of exit orders is full. Nothing was written.
+    FullList = 11,
+    /// A new entry's start is not above that of the last entry. Nothing was written.
+    LateStart = 12,
+    /// The store has no entry for the epoch. Nothing was written.
+    NoEntry = 13,
     /// A second is before genesis. There was nothing to write.
     BeforeGenesis = 14,
     /// seconds_per_slot is 0. There was nothing to write.
@@ -28,7 +40,7 @@ pub enum Refusal {
 }
 
 impl Refusal {
-    pub const ALL: [Refusal; 9] = [
+    pub const ALL: [Refusal; 15] = [
         Refusal::Shape,
         Refusal::Settings,
         Refusal::Record,
@@ -36,6 +48,12 @@ impl Refusal {
         Refusal::Overflow,
         Refusal::File,
         Refusal::SignedOverflow,
+        Refusal::Queue,
+        Refusal::NoExit,
+        Refusal::TooEarly,
+        Refusal::FullList,
+        Refusal::LateStart,
+        Refusal::NoEntry,
         Refusal::BeforeGenesis,
         Refusal::NoSeconds,
     ];
@@ -75,6 +93,12 @@ impl fmt::Display for Refusal {
             Refusal::Overflow => "a sum, product or difference that is evaluated leaves 64 bits",
             Refusal::File => "a record file's header is not as it must be",
             Refusal::SignedOverflow => "a net change, closing minus opening balance, does not fit signed 64 bits",
+            Refusal::Queue => "the exit queue's pair is not that of the registry",
+            Refusal::NoExit => "an exit order's validator is unknown, not active or leaving already",
+            Refusal::TooEarly => "an exit order's start is ahead, or its validator has not been active for long enough",
+            Refusal::FullList => "the list of exit orders is full",
+            Refusal::LateStart => "a new entry's start is not above that of the last entry",
+            Refusal::NoEntry => "the store has no entry for the epoch",
             Refusal::BeforeGenesis => "a second is before genesis",
             Refusal::NoSeconds => "seconds_per_slot is 0",
         };

@@ -1,10 +1,11 @@
-//! The eight steps, in the order of the close. Refused with 1, 2 or 3 a step leaves its closing buffer as it was; with 5 the
+//! The eight steps, in the order of the close. Refused with 1, 2, 3 or 8 a step leaves its closing buffer as it was; with 5 the
 //! closing buffer holds the opening's numbers. Rewards and slashings go by [`Rules`], or as Altair by `&Settings`.
+use crate::close::pair_of;
 use crate::raw;
 use crate::refusal::Refusal;
-use crate::types::{Closed, Finality, Rules, Settings};
+use crate::types::{ExitQueue, Finality, Justified, Rules, Settings};
 
-/// The finality after justification, and which totals were raised.
+/// The finality after justification, which totals were raised, and which test finalized.
 ///
 /// ```
 /// use altair_close::*;
@@ -20,7 +21,7 @@ pub fn process_justification_and_finalization(
     roots: &[u8],
     finality: &Finality,
     registry: &[u64],
-) -> Result<Closed, Refusal> {
+) -> Result<Justified, Refusal> {
     unsafe {
         raw::altair_process_justification_and_finalization(
             *settings,
@@ -36,7 +37,7 @@ pub fn process_justification_and_finalization(
 
 type ByFinality<By> = unsafe extern "C" fn(By, u64, u64, *const u64, usize, *mut u64, usize) -> u64;
 
-// the three steps over the registry that read the slot and the finalized epoch
+// the two steps over the registry that read the slot and the finalized epoch
 fn by_finality<By>(
     step: ByFinality<By>,
     by: By,
@@ -73,18 +74,31 @@ pub fn process_rewards_and_penalties(
     by_finality(raw::altair_process_rewards_and_penalties, rules.into(), state_slot, finalized_epoch, opening, closing)
 }
 
-/// The registry after queueing, ejecting and activating.
+/// The registry after queueing, ejecting and activating, and its exit queue's pair, which counts the ejections.
 pub fn process_registry_updates(
     settings: &Settings,
     state_slot: u64,
     finalized_epoch: u64,
+    queue: Option<&ExitQueue>,
     opening: &[u64],
     closing: &mut [u64],
-) -> Result<(), Refusal> {
-    by_finality(raw::altair_process_registry_updates, *settings, state_slot, finalized_epoch, opening, closing)
+) -> Result<ExitQueue, Refusal> {
+    unsafe {
+        raw::altair_process_registry_updates(
+            *settings,
+            state_slot,
+            finalized_epoch,
+            pair_of(queue, opening),
+            opening.as_ptr(),
+            opening.len(),
+            closing.as_mut_ptr(),
+            closing.len(),
+        )
+    }
+    .result()
 }
 
-/// The registry after queueing, ejecting and activating, with a stop: from that validator number up activation epochs stay,
+/// The registry after queueing, ejecting and activating, and its pair, with a stop: from that validator number up activation epochs stay,
 /// all else is as without one. A stop above the number of validators is refused.
 ///
 /// ```
@@ -92,7 +106,7 @@ pub fn process_registry_updates(
 /// let mut waiting = validator::new(32_000_000_000);
 /// waiting[validator::ACTIVATION_EPOCH] = u64::MAX;
 /// let (opening, mut closing) = (waiting.repeat(2), [0; 20]);
-/// process_registry_updates_to(1, &Settings::MAINNET, 127, 1, &opening, &mut closing)?;
+/// process_registry_updates_to(1, &Settings::MAINNET, 127, 1, None, &opening, &mut closing)?;
 /// assert_eq!(closing[validator::ACTIVATION_EPOCH], 8);
 /// assert_eq!(closing[10 + validator::ACTIVATION_EPOCH], u64::MAX);
 /// # Ok::<(), Refusal>(())
@@ -102,22 +116,24 @@ pub fn process_registry_updates_to(
     settings: &Settings,
     state_slot: u64,
     finalized_epoch: u64,
+    queue: Option<&ExitQueue>,
     opening: &[u64],
     closing: &mut [u64],
-) -> Result<(), Refusal> {
-    let number = unsafe {
+) -> Result<ExitQueue, Refusal> {
+    unsafe {
         raw::altair_process_registry_updates_to(
             stop,
             *settings,
             state_slot,
             finalized_epoch,
+            pair_of(queue, opening),
             opening.as_ptr(),
             opening.len(),
             closing.as_mut_ptr(),
             closing.len(),
         )
-    };
-    Refusal::or(number, ())
+    }
+    .result()
 }
 
 /// The registry less the slashing penalties.

@@ -167,6 +167,47 @@ pub struct Finality {
     pub finalized_checkpoint: Checkpoint,
 }
 
+/// The exit queue's pair of a registry: the largest exit epoch below [`FAR_FUTURE_EPOCH`], or 0 where there is none, and how many
+/// validators have exactly it. [`exit_queue`](crate::exit_queue) works it out. Where a call is lent `None` in its place, it is worked out
+/// from the registry that is lent beside it.
+#[repr(C)]
+#[derive(Clone, Copy, Debug, Default, PartialEq, Eq)]
+pub struct ExitQueue {
+    pub last_epoch: u64,
+    pub number: u64,
+}
+
+/// What a close gave and took of one validator, by the rule behind it. Each reward was added before what was taken, as far as there was
+/// balance; the inactivity reward is 0. Opening balance plus rewards less what was taken is the closing balance.
+#[repr(C)]
+#[derive(Clone, Copy, Debug, Default, PartialEq, Eq)]
+pub struct Amounts {
+    pub source_reward: u64,
+    pub source_taken: u64,
+    pub target_reward: u64,
+    pub target_taken: u64,
+    pub head_reward: u64,
+    pub head_taken: u64,
+    pub inactivity_reward: u64,
+    pub inactivity_taken: u64,
+    pub slashing_taken: u64,
+}
+
+impl Amounts {
+    /// Closing minus opening balance.
+    ///
+    /// ```
+    /// use altair_close::Amounts;
+    /// let booked = Amounts { source_reward: 10, inactivity_taken: 4, ..Amounts::default() };
+    /// assert_eq!(booked.net(), 6);
+    /// ```
+    pub fn net(&self) -> i128 {
+        let rewards = [self.source_reward, self.target_reward, self.head_reward, self.inactivity_reward];
+        let taken = [self.source_taken, self.target_taken, self.head_taken, self.inactivity_taken, self.slashing_taken];
+        rewards.map(i128::from).iter().sum::<i128>() - taken.map(i128::from).iter().sum::<i128>()
+    }
+}
+
 /// What one validator gains and loses by one rule.
 #[derive(Clone, Copy, Debug, PartialEq, Eq)]
 pub struct Deltas {
@@ -190,11 +231,65 @@ pub struct Raised {
     pub current: bool,
 }
 
-/// What justification and the close answer.
+/// What justification answers. `test` is which of the four finality tests, 1 to 4 in their order, last set the finalized checkpoint, or 0.
+#[derive(Clone, Copy, Debug, PartialEq, Eq)]
+pub struct Justified {
+    pub finality: Finality,
+    pub raised: Raised,
+    pub test: u64,
+}
+
+/// What the close answers: as [`Justified`], and the exit queue's pair of the closed registry.
 #[derive(Clone, Copy, Debug, PartialEq, Eq)]
 pub struct Closed {
     pub finality: Finality,
+    pub queue: ExitQueue,
     pub raised: Raised,
+    pub test: u64,
+}
+
+/// A close between its calls: how many of its nine calls are done, 9 once it has ended, and what the whole close answers, as far as it has
+/// come. The default begins one.
+#[repr(C)]
+#[derive(Clone, Copy, Debug, Default, PartialEq, Eq)]
+pub struct Running {
+    pub done: u64,
+    pub answer: Answer,
+    pub orders: u64,
+}
+
+/// What the whole close answers, in numbers: 0 or the refusal's, and beside it finality, pair, which totals were raised and the test.
+#[repr(C)]
+#[derive(Clone, Copy, Debug, Default, PartialEq, Eq)]
+pub struct Answer {
+    pub refusal: u64,
+    pub finality: Finality,
+    pub queue: ExitQueue,
+    pub raised: RaisedNumbers,
+    pub test: u64,
+}
+
+/// 1 or 0 each.
+#[repr(C)]
+#[derive(Clone, Copy, Debug, Default, PartialEq, Eq)]
+pub struct RaisedNumbers {
+    pub active: u64,
+    pub previous: u64,
+    pub current: u64,
+}
+
+impl RaisedNumbers {
+    pub(crate) fn told(&self) -> Raised {
+        Raised { active: self.active == 1, previous: self.previous == 1, current: self.current == 1 }
+    }
+}
+
+impl Running {
+    /// What the close answers, once it has ended and was not refused.
+    pub fn closed(&self) -> Option<Closed> {
+        let Answer { refusal, finality, queue, raised, test } = self.answer;
+        (self.done == 9 && refusal == 0).then(|| Closed { finality, queue, raised: raised.told(), test })
+    }
 }
 
 /// The numbers of a listing's first line.

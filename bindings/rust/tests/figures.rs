@@ -150,10 +150,13 @@ fn the_registry() {
     assert_eq!(target(4, &registry), Ok(Deltas { reward: 0, penalty: 2_080_000 }));
     assert_eq!(target(5, &registry), Err(Refusal::Shape));
 
-    assert_eq!(initiate_validator_exit(&MAINNET, 127, 1, &mut registry), Ok(()));
+    let (wrong, one) = (ExitQueue { last_epoch: 8, number: 1 }, ExitQueue { last_epoch: 8, number: 1 });
+    assert_eq!(initiate_validator_exit(&MAINNET, 127, 1, Some(&wrong), &mut registry), Err(Refusal::Queue));
+    assert_eq!(initiate_validator_exit(&MAINNET, 127, 1, None, &mut registry), Ok(one));
+    assert_eq!(exit_queue(&registry), Ok(one));
     assert_eq!(registry[LENGTH + EXIT_EPOCH..][..2], [8, 264]);
     assert_eq!(registry[EXIT_EPOCH], FAR);
-    assert_eq!(initiate_validator_exit(&MAINNET, 127, 5, &mut registry), Err(Refusal::Shape));
+    assert_eq!(initiate_validator_exit(&MAINNET, 127, 5, Some(&one), &mut registry), Err(Refusal::Shape));
 }
 
 #[test]
@@ -179,15 +182,17 @@ fn the_steps() {
     assert_eq!(closing[BALANCE], 32 * ETH + 1_120_000 + 2_080_000 + 1_120_000);
 
     opening[LENGTH + ACTIVATION_EPOCH] = FAR;
-    assert_eq!(process_registry_updates(&MAINNET, 127, 1, &opening, &mut closing), Ok(()));
+    let (none, wrong) = (ExitQueue::default(), ExitQueue { last_epoch: 0, number: 1 });
+    assert_eq!(process_registry_updates(&MAINNET, 127, 1, None, &opening, &mut closing), Ok(none));
     assert_eq!(closing[LENGTH + ACTIVATION_EPOCH], 8);
     let before = closing.clone();
-    assert_eq!(process_registry_updates(&MAINNET, 127, 1, &opening, &mut closing[LENGTH..]), Err(Refusal::Shape));
+    assert_eq!(process_registry_updates(&MAINNET, 127, 1, None, &opening, &mut closing[LENGTH..]), Err(Refusal::Shape));
+    assert_eq!(process_registry_updates(&MAINNET, 127, 1, Some(&wrong), &opening, &mut closing), Err(Refusal::Queue));
     assert_eq!(closing, before);
-    assert_eq!(process_registry_updates_to(5, &MAINNET, 127, 1, &opening, &mut closing), Ok(()));
+    assert_eq!(process_registry_updates_to(5, &MAINNET, 127, 1, Some(&none), &opening, &mut closing), Ok(none));
     assert_eq!(closing, before);
-    assert_eq!(process_registry_updates_to(6, &MAINNET, 127, 1, &opening, &mut closing), Err(Refusal::Shape));
-    assert_eq!(process_registry_updates_to(1, &MAINNET, 127, 1, &opening, &mut closing), Ok(()));
+    assert_eq!(process_registry_updates_to(6, &MAINNET, 127, 1, None, &opening, &mut closing), Err(Refusal::Shape));
+    assert_eq!(process_registry_updates_to(1, &MAINNET, 127, 1, None, &opening, &mut closing), Ok(none));
     assert_eq!(closing, opening);
 
     let mut opening = hit().repeat(5);
@@ -239,6 +244,7 @@ fn worked() -> Record {
         registry,
         slashings: vec![0; 64],
         roots: vec![0; 32 * 64],
+        queue: Some(ExitQueue::default()),
     }
 }
 
@@ -246,12 +252,30 @@ fn worked() -> Record {
 fn the_file() {
     let record = worked();
     let mut file = record.write().unwrap();
-    let header = Header { validators: 5, roots: 64, slashings: 64 };
+    let header = Header { version: 2, validators: 5, roots: 64, slashings: 64 };
     assert_eq!((read_header(&file), file.len()), (Ok(header), header.file_length()));
     assert_eq!(Record::read(&file).as_ref(), Ok(&record));
+    assert_eq!(Record { queue: None, ..record.clone() }.write().as_ref(), Ok(&file));
+    let wrong = Some(ExitQueue { last_epoch: 7, number: 0 });
+    assert_eq!(Record { queue: wrong, ..record.clone() }.write(), Err(Refusal::Queue));
+    assert_eq!(Record { queue: wrong, ..record.clone() }.close(), Err(Refusal::Queue));
+
+    // the same in version 1: without the pair, and the offsets behind it 16 less
+    let mut old = [&file[..368], &file[384..]].concat();
+    old[0] = 1;
+    for at in [8, 56, 64, 72] {
+        let number = u64::from_le_bytes(old[at..at + 8].try_into().unwrap()) - 16;
+        old[at..at + 8].copy_from_slice(&number.to_le_bytes());
+    }
+    assert_eq!(read_header(&old), Ok(Header { version: 1, ..header }));
+    assert_eq!(Record::read(&old).as_ref(), Ok(&record));
+    // a pair that is another registry's, tested after the validators
+    file[368] = 7;
+    assert_eq!(Record::read(&file), Err(ReadRefused { refusal: Refusal::Queue, position: 368 }));
+    file[368] = 0;
 
     // the second validator's flags are bad: reading stops there
-    let at = 368 + 80 + 8 * CURRENT_EPOCH_PARTICIPATION;
+    let at = 384 + 80 + 8 * CURRENT_EPOCH_PARTICIPATION;
     file[at + 1] = 1;
     assert_eq!(Record::read(&file), Err(ReadRefused { refusal: Refusal::Record, position: at as u64 }));
     assert_eq!(Record::read(&file[1..]), Err(ReadRefused { refusal: Refusal::File, position: 80 }));
@@ -265,6 +289,10 @@ fn the_close() {
     let closed = record.close().unwrap();
     assert_eq!((record.charged(), closed.finality.finalized_checkpoint.epoch), (Ok(5), 2));
     let balances: Vec<u64> = closed.validators().map(|v| v[BALANCE]).collect();
+    let hit = Amounts { source_reward: 896_000, target_reward: 1_664_000, head_reward: 896_000, ..Amounts::default() };
+    let missed = Amounts { source_taken: 1_120_000, target_taken: 2_080_000, ..Amounts::default() };
+    assert_eq!((&closed.amounts[..], closed.test), (&[hit, hit, hit, hit, missed][..], 4));
+    assert_eq!((closed.queue, hit.net(), missed.net()), (Some(ExitQueue::default()), 3_456_000, -3_200_000));
     assert_eq!(balances, [32_003_456_000, 32_003_456_000, 32_003_456_000, 32_003_456_000, 31_996_800_000]);
 
     let head = listing_head(&record.settings, 31, &closed.finality, &record.registry);
@@ -287,11 +315,20 @@ fn the_close() {
     assert_eq!(far.close(), Err(Refusal::Record));
     let mut far = record;
     far.registry[BALANCE] = u64::MAX;
-    let (mut registry, mut slashings) = (vec![1; 50], vec![1; 64]);
-    let answer =
-        close(&far.settings, &far.finality, &far.registry, &far.slashings, &far.roots, &mut registry, &mut slashings);
+    let (mut registry, mut slashings, mut amounts) = (vec![1; 50], vec![1; 64], vec![hit; 5]);
+    let answer = close(
+        &far.settings,
+        &far.finality,
+        far.queue.as_ref(),
+        &far.registry,
+        &far.slashings,
+        &far.roots,
+        &mut registry,
+        &mut slashings,
+        &mut amounts,
+    );
     assert_eq!(answer, Err(Refusal::Overflow));
-    assert_eq!((registry, slashings), (far.registry, far.slashings));
+    assert_eq!((registry, slashings, amounts), (far.registry, far.slashings, vec![Amounts::default(); 5]));
 }
 
 #[test]

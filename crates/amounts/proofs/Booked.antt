@@ -35,9 +35,9 @@ pub nine-booked : {r : Pairs} {balance : ℕ} (closing : ℕ) {w x y z : Booking
 unfolding booked left
 nine-booked closing a b c d = rw (d .taken, d .left, c .taken, c .left, b .taken, b .left, a .taken, a .left)
 
-record Applied (balance : ℕ) (ds : List Deltas) (x : ℕ) : Type 0 where
-  fits : Fits balance ds
-  is : left balance ds ≡ x
+pub record Applied (balance : ℕ) (ds : List Deltas) (x : ℕ) : Type 0 where
+  pub fits : Fits balance ds
+  pub is : left balance ds ≡ x
 
 fits64 : (a b : ℕ) {x : ℕ} → add64 a b ≡ value x → a + b < 2 ^ 64
 unfolding add64
@@ -54,7 +54,7 @@ lowered a b = go (ltb a b) refl
     go true q = let l = ltb-true a b q in omega (arith, l)
     go false q = let l = ltb-false a b q in omega (arith, l)
 
-applied : (balance : ℕ) (ds : List Deltas) {x : ℕ} → foldChecked appliedBalance balance ds ≡ value x → Applied balance ds x
+pub applied : (balance : ℕ) (ds : List Deltas) {x : ℕ} → foldChecked appliedBalance balance ds ≡ value x → Applied balance ds x
 unfolding foldChecked appliedBalance Fits left
 applied balance [] e = record { fits = tt; is = value-same e }
 applied balance (d ∷ ds) {x} e =

@@ -1,6 +1,6 @@
 -- The nine numbers of one validator, and the loop over all.
-mod Nine
+pub mod Nine
 mod Scored
-mod Booked
+pub mod Booked
 mod Filling
 pub mod Passed

@@ -18,7 +18,7 @@ use Rattle.definitions.specs.Rust.Phase0.Helpers.{«decrease_balance»}
 use Rattle.definitions.specs.Rust.Phase0.EpochProcessing.{updateEffectiveBalance}
 use Rattle.definitions.specs.Rust.Altair.EpochProcessing.{isSlashingDue, slashingPenalty, slash}
 use Rattle.laws.proofs.Checked.{value-same, bound}
-use Rattle.exit_queue.specs.declared.ExitQueue.{ExitQueue}
+use Rattle.types.specs.declared.ExitQueue.{ExitQueue}
 use Rattle.exit_queue.specs.Queue.{nextEpoch, exitBy}
 use Rattle.queue.specs.Cut.{queuedBefore, queuedAt, admitOne}
 use Rattle.registry.specs.Updates.{turnBy}

@@ -26,11 +26,11 @@ use types::Settings;
 use write_pass::Plan;
 
 // The four pairs of a validator.
-struct Pairs {
-    source: Deltas,
-    target: Deltas,
-    head: Deltas,
-    inactivity: Deltas,
+pub struct Pairs {
+    pub source: Deltas,
+    pub target: Deltas,
+    pub head: Deltas,
+    pub inactivity: Deltas,
 }
 
 // What a penalty took, and what it left.
@@ -190,7 +190,7 @@ fn put_nine(
 }
 
 // Pair by pair, and what slashing took down to the closing balance.
-fn put_amounts(r: Pairs, balance: u64, closing_balance: u64, nine: &mut [u64])
+pub fn put_amounts(r: Pairs, balance: u64, closing_balance: u64, nine: &mut [u64])
     requires { ⌜ length (now nine) ≡ 9 ⌝ }
     requires { ⌜ Fits balance (four r) × («closing_balance» ≤ left balance (four r)) ⌝ }
     ensures { λ _. ⌜ now (nine .exit) ≡ booked balance (four r) ++ ((left balance (four r) - «closing_balance») ∷ []) ⌝ }

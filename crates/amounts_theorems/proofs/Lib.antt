@@ -2,7 +2,7 @@
 pub mod Lists
 pub mod Nines
 mod Kept
-mod Rewarded
-mod Slashed
+pub mod Rewarded
+pub mod Slashed
 pub mod Accounted
 pub mod Test

@@ -16,16 +16,15 @@ use Rattle.definitions.specs.Rust.Altair.Helpers.{«get_unslashed_participating
 use Rattle.laws.proofs.Rules.{by-fork}
 use Rattle.definitions.specs.Close.{Call, Outcome, stateOf, closeTests, closed, close, «process_epoch»}
 use Rattle.refusals.proofs.Answers.{passed}
-use Rattle.loops.proofs.Ran.{code-value}
 use Rattle.close.specs.Called.{outcome}
-use Rattle.close.specs.Worked.{Worked}
+use Rattle.close.specs.Worked.{StepsClosed}
 use Rattle.close.proofs.Worked.{code-refused}
 
 same-outcome : {o p : Outcome} → o .refusal ≡ p .refusal → o .finality ≡ p .finality → o .raised ≡ p .raised → o .closingRegistry ≡ p .closingRegistry → o .closingSlashings ≡ p .closingSlashings → o ≡ p
 same-outcome a b n c d = λ i. record { refusal = a i; finality = b i; raised = n i; closingRegistry = c i; closingSlashings = d i }
 
 -- which totals were raised is the same under either fork
-raised-under : (r : Rules) (stateSlot : ℕ) (vs : List Validator) → raisedTotals (settingsUnder r) stateSlot vs ≡ raisedTotals (r .settings) stateSlot vs
+pub raised-under : (r : Rules) (stateSlot : ℕ) (vs : List Validator) → raisedTotals (settingsUnder r) stateSlot vs ≡ raisedTotals (r .settings) stateSlot vs
 unfolding raisedTotals wasRaised «get_current_epoch» «get_previous_epoch» «compute_epoch_at_slot» «get_unslashed_participating_indices»
 raised-under r stateSlot vs = by-fork r (λ t. raisedTotals t stateSlot vs ≡ raisedTotals (r .settings) stateSlot vs) refl refl
 
@@ -37,22 +36,11 @@ module _ (c : Call) {x : ℕ} (e : x ≡ codeOf (closeTests c)) where
       let p = code-refused (closeTests c) e z in
       same-outcome (rw (p .is) (p .number)) (rw (p .is)) (rw (p .is) none) (rw (p .is)) (rw (p .is))
 
-  module _ (z : x ≡ 0) {s : Settings} (under : settingsUnder (c .rules) ≡ s) {registry slashings : List ℕ} {r : CloseAnswer} (by-settings : Worked s (stateOf c) registry slashings r) where
-    w : Worked (settingsUnder (c .rules)) (stateOf c) registry slashings r
-    w = subst (λ t. Worked t (stateOf c) registry slashings r) (sym under) by-settings
-
-    -- a step is refused, and the opening put back, in an answer of that number and the opening's finality
-    pub steps-refused : {answer : CloseAnswer} {xs ys : List ℕ} → (r .refusal ≡ 0 → ⊥) → answer .refusal ≡ r .refusal → (r .finality ≡ c .finality → answer .finality ≡ c .finality) → (r .raised ≡ noneRaised → answer .raised ≡ noneRaised) → xs ≡ c .registry → ys ≡ c .slashings → outcome answer xs ys ≡ close c
-    unfolding close closed afterTests bind closingBuffer raisedUnlessRefused
-    steps-refused y number kept none a b =
-        let t = passed (closeTests c) e z in
-        let p = code-refused («process_epoch» (settingsUnder (c .rules)) (stateOf c)) (w .code) y in
-        same-outcome (rw t (number ∙ w .code)) (rw (t, p .is) (kept (rw (p .is) at (w .finality)))) (rw (t, p .is) (none (rw (p .is) at (w .raised)))) (rw (t, p .is) a) (rw (t, p .is) b)
-
-    pub steps-done : r .refusal ≡ 0 → outcome r registry slashings ≡ close c
-    unfolding close closed afterTests bind closingBuffer raisedUnlessRefused
-    steps-done y =
-        let t = passed (closeTests c) e z in
-        let v = code-value («process_epoch» (settingsUnder (c .rules)) (stateOf c)) (stateOf c) (sym (w .code) ∙ y) in
-        let h = w .held _ v in
-        same-outcome (rw t (w .code)) (rw t (w .finality)) (rw t (w .raised ∙ ap (raisedUnlessRefused («process_epoch» (settingsUnder (c .rules)) (stateOf c))) (raised-under (c .rules) (c .finality .slot) (decode (c .registry))))) (rw (t, v) (h .0)) (rw (t, v) (h .1))
+  -- none did
+  pub steps-closed : x ≡ 0 → {s : Settings} → settingsUnder (c .rules) ≡ s → {registry slashings : List ℕ} {r : CloseAnswer} → StepsClosed s (stateOf c) (c .registry) (c .closingRegistry) (c .closingSlashings) registry slashings r → outcome r registry slashings ≡ close c
+  unfolding close closed afterTests bind
+  steps-closed z under {registry} {slashings} {r} by-settings =
+      let t = passed (closeTests c) e z in
+      let w = subst (λ u. StepsClosed u (stateOf c) (c .registry) (c .closingRegistry) (c .closingSlashings) registry slashings r) (sym under) by-settings in
+      let work = «process_epoch» (settingsUnder (c .rules)) (stateOf c) in
+      same-outcome (rw t (w .code)) (rw t (w .finality)) (rw t (w .raised ∙ ap (raisedUnlessRefused work) (raised-under (c .rules) (c .finality .slot) (decode (c .registry))))) (rw t (w .registry)) (rw t (w .slashings))

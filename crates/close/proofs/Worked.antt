@@ -12,20 +12,20 @@ use Rattle.definitions.specs.Record.{BeaconState, decode, encode}
 use Rattle.definitions.specs.Updates.{withValidators}
 use Rattle.definitions.specs.Checked.{Checked, value, refused, codeOf, bind}
 use Rattle.definitions.specs.Raised.{noneRaised, raisedTotals, raisedUnlessRefused, closeAnswerFor}
-use Rattle.definitions.specs.Refusals.{goodFinality}
+use Rattle.definitions.specs.Refusals.{goodFinality, closingBuffer}
 use Rattle.definitions.specs.Rust.Phase0.EpochProcessing.{resetSlashings}
 use Rattle.definitions.specs.Rust.Altair.EpochProcessing.{«process_justification_and_finalization»}
 use Rattle.definitions.specs.Close.{«process_epoch»}
 use Rattle.laws.proofs.Checked.{number-not-zero, not-value, value-same}
 use Rattle.loops.specs.Ran.{Ran}
-use Rattle.loops.proofs.Ran.{ran-gave}
+use Rattle.loops.proofs.Ran.{ran-gave, code-value}
 use Rattle.refusals.proofs.Answers.{Refused}
 use Rattle.refusals.proofs.Laws.{GoodFinality, good-finality}
 use Rattle.history.proofs.Shape.{FinalizedMoved, Moved}
 use Rattle.history.proofs.Justification.{justification-moves}
 use Rattle.write_steps.specs.RegistrySteps.{registrySteps}
 use Rattle.raised.specs.Flags.{answerWith}
-use Rattle.close.specs.Worked.{stateNow, Worked}
+use Rattle.close.specs.Worked.{stateNow, Worked, StepsClosed}
 use Rattle.close.proofs.Steps.{justification-refused, reset, eight-steps}
 
 -- refused by number q
@@ -117,3 +117,25 @@ module _ (s : Settings) (f : Finality) (xs slashings roots : List ℕ) {r : Clos
         let w = ran-gave ran y in
         done s _ (withValidators (decode left) (reset s (stateNow (r .finality) xs slashings roots)))
         (eight-steps s (stateNow f xs slashings roots) (gave f _ _ h z) ∙ rw w) number same (flags ∙ gave-raised f _ _ h z) (ran .held _ w) a
+
+-- With the opening put back where the steps are refused
+module _ {s : Settings} {before : BeaconState} {registry slashings : List ℕ} {r : CloseAnswer} (w : Worked s before registry slashings r) where
+  -- in an answer of that number and the opening's finality
+  pub closed-refused : {opening lent lentSlashings : List ℕ} {answer : CloseAnswer} {xs ys : List ℕ} → (r .refusal ≡ 0 → ⊥) → answer .refusal ≡ r .refusal → (r .finality ≡ before .finality → answer .finality ≡ before .finality) → (r .raised ≡ noneRaised → answer .raised ≡ noneRaised) → xs ≡ opening → ys ≡ before .slashings → StepsClosed s before opening lent lentSlashings xs ys answer
+  unfolding closingBuffer raisedUnlessRefused
+  closed-refused y number same none a b =
+      let p = code-refused («process_epoch» s before) (w .code) y in
+      record {
+        code = number ∙ w .code;
+        finality = rw (p .is) (same (rw (p .is) at (w .finality)));
+        raised = rw (p .is) (none (rw (p .is) at (w .raised)));
+        registry = rw (p .is) a;
+        slashings = rw (p .is) b;
+      }
+
+  pub closed-done : {opening lent lentSlashings : List ℕ} → r .refusal ≡ 0 → StepsClosed s before opening lent lentSlashings registry slashings r
+  unfolding closingBuffer
+  closed-done y =
+      let v = code-value («process_epoch» s before) before (sym (w .code) ∙ y) in
+      let h = w .held _ v in
+      record { code = w .code; finality = w .finality; raised = w .raised; registry = rw v (h .0); slashings = rw v (h .1) }

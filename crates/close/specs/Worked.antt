@@ -14,7 +14,7 @@ use Rattle.types.specs.declared.CloseAnswer.{CloseAnswer}
 use Rattle.definitions.specs.Record.{Validator, BeaconState, encode, decode}
 use Rattle.definitions.specs.Checked.{Checked, value, codeOf, settle, bind}
 use Rattle.definitions.specs.Raised.{raisedTotals, raisedUnlessRefused}
-use Rattle.definitions.specs.Refusals.{inOrder, settingsShaped, registryShaped, rootsShaped, slashingsShaped, sameLength, goodSettings, goodFinality}
+use Rattle.definitions.specs.Refusals.{inOrder, settingsShaped, registryShaped, rootsShaped, slashingsShaped, sameLength, goodSettings, goodFinality, closingBuffer}
 use Rattle.definitions.specs.LeafRefusals.{weighTests}
 use Rattle.definitions.specs.Rules.{settingsUnder, rulesShaped, goodRules}
 use Rattle.definitions.specs.Close.{Call, Outcome, «process_epoch», close}
@@ -61,6 +61,14 @@ pub record Worked (s : Settings) (before : BeaconState) (registry slashings : Li
   pub finality : r .finality ≡ settle («process_epoch» s before) before .finality
   pub raised : r .raised ≡ raisedUnlessRefused («process_epoch» s before) (raisedTotals s (before .finality .slot) (before .validators))
   pub held : (after : BeaconState) → «process_epoch» s before ≡ value after → (registry ≡ encode (after .validators)) × (slashings ≡ after .slashings)
+
+-- The same once the opening's registry and slashings are put back where the steps are refused. What was lent to close into does not matter.
+pub record StepsClosed (s : Settings) (before : BeaconState) (opening lent lentSlashings closing closingSlashings : List ℕ) (r : CloseAnswer) : Type 0 where
+  pub code : r .refusal ≡ codeOf («process_epoch» s before)
+  pub finality : r .finality ≡ settle («process_epoch» s before) before .finality
+  pub raised : r .raised ≡ raisedUnlessRefused («process_epoch» s before) (raisedTotals s (before .finality .slot) (before .validators))
+  pub registry : closing ≡ closingBuffer (λ st. encode (st .validators)) (value tt) («process_epoch» s before) opening lent
+  pub slashings : closingSlashings ≡ closingBuffer (λ st. st .slashings) (value tt) («process_epoch» s before) (before .slashings) lentSlashings
 
 -- The outcome is that of a call under any rules by which the settings are s, and which pass these tests
 pub record ClosedUnder (s : Settings) (f : Finality) (registry slashings roots closingRegistry closingSlashings : List ℕ) (o : Outcome) : Type 0 where

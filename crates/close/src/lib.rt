@@ -11,7 +11,7 @@ ghost use Rattle.definitions.specs.Close.{close as closeOf};
 ghost use Rattle.selection.specs.Keep.{Blank};
 ghost use Rattle.survey.specs.Found.{Finds};
 ghost use Rattle.close.specs.Called.{called, outcome};
-ghost use Rattle.close.specs.Worked.{settingsTests, recordTests, totalOf, stateNow, Tested, Worked, ClosedUnder};
+ghost use Rattle.close.specs.Worked.{settingsTests, recordTests, totalOf, stateNow, Tested, Worked, StepsClosed, ClosedUnder};
 use buffers::copy;
 use justification::justification_core;
 use leaf_refusals::current_epoch;
@@ -98,7 +98,7 @@ fn settings_tests(
 }
 
 // With fork and pair.
-fn record_tests(
+pub fn record_tests(
     rules: Rules,
     finality: Finality,
     registry: &[u64],
@@ -183,8 +183,44 @@ fn run_steps(
     }
 }
 
-// Once the tests have passed but for that of the entries, by the settings under the rules. Where a step is refused, the opening is put back.
-// `kept` has room for what the survey keeps of the activation queue.
+// From a survey that found every entry good. Where a step is refused, the opening is put back.
+pub fn close_surveyed(
+    s: Settings,
+    finality: Finality,
+    found: Findings,
+    kept: &[u64],
+    registry: &[u64],
+    slashings: &[u64],
+    roots: &[u8],
+    closing_registry: &mut [u64],
+    closing_slashings: &mut [u64],
+) -> CloseAnswer
+    requires { ⌜ Tested s finality (now registry) (now slashings) (now roots) ⌝ }
+    requires { ⌜ (length (now «closing_registry») ≡ length (now registry)) × (length (now «closing_slashings») ≡ length (now slashings)) ⌝ }
+    requires { ⌜ Finds s («get_current_epoch» s (finality .slot)) («get_previous_epoch» s (finality .slot)) (now registry) (now kept) found ⌝ }
+    ensures { λ r. ⌜ StepsClosed s (stateNow finality (now (registry .entry)) (now (slashings .entry)) (now (roots .entry))) (now (registry .entry)) (now («closing_registry» .entry)) (now («closing_slashings» .entry)) (now («closing_registry» .exit)) (now («closing_slashings» .exit)) r ⌝ }
+{
+    let answer = run_steps(
+        s,
+        finality,
+        found,
+        kept,
+        registry,
+        slashings,
+        roots,
+        closing_registry,
+        closing_slashings,
+    );
+    if answer.refusal == 0 {
+        return answer;
+    }
+    copy(registry, closing_registry);
+    copy(slashings, closing_slashings);
+    answer
+}
+
+// Once the tests have passed but for that of the entries, by the settings under the rules. `kept` has room for what the survey keeps of the
+// activation queue.
 fn close_tested(
     s: Settings,
     finality: Finality,
@@ -211,7 +247,7 @@ fn close_tested(
             raised: none_raised(),
         };
     }
-    let answer = run_steps(
+    close_surveyed(
         s,
         finality,
         found,
@@ -221,13 +257,7 @@ fn close_tested(
         roots,
         closing_registry,
         closing_slashings,
-    );
-    if answer.refusal == 0 {
-        return answer;
-    }
-    copy(registry, closing_registry);
-    copy(slashings, closing_slashings);
-    answer
+    )
 }
 
 pub fn close(

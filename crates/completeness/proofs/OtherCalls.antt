@@ -8,14 +8,15 @@ use native.Mathlib.Omega.{arith}
 use Rattle.types.specs.declared.Settings.{Settings}
 use Rattle.types.specs.declared.Finality.{Finality}
 use Rattle.types.specs.declared.CloseAnswer.{CloseAnswer}
-use Rattle.definitions.specs.Record.{BeaconState}
+use Rattle.definitions.specs.Record.{BeaconState, decode}
 use Rattle.definitions.specs.Updates.{withFinality}
-use Rattle.definitions.specs.Checked.{Refusal, badFile, Checked, value, refused, bind, numberOf, codeOf}
+use Rattle.definitions.specs.Checked.{Refusal, badFile, wrongQueue, Checked, value, refused, bind, numberOf, codeOf}
 use Rattle.definitions.specs.Raised.{raisedTotals, raisedUnlessRefused, closeAnswerFor}
 use Rattle.definitions.specs.Refusals.{inOrder, afterTests, justificationTests}
 use Rattle.definitions.specs.Rust.Altair.EpochProcessing as rust
 use Rattle.definitions.specs.Close.{justificationStep, step}
-use Rattle.definitions.specs.File.{Contents, contentsOf, goodHeader, writeTests, readTests, readFile, read}
+use Rattle.definitions.specs.ExitQueue.{isQueueOf, queueTest}
+use Rattle.definitions_file.specs.File.{Contents, contentsOf, queueIn, goodHeader, writeTests, readTests, readFile, read}
 use Rattle.agreement.specs.Agreement.{documentStep}
 use Rattle.agreement.specs.Restored.{OneOf}
 use Rattle.completeness.specs.Calls.{JustificationCall, JustificationCalls, FileCalls}
@@ -71,25 +72,31 @@ justification-calls s st registry answer e h =
 
 -- Files
 
-read-number : (header a b d : Bool) (c : Contents) → OneOf (codeOf (bind (cond header (inOrder a b d) (refused badFile)) (λ _. value c))) (0 ∷ 1 ∷ 2 ∷ 3 ∷ 6 ∷ [])
-unfolding inOrder bind
-read-number false a b d c = inr (inr (inr (inr (inl refl))))
-read-number true false b d c = inr (inl refl)
-read-number true true false d c = inr (inr (inl refl))
-read-number true true true false c = inr (inr (inr (inl refl)))
-read-number true true true true c = inl refl
+abbrev eight : Bool → Checked (Unit {0})
+eight t = cond t (value tt) (refused wrongQueue)
 
-write-number : (a b d : Bool) → OneOf (codeOf (inOrder a b d)) (0 ∷ 1 ∷ 2 ∷ 3 ∷ [])
-unfolding inOrder
-write-number false b d = inr (inl refl)
-write-number true false d = inr (inr (inl refl))
-write-number true true false = inr (inr (inr (inl refl)))
-write-number true true true = inl refl
+-- 1, 2 or 3, and 8 once they have passed
+record-number : (a b d e : Bool) → OneOf (codeOf (bind (inOrder a b d) (λ _. eight e))) (0 ∷ 1 ∷ 2 ∷ 3 ∷ 8 ∷ [])
+unfolding inOrder bind
+record-number false b d e = inr (inl refl)
+record-number true false d e = inr (inr (inl refl))
+record-number true true false e = inr (inr (inr (inl refl)))
+record-number true true true false = inr (inr (inr (inr (inl refl))))
+record-number true true true true = inl refl
+
+read-number : (header a b d e : Bool) (c : Contents) → OneOf (codeOf (bind (cond header (bind (inOrder a b d) (λ _. eight e)) (refused badFile)) (λ _. value c))) (0 ∷ 1 ∷ 2 ∷ 3 ∷ 6 ∷ 8 ∷ [])
+unfolding inOrder bind
+read-number false a b d e c = inr (inr (inr (inr (inl refl))))
+read-number true false b d e c = inr (inl refl)
+read-number true true false d e c = inr (inr (inl refl))
+read-number true true true false e c = inr (inr (inr (inl refl)))
+read-number true true true true false c = inr (inr (inr (inr (inr (inl refl)))))
+read-number true true true true true c = inl refl
 
 pub file-calls : FileCalls
-unfolding read readFile readTests writeTests
+unfolding read readFile readTests writeTests queueTest
 file-calls =
     record {
-      reads = λ bytes registry slashings. read-number (goodHeader bytes) _ _ _ (contentsOf bytes);
-      writes = λ c file. write-number _ _ _;
+      reads = λ bytes registry slashings. read-number (goodHeader bytes) _ _ _ (isQueueOf (queueIn bytes) (decode (contentsOf bytes .registry))) (contentsOf bytes);
+      writes = λ c q file. record-number _ _ _ (isQueueOf q (decode (c .registry)));
     }

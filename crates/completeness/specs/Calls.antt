@@ -8,6 +8,7 @@ use Prim.Native.Nat.{ℕ}
 use Rattle.types.specs.declared.Settings.{Settings}
 use Rattle.types.specs.declared.Rules.{Rules}
 use Rattle.types.specs.declared.CloseAnswer.{CloseAnswer}
+use Rattle.types.specs.declared.ExitQueue.{ExitQueue}
 use Rattle.definitions.specs.Record.{Validator, BeaconState, encode, decode}
 use Rattle.definitions.specs.Checked.{Checked, value, codeOf, settle}
 use Rattle.definitions.specs.Raised.{noneRaised, raisedTotals, raisedUnlessRefused, closeAnswerFor}
@@ -18,7 +19,7 @@ use Rattle.definitions.specs.Rust.Phase0.EpochProcessing.{«process_registry_up
 use Rattle.definitions.specs.Rust.Altair.EpochProcessing.{«process_justification_and_finalization», «process_inactivity_updates», «process_rewards_and_penalties», «process_slashings», «process_participation_flag_updates»}
 use Rattle.definitions.specs.RegisterOrder.{registryUpdatesTo, registryToTests}
 use Rattle.definitions.specs.Close.{finalizedEpochOf, Step, justificationStep, inactivityStep, rewardsStep, registryStep, slashingsStep, effectiveBalancesStep, slashingsResetStep, participationFlagsStep, Call, stateOf, closeTests, Outcome}
-use Rattle.definitions.specs.File.{Contents, writeTests, read}
+use Rattle.definitions_file.specs.File.{Contents, writeTests, read}
 use Rattle.agreement.specs.Agreement.{documentStep, documentStepUnder}
 use Rattle.agreement.specs.Restored.{OneOf}
 use Rattle.buffers.specs.Closes.{Closes}
@@ -103,5 +104,5 @@ JustificationCalls = (s : Settings) (st : BeaconState) (registry : List ℕ) (an
 
 -- Files: the numbers. What is left on a refusal is round_trip, Refused.antt.
 pub record FileCalls : Type 0 where
-  pub reads : (bytes registry slashings : List ℕ) → OneOf (read bytes registry slashings .refusal) (0 ∷ 1 ∷ 2 ∷ 3 ∷ 6 ∷ [])
-  pub writes : (c : Contents) (file : List ℕ) → OneOf (codeOf (writeTests c file)) (0 ∷ 1 ∷ 2 ∷ 3 ∷ [])
+  pub reads : (bytes registry slashings : List ℕ) → OneOf (read bytes registry slashings .refusal) (0 ∷ 1 ∷ 2 ∷ 3 ∷ 6 ∷ 8 ∷ [])
+  pub writes : (c : Contents) (q : ExitQueue) (file : List ℕ) → OneOf (codeOf (writeTests c q file)) (0 ∷ 1 ∷ 2 ∷ 3 ∷ 8 ∷ [])

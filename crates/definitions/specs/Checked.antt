@@ -7,7 +7,8 @@ use Rattle.definitions.specs.Lists.{sum}
 
 pub data Refusal : Type 0 where
   badShape badSettings badRecord noRoot overflow badFile : Refusal
-  signedOverflow beforeGenesis noSeconds : Refusal
+  signedOverflow wrongQueue noExit tooEarly fullList : Refusal
+  lateStart noEntry beforeGenesis noSeconds : Refusal
 
 abbrev pub numberOf : Refusal → ℕ
 numberOf badShape = 1
@@ -17,6 +18,12 @@ numberOf noRoot = 4
 numberOf overflow = 5
 numberOf badFile = 6
 numberOf signedOverflow = 7
+numberOf wrongQueue = 8
+numberOf noExit = 9
+numberOf tooEarly = 10
+numberOf fullList = 11
+numberOf lateStart = 12
+numberOf noEntry = 13
 numberOf beforeGenesis = 14
 numberOf noSeconds = 15
 

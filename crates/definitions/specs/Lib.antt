@@ -12,10 +12,10 @@ pub mod Mainnet
 pub mod Document
 pub mod Rust
 pub mod Answers
+pub mod ExitQueue
 pub mod Raised
 pub mod Refusals
 pub mod RegisterOrder
 pub mod LeafRefusals
 pub mod Rules
 pub mod Close
-pub mod File

@@ -5,7 +5,7 @@ use Prim.Native.Nat.{ℕ, _*_}
 use lib.Dec.{ltb}
 use lib.ListN.{length, replicate}
 use Rattle.definitions.specs.Checked.{numberOf, badFile}
-use Rattle.definitions.specs.File.{Contents, ReadOutcome, countOf, slashingCountOf, read}
+use Rattle.definitions_file.specs.File.{Contents, ReadOutcome, countOf, slashingCountOf, read}
 use Rattle.definitions.specs.Rules.{altairRules}
 use Rattle.definitions.specs.Close.{Call, close}
 use Rattle.definitions_listing.specs.Lines.{refusedLine, orRefused, closePrinted}

@@ -8,7 +8,7 @@ use lib.ListN.{length, getD, replicate}
 use Rattle.definitions.specs.Lists.{range}
 use Rattle.definitions.specs.Record.{Validator, decodeOne, encodeOne, encode, decode, decodeFirst}
 use Rattle.definitions.specs.Checked.{bind}
-use Rattle.definitions.specs.File.{Contents, settingsFrom, noFinality, littleEndian, fromLittleEndian, numbersFromBytes, goodHeader, readTests, readFile, read}
+use Rattle.definitions_file.specs.File.{Contents, settingsFrom, noFinality, littleEndian, fromLittleEndian, numbersFromBytes, goodHeader, readTests, readFile, read}
 use Rattle.definitions.specs.RegisterOrder.{mapBelow}
 use Rattle.definitions.specs.Document.Phase0.Helpers.{«compute_epoch_at_slot», «get_current_epoch», «compute_start_slot_at_epoch»}
 use Rattle.definitions_listing.specs.Decimal.{digits, decimal, signedDecimal}

@@ -6,7 +6,7 @@ use Prim.Native.Nat.{ℕ, _+_, _*_}
 use lib.Dec.{leb}
 use lib.ListN.{take, drop}
 use Rattle.definitions.specs.Refusals.{lengthIs}
-use Rattle.definitions.specs.File.{numberAt, numbersFromBytes}
+use Rattle.definitions_file.specs.File.{numberAt, numbersFromBytes}
 
 -- the header's second number
 abbrev pub lengthInHeader : List ℕ → ℕ

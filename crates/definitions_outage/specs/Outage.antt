@@ -6,7 +6,7 @@ use lib.Dec.{ltb}
 use lib.ListN.{length}
 use Rattle.definitions.specs.Record.{decode}
 use Rattle.definitions.specs.Checked.{codeOf, numberOf, badShape, badFile}
-use Rattle.definitions.specs.File.{Contents, countOf}
+use Rattle.definitions_file.specs.File.{Contents, countOf}
 use Rattle.definitions_listing.specs.NetChange.{changeTests}
 use Rattle.definitions_listing.specs.Lines.{lines, refusedLine, orRefused}
 use Rattle.definitions_listing.specs.Listing.{opened}

@@ -11,7 +11,7 @@ use Rattle.types.specs.declared.Finality.{Finality}
 use Rattle.definitions.specs.Record.{Validator, decode, encode}
 use Rattle.definitions.specs.Updates.{withParticipation}
 use Rattle.definitions.specs.RegisterOrder.{mapBelow}
-use Rattle.definitions.specs.File.{Contents}
+use Rattle.definitions_file.specs.File.{Contents}
 use Rattle.definitions.specs.Document.Phase0.Helpers.{«get_current_epoch», «compute_start_slot_at_epoch»}
 use Rattle.definitions_outage.specs.Input.{Plan}
 

@@ -4,7 +4,7 @@ use mathlib.Core.List.{List, [], _++_}
 use Prim.Native.Nat.{ℕ, zero, suc}
 use lib.Dec.{eqb}
 use Rattle.definitions.specs.Record.{decode}
-use Rattle.definitions.specs.File.{Contents}
+use Rattle.definitions_file.specs.File.{Contents}
 use Rattle.definitions.specs.Document.Phase0.Helpers.{«get_current_epoch»}
 use Rattle.definitions.specs.Close.{Call, Outcome, close, charged}
 use Rattle.definitions_listing.specs.Lines.{headLine}

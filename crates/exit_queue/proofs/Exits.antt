@@ -13,7 +13,7 @@ use Rattle.definitions.specs.Checked.{Checked, value, refused, bind, add64}
 use Rattle.laws.proofs.Checked.{value-same}
 use Rattle.arithmetic.proofs.Operations.{OnlyOverflow, only-value, only-add64}
 use Rattle.exits.specs.Exits.{queueEpoch, exitAt}
-use Rattle.exit_queue.specs.declared.ExitQueue.{ExitQueue}
+use Rattle.types.specs.declared.ExitQueue.{ExitQueue}
 use Rattle.exit_queue.specs.Queue.{Tracks, nextEpoch, exitBy}
 
 next-tracked : (least limit : ℕ) {vs : List Validator} {q : ExitQueue} → Tracks least vs q → nextEpoch limit q ≡ queueEpoch least limit vs

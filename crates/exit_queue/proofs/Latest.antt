@@ -30,7 +30,7 @@ module _ (least : ℕ) where
   abbrev pub latest : List Validator → ℕ
   latest vs = maximum least (exitEpochs vs)
 
-  latest-cons : (v : Validator) (vs : List Validator) → latest (v ∷ vs) ≡ lastAfter (latest vs) (v .«exit_epoch»)
+  pub latest-cons : (v : Validator) (vs : List Validator) → latest (v ∷ vs) ≡ lastAfter (latest vs) (v .«exit_epoch»)
   unfolding lastAfter maximum filter
   latest-cons v vs = go (eqb (v .«exit_epoch») «FAR_FUTURE_EPOCH»)
     where

@@ -12,11 +12,11 @@ use Rattle.definitions.specs.Record.{Validator, «FAR_FUTURE_EPOCH», nobody}
 use Rattle.definitions.specs.Document.Phase0.Helpers.{exitEpochs, exitQueueChurn}
 use Rattle.loops.proofs.Filtered.{filter-last, filter-le}
 use Rattle.exits.proofs.Counts.{count-kept, none-later}
-use Rattle.exit_queue.specs.declared.ExitQueue.{ExitQueue}
+use Rattle.types.specs.declared.ExitQueue.{ExitQueue}
 use Rattle.exit_queue.specs.Queue.{Tracks, lastAfter, numberAfter, joined, startPair, moved}
 use Rattle.exit_queue.proofs.Latest.{latest, latest-last, latest-set, latest-kept, count-set}
 
-last-real : (m x : ℕ) → (m ≡ «FAR_FUTURE_EPOCH» → ⊥) → lastAfter m x ≡ «FAR_FUTURE_EPOCH» → ⊥
+pub last-real : (m x : ℕ) → (m ≡ «FAR_FUTURE_EPOCH» → ⊥) → lastAfter m x ≡ «FAR_FUTURE_EPOCH» → ⊥
 unfolding lastAfter
 last-real m x f = go (eqb x «FAR_FUTURE_EPOCH») refl (ltb m x) refl
   where

@@ -16,7 +16,7 @@ use Rattle.loops.specs.Ran.{Ran}
 use Rattle.loops.proofs.Entry.{entryAt, putAt, entry-is, entry-back}
 use Rattle.loops.proofs.Ran.{code-value, ran-value}
 use Rattle.loops.proofs.Checking.{settles-value, settles-refused}
-use Rattle.exit_queue.specs.declared.ExitQueue.{ExitQueue}
+use Rattle.types.specs.declared.ExitQueue.{ExitQueue}
 use Rattle.exit_queue.specs.declared.Turn.{Turn}
 use Rattle.exit_queue.specs.Queue.{Tracks, lastAfter, numberAfter, joined, nextEpoch, exitBy, moved}
 use Rattle.exit_queue.specs.Turns.{Exits, Turns}

@@ -5,7 +5,7 @@ use Prim.Native.Nat.{ℕ}
 use Rattle.definitions.specs.Record.{Validator, decodeOne, encodeOne}
 use Rattle.definitions.specs.Checked.{Checked, value, codeOf}
 use Rattle.loops.specs.Ran.{settled, Settles}
-use Rattle.exit_queue.specs.declared.ExitQueue.{ExitQueue}
+use Rattle.types.specs.declared.ExitQueue.{ExitQueue}
 use Rattle.exit_queue.specs.declared.Turn.{Turn}
 use Rattle.exit_queue.specs.Queue.{moved}
 

@@ -1,21 +1,19 @@
 // The exit queue: the last epoch that is taken and how many leave at it. The survey makes the pair, it is moved in place at each exit, and
 // it answers as a rescan of the registry does.
 ghost use mathlib.Core.Path.{_≡_};
-ghost use Prim.Native.Nat.{_<_};
+ghost use Prim.Native.Nat.{_*_, _/_, _<_};
 ghost use lib.ListN.{length};
+ghost use Rattle.definitions.specs.Record.{decode};
+ghost use Rattle.definitions.specs.ExitQueue.{queueOf};
 ghost use Rattle.definitions.specs.Answers.{Says};
 ghost use Rattle.exit_queue.specs.Queue.{lastAfter, numberAfter, joined, startPair, nextEpoch, exitBy};
 ghost use Rattle.exit_queue.specs.Turns.{Exits};
 use arithmetic::add64;
 use exits::write_exit;
+use types::ExitQueue;
 use types::Number;
 
 const FAR_FUTURE_EPOCH: u64 = 18446744073709551615;
-
-pub struct ExitQueue {
-    pub last_epoch: u64,
-    pub number: u64,
-}
 
 pub fn last_after(last_epoch: u64, epoch: u64) -> u64
     ensures { λ r. ⌜ r ≡ lastAfter «last_epoch» epoch ⌝ }
@@ -65,6 +63,22 @@ pub fn exited(queue: ExitQueue, epoch: u64) -> ExitQueue
     let mut own = queue;
     exit(&mut own, epoch);
     own
+}
+
+// The pair of a registry, by one pass over it.
+pub fn queue_of(registry: &[u64]) -> ExitQueue
+    requires { ⌜ length (now registry) ≡ 10 * (length (now registry) / 10) ⌝ }
+    ensures { λ r. ⌜ r ≡ queueOf (decode (now (registry .entry))) ⌝ }
+{
+    let n = registry.len() / 10;
+    let mut queue = ExitQueue {
+        last_epoch: 0,
+        number: 0,
+    };
+    for i in 0..n {
+        queue = exited(queue, registry[10 * i + 4]);
+    }
+    queue
 }
 
 // `least` is the activation exit epoch of the present epoch: no exit is earlier.

@@ -1,25 +1,20 @@
--- What the tests of an exit give once passed, and what the caller's registry holds. `x` is the number that their code gave.
-use mathlib.Core.Path.{_≡_, refl, sym, ap, _∙_}
+-- What the tests of an exit give once passed. `x` is the number that their code gave.
+use mathlib.Core.Path.{_≡_, refl, sym, _∙_}
 use mathlib.Core.Bool.{_&&_}
 use mathlib.Core.List.{List}
 use Prim.Native.Nat.{ℕ, _+_, _/_, _^_, _<_}
 use borrow.Author.Tests.{ltb-true}
 use lib.ListN.{length}
 use Rattle.types.specs.declared.Settings.{Settings}
-use Rattle.definitions.specs.Record.{Validator, encode, decode}
-use Rattle.definitions.specs.Checked.{Checked, value, refused, codeOf, bind}
+use Rattle.definitions.specs.Checked.{value, codeOf}
 use Rattle.definitions.specs.LeafRefusals.{isIndex, slotRegistryTests, exitTests}
-use Rattle.definitions.specs.Refusals.{settingsShaped, registryShaped, goodSettings, isSmall, goodRegistry, inOrder, afterTests, closingBuffer}
+use Rattle.definitions.specs.Refusals.{settingsShaped, registryShaped, goodSettings, isSmall, goodRegistry, inOrder}
 use Rattle.definitions.specs.Document.Phase0.Helpers as document
-use Rattle.definitions.specs.Rust.Phase0.Helpers.{«compute_activation_exit_epoch», «get_current_epoch», «get_validator_churn_limit», «initiate_validator_exit»}
+use Rattle.definitions.specs.Rust.Phase0.Helpers.{«compute_activation_exit_epoch», «get_current_epoch»}
 use Rattle.refusals.proofs.All.{both}
 use Rattle.refusals.proofs.Laws.{in-order}
-use Rattle.refusals.proofs.Answers.{passed}
 use Rattle.registry_refusals.proofs.Passed.{SlotRegistry, slot-registry-passed}
 use Rattle.agreement.proofs.Bounds.{bounds, given}
-use Rattle.buffers.specs.Closes.{Closes}
-use Rattle.exits.specs.Exits.{exitAt, Leaves}
-use Rattle.exits.proofs.Exits.{exit-by-numbers}
 
 pub record ExitPassed (s : Settings) (stateSlot index : ℕ) (registry : List ℕ) : Type 0 where
   pub others : SlotRegistry s stateSlot registry
@@ -40,17 +35,3 @@ exit-passed s stateSlot index registry e z =
       fits = bounds s stateSlot (k .settings) .activationExit;
       least = given s stateSlot (k .settings) .activationExit;
     }
-
-exit-closes : {m : Checked (List Validator)} (tests : Checked (Unit {0})) {x r : ℕ} {before after : List ℕ} → x ≡ codeOf tests → x ≡ 0 → Leaves m before after r → Closes encode tests m before before after r
-unfolding afterTests bind closingBuffer
-exit-closes {m} tests {r = r} {before} {after} e z h = rw (passed tests e z) (go m h)
-  where
-    go : (m : Checked (List Validator)) → Leaves m before after r → Closes encode (value tt) m before before after r
-    go (value vs) h = record { number = h .ran .code; buffer = h .ran .held vs refl }
-    go (refused p) h = record { number = h .ran .code; buffer = h .kept p refl }
-
--- the exit by numbers, as the code works them out
-pub exit-done : (s : Settings) (stateSlot index : ℕ) (registry : List ℕ) {x epoch limit r : ℕ} {after : List ℕ} → x ≡ codeOf (exitTests s stateSlot index registry) → x ≡ 0 → epoch ≡ «get_current_epoch» s stateSlot → limit ≡ «get_validator_churn_limit» s stateSlot (decode registry) → Leaves (exitAt (epoch + 1 + s .«max_seed_lookahead») limit (s .«min_validator_withdrawability_delay») (decode registry) index) registry after r → Closes encode (exitTests s stateSlot index registry) («initiate_validator_exit» s stateSlot (decode registry) index) registry registry after r
-exit-done s stateSlot index registry e z p k h =
-    let least = exit-passed s stateSlot index registry e z .least ∙ ap (λ (t : ℕ). value (t + 1 + s .«max_seed_lookahead»)) (sym p) in
-    rw (exit-by-numbers s stateSlot (decode registry) index least (sym k)) (exit-closes (exitTests s stateSlot index registry) e z h)

@@ -3,7 +3,7 @@
 use mathlib.Core.Path.{_≡_}
 use mathlib.Core.Bool.{cond}
 use mathlib.Core.List.{List}
-use Prim.Native.Nat.{ℕ, max}
+use Prim.Native.Nat.{ℕ}
 use lib.Dec.{leb, eqb}
 use lib.ListN.{getD, set}
 use Rattle.definitions.specs.Lists.{maximum}
@@ -12,10 +12,6 @@ use Rattle.definitions.specs.Updates.{withExit}
 use Rattle.definitions.specs.Checked.{Checked, value, refused, Refusal, bind, add64}
 use Rattle.definitions.specs.Document.Phase0.Helpers.{exitEpochs, exitQueueChurn}
 use Rattle.loops.specs.Ran.{Ran}
-
--- the later of an epoch and a validator's exit epoch, if it has one
-unfoldable pub later : ℕ → Validator → ℕ
-later most v = cond (eqb (v .«exit_epoch») «FAR_FUTURE_EPOCH») most (max (v .«exit_epoch») most)
 
 -- the latest that is taken, or the one after it where that one is full
 unfoldable pub queueEpoch : ℕ → ℕ → List Validator → Checked ℕ

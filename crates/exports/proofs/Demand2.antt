@@ -13,20 +13,24 @@ use Rattle.definitions.specs.Refusals.{registryTests, effectiveBalanceTests, sl
 use Rattle.definitions.specs.Rules.{settingsUnder, rewardsTests, slashingsTests}
 use Rattle.definitions.specs.RegisterOrder.{registryToTests}
 use Rattle.definitions.specs.Close.{Step, inactivityStep, rewardsStep, registryStep, slashingsStep, effectiveBalancesStep, slashingsResetStep, participationFlagsStep, finalizedEpochOf}
-use Rattle.close.proofs.close.Kinds as closeKinds
-use Rattle.close.proofs.Contract.{callOf, outcomeOf}
 use Rattle.agreement.specs.Agreement.{documentStep, documentStepUnder}
-use Rattle.completeness.specs.Calls.{CloseCall, StepCall, JustificationCall, registryOf, slashingsOf, stoppedOf}
-use Rattle.completeness.proofs.CloseCalls.{close-call}
-use Rattle.completeness.proofs.StepCalls.{step-calls, rules-calls, stopped-calls}
-use Rattle.completeness.proofs.OtherCalls.{justification-calls}
-use Rattle.exports.proofs.whole.altair_close.Reads as whole
+use Rattle.completeness.specs.Calls.{StepCall, registryOf, slashingsOf, stoppedOf}
+use Rattle.completeness.proofs.StepCalls.{step-calls, rules-calls}
+use Rattle.full_theorems.specs.QueueCalls.{QueueCall, ExitCall}
+use Rattle.store_history.specs.Demand2.{StoreCloseCall}
+use Rattle.store_history.proofs.Demand2.{store-close-call}
+use Rattle.full_theorems.proofs.QueueCalls.{queue-calls, exit-call}
+use Rattle.justification_step.specs.Told.{JustificationTold}
+use Rattle.justification_step.proofs.Told.{justification-tells}
+use Rattle.exports.proofs.Closes.{Came, called, cameBack}
+use Rattle.exports.proofs.ExitEpochs.{ExitCame}
 use Rattle.exports.proofs.steps.altair_process_justification_and_finalization.Kinds as justificationKinds
 use Rattle.exports.proofs.steps.altair_process_justification_and_finalization.Reads as justification
 use Rattle.exports.proofs.steps.altair_process_inactivity_updates.Kinds as finalizedKinds
 use Rattle.exports.proofs.steps.altair_process_inactivity_updates.Reads as inactivity
 use Rattle.exports.proofs.steps.altair_process_rewards_and_penalties.Kinds as rewardsKinds
 use Rattle.exports.proofs.steps.altair_process_rewards_and_penalties.Reads as rewards
+use Rattle.exports.proofs.steps.altair_process_registry_updates.Kinds as registryKinds
 use Rattle.exports.proofs.steps.altair_process_registry_updates.Reads as registry
 use Rattle.exports.proofs.steps.altair_process_registry_updates_to.Kinds as stoppedKinds
 use Rattle.exports.proofs.steps.altair_process_registry_updates_to.Reads as stopped
@@ -39,14 +43,20 @@ use Rattle.exports.proofs.steps.altair_process_slashings_reset.Reads as
 use Rattle.exports.proofs.steps.altair_process_participation_flag_updates.Kinds as flagsKinds
 use Rattle.exports.proofs.steps.altair_process_participation_flag_updates.Reads as flags
 
-pub demand2-altair-close : (κs : Lfts 5) (a : Dens κs closeKinds.ps) (r : resT closeKinds.r κs .Denot) (e : AtExit (endedOf 5 closeKinds.ps closeKinds.r) κs) → whole.Learnt κs a r e → CloseCall (callOf κs a) (outcomeOf κs r e)
-demand2-altair-close κs a r e h = rw h (close-call (callOf κs a))
+-- by the store's tests nothing is written; by an entry's rules: the document's record, what comes back by the number, that the pair is the
+-- register's before and after (R-8), and that the amounts add up (R-4)
+pub demand2-altair-close : (c : Came) → StoreCloseCall (called c) (cameBack c)
+demand2-altair-close c = rw (c .holds) (store-close-call (called c))
+
+-- the exit of one validator: its pair, and 8
+pub queue-altair-exit : (c : ExitCame) → let a = c .lent in ExitCall (a .0) (a .1 .0) (a .1 .1 .0) (a .1 .1 .1 .0) (now (a .1 .1 .1 .1 .0)) (now (c .end .1 .1 .1 .1 .0)) (c .answer)
+queue-altair-exit c = exit-call _ _ _ _ _ _ _ (c .holds)
 
 -- 1, 2, 3 and 5
 abbrev withoutFour : List ℕ
 withoutFour = 0 ∷ 1 ∷ 2 ∷ 3 ∷ 5 ∷ []
 
--- the two steps that are lent settings, slot and finalized epoch
+-- the step that is lent settings, slot and finalized epoch
 module _ (k : Step) where
   abbrev Finalized : ((κs : Lfts 2) → Dens κs finalizedKinds.ps → resT finalizedKinds.r κs .Denot → AtExit (endedOf 2 finalizedKinds.ps finalizedKinds.r) κs → Type 0) → Type 0
   Finalized contract =
@@ -58,12 +68,13 @@ module _ (k : Step) where
 pub demand2-inactivity : Finalized inactivityStep inactivity.Learnt
 demand2-inactivity κs a r e h st p q d = step-calls (a .0) st _ _ _ r .inactivity d (rw (p, q) at h)
 
-pub demand2-registry : Finalized registryStep registry.Learnt
-demand2-registry κs a r e h st p q d = step-calls (a .0) st _ _ _ r .registry d (rw (p, q) at h)
+-- the registry step, with the pair: refused under 8 for a wrong one alone, and else the document's
+pub demand2-registry : (κs : Lfts 2) (a : Dens κs registryKinds.ps) (r : resT registryKinds.r κs .Denot) (e : AtExit (endedOf 2 registryKinds.ps registryKinds.r) κs) → registry.Learnt κs a r e → let opening = now (a .1 .1 .1 .1 .0) in let closing = now (a .1 .1 .1 .1 .1 .0) in let after = now (e .1 .1 .1 .1 .1 .0) in (st : BeaconState) → a .1 .0 ≡ st .finality .slot → a .1 .1 .0 ≡ finalizedEpochOf st → decode opening ≡ st .validators → let tests = registryTests (a .0) (st .finality .slot) (finalizedEpochOf st) opening closing in QueueCall (StepCall (a .0) (documentStep (a .0) st registryStep) st registryStep registryOf withoutFour tests opening closing after) tests (a .1 .1 .1 .0) opening closing after r
+demand2-registry κs a r e h st p q d = queue-calls (a .0) st _ _ _ _ r .registry d (rw (p, q) at h)
 
 -- with a stop: from it up activation epochs are the opening's, all else is the document's
-pub demand2-registry-to : (κs : Lfts 2) (a : Dens κs stoppedKinds.ps) (r : resT stoppedKinds.r κs .Denot) (e : AtExit (endedOf 2 stoppedKinds.ps stoppedKinds.r) κs) → stopped.Learnt κs a r e → let opening = now (a .1 .1 .1 .1 .0) in let closing = now (a .1 .1 .1 .1 .1 .0) in (st : BeaconState) → a .1 .1 .0 ≡ st .finality .slot → a .1 .1 .1 .0 ≡ finalizedEpochOf st → decode opening ≡ st .validators → StepCall (a .1 .0) (documentStep (a .1 .0) st registryStep) st registryStep (stoppedOf (a .0) (st .validators)) withoutFour (registryToTests (a .0) (a .1 .0) (st .finality .slot) (finalizedEpochOf st) opening closing) opening closing (now (e .1 .1 .1 .1 .1 .0)) r
-demand2-registry-to κs a r e h st p q d = stopped-calls (a .0) (a .1 .0) st _ _ _ r d (rw (p, q) at h)
+pub demand2-registry-to : (κs : Lfts 2) (a : Dens κs stoppedKinds.ps) (r : resT stoppedKinds.r κs .Denot) (e : AtExit (endedOf 2 stoppedKinds.ps stoppedKinds.r) κs) → stopped.Learnt κs a r e → let opening = now (a .1 .1 .1 .1 .1 .0) in let closing = now (a .1 .1 .1 .1 .1 .1 .0) in let after = now (e .1 .1 .1 .1 .1 .1 .0) in (st : BeaconState) → a .1 .1 .0 ≡ st .finality .slot → a .1 .1 .1 .0 ≡ finalizedEpochOf st → decode opening ≡ st .validators → let tests = registryToTests (a .0) (a .1 .0) (st .finality .slot) (finalizedEpochOf st) opening closing in QueueCall (StepCall (a .1 .0) (documentStep (a .1 .0) st registryStep) st registryStep (stoppedOf (a .0) (st .validators)) withoutFour tests opening closing after) tests (a .1 .1 .1 .1 .0) opening closing after r
+demand2-registry-to κs a r e h st p q d = queue-calls (a .1 .0) st _ _ _ _ r .registryTo (a .0) d (rw (p, q) at h)
 
 pub demand2-rewards : (κs : Lfts 2) (a : Dens κs rewardsKinds.ps) (r : resT rewardsKinds.r κs .Denot) (e : AtExit (endedOf 2 rewardsKinds.ps rewardsKinds.r) κs) → rewards.Learnt κs a r e → let opening = now (a .1 .1 .1 .0) in let closing = now (a .1 .1 .1 .1 .0) in (st : BeaconState) → a .1 .0 ≡ st .finality .slot → a .1 .1 .0 ≡ finalizedEpochOf st → decode opening ≡ st .validators → StepCall (settingsUnder (a .0)) (documentStepUnder (a .0) st rewardsStep) st rewardsStep registryOf withoutFour (rewardsTests (a .0) (st .finality .slot) (finalizedEpochOf st) opening closing) opening closing (now (e .1 .1 .1 .1 .0)) r
 demand2-rewards κs a r e h st p q d = rules-calls (a .0) st _ _ _ r .rewards d (rw (p, q) at h)
@@ -80,5 +91,6 @@ demand2-slashings-reset κs a r e h st p q = step-calls (a .0) st [] _ _ r .slas
 pub demand2-participation-flags : (κs : Lfts 2) (a : Dens κs flagsKinds.ps) (r : resT flagsKinds.r κs .Denot) (e : AtExit (endedOf 2 flagsKinds.ps flagsKinds.r) κs) → flags.Learnt κs a r e → let opening = now (a .0) in let closing = now (a .1 .0) in (s : Settings) (st : BeaconState) → decode opening ≡ st .validators → StepCall s (documentStep s st participationFlagsStep) st participationFlagsStep registryOf (0 ∷ 1 ∷ 3 ∷ []) (rotationTests opening closing) opening closing (now (e .1 .0)) r
 demand2-participation-flags κs a r e h s st d = step-calls s st _ _ _ r .participationFlags d h
 
-pub demand2-justification : (κs : Lfts 2) (a : Dens κs justificationKinds.ps) (r : resT justificationKinds.r κs .Denot) (e : AtExit (endedOf 2 justificationKinds.ps justificationKinds.r) κs) → justification.Learnt κs a r e → (st : BeaconState) → now (a .1 .0) ≡ st .«block_roots» → a .1 .1 .0 ≡ st .finality → decode (now (a .1 .1 .1 .0)) ≡ st .validators → JustificationCall (a .0) st r
-demand2-justification κs a r e h st p q d = justification-calls (a .0) st _ r d (rw (p, q) at h)
+-- and the test's number
+pub demand2-justification : (κs : Lfts 2) (a : Dens κs justificationKinds.ps) (r : resT justificationKinds.r κs .Denot) (e : AtExit (endedOf 2 justificationKinds.ps justificationKinds.r) κs) → justification.Learnt κs a r e → (st : BeaconState) → now (a .1 .0) ≡ st .«block_roots» → a .1 .1 .0 ≡ st .finality → let registry = now (a .1 .1 .1 .0) in decode registry ≡ st .validators → JustificationTold (a .0) st registry r
+demand2-justification κs a r e h st p q d = justification-tells (a .0) st _ r d (rw (p, q) at h)

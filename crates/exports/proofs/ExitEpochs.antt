@@ -6,10 +6,11 @@ use borrow.Fn.Kinds.{Dens, resT, endedOf}
 use denote.Triple.Clauses.{AtExit}
 use denote.Ref.{now}
 use Rattle.definitions.specs.Record.{Validator}
-use Rattle.close.proofs.Contract.{callOf, outcomeOf, Came}
-use Rattle.exit_epochs.specs.ExitEpochs.{Called, closing, exiting, Defined, event, Premises, Claim}
-use Rattle.exit_epochs.proofs.EveryRun.{exit-epochs}
-use Rattle.exports.proofs.whole.altair_close.Reads as whole
+use Rattle.exit_epochs.specs.ExitEpochs.{Premises, Claim}
+use Rattle.exit_calls.specs.ExitCalls.{exiting}
+use Rattle.store_history.specs.ExitEpochs.{Called, storing, other, Defined, event}
+use Rattle.store_history.proofs.ExitEpochs.{store-exit-calls}
+use Rattle.exports.proofs.Closes as closes
 use Rattle.exports.proofs.phase0_helpers.altair_initiate_validator_exit.Kinds as exitKinds
 use Rattle.exports.proofs.phase0_helpers.altair_initiate_validator_exit.Reads as exit
 
@@ -22,18 +23,18 @@ pub record ExitCame : Type 0 where
   pub holds : exit.Learnt lifetimes lent answer end
 
 pub data CameBack : Type 0 where
-  ofClose : Came whole.Learnt → CameBack
+  ofClose : closes.Came → CameBack
   ofExit : ExitCame → CameBack
 
 -- the call as the statement sees it, and that it came back as its definition says
 abbrev pub called : CameBack → (c : Called) × Defined c
-called (ofClose c) = (closing (callOf (c .lifetimes) (c .lent)) (outcomeOf (c .lifetimes) (c .answer) (c .end)), c .holds)
+called (ofClose c) = (storing (closes.called c) (closes.cameBack c), c .holds)
 called (ofExit c) =
     let a = c .lent in
-    (exiting (a .0) (a .1 .0) (a .1 .1 .0) (now (a .1 .1 .1 .0)) (c .answer) (now (c .end .1 .1 .1 .0)), (c .holds .number, c .holds .buffer))
+    (other (exiting (a .0) (a .1 .0) (a .1 .1 .0) (a .1 .1 .1 .0) (now (a .1 .1 .1 .1 .0)) (c .answer) (now (c .end .1 .1 .1 .1 .0))), c .holds)
 
 pub exit-epochs-altair : (start : List Validator) (calls : List CameBack) → let events = map (λ c. event (called c .0)) calls in Premises start events → Claim start events
-exit-epochs-altair start calls p = subst (Claim start) same (exit-epochs start (map called calls) (subst (Premises start) (sym same) p))
+exit-epochs-altair start calls p = subst (Claim start) same (store-exit-calls start (map called calls) (subst (Premises start) (sym same) p))
   where
     same : map (λ c. event (c .0)) (map called calls) ≡ map (λ c. event (called c .0)) calls
     same = map-map (λ c. event (c .0)) called calls

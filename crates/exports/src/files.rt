@@ -1,10 +1,11 @@
 // A record file, read and written.
 ghost use mathlib.Core.Path.{_≡_};
 ghost use Rattle.definitions.specs.Checked.{codeOf};
-ghost use Rattle.definitions.specs.File.{read, writeTests, written};
+ghost use Rattle.definitions_file.specs.File.{read, writeTests, written};
 ghost use Rattle.record_file.specs.Answers.{headerRead, contentsWith};
 use record_file::Header;
 use record_file::ReadAnswer;
+use types::ExitQueue;
 use types::Finality;
 use types::Settings;
 
@@ -25,6 +26,7 @@ pub extern "C" fn altair_read_file(
     ensures { λ r. ⌜ r .position ≡ read (now (bytes .entry)) (now (registry .entry)) (now (slashings .entry)) .position ⌝ }
     ensures { λ r. ⌜ r .settings ≡ read (now (bytes .entry)) (now (registry .entry)) (now (slashings .entry)) .contents .settings ⌝ }
     ensures { λ r. ⌜ r .finality ≡ read (now (bytes .entry)) (now (registry .entry)) (now (slashings .entry)) .contents .finality ⌝ }
+    ensures { λ r. ⌜ r .queue ≡ read (now (bytes .entry)) (now (registry .entry)) (now (slashings .entry)) .queue ⌝ }
     ensures { λ _. ⌜ now (registry .exit) ≡ read (now (bytes .entry)) (now (registry .entry)) (now (slashings .entry)) .contents .registry ⌝ }
     ensures { λ _. ⌜ now (slashings .exit) ≡ read (now (bytes .entry)) (now (registry .entry)) (now (slashings .entry)) .contents .slashings ⌝ }
 {
@@ -35,13 +37,14 @@ pub extern "C" fn altair_read_file(
 pub extern "C" fn altair_write_file(
     settings: Settings,
     finality: Finality,
+    queue: ExitQueue,
     registry: &[u64],
     roots: &[u8],
     slashings: &[u64],
     file: &mut [u8],
 ) -> u64
-    ensures { λ r. ⌜ r ≡ codeOf (writeTests (contentsWith settings finality (now (registry .entry)) (now (roots .entry)) (now (slashings .entry))) (now (file .entry))) ⌝ }
-    ensures { λ _. ⌜ now (file .exit) ≡ written (contentsWith settings finality (now (registry .entry)) (now (roots .entry)) (now (slashings .entry))) (now (file .entry)) ⌝ }
+    ensures { λ r. ⌜ r ≡ codeOf (writeTests (contentsWith settings finality (now (registry .entry)) (now (roots .entry)) (now (slashings .entry))) queue (now (file .entry))) ⌝ }
+    ensures { λ _. ⌜ now (file .exit) ≡ written (contentsWith settings finality (now (registry .entry)) (now (roots .entry)) (now (slashings .entry))) queue (now (file .entry)) ⌝ }
 {
-    record_file::write_file(settings, finality, registry, roots, slashings, file)
+    record_file::write_file(settings, finality, queue, registry, roots, slashings, file)
 }

@@ -6,10 +6,13 @@ ghost use Rattle.exports.specs.Version.{version};
 
 mod altair_helpers;
 mod epoch_processing;
+mod exit_orders;
 mod files;
 mod listing;
 mod opening_hours;
 mod phase0_helpers;
+mod shelves;
+mod starting_epochs;
 mod steps;
 mod unknown_votes;
 mod whole;
@@ -19,5 +22,5 @@ mod whole;
 pub extern "C" fn altair_version() -> u64
     ensures { λ r. ⌜ r ≡ version ⌝ }
 {
-    3
+    5
 }

@@ -5,10 +5,11 @@ ghost use Rattle.definitions.specs.Checked.{value};
 ghost use Rattle.definitions.specs.Answers.{numberFor, truthFor};
 ghost use Rattle.definitions.specs.Raised.{totalWithRaised, totalAnswerFor};
 ghost use Rattle.definitions.specs.Refusals.{afterTests};
-ghost use Rattle.definitions.specs.LeafRefusals.{settingsTests, slotTests, entryTests, finalizedEntryTests, settingsEntryTests, slotEntryTests, rootTests, slotRegistryTests, exitTests};
+ghost use Rattle.definitions.specs.LeafRefusals.{settingsTests, slotTests, entryTests, finalizedEntryTests, settingsEntryTests, slotEntryTests, rootTests, slotRegistryTests};
 ghost use Rattle.definitions.specs.Document.Phase0.EpochProcessing.{isEligible};
 ghost use Rattle.definitions.specs.Document.Phase0.Helpers.{«integer_squareroot»};
 ghost use Rattle.definitions.specs.Rust.Phase0.Helpers.{«compute_epoch_at_slot», «compute_start_slot_at_epoch», «compute_activation_exit_epoch», «get_current_epoch», «get_previous_epoch», «is_active_validator», «is_eligible_for_activation_queue», «is_eligible_for_activation», «get_block_root_at_slot», «get_block_root», «get_active_validator_indices», «get_validator_churn_limit», «increase_balance», «decrease_balance», «initiate_validator_exit»};
+ghost use Rattle.definitions_close.specs.QueueCalls.{exitQueueTests, QueueCloses, foundQueue};
 ghost use Rattle.buffers.specs.Closes.{Closes};
 ghost use Rattle.plain.specs.Plain.{plainNumber, plainTruth, plainRoot, plainTotal};
 use plain::PlainNumber;
@@ -19,6 +20,8 @@ use plain::plain_number;
 use plain::plain_root;
 use plain::plain_total;
 use plain::plain_truth;
+use types::ExitQueue;
+use types::QueueAnswer;
 use types::Settings;
 
 // The largest x with x * x at most n.
@@ -174,9 +177,21 @@ pub extern "C" fn altair_initiate_validator_exit(
     s: Settings,
     state_slot: u64,
     index: u64,
+    queue: ExitQueue,
     registry: &mut [u64],
-) -> u64
-    ensures { λ r. ⌜ Closes encode (exitTests s «state_slot» index (now (registry .entry))) («initiate_validator_exit» s «state_slot» (decode (now (registry .entry))) index) (now (registry .entry)) (now (registry .entry)) (now (registry .exit)) r ⌝ }
+) -> QueueAnswer
+    ensures { λ r. ⌜
+        QueueCloses (exitQueueTests s «state_slot» index queue (now (registry .entry)))
+        («initiate_validator_exit» s «state_slot» (decode (now (registry .entry))) index)
+        queue (now (registry .entry)) (now (registry .entry)) (now (registry .exit)) r ⌝ }
 {
-    exits::initiate_validator_exit(s, state_slot, index, registry)
+    validator_exit::initiate_validator_exit(s, state_slot, index, queue, registry)
+}
+
+// The exit queue's pair of a registry.
+#[no_mangle]
+pub extern "C" fn altair_exit_queue(registry: &[u64]) -> QueueAnswer
+    ensures { λ r. ⌜ r ≡ foundQueue (now (registry .entry)) ⌝ }
+{
+    validator_exit::found_queue(registry)
 }

@@ -4,15 +4,19 @@ ghost use mathlib.Core.List.{List};
 ghost use Prim.Native.Nat.{ℕ};
 ghost use Rattle.definitions.specs.Record.{decode, encode};
 ghost use Rattle.definitions.specs.Checked.{value};
-ghost use Rattle.definitions.specs.Raised.{raisedTotals, closeAnswerFor};
+ghost use Rattle.definitions.specs.Raised.{raisedTotals};
 ghost use Rattle.definitions.specs.Refusals.{afterTests, justificationTests, registryTests, effectiveBalanceTests, slashingsResetTests, rotationTests};
 ghost use Rattle.definitions.specs.Rules.{settingsUnder, rewardsTests, slashingsTests};
-ghost use Rattle.definitions.specs.RegisterOrder.{registryUpdatesTo, registryToTests};
+ghost use Rattle.definitions.specs.RegisterOrder.{registryUpdatesTo};
 ghost use Rattle.definitions.specs.Rust.Phase0.EpochProcessing.{«process_registry_updates», «process_effective_balance_updates», resetSlashings};
 ghost use Rattle.definitions.specs.Rust.Altair.EpochProcessing.{«process_justification_and_finalization», «process_inactivity_updates», «process_rewards_and_penalties», «process_slashings», «process_participation_flag_updates»};
+ghost use Rattle.definitions_justification.specs.Answer.{justificationAnswerFor};
+ghost use Rattle.definitions_close.specs.QueueCalls.{registryToQueueTests, registryQueueTests, QueueCloses};
 ghost use Rattle.buffers.specs.Closes.{Closes};
-use types::CloseAnswer;
+use types::ExitQueue;
 use types::Finality;
+use types::JustificationAnswer;
+use types::QueueAnswer;
 use types::Rules;
 use types::Settings;
 
@@ -22,10 +26,10 @@ pub extern "C" fn altair_process_justification_and_finalization(
     roots: &[u8],
     finality: Finality,
     registry: &[u64],
-) -> CloseAnswer
-    ensures { λ r. ⌜ r ≡ closeAnswerFor (afterTests (justificationTests s (now (roots .entry)) finality (now (registry .entry))) («process_justification_and_finalization» s (now (roots .entry)) finality (decode (now (registry .entry))))) finality (raisedTotals s (finality .slot) (decode (now (registry .entry)))) ⌝ }
+) -> JustificationAnswer
+    ensures { λ r. ⌜ r ≡ justificationAnswerFor s (afterTests (justificationTests s (now (roots .entry)) finality (now (registry .entry))) («process_justification_and_finalization» s (now (roots .entry)) finality (decode (now (registry .entry))))) finality (raisedTotals s (finality .slot) (decode (now (registry .entry)))) ⌝ }
 {
-    justification::process_justification_and_finalization(s, roots, finality, registry)
+    justification_step::process_justification_and_finalization(s, roots, finality, registry)
 }
 
 #[no_mangle]
@@ -65,12 +69,17 @@ pub extern "C" fn altair_process_registry_updates(
     s: Settings,
     state_slot: u64,
     finalized_epoch: u64,
+    queue: ExitQueue,
     opening: &[u64],
     closing: &mut [u64],
-) -> u64
-    ensures { λ r. ⌜ Closes encode (registryTests s «state_slot» «finalized_epoch» (now (opening .entry)) (now (closing .entry))) («process_registry_updates» s «state_slot» «finalized_epoch» (decode (now (opening .entry)))) (now (opening .entry)) (now (closing .entry)) (now (closing .exit)) r ⌝ }
+) -> QueueAnswer
+    ensures { λ r. ⌜
+        QueueCloses
+        (registryQueueTests s «state_slot» «finalized_epoch» queue (now (opening .entry)) (now (closing .entry)))
+        («process_registry_updates» s «state_slot» «finalized_epoch» (decode (now (opening .entry))))
+        queue (now (opening .entry)) (now (closing .entry)) (now (closing .exit)) r ⌝ }
 {
-    registry::process_registry_updates(s, state_slot, finalized_epoch, opening, closing)
+    registry_step::process_registry_updates(s, state_slot, finalized_epoch, queue, opening, closing)
 }
 
 #[no_mangle]
@@ -79,16 +88,25 @@ pub extern "C" fn altair_process_registry_updates_to(
     s: Settings,
     state_slot: u64,
     finalized_epoch: u64,
+    queue: ExitQueue,
     opening: &[u64],
     closing: &mut [u64],
-) -> u64
+) -> QueueAnswer
     ensures { λ r. ⌜
-        Closes encode
-        (registryToTests stop s «state_slot» «finalized_epoch» (now (opening .entry)) (now (closing .entry)))
+        QueueCloses
+        (registryToQueueTests stop s «state_slot» «finalized_epoch» queue (now (opening .entry)) (now (closing .entry)))
         (registryUpdatesTo stop s «state_slot» «finalized_epoch» (decode (now (opening .entry))))
-        (now (opening .entry)) (now (closing .entry)) (now (closing .exit)) r ⌝ }
+        queue (now (opening .entry)) (now (closing .entry)) (now (closing .exit)) r ⌝ }
 {
-    registry::process_registry_updates_to(stop, s, state_slot, finalized_epoch, opening, closing)
+    registry_step::process_registry_updates_to(
+        stop,
+        s,
+        state_slot,
+        finalized_epoch,
+        queue,
+        opening,
+        closing,
+    )
 }
 
 #[no_mangle]

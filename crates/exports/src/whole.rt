@@ -1,40 +1,52 @@
-// The whole close, and the number of validators that it charges for.
+// The whole close, with a store of settings by starting epoch, the exit queue's pair and the amounts; and the number of validators that it
+// charges for.
 ghost use mathlib.Core.Path.{_≡_};
 ghost use Rattle.definitions.specs.Checked.{value};
 ghost use Rattle.definitions.specs.Record.{decode};
 ghost use Rattle.definitions.specs.Refusals.{afterTests};
 ghost use Rattle.definitions.specs.LeafRefusals.{slotRegistryTests};
-ghost use Rattle.definitions.specs.Close.{charged, close as closeOf};
-ghost use Rattle.close.specs.Called.{called, outcome};
+ghost use Rattle.definitions.specs.Close.{charged};
+ghost use Rattle.definitions_store.specs.StoreClose.{storeClose};
+ghost use Rattle.full_close.specs.Called.{fullOutcome};
+ghost use Rattle.store_entries.specs.Lent.{lent};
+ghost use Rattle.store_rules.specs.Called.{storeCalled};
 ghost use Rattle.definitions.specs.Answers.{numberFor};
 ghost use Rattle.plain.specs.Plain.{plainNumber};
 use plain::PlainNumber;
 use plain::plain_number;
-use types::CloseAnswer;
+use types::ExitQueue;
 use types::Finality;
-use types::Rules;
+use types::FullAnswer;
 use types::Settings;
 
 #[no_mangle]
 pub extern "C" fn altair_close(
-    rules: Rules,
+    store: &[u64],
+    count: u64,
     finality: Finality,
+    queue: ExitQueue,
     registry: &[u64],
     slashings: &[u64],
     roots: &[u8],
     closing_registry: &mut [u64],
     closing_slashings: &mut [u64],
-) -> CloseAnswer
-    ensures { λ r. ⌜ outcome r (now («closing_registry» .exit)) (now («closing_slashings» .exit)) ≡ closeOf (called rules finality (now (registry .entry)) (now (slashings .entry)) (now (roots .entry)) (now («closing_registry» .entry)) (now («closing_slashings» .entry))) ⌝ }
+    amounts: &mut [u64],
+) -> FullAnswer
+    ensures { λ r. ⌜
+        fullOutcome r (now («closing_registry» .exit)) (now («closing_slashings» .exit)) (now (amounts .exit))
+        ≡ storeClose (storeCalled (lent (now (store .entry)) count) finality queue (now (registry .entry)) (now (slashings .entry)) (now (roots .entry)) (now («closing_registry» .entry)) (now («closing_slashings» .entry)) (now (amounts .entry))) ⌝ }
 {
-    close::close(
-        rules,
+    store_close::store_close(
+        store,
+        count,
         finality,
+        queue,
         registry,
         slashings,
         roots,
         closing_registry,
         closing_slashings,
+        amounts,
     )
 }
 

@@ -8,7 +8,8 @@ use lib.ListN.{length, getD, drop, length-append, drop-of-length-le}
 use lib.Seq.{drop-cons, drop-drop}
 use Rattle.types.specs.declared.Checkpoint.{Checkpoint}
 use Rattle.types.specs.declared.Finality.{Finality}
-use Rattle.definitions.specs.File.{littleEndian, numbersToBytes, numbersFromBytes, numberAt, checkpointToBytes, finalityToBytes}
+use Rattle.types.specs.declared.ExitQueue.{ExitQueue}
+use Rattle.definitions_file.specs.File.{littleEndian, numbersToBytes, numbersFromBytes, numberAt, checkpointToBytes, finalityToBytes, queueToBytes}
 use Rattle.round_trip.proofs.Numbers.{length-little}
 
 -- the bytes of a number, its last one first
@@ -47,3 +48,6 @@ length-checkpoint c e = rw length-append (omega (arith, length-little 8 (c .epoc
 pub length-finality : (f : Finality) → length (f .«previous_justified_checkpoint» .root) ≡ 32 → length (f .«current_justified_checkpoint» .root) ≡ 32 → length (f .«finalized_checkpoint» .root) ≡ 32 → length (finalityToBytes f) ≡ 136
 length-finality f p c z =
     simp length-append (omega (arith, length-little 8 (f .slot), length-little 8 (f .«justification_bits»), length-little 8 (f .«previous_justified_checkpoint» .epoch), length-little 8 (f .«current_justified_checkpoint» .epoch), length-little 8 (f .«finalized_checkpoint» .epoch)))
+
+pub length-queue : (q : ExitQueue) → length (queueToBytes q) ≡ 16
+length-queue q = rw length-append (omega (arith, length-little 8 (q .«last_epoch»), length-little 8 (q .number)))

@@ -1,11 +1,12 @@
-// The fields of a record file: numbers, checkpoints, settings and finality, read through the reader and written.
+// The fields of a record file: numbers, checkpoints, settings, finality and the exit queue's pair, read through the reader and written.
 ghost use mathlib.Core.Path.{_≡_};
 ghost use Prim.Native.Nat.{_+_, _*_, _≤_};
 ghost use lib.ListN.{length, drop};
 ghost use lib.Seq.{sets};
 ghost use Rattle.definitions.specs.Refusals.{settingsNumbers};
-ghost use Rattle.definitions.specs.File.{littleEndian, numbersToBytes, numbersFromBytes, settingsAt, settingsFrom, checkpointAt, finalityFrom, checkpointToBytes, finalityToBytes};
+ghost use Rattle.definitions_file.specs.File.{littleEndian, numbersToBytes, numbersFromBytes, settingsAt, settingsFrom, checkpointAt, finalityFrom, queueFrom, checkpointToBytes, finalityToBytes, queueToBytes};
 use types::Checkpoint;
+use types::ExitQueue;
 use types::Finality;
 use types::Settings;
 
@@ -117,6 +118,19 @@ pub fn read_finality(bytes: &[u8]) -> Finality
     }
 }
 
+// The pair that version 2 stores.
+pub fn read_queue(bytes: &[u8]) -> ExitQueue
+    requires { ⌜ 384 ≤ length (now bytes) ⌝ }
+    ensures { λ r. ⌜ r ≡ queueFrom (now (bytes .entry)) ⌝ }
+{
+    let last_epoch = reader::read_number(bytes, 368);
+    let number = reader::read_number(bytes, 376);
+    ExitQueue {
+        last_epoch: last_epoch.number,
+        number: number.number,
+    }
+}
+
 pub fn put_settings(file: &mut [u8], at: usize, s: Settings)
     requires { ⌜ at + 152 ≤ length (now file) ⌝ }
     ensures { λ _. ⌜ now (file .exit) ≡ sets (now (file .entry)) at (numbersToBytes (settingsNumbers s)) ⌝ }
@@ -167,4 +181,12 @@ pub fn put_finality(file: &mut [u8], at: usize, f: Finality)
     put_checkpoint(file, at + 16, previous);
     put_checkpoint(file, at + 56, current);
     put_checkpoint(file, at + 96, finalized);
+}
+
+pub fn put_queue(file: &mut [u8], at: usize, q: ExitQueue)
+    requires { ⌜ at + 16 ≤ length (now file) ⌝ }
+    ensures { λ _. ⌜ now (file .exit) ≡ sets (now (file .entry)) at (queueToBytes q) ⌝ }
+{
+    put_number(file, at, q.last_epoch);
+    put_number(file, at + 8, q.number);
 }

@@ -3,16 +3,26 @@ ghost use mathlib.Core.Path.{_≡_};
 ghost use Prim.Native.Nat.{_^_, _≤_, _<_};
 ghost use lib.Dec.{eqb};
 ghost use lib.ListN.{length};
-ghost use Rattle.definitions.specs.File.{fileLength, header, countOf, rootCountOf, slashingCountOf, sameNumbers, goodHeader};
+ghost use Rattle.definitions_file.specs.File.{validatorsAt, fileLength, header, versionOf, countOf, rootCountOf, slashingCountOf, sameNumbers, goodHeader};
+
+// Behind the pair, which version 2 has.
+pub fn validators_at(version: u64) -> u64
+    requires { ⌜ (1 ≤ version) × (version ≤ 2) ⌝ }
+    ensures { λ r. ⌜ r ≡ validatorsAt version ⌝ }
+{
+    368 + 16 * (version - 1)
+}
 
 // Whether a file is as long as its counts call for. Each count is compared with what is left of the length, so nothing wraps.
-pub fn as_long(length: u64, validators: u64, roots: u64, slashings: u64) -> bool
-    ensures { λ r. ⌜ r ≡ eqb length (fileLength validators roots slashings) ⌝ }
+pub fn as_long(length: u64, version: u64, validators: u64, roots: u64, slashings: u64) -> bool
+    requires { ⌜ (1 ≤ version) × (version ≤ 2) ⌝ }
+    ensures { λ r. ⌜ r ≡ eqb length (fileLength version validators roots slashings) ⌝ }
 {
-    if length < 368 {
+    let from = validators_at(version);
+    if length < from {
         return false;
     }
-    let from_validators = length - 368;
+    let from_validators = length - from;
     if from_validators / 80 < validators {
         return false;
     }
@@ -30,22 +40,23 @@ pub fn as_long(length: u64, validators: u64, roots: u64, slashings: u64) -> bool
     true
 }
 
-pub fn header_of(validators: u64, roots: u64, slashings: u64) -> [u64; 10]
-    requires { ⌜ fileLength validators roots slashings < 2 ^ 64 ⌝ }
-    ensures { λ r. ⌜ r ≡ header validators roots slashings ⌝ }
+pub fn header_of(version: u64, validators: u64, roots: u64, slashings: u64) -> [u64; 10]
+    requires { ⌜ (1 ≤ version) × (version ≤ 2) × (fileLength version validators roots slashings < 2 ^ 64) ⌝ }
+    ensures { λ r. ⌜ r ≡ header version validators roots slashings ⌝ }
 {
-    let roots_at = 368 + 80 * validators;
+    let from = validators_at(version);
+    let roots_at = from + 80 * validators;
     let slashings_at = roots_at + 32 * roots;
     let end = slashings_at + 8 * slashings;
     [
-        1,
+        version,
         end,
         validators,
         roots,
         slashings,
         80,
         232,
-        368,
+        from,
         roots_at,
         slashings_at,
     ]
@@ -72,36 +83,46 @@ pub fn good_header(bytes: &[u8]) -> bool
     }
     let mut found = [0u64; 10];
     fields::read_numbers(bytes, 0, &mut found);
+    let version = found[0];
     let validators = found[2];
     let roots = found[3];
     let slashings = found[4];
-    if !as_long(bytes.len() as u64, validators, roots, slashings) {
+    if version < 1 {
         return false;
     }
-    let called_for = header_of(validators, roots, slashings);
+    if 2 < version {
+        return false;
+    }
+    if !as_long(bytes.len() as u64, version, validators, roots, slashings) {
+        return false;
+    }
+    let called_for = header_of(version, validators, roots, slashings);
     if !same_numbers(&found, &called_for) {
         return false;
     }
     true
 }
 
-// N, S and L.
+// N, S, L and the version.
 pub struct Counts {
     pub validators: u64,
     pub roots: u64,
     pub slashings: u64,
+    pub version: u64,
 }
 
 pub fn read_counts(bytes: &[u8]) -> Counts
     requires { ⌜ 80 ≤ length (now bytes) ⌝ }
-    ensures { λ r. ⌜ (r .validators ≡ countOf (now (bytes .entry))) × (r .roots ≡ rootCountOf (now (bytes .entry))) × (r .slashings ≡ slashingCountOf (now (bytes .entry))) ⌝ }
+    ensures { λ r. ⌜ (r .validators ≡ countOf (now (bytes .entry))) × (r .roots ≡ rootCountOf (now (bytes .entry))) × (r .slashings ≡ slashingCountOf (now (bytes .entry))) × (r .version ≡ versionOf (now (bytes .entry))) ⌝ }
 {
     let validators = reader::read_number(bytes, 16);
     let roots = reader::read_number(bytes, validators.position);
     let slashings = reader::read_number(bytes, roots.position);
+    let version = reader::read_number(bytes, 0);
     Counts {
         validators: validators.number,
         roots: roots.number,
         slashings: slashings.number,
+        version: version.number,
     }
 }

@@ -7,7 +7,7 @@ use native.Mathlib.Omega.{arith}
 use borrow.Author.Tests.{lt-ltb, le-ltb, lt-leb}
 use lib.ListN.{length, take, drop, length-take, length-drop, drop-of-length-le}
 use lib.Seq.{take-all}
-use Rattle.definitions.specs.File.{numberAt, goodHeader}
+use Rattle.definitions_file.specs.File.{numberAt, goodHeader}
 use Rattle.definitions_listing.specs.Lines.{refusedLine}
 use Rattle.definitions_outage.specs.Input.{fileIn, tailIn}
 use Rattle.definitions_outage.specs.Outage.{textOf, outage}

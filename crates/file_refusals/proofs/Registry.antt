@@ -11,7 +11,7 @@ use lib.Seq.{drop-drop}
 use Rattle.definitions.specs.Record.{Validator, decodeOne, decodeFirst, decode}
 use Rattle.definitions.specs.Lists.{all}
 use Rattle.definitions.specs.Refusals.{goodValidator, goodRegistry}
-use Rattle.definitions.specs.File.{numbersFromBytes, numberAt, badPlace, stoppedAt}
+use Rattle.definitions_file.specs.File.{numbersFromBytes, numberAt, badPlace, stoppedAt}
 use Rattle.laws.proofs.Encode.{length-decode}
 use Rattle.refusals.proofs.All.{both}
 use Rattle.round_trip.specs.Refused.{FirstBad}
@@ -107,41 +107,42 @@ module _ (bytes : List ℕ) (at m : ℕ) where
 
 -- The loop: the first i of n validators are good
 
-abbrev pub registryIn : List ℕ → ℕ → List Validator
-registryIn bytes n = decode (numbersFromBytes (10 * n) (drop 368 bytes))
+abbrev pub registryIn : List ℕ → ℕ → ℕ → List Validator
+registryIn bytes from n = decode (numbersFromBytes (10 * n) (drop from bytes))
 
-pub record Passing (bytes : List ℕ) (n i : ℕ) : Type 0 where
+pub record Passing (bytes : List ℕ) (from n i : ℕ) : Type 0 where
   pub within : i ≤ n
-  pub left : stoppedAt 368 (registryIn bytes n) ≡ stoppedAt (368 + 80 * i) (entriesFrom bytes (n - i) (368 + 80 * i))
+  pub left : stoppedAt from (registryIn bytes from n) ≡ stoppedAt (from + 80 * i) (entriesFrom bytes (n - i) (from + 80 * i))
 
-pub passing-none : (bytes : List ℕ) (n : ℕ) → Passing bytes n 0
+pub passing-none : (bytes : List ℕ) (from n : ℕ) → Passing bytes from n 0
 unfolding entriesFrom decode
-passing-none bytes n =
-    let e : length (numbersFromBytes (10 * n) (drop 368 bytes)) / 10 ≡ n = omega (arith, length-from-bytes (10 * n) (drop 368 bytes)) in
+passing-none bytes from n =
+    let e : length (numbersFromBytes (10 * n) (drop from bytes)) / 10 ≡ n = omega (arith, length-from-bytes (10 * n) (drop from bytes)) in
     let z : n - 0 ≡ n = omega arith in
-    record { within = omega arith; left = rw (e, z) }
+    let f : from + 0 ≡ from = omega arith in
+    record { within = omega arith; left = rw (e, z, f) }
 
-module _ {bytes : List ℕ} {n i : ℕ} (p : Passing bytes n i) where
-  pub passing-all : n ≤ i → 368 + 80 * i ≡ stoppedAt 368 (registryIn bytes n)
+module _ {bytes : List ℕ} {from n i : ℕ} (p : Passing bytes from n i) where
+  pub passing-all : n ≤ i → from + 80 * i ≡ stoppedAt from (registryIn bytes from n)
   unfolding entriesFrom decodeFirst stoppedAt
   passing-all l = let z : n - i ≡ 0 = omega arith in sym (p .left ∙ rw z)
 
   module _ (l : i < n) where
-    here : stoppedAt 368 (registryIn bytes n) ≡ stoppedAt (368 + 80 * i) (first bytes (368 + 80 * i) (n - (i + 1)) ∷ entriesFrom bytes (n - (i + 1)) (368 + 80 * i + 80))
+    here : stoppedAt from (registryIn bytes from n) ≡ stoppedAt (from + 80 * i) (first bytes (from + 80 * i) (n - (i + 1)) ∷ entriesFrom bytes (n - (i + 1)) (from + 80 * i + 80))
     here =
         let e : n - i ≡ suc (n - (i + 1)) = omega arith in
-        p .left ∙ rw e (ap (stoppedAt (368 + 80 * i)) (entries-more bytes (368 + 80 * i) (n - (i + 1))))
+        p .left ∙ rw e (ap (stoppedAt (from + 80 * i)) (entries-more bytes (from + 80 * i) (n - (i + 1))))
 
-    pub passing-more : Allowed bytes (368 + 80 * i) 10 → Passing bytes n (i + 1)
+    pub passing-more : Allowed bytes (from + 80 * i) 10 → Passing bytes from n (i + 1)
     unfolding stoppedAt
     passing-more a =
-        let e : 368 + 80 * (i + 1) ≡ 368 + 80 * i + 80 = omega arith in
-        record { within = omega arith; left = here ∙ rw (e, first-good bytes (368 + 80 * i) (n - (i + 1)) a) }
+        let e : from + 80 * (i + 1) ≡ from + 80 * i + 80 = omega arith in
+        record { within = omega arith; left = here ∙ rw (e, first-good bytes (from + 80 * i) (n - (i + 1)) a) }
 
-    pub passing-stop : (k : ℕ) → Allowed bytes (368 + 80 * i) k → limitAt k < numberAt (368 + 80 * i + 8 * k) bytes → numberAt (368 + 80 * i + 8 * k) bytes < 2 ^ 64 → 368 + 80 * i + 8 * k ≡ stoppedAt 368 (registryIn bytes n)
+    pub passing-stop : (k : ℕ) → Allowed bytes (from + 80 * i) k → limitAt k < numberAt (from + 80 * i + 8 * k) bytes → numberAt (from + 80 * i + 8 * k) bytes < 2 ^ 64 → from + 80 * i + 8 * k ≡ stoppedAt from (registryIn bytes from n)
     unfolding stoppedAt
     passing-stop k a b f =
-        let bad = bad-at bytes (368 + 80 * i) (n - (i + 1)) k a b f in
+        let bad = bad-at bytes (from + 80 * i) (n - (i + 1)) k a b f in
         sym (here ∙ rw (bad .fails, bad .place))
 
 -- What the place says of the registry
@@ -161,22 +162,31 @@ place-below (FirstBad.bad-current p q r) = omega arith
 stopped-short : (offset : ℕ) (vs : List Validator) → all goodValidator vs ≡ false → stoppedAt offset vs < offset + 80 * length vs
 stopped-short offset vs e = let s = stopped-at offset vs e in omega (arith, place-below (s .first), s .inside, s .there)
 
-module _ (bytes : List ℕ) (n : ℕ) where
-  count : length (registryIn bytes n) ≡ n
-  count = length-decode n (numbersFromBytes (10 * n) (drop 368 bytes)) (length-from-bytes (10 * n) (drop 368 bytes))
+module _ (bytes : List ℕ) (from n : ℕ) where
+  count : length (registryIn bytes from n) ≡ n
+  count = length-decode n (numbersFromBytes (10 * n) (drop from bytes)) (length-from-bytes (10 * n) (drop from bytes))
 
-  pub registry-good : stoppedAt 368 (registryIn bytes n) ≡ 368 + 80 * n → goodRegistry (numbersFromBytes (10 * n) (drop 368 bytes)) ≡ true
+  pub registry-good : stoppedAt from (registryIn bytes from n) ≡ from + 80 * n → goodRegistry (numbersFromBytes (10 * n) (drop from bytes)) ≡ true
   unfolding goodRegistry
-  registry-good e = go (all goodValidator (registryIn bytes n)) refl
+  registry-good e = go (all goodValidator (registryIn bytes from n)) refl
     where
-      go : (t : Bool) → all goodValidator (registryIn bytes n) ≡ t → all goodValidator (registryIn bytes n) ≡ true
+      go : (t : Bool) → all goodValidator (registryIn bytes from n) ≡ t → all goodValidator (registryIn bytes from n) ≡ true
       go true g = g
-      go false g = absurd (omega (arith, stopped-short 368 (registryIn bytes n) g, count))
+      go false g = absurd (omega (arith, stopped-short from (registryIn bytes from n) g, count))
 
-  pub registry-bad : (stoppedAt 368 (registryIn bytes n) ≡ 368 + 80 * n → ⊥) → goodRegistry (numbersFromBytes (10 * n) (drop 368 bytes)) ≡ false
+  pub registry-bad : (stoppedAt from (registryIn bytes from n) ≡ from + 80 * n → ⊥) → goodRegistry (numbersFromBytes (10 * n) (drop from bytes)) ≡ false
   unfolding goodRegistry
-  registry-bad z = go (all goodValidator (registryIn bytes n)) refl
+  registry-bad z = go (all goodValidator (registryIn bytes from n)) refl
     where
-      go : (t : Bool) → all goodValidator (registryIn bytes n) ≡ t → all goodValidator (registryIn bytes n) ≡ false
-      go true g = absurd (z (stopped-end 368 (registryIn bytes n) g ∙ omega (arith, count)))
+      go : (t : Bool) → all goodValidator (registryIn bytes from n) ≡ t → all goodValidator (registryIn bytes from n) ≡ false
+      go true g = absurd (z (stopped-end from (registryIn bytes from n) g ∙ omega (arith, count)))
       go false g = g
+
+-- The pair: an exit epoch is the fourth number of its entry
+
+module _ (bytes : List ℕ) (from n : ℕ) where
+  pub numbers-long : length (numbersFromBytes (10 * n) (drop from bytes)) ≡ 10 * n
+  numbers-long = length-from-bytes (10 * n) (drop from bytes)
+
+  pub exit-number : (i : ℕ) → i < n → numberAt (from + 8 * (10 * i + 4)) bytes ≡ getD (numbersFromBytes (10 * n) (drop from bytes)) (10 * i + 4) 0
+  exit-number i l = sym (number-at (10 * n) (10 * i + 4) (drop from bytes) (omega arith) ∙ rw drop-drop)

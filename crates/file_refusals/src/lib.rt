@@ -4,8 +4,12 @@ ghost use Prim.Native.Nat.{_+_, _*_, _≤_};
 ghost use lib.ListN.{length, drop};
 ghost use Rattle.definitions.specs.Record.{decode};
 ghost use Rattle.definitions.specs.Checked.{codeOf};
-ghost use Rattle.definitions.specs.File.{numbersFromBytes, fileShaped, stoppedAt, writeTests};
-ghost use Rattle.file_refusals.specs.Tests.{limitAt, Answered, contentsWith, writeShaped};
+ghost use Rattle.definitions.specs.ExitQueue.{queueOf};
+ghost use Rattle.definitions_file.specs.File.{numbersFromBytes, validatorsAt, versionOf, countOf, fileShaped, stoppedAt, writeTests};
+ghost use Rattle.file_refusals.specs.Tests.{limitAt, nothingAt, Answered, QueueAnswered, sameQueue, contentsWith, writeShaped};
+use exit_queue::exited;
+use exit_queue::queue_of;
+use types::ExitQueue;
 use types::Finality;
 use types::Settings;
 
@@ -24,11 +28,11 @@ fn limit(place: usize) -> u64
 }
 
 // Number by number through the reader, until one is bad or the last validator is read: where the reader stands.
-fn first_bad(bytes: &[u8], validators: usize) -> usize
-    requires { ⌜ 368 + 80 * validators ≤ length (now bytes) ⌝ }
-    ensures { λ r. ⌜ r ≡ stoppedAt 368 (decode (numbersFromBytes (10 * validators) (drop 368 (now (bytes .entry))))) ⌝ }
+fn first_bad(bytes: &[u8], from: usize, validators: usize) -> usize
+    requires { ⌜ from + 80 * validators ≤ length (now bytes) ⌝ }
+    ensures { λ r. ⌜ r ≡ stoppedAt from (decode (numbersFromBytes (10 * validators) (drop from (now (bytes .entry))))) ⌝ }
 {
-    let mut position: usize = 368;
+    let mut position: usize = from;
     'validators: for i in 0..validators {
         for k in 0..10 {
             let next = reader::read_number(bytes, position);
@@ -69,59 +73,105 @@ fn file_shaped(bytes: &[u8], registry: &[u64], slashings: &[u64]) -> bool
     true
 }
 
-// The refusal's number or 0, and the position at which reading stopped.
+// The pair of the validators' exit epochs, from the bytes: the registry goes into its buffer only once every test has passed.
+fn queue_at(bytes: &[u8], from: usize, validators: usize) -> ExitQueue
+    requires { ⌜ from + 80 * validators ≤ length (now bytes) ⌝ }
+    ensures { λ r. ⌜ r ≡ queueOf (decode (numbersFromBytes (10 * validators) (drop from (now (bytes .entry))))) ⌝ }
+{
+    let mut queue = ExitQueue {
+        last_epoch: 0,
+        number: 0,
+    };
+    for i in 0..validators {
+        let at = from + 8 * (10 * i + 4);
+        let next = reader::read_number(bytes, at);
+        queue = exited(queue, next.number);
+    }
+    queue
+}
+
+fn same_queue(a: ExitQueue, b: ExitQueue) -> bool
+    ensures { λ r. ⌜ r ≡ sameQueue a b ⌝ }
+{
+    if a.last_epoch != b.last_epoch {
+        return false;
+    }
+    a.number == b.number
+}
+
+// The refusal's number or 0, the position at which reading stopped, and the pair, which is zeros on refusal.
 pub struct Tested {
     pub refusal: u64,
     pub position: u64,
+    pub queue: ExitQueue,
 }
 
-// 6, then 1, 2, 3.
-pub fn read_tests(bytes: &[u8], registry: &[u64], slashings: &[u64]) -> Tested
-    ensures { λ r. ⌜ Answered (now (bytes .entry)) (now (registry .entry)) (now (slashings .entry)) (r .refusal) (r .position) ⌝ }
+fn refused(refusal: u64, position: u64) -> Tested
+    ensures { λ r. ⌜ r ≡ nothingAt refusal position ⌝ }
 {
-    if bytes.len() < 80 {
+    Tested {
+        refusal,
+        position,
+        queue: ExitQueue {
+            last_epoch: 0,
+            number: 0,
+        },
+    }
+}
+
+// Test 8, once the others have passed. In version 1 the pair is worked out, and there is nothing to test.
+fn queue_tests(bytes: &[u8], version: u64, from: usize, validators: usize) -> Tested
+    requires { ⌜ (version ≡ versionOf (now bytes)) × (from ≡ validatorsAt version) × (validators ≡ countOf (now bytes)) ⌝ }
+    requires { ⌜ (1 ≤ version) × (version ≤ 2) × (from + 80 * validators ≤ length (now bytes)) ⌝ }
+    ensures { λ r. ⌜ QueueAnswered (now (bytes .entry)) (r .refusal) (r .position) (r .queue) ⌝ }
+{
+    let own = queue_at(bytes, from, validators);
+    if version == 1 {
         return Tested {
-            refusal: 6,
-            position: 0,
+            refusal: 0,
+            position: bytes.len() as u64,
+            queue: own,
         };
     }
-    if !file_header::good_header(bytes) {
-        return Tested {
-            refusal: 6,
-            position: 80,
-        };
-    }
-    if !file_shaped(bytes, registry, slashings) {
-        return Tested {
-            refusal: 1,
-            position: 232,
-        };
-    }
-    if !refusals::good_settings(fields::read_settings(bytes)) {
-        return Tested {
-            refusal: 2,
-            position: 232,
-        };
-    }
-    if !refusals::good_finality(fields::read_finality(bytes)) {
-        return Tested {
-            refusal: 3,
-            position: 368,
-        };
-    }
-    let counts = file_header::read_counts(bytes);
-    let validators = counts.validators as usize;
-    let stopped = first_bad(bytes, validators);
-    if stopped != 368 + 80 * validators {
-        return Tested {
-            refusal: 3,
-            position: stopped as u64,
-        };
+    let stored = fields::read_queue(bytes);
+    if !same_queue(stored, own) {
+        return refused(8, 368);
     }
     Tested {
         refusal: 0,
         position: bytes.len() as u64,
+        queue: stored,
     }
+}
+
+// 6, then 1, 2, 3, then 8.
+pub fn read_tests(bytes: &[u8], registry: &[u64], slashings: &[u64]) -> Tested
+    ensures { λ r. ⌜ Answered (now (bytes .entry)) (now (registry .entry)) (now (slashings .entry)) (r .refusal) (r .position) (r .queue) ⌝ }
+{
+    if bytes.len() < 80 {
+        return refused(6, 0);
+    }
+    if !file_header::good_header(bytes) {
+        return refused(6, 80);
+    }
+    if !file_shaped(bytes, registry, slashings) {
+        return refused(1, 232);
+    }
+    if !refusals::good_settings(fields::read_settings(bytes)) {
+        return refused(2, 232);
+    }
+    if !refusals::good_finality(fields::read_finality(bytes)) {
+        return refused(3, 368);
+    }
+    let counts = file_header::read_counts(bytes);
+    let version = counts.version;
+    let validators = counts.validators as usize;
+    let from = file_header::validators_at(version) as usize;
+    let stopped = first_bad(bytes, from, validators);
+    if stopped != from + 80 * validators {
+        return refused(3, stopped as u64);
+    }
+    queue_tests(bytes, version, from, validators)
 }
 
 // Writing
@@ -152,22 +202,24 @@ fn write_shaped(
     }
     file_header::as_long(
         file.len() as u64,
+        2,
         (registry.len() / 10) as u64,
         root_count,
         slashing_count,
     )
 }
 
-// 1, then 2, 3.
+// 1, then 2, 3, then 8.
 pub fn write_tests(
     settings: Settings,
     finality: Finality,
+    queue: ExitQueue,
     registry: &[u64],
     roots: &[u8],
     slashings: &[u64],
     file: &[u8],
 ) -> u64
-    ensures { λ r. ⌜ r ≡ codeOf (writeTests (contentsWith settings finality (now (registry .entry)) (now (roots .entry)) (now (slashings .entry))) (now (file .entry))) ⌝ }
+    ensures { λ r. ⌜ r ≡ codeOf (writeTests (contentsWith settings finality (now (registry .entry)) (now (roots .entry)) (now (slashings .entry))) queue (now (file .entry))) ⌝ }
 {
     if !write_shaped(settings, registry, roots, slashings, file) {
         return 1;
@@ -178,8 +230,12 @@ pub fn write_tests(
     if !refusals::good_finality(finality) {
         return 3;
     }
-    if refusals::good_registry(registry) {
-        return 0;
+    if !refusals::good_registry(registry) {
+        return 3;
     }
-    3
+    let own = queue_of(registry);
+    if !same_queue(queue, own) {
+        return 8;
+    }
+    0
 }

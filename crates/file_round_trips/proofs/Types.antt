@@ -11,10 +11,11 @@ use denote.Laws.{Is}
 use denote.Shadow.{shadow}
 use Rattle.types.specs.declared.Settings.{Settings}
 use Rattle.types.specs.declared.Checkpoint.{Checkpoint}
+use Rattle.types.specs.declared.ExitQueue.{ExitQueue}
 use Rattle.types.proofs.Finality as F
 use Rattle.definitions.specs.Checked.{value}
 use Rattle.definitions.specs.Refusals.{settingsNumbers}
-use Rattle.definitions.specs.File.{Contents, writeTests}
+use Rattle.definitions_file.specs.File.{Contents, writeTests}
 use Rattle.refusals.proofs.Laws.{SmallSettings, good-settings, good-finality}
 use Rattle.round_trip.specs.RoundTrip.{Below, TypedCheckpoint, Typed}
 use Rattle.round_trip.proofs.Numbers.{below-nil, below-cons}
@@ -64,9 +65,9 @@ checkpoint e r = record { epoch = omega (arith, e); root = r .bytes; thirtyTwo =
 below : {n : ℕ} {xs : List ℕ} → ((i : ℕ) → getD xs i 0 < n) → Below n xs
 below each = record { each = λ i l. each i }
 
-pub typed : (c : Contents) (file : List ℕ) → writeTests c file ≡ value tt → {vs : List Val} → Is F.the-row (c .finality) vs → ((i : ℕ) → getD (c .registry) i 0 < 2 ^ 64) → ((i : ℕ) → getD (c .roots) i 0 < 256) → ((i : ℕ) → getD (c .slashings) i 0 < 2 ^ 64) → Typed c
-typed c file e t registry roots slashings =
-    let g = write-good c file e .0 in
+pub typed : (c : Contents) (q : ExitQueue) (file : List ℕ) → writeTests c q file ≡ value tt → {vs : List Val} → Is F.the-row (c .finality) vs → ((i : ℕ) → getD (c .registry) i 0 < 2 ^ 64) → ((i : ℕ) → getD (c .roots) i 0 < 256) → ((i : ℕ) → getD (c .slashings) i 0 < 2 ^ 64) → Typed c
+typed c q file e t registry roots slashings =
+    let g = write-good c q file e .good in
     let s = good-settings (c .settings) (g .settings) .small in
     let f = good-finality (c .finality) (g .finality) in
     record {

@@ -3,13 +3,15 @@ ghost use mathlib.Core.Path.{_≡_};
 ghost use Rattle.record_file.specs.Answers.{contentsWith};
 ghost use Rattle.file_round_trips.specs.RoundTrips.{Passes, SameRecord, Accepted, SameBytes};
 use record_file::ReadAnswer;
+use types::ExitQueue;
 use types::Finality;
 use types::Settings;
 
-// A record that passes 1, 2 and 3, written and then read, is the same record.
+// A record that passes 1, 2, 3 and 8, written and then read, is the same record.
 fn write_then_read(
     settings: Settings,
     finality: Finality,
+    queue: ExitQueue,
     registry: &[u64],
     roots: &[u8],
     slashings: &[u64],
@@ -17,9 +19,9 @@ fn write_then_read(
     registry_read: &mut [u64],
     slashings_read: &mut [u64],
 ) -> ReadAnswer
-    ensures { λ r. ⌜ (Passes (contentsWith settings finality (now (registry .entry)) (now (roots .entry)) (now (slashings .entry))) (now (file .entry)) (now («registry_read» .entry)) (now («slashings_read» .entry)) → SameRecord (contentsWith settings finality (now (registry .entry)) (now (roots .entry)) (now (slashings .entry))) (now (file .entry)) r (now («registry_read» .exit)) (now («slashings_read» .exit))) ⌝ }
+    ensures { λ r. ⌜ (Passes (contentsWith settings finality (now (registry .entry)) (now (roots .entry)) (now (slashings .entry))) queue (now (file .entry)) (now («registry_read» .entry)) (now («slashings_read» .entry)) → SameRecord (contentsWith settings finality (now (registry .entry)) (now (roots .entry)) (now (slashings .entry))) queue (now (file .entry)) r (now («registry_read» .exit)) (now («slashings_read» .exit))) ⌝ }
 {
-    record_file::write_file(settings, finality, registry, roots, slashings, file);
+    record_file::write_file(settings, finality, queue, registry, roots, slashings, file);
     record_file::read_file(&file[..], registry_read, slashings_read)
 }
 
@@ -27,6 +29,7 @@ fn write_then_read(
 fn write_then_roots<'a>(
     settings: Settings,
     finality: Finality,
+    queue: ExitQueue,
     registry: &[u64],
     roots: &[u8],
     slashings: &[u64],
@@ -34,14 +37,14 @@ fn write_then_roots<'a>(
     registry_read: &[u64],
     slashings_read: &[u64],
 ) -> &'a [u8]
-    ensures { λ r. ⌜ (Passes (contentsWith settings finality (now (registry .entry)) (now (roots .entry)) (now (slashings .entry))) (now (file .entry)) (now («registry_read» .entry)) (now («slashings_read» .entry)) → now r ≡ now (roots .entry)) ⌝ }
+    ensures { λ r. ⌜ (Passes (contentsWith settings finality (now (registry .entry)) (now (roots .entry)) (now (slashings .entry))) queue (now (file .entry)) (now («registry_read» .entry)) (now («slashings_read» .entry)) → now r ≡ now (roots .entry)) ⌝ }
 {
-    record_file::write_file(settings, finality, registry, roots, slashings, file);
+    record_file::write_file(settings, finality, queue, registry, roots, slashings, file);
     let bytes = &file[..];
     record_file::file_roots(bytes, registry_read, slashings_read)
 }
 
-// An accepted file, read and then written, is the same bytes.
+// An accepted file of version 2, read and then written, is the same bytes.
 fn read_then_write(
     bytes: &[u8],
     registry: &mut [u64],
@@ -54,9 +57,11 @@ fn read_then_write(
     let read = record_file::read_file(bytes, registry, slashings);
     let settings = read.settings;
     let finality = read.finality;
+    let queue = read.queue;
     record_file::write_file(
         settings,
         finality,
+        queue,
         &registry[..],
         roots,
         &slashings[..],

@@ -7,7 +7,7 @@ use native.Mathlib.Omega.{arith}
 use borrow.Author.Tests.{ltb-true, leb-true}
 use lib.Dec.{ltb, leb}
 use Rattle.definitions.specs.Lists.{sum}
-use Rattle.definitions.specs.Checked.{Refusal, badShape, badSettings, badRecord, noRoot, overflow, badFile, signedOverflow, beforeGenesis, noSeconds, numberOf, Checked, value, refused, bind, add64, sub64, mul64, sum64, mapChecked, foldChecked}
+use Rattle.definitions.specs.Checked.{Refusal, badShape, badSettings, badRecord, noRoot, overflow, badFile, signedOverflow, wrongQueue, noExit, tooEarly, fullList, lateStart, noEntry, beforeGenesis, noSeconds, numberOf, Checked, value, refused, bind, add64, sub64, mul64, sum64, mapChecked, foldChecked}
 
 -- 0 is no refusal's number: the one law that goes through them all
 pub number-not-zero : (r : Refusal) → numberOf r ≡ 0 → ⊥
@@ -18,6 +18,12 @@ number-not-zero noRoot e = omega arith
 number-not-zero overflow e = omega arith
 number-not-zero badFile e = omega arith
 number-not-zero signedOverflow e = omega arith
+number-not-zero wrongQueue e = omega arith
+number-not-zero noExit e = omega arith
+number-not-zero tooEarly e = omega arith
+number-not-zero fullList e = omega arith
+number-not-zero lateStart e = omega arith
+number-not-zero noEntry e = omega arith
 number-not-zero beforeGenesis e = omega arith
 number-not-zero noSeconds e = omega arith
 

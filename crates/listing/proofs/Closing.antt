@@ -4,7 +4,7 @@ use mathlib.Core.Path.{_≡_, refl, _∙_}
 use Prim.Native.Nat.{ℕ}
 use lib.ListN.{length}
 use Rattle.definitions.specs.Checked.{Checked, value, refused, bind, codeOf}
-use Rattle.definitions.specs.File.{Contents, nothing}
+use Rattle.definitions_file.specs.File.{Contents, nothing}
 use Rattle.definitions.specs.Refusals.{inOrder, settingsShaped, afterTests, closingBuffer}
 use Rattle.definitions.specs.Rules.{rulesShaped}
 use Rattle.definitions.specs.Close.{closeTests, closed, close}

@@ -6,7 +6,7 @@ use Prim.Native.Nat.{ℕ}
 use native.Mathlib.Omega.{arith}
 use lib.ListN.{length}
 use Rattle.definitions.specs.Checked.{Checked, value, refused, bind, codeOf}
-use Rattle.definitions.specs.File.{contentsOf, nothing, goodHeader, fileShaped, readTests, readFile, read}
+use Rattle.definitions_file.specs.File.{contentsOf, nothing, goodHeader, fileShaped, readTests, readFile, read}
 use Rattle.loops.proofs.Ran.{code-value}
 use Rattle.round_trip.proofs.Passed.{Passed, read-passed, Accepted, accepted}
 use Rattle.record_file.proofs.Reading as reading

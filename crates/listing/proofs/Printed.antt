@@ -6,7 +6,7 @@ use lib.ListN.{length}
 use Rattle.types.specs.declared.Settings.{Settings}
 use Rattle.types.specs.declared.Finality.{Finality}
 use Rattle.definitions.specs.Close.{close}
-use Rattle.definitions.specs.File.{Contents, read}
+use Rattle.definitions_file.specs.File.{Contents, read}
 use Rattle.record_file.specs.Answers.{contentsWith}
 use Rattle.decimals.specs.Put.{Put}
 use Rattle.definitions_listing.specs.Lines.{refusedLine, closePrinted}

@@ -7,7 +7,7 @@ use native.Mathlib.Omega.{arith}
 use borrow.Author.Tests.{eqb-true, le-ltb}
 use lib.Dec.{eqb}
 use lib.ListN.{length, length-replicate, replicate}
-use Rattle.definitions.specs.File.{Contents, contentsOf, countOf, slashingCountOf, goodHeader}
+use Rattle.definitions_file.specs.File.{Contents, contentsOf, countOf, slashingCountOf, goodHeader}
 use Rattle.definitions.specs.Close.{Call, Outcome, close}
 use Rattle.definitions_listing.specs.Lines.{orRefused, closeText, acceptedText, closePrinted}
 use Rattle.definitions_listing.specs.Listing.{opened, callOf, closing, printed, listing}

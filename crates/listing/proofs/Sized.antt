@@ -8,7 +8,7 @@ use borrow.Author.Tests.{leb-true, lt-ltb, le-ltb, not-true, not-false}
 use lib.Dec.{leb}
 use lib.ListN.{length, take, drop}
 use lib.Seq.{length-take-le, sets, sets-eq}
-use Rattle.definitions.specs.File.{Contents, nothing, goodHeader, countOf, slashingCountOf}
+use Rattle.definitions_file.specs.File.{Contents, nothing, goodHeader, countOf, slashingCountOf}
 use Rattle.definitions.specs.Close.{Call, close}
 use Rattle.round_trip.proofs.Tests.{tests}
 use Rattle.record_file.specs.declared.Header.{Header}

@@ -4,7 +4,7 @@ use mathlib.Core.Path.{_≡_, refl, sym, ap, _∙_}
 use Prim.Native.Nat.{ℕ, _≤_}
 use native.Mathlib.Omega.{arith}
 use lib.ListN.{length}
-use Rattle.definitions.specs.File.{Contents}
+use Rattle.definitions_file.specs.File.{Contents}
 use Rattle.decimals.specs.Put.{Put}
 use Rattle.decimals.proofs.Put.{put-more, put-length}
 use Rattle.definitions_listing.specs.Lines.{refusedLine}

@@ -11,7 +11,7 @@ use lib.Seq.{sets}
 use Rattle.types.specs.declared.Settings.{Settings}
 use Rattle.types.specs.declared.Finality.{Finality}
 use Rattle.definitions.specs.Refusals.{registryShaped, lengthIs}
-use Rattle.definitions.specs.File.{Contents, numbersFromBytes, countOf, rootCountOf, slashingCountOf, contentsOf, read}
+use Rattle.definitions_file.specs.File.{Contents, numbersFromBytes, countOf, rootCountOf, slashingCountOf, contentsOf, read}
 use Rattle.definitions_listing.specs.Listing.{opened}
 use Rattle.file_refusals.specs.Tests.{contentsWith}
 use Rattle.fields.proofs.Stores.{sets-whole}

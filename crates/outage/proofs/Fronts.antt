@@ -6,7 +6,7 @@ use Prim.Native.Nat.{ℕ, _*_, _≤_}
 use native.Mathlib.Omega.{arith}
 use lib.ListN.{length, take}
 use lib.Seq.{length-take-le}
-use Rattle.definitions.specs.File.{goodHeader, countOf, rootCountOf, slashingCountOf}
+use Rattle.definitions_file.specs.File.{goodHeader, countOf, rootCountOf, slashingCountOf}
 use Rattle.round_trip.proofs.Passed.{good-header}
 use Rattle.record_file.specs.declared.Header.{Header}
 use Rattle.record_file.specs.Answers.{headerRead}

@@ -6,7 +6,7 @@ use Prim.Native.Nat.{ℕ, _*_}
 use native.Mathlib.Omega.{arith}
 use lib.ListN.{length, length-replicate, replicate}
 use Rattle.definitions.specs.Checked.{bind}
-use Rattle.definitions.specs.File.{Contents, goodHeader, countOf, slashingCountOf, contentsOf, readTests, readFile, read}
+use Rattle.definitions_file.specs.File.{Contents, goodHeader, countOf, slashingCountOf, contentsOf, readTests, readFile, read}
 use Rattle.definitions_listing.specs.Lines.{refusedLine}
 use Rattle.definitions_listing.specs.Listing.{opened}
 use Rattle.listing_close.proofs.Printed.{or-refused, or-text}

@@ -7,7 +7,7 @@ use Prim.Native.Nat.{ℕ, _*_, _≤_}
 use lib.ListN.{length}
 use Rattle.types.specs.declared.Settings.{Settings}
 use Rattle.types.specs.declared.Finality.{Finality}
-use Rattle.definitions.specs.File.{goodHeader, countOf, rootCountOf, slashingCountOf, contentsOf}
+use Rattle.definitions_file.specs.File.{goodHeader, countOf, rootCountOf, slashingCountOf, contentsOf}
 use Rattle.definitions_listing.specs.Listing.{opened}
 use Rattle.decimals.specs.Put.{Put}
 

@@ -4,7 +4,7 @@ ghost use mathlib.Core.Bool.{true};
 ghost use Prim.Native.Nat.{_+_, _*_, _/_, _^_, _≤_};
 ghost use lib.ListN.{length};
 ghost use Rattle.definitions.specs.Refusals.{registryShaped};
-ghost use Rattle.definitions.specs.File.{countOf};
+ghost use Rattle.definitions_file.specs.File.{countOf};
 ghost use Rattle.file_refusals.specs.Tests.{contentsWith};
 ghost use Rattle.decimals.specs.Put.{Put};
 ghost use Rattle.definitions_outage.specs.Input.{planOf, goodTail};

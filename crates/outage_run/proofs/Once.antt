@@ -8,7 +8,7 @@ use lib.ListN.{length}
 use Rattle.types.specs.declared.CloseAnswer.{CloseAnswer}
 use Rattle.definitions.specs.Checked.{Checked, value, refused, bind, codeOf}
 use Rattle.definitions.specs.Refusals.{afterTests, closingBuffer}
-use Rattle.definitions.specs.File.{Contents}
+use Rattle.definitions_file.specs.File.{Contents}
 use Rattle.definitions.specs.Close.{Outcome, closeTests, closed, close}
 use Rattle.laws.proofs.Checked.{number-not-zero}
 use Rattle.close.specs.Called.{outcome}

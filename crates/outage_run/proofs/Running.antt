@@ -7,7 +7,7 @@ use native.Mathlib.Omega.{arith}
 use borrow.Author.Tests.{eq-eqb, ne-eqb}
 use lib.ListN.{length}
 use Rattle.types.specs.declared.Settings.{Settings}
-use Rattle.definitions.specs.File.{Contents}
+use Rattle.definitions_file.specs.File.{Contents}
 use Rattle.decimals.specs.Put.{Put}
 use Rattle.decimals.proofs.Put.{put-more}
 use Rattle.definitions_outage.specs.Input.{Plan}

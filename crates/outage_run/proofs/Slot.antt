@@ -10,7 +10,7 @@ use Rattle.definitions.specs.Record.{BeaconState}
 use Rattle.definitions.specs.Checked.{Checked, value, refused, bind, foldChecked, codeOf, settle}
 use Rattle.definitions.specs.Refusals.{goodFinality, goodRegistry, afterTests}
 use Rattle.definitions.specs.Rules.{settingsUnder}
-use Rattle.definitions.specs.File.{Contents}
+use Rattle.definitions_file.specs.File.{Contents}
 use Rattle.definitions.specs.Close.{Step, Call, stateOf, step, closeUpTo, «process_epoch», closeTests, closed, close}
 use Rattle.laws.proofs.Checked.{bound, number-not-zero, value-same}
 use Rattle.refusals.proofs.All.{both}

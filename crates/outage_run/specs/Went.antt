@@ -3,7 +3,7 @@ use mathlib.Core.List.{List}
 use mathlib.Core.Path.{_≡_}
 use Prim.Native.Nat.{ℕ, _+_, _*_, _≤_}
 use lib.ListN.{length}
-use Rattle.definitions.specs.File.{Contents}
+use Rattle.definitions_file.specs.File.{Contents}
 use Rattle.decimals.specs.Put.{Put}
 use Rattle.definitions_outage.specs.Run.{Run}
 

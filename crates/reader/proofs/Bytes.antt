@@ -7,7 +7,7 @@ use native.Mathlib.Omega.{arith}
 use lib.Dec.{lit<}
 use lib.ListN.{length, getD, take, drop}
 use lib.Seq.{drop-cons}
-use Rattle.definitions.specs.File.{fromLittleEndian, numberAt}
+use Rattle.definitions_file.specs.File.{fromLittleEndian, numberAt}
 
 -- one byte more, in front
 pub field-more : (bytes : List ℕ) (at m : ℕ) → at < length bytes → fromLittleEndian (take (suc m) (drop at bytes)) ≡ getD bytes at 0 + 256 * fromLittleEndian (take m (drop (suc at) bytes))

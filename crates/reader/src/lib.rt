@@ -2,7 +2,7 @@
 ghost use mathlib.Core.Path.{_≡_};
 ghost use Prim.Native.Nat.{_+_, _≤_, _<_};
 ghost use lib.ListN.{length};
-ghost use Rattle.definitions.specs.File.{numberAt};
+ghost use Rattle.definitions_file.specs.File.{numberAt};
 
 pub struct Reader<'a> {
     pub bytes: &'a [u8],

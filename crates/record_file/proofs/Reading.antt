@@ -9,7 +9,7 @@ use lib.Dec.{leb, eqb}
 use lib.ListN.{length, take, drop}
 use Rattle.definitions.specs.Checked.{Checked, value, refused, bind, codeOf, settle}
 use Rattle.definitions.specs.Refusals.{isVectorLength, lengthIs}
-use Rattle.definitions.specs.File.{Contents, numbersFromBytes, slashingsAt, countOf, rootCountOf, slashingCountOf, rootsAt, fileLength, contentsOf, goodHeader, fileShaped, readTests, readFile, nothing, read}
+use Rattle.definitions_file.specs.File.{Contents, versionOf, validatorsAt, numbersFromBytes, slashingsAt, countOf, rootCountOf, slashingCountOf, rootsAt, fileLength, contentsOf, goodHeader, fileShaped, readTests, readFile, nothing, read}
 use Rattle.refusals.proofs.Answers.{passed}
 use Rattle.round_trip.proofs.Tests.{tests}
 use Rattle.round_trip.proofs.Passed.{Passed, read-passed, good-header}
@@ -48,7 +48,8 @@ pub record Gives (bytes registry slashings : List ℕ) (refusal : ℕ) (c : Cont
 
 -- the file and the two lent buffers are as long as the header calls for
 pub record Lengths (bytes registry slashings : List ℕ) : Type 0 where
-  pub file : length bytes ≡ fileLength (countOf bytes) (rootCountOf bytes) (slashingCountOf bytes)
+  pub header : goodHeader bytes ≡ true
+  pub file : length bytes ≡ fileLength (versionOf bytes) (countOf bytes) (rootCountOf bytes) (slashingCountOf bytes)
   pub entries : length registry ≡ 10 * countOf bytes
   pub sums : length slashings ≡ slashingCountOf bytes
 
@@ -60,7 +61,7 @@ lengths {bytes} {registry} {slashings} p =
     let S = rootCountOf bytes in
     let L = slashingCountOf bytes in
     let test = tests (leb n (2 ^ 24)) (isVectorLength S ∷ isVectorLength L ∷ eqb S (c .settings .«slots_per_historical_root») ∷ eqb L (c .settings .«epochs_per_slashings_vector») ∷ lengthIs (10 * n) registry ∷ lengthIs L slashings ∷ []) (p .shaped) in
-    record { file = good-header bytes (p .header) .long; entries = eqb-true _ _ (test 5); sums = eqb-true _ _ (test 6) }
+    record { header = p .header; file = good-header bytes (p .header) .long; entries = eqb-true _ _ (test 5); sums = eqb-true _ _ (test 6) }
 
 module _ (bytes registry slashings : List ℕ) {x : ℕ} (e : x ≡ codeOf (readTests bytes registry slashings)) where
   pub read-refused : (x ≡ 0 → ⊥) → Gives bytes registry slashings x (nothing registry slashings)
@@ -86,19 +87,19 @@ module _ (bytes registry slashings : List ℕ) {x : ℕ} (e : x ≡ codeOf (read
 -- The file's parts by the buffers' lengths
 
 module _ {bytes registry slashings : List ℕ} (l : Lengths bytes registry slashings) where
-  pub registry-part : numbersFromBytes (length registry) (drop 368 bytes) ≡ contentsOf bytes .registry
+  pub registry-part : numbersFromBytes (length registry) (drop (validatorsAt (versionOf bytes)) bytes) ≡ contentsOf bytes .registry
   unfolding contentsOf
   registry-part = rw (l .entries)
 
-  pub roots-part : take (length bytes - 8 * length slashings - (368 + 8 * length registry)) (drop (368 + 8 * length registry) bytes) ≡ contentsOf bytes .roots
+  pub roots-part : take (length bytes - 8 * length slashings - (validatorsAt (versionOf bytes) + 8 * length registry)) (drop (validatorsAt (versionOf bytes) + 8 * length registry) bytes) ≡ contentsOf bytes .roots
   unfolding contentsOf
   roots-part =
-      let from : 368 + 8 * length registry ≡ rootsAt (countOf bytes) = omega arith in
-      let size : length bytes - 8 * length slashings - rootsAt (countOf bytes) ≡ 32 * rootCountOf bytes = omega arith in
+      let from : validatorsAt (versionOf bytes) + 8 * length registry ≡ rootsAt (versionOf bytes) (countOf bytes) = omega arith in
+      let size : length bytes - 8 * length slashings - rootsAt (versionOf bytes) (countOf bytes) ≡ 32 * rootCountOf bytes = omega arith in
       rw (from, size)
 
   pub slashings-part : numbersFromBytes (length slashings) (drop (length bytes - 8 * length slashings) bytes) ≡ contentsOf bytes .slashings
   unfolding contentsOf
   slashings-part =
-      let from : length bytes - 8 * length slashings ≡ slashingsAt (countOf bytes) (rootCountOf bytes) = omega arith in
+      let from : length bytes - 8 * length slashings ≡ slashingsAt (versionOf bytes) (countOf bytes) (rootCountOf bytes) = omega arith in
       rw (from, l .sums)

@@ -1,10 +1,12 @@
 // A record file read and written over lent bytes and buffers: all of it is tested before anything is written.
 ghost use mathlib.Core.Path.{_≡_};
+ghost use mathlib.Core.Bool.{true};
 ghost use mathlib.Core.List.{[]};
-ghost use Rattle.definitions.specs.Checked.{value, codeOf};
-ghost use Rattle.definitions.specs.File.{settingsFrom, noFinality, read, fileOf, writeTests, written};
-ghost use Rattle.record_file.specs.Answers.{noHeader, headerRead, contentsWith};
+ghost use Rattle.definitions.specs.Checked.{codeOf};
+ghost use Rattle.definitions_file.specs.File.{validatorsAt, versionOf, settingsFrom, noFinality, goodHeader, read, fileOf, writeTests, written};
+ghost use Rattle.record_file.specs.Answers.{noHeader, headerRead, Sized, contentsWith};
 use types::Checkpoint;
+use types::ExitQueue;
 use types::Finality;
 use types::Settings;
 
@@ -54,6 +56,7 @@ pub struct ReadAnswer {
     pub position: u64,
     pub settings: Settings,
     pub finality: Finality,
+    pub queue: ExitQueue,
 }
 
 fn no_settings() -> Settings
@@ -98,34 +101,47 @@ fn no_finality() -> Finality
     }
 }
 
+fn registry_at(bytes: &[u8]) -> usize
+    requires { ⌜ goodHeader (now bytes) ≡ true ⌝ }
+    ensures { λ r. ⌜ r ≡ validatorsAt (versionOf (now (bytes .entry))) ⌝ }
+{
+    let counts = file_header::read_counts(bytes);
+    file_header::validators_at(counts.version) as usize
+}
+
 // The registry and the slashings go into the lent buffers, once every test has passed.
 pub fn read_file(bytes: &[u8], registry: &mut [u64], slashings: &mut [u64]) -> ReadAnswer
     ensures { λ r. ⌜ r .refusal ≡ read (now (bytes .entry)) (now (registry .entry)) (now (slashings .entry)) .refusal ⌝ }
     ensures { λ r. ⌜ r .position ≡ read (now (bytes .entry)) (now (registry .entry)) (now (slashings .entry)) .position ⌝ }
     ensures { λ r. ⌜ r .settings ≡ read (now (bytes .entry)) (now (registry .entry)) (now (slashings .entry)) .contents .settings ⌝ }
     ensures { λ r. ⌜ r .finality ≡ read (now (bytes .entry)) (now (registry .entry)) (now (slashings .entry)) .contents .finality ⌝ }
+    ensures { λ r. ⌜ r .queue ≡ read (now (bytes .entry)) (now (registry .entry)) (now (slashings .entry)) .queue ⌝ }
     ensures { λ _. ⌜ now (registry .exit) ≡ read (now (bytes .entry)) (now (registry .entry)) (now (slashings .entry)) .contents .registry ⌝ }
     ensures { λ _. ⌜ now (slashings .exit) ≡ read (now (bytes .entry)) (now (registry .entry)) (now (slashings .entry)) .contents .slashings ⌝ }
 {
     let tested = file_refusals::read_tests(bytes, &registry[..], &slashings[..]);
+    let queue = tested.queue;
     if tested.refusal != 0 {
         return ReadAnswer {
             refusal: tested.refusal,
             position: tested.position,
             settings: no_settings(),
             finality: no_finality(),
+            queue,
         };
     }
     let settings = fields::read_settings(bytes);
     let finality = fields::read_finality(bytes);
+    let from = registry_at(bytes);
     let slashings_at = bytes.len() - 8 * slashings.len();
-    fields::read_numbers(bytes, 368, registry);
+    fields::read_numbers(bytes, from, registry);
     fields::read_numbers(bytes, slashings_at, slashings);
     ReadAnswer {
         refusal: 0,
         position: tested.position,
         settings,
         finality,
+        queue,
     }
 }
 
@@ -137,29 +153,31 @@ pub fn file_roots<'a>(bytes: &'a [u8], registry: &[u64], slashings: &[u64]) -> &
     if tested.refusal != 0 {
         return &bytes[0..0];
     }
-    let from = 368 + 8 * registry.len();
+    let from = registry_at(bytes) + 8 * registry.len();
     let to = bytes.len() - 8 * slashings.len();
     &bytes[from..to]
 }
 
 // Writing
 
-// Part by part, each behind the one before.
-fn put_record(
+// Part by part, each behind the one before. Nothing is tested.
+pub fn put_record(
     settings: Settings,
     finality: Finality,
+    queue: ExitQueue,
     registry: &[u64],
     roots: &[u8],
     slashings: &[u64],
     file: &mut [u8],
 )
-    requires { ⌜ writeTests (contentsWith settings finality (now registry) (now roots) (now slashings)) (now file) ≡ value tt ⌝ }
-    ensures { λ _. ⌜ now (file .exit) ≡ fileOf (contentsWith settings finality (now (registry .entry)) (now (roots .entry)) (now (slashings .entry))) ⌝ }
+    requires { ⌜ Sized (contentsWith settings finality (now registry) (now roots) (now slashings)) (now file) ⌝ }
+    ensures { λ _. ⌜ now (file .exit) ≡ fileOf (contentsWith settings finality (now (registry .entry)) (now (roots .entry)) (now (slashings .entry))) queue ⌝ }
 {
     let validators = registry.len() / 10;
-    let roots_at = 368 + 80 * validators;
+    let roots_at = 384 + 80 * validators;
     let slashings_at = roots_at + roots.len();
     let head = file_header::header_of(
+        2,
         validators as u64,
         settings.slots_per_historical_root,
         settings.epochs_per_slashings_vector,
@@ -167,25 +185,29 @@ fn put_record(
     fields::put_numbers(file, 0, &head);
     fields::put_settings(file, 80, settings);
     fields::put_finality(file, 232, finality);
-    fields::put_numbers(file, 368, registry);
+    fields::put_queue(file, 368, queue);
+    fields::put_numbers(file, 384, registry);
     fields::put_bytes(file, roots_at, roots);
     fields::put_numbers(file, slashings_at, slashings);
 }
 
+// As version 2.
 pub fn write_file(
     settings: Settings,
     finality: Finality,
+    queue: ExitQueue,
     registry: &[u64],
     roots: &[u8],
     slashings: &[u64],
     file: &mut [u8],
 ) -> u64
-    ensures { λ r. ⌜ r ≡ codeOf (writeTests (contentsWith settings finality (now (registry .entry)) (now (roots .entry)) (now (slashings .entry))) (now (file .entry))) ⌝ }
-    ensures { λ _. ⌜ now (file .exit) ≡ written (contentsWith settings finality (now (registry .entry)) (now (roots .entry)) (now (slashings .entry))) (now (file .entry)) ⌝ }
+    ensures { λ r. ⌜ r ≡ codeOf (writeTests (contentsWith settings finality (now (registry .entry)) (now (roots .entry)) (now (slashings .entry))) queue (now (file .entry))) ⌝ }
+    ensures { λ _. ⌜ now (file .exit) ≡ written (contentsWith settings finality (now (registry .entry)) (now (roots .entry)) (now (slashings .entry))) queue (now (file .entry)) ⌝ }
 {
     let refusal = file_refusals::write_tests(
         settings,
         finality,
+        queue,
         registry,
         roots,
         slashings,
@@ -194,6 +216,6 @@ pub fn write_file(
     if refusal != 0 {
         return refusal;
     }
-    put_record(settings, finality, registry, roots, slashings, file);
+    put_record(settings, finality, queue, registry, roots, slashings, file);
     0
 }

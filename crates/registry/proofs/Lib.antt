@@ -5,4 +5,3 @@ pub mod Turns
 pub mod Step
 pub mod Total
 pub mod Seen
-pub mod Stops

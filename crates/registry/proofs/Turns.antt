@@ -20,7 +20,7 @@ use Rattle.loops.specs.Ran.{Ran}
 use Rattle.loops.proofs.Entry.{entryAt, putAt, entry-ten}
 use Rattle.loops.proofs.Iterated.{Iterated, iterated-none, iterated-more, iterated-stop, iterated-all}
 use Rattle.exits.specs.Exits.{exitAt}
-use Rattle.exit_queue.specs.declared.ExitQueue.{ExitQueue}
+use Rattle.types.specs.declared.ExitQueue.{ExitQueue}
 use Rattle.exit_queue.specs.declared.Turn.{Turn}
 use Rattle.exit_queue.specs.Queue.{Tracks, exitBy, moved}
 use Rattle.exit_queue.specs.Turns.{Exits, Turns}

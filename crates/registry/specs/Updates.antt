@@ -11,7 +11,7 @@ use Rattle.definitions.specs.Checked.{Checked, value, bind, foldChecked}
 use Rattle.definitions.specs.Document.Phase0.EpochProcessing.{queueEligible, isEjected}
 use Rattle.definitions.specs.RegisterOrder.{activated}
 use Rattle.exits.specs.Exits.{exitAt}
-use Rattle.exit_queue.specs.declared.ExitQueue.{ExitQueue}
+use Rattle.types.specs.declared.ExitQueue.{ExitQueue}
 use Rattle.exit_queue.specs.Queue.{exitBy}
 
 -- the activation exit epoch of an epoch

@@ -60,13 +60,16 @@ fn exit_place(index: u64, n: usize) -> usize {
     10 * (index as usize) + EXIT_EPOCH
 }
 
+// With the pair worked out, which the Rust does not have.
 fn initiate_validator_exit(c: Case, words: &[u64], copy: &mut [u64]) -> bool {
     let s = settings(c, words);
     let slot = number(c, words, 0);
     let index = number(c, words, 1);
-    let refusal = exits::initiate_validator_exit(s, slot, index, copy);
+    let found = validator_exit::found_queue(&copy[..]);
+    let queue = found.queue;
+    let answer = validator_exit::initiate_validator_exit(s, slot, index, queue, copy);
     let place = exit_place(index, copy.len());
-    lent_agrees(refusal, c, words, &copy[..], place)
+    lent_agrees(answer.refusal, c, words, &copy[..], place)
 }
 
 fn changes_agree(c: Case, words: &[u64], copy: &mut [u64]) -> bool {

@@ -27,7 +27,7 @@ fn given_differs(
         1 => steps::process_justification_and_finalization(r, o, words, bytes),
         7 => in_refusal(steps::process_slashings_reset(r, words, slashings), o),
         9 => steps::close(r, o, words, bytes, registry, slashings),
-        _ => in_refusal(steps::registry_step(operation, r, words, registry), o),
+        _ => in_refusal(steps::step_on_registry(operation, r, words, registry), o),
     }
 }
 

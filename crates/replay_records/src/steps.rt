@@ -11,9 +11,10 @@ use record_vectors::settings;
 use record_vectors::slashings;
 use record_vectors::slot;
 use rules::altair_rules;
+use types::CloseAnswer;
 use types::Settings;
 
-// Which part of what comes back differs.
+// Which part of what comes back differs. The Rust does not tell the test.
 pub fn process_justification_and_finalization(
     r: Record,
     o: Outcome,
@@ -21,13 +22,41 @@ pub fn process_justification_and_finalization(
     bytes: &[u8],
 ) -> u64 {
     let file = r.file;
-    let answer = justification::process_justification_and_finalization(
+    let answer = justification_step::process_justification_and_finalization(
         settings(file, words),
         roots(file, words, bytes, r.roots_bytes),
         finality(file, words, bytes),
         registry(file, words, r.registry_words),
     );
-    in_finality(answer, o, words, bytes, finality_place(file, words))
+    let after = answer.finality;
+    let raised = answer.raised;
+    let given = CloseAnswer {
+        refusal: answer.refusal,
+        finality: after,
+        raised,
+    };
+    in_finality(given, o, words, bytes, finality_place(file, words))
+}
+
+// With the pair worked out, which the Rust does not have.
+fn process_registry_updates(
+    s: Settings,
+    slot: u64,
+    finalized_epoch: u64,
+    opening: &[u64],
+    closing: &mut [u64],
+) -> u64 {
+    let found = validator_exit::found_queue(opening);
+    let queue = found.queue;
+    let answer = registry_step::process_registry_updates(
+        s,
+        slot,
+        finalized_epoch,
+        queue,
+        opening,
+        closing,
+    );
+    answer.refusal
 }
 
 fn on_registry(
@@ -48,7 +77,7 @@ fn on_registry(
             opening,
             closing,
         ),
-        4 => registry::process_registry_updates(s, slot, finalized_epoch, opening, closing),
+        4 => process_registry_updates(s, slot, finalized_epoch, opening, closing),
         5 => slashings::process_slashings(altair_rules(s), slot, slashings, opening, closing),
         6 => effective_balances::process_effective_balance_updates(s, opening, closing),
         _ => participation_flags::process_participation_flag_updates(opening, closing),
@@ -56,7 +85,7 @@ fn on_registry(
 }
 
 // The refusal of a step that is lent the closing registry.
-pub fn registry_step(operation: u64, r: Record, words: &[u64], closing: &mut [u64]) -> u64 {
+pub fn step_on_registry(operation: u64, r: Record, words: &[u64], closing: &mut [u64]) -> u64 {
     let file = r.file;
     on_registry(
         operation,

@@ -1,5 +1,5 @@
--- An accepted file, read and then written, is the same bytes.
-use mathlib.Core.Path.{_≡_, refl, subst, _∙_}
+-- An accepted file of version 2, read and then written, is the same bytes.
+use mathlib.Core.Path.{_≡_, refl, ap, subst, _∙_}
 use mathlib.Core.List.{List}
 use Prim.Native.Nat.{ℕ, _+_, _*_, _≤_}
 use native.Mathlib.Omega.{arith}
@@ -8,9 +8,9 @@ use lib.ListN.{length, take, drop, length-drop}
 use lib.Seq.{take-all, length-take-le}
 use Rattle.definitions.specs.Checked.{value}
 use Rattle.definitions.specs.Refusals.{settingsNumbers}
-use Rattle.definitions.specs.File.{Contents, littleEndian, numbersToBytes, numbersFromBytes, numberAt, countOf, rootCountOf, slashingCountOf, rootsAt, slashingsAt, fileLength, header, checkpointToBytes, checkpointAt, finalityToBytes, finalityFrom, fileOf, contentsOf, readTests, readFile, writeTests}
+use Rattle.definitions_file.specs.File.{Contents, littleEndian, versionOf, validatorsAt, queueFrom, queueIn, queueToBytes, numbersToBytes, numbersFromBytes, numberAt, countOf, rootCountOf, slashingCountOf, rootsAt, slashingsAt, fileLength, header, checkpointToBytes, checkpointAt, finalityToBytes, finalityFrom, fileOf, contentsOf, readTests, readFile, writeTests}
 use Rattle.laws.proofs.Checked.{bound, value-same}
-use Rattle.round_trip.specs.RoundTrip.{Below, TypedCheckpoint, Typed, SameBytes, ReadWritten}
+use Rattle.round_trip.specs.RoundTrip.{Below, TypedCheckpoint, Typed, TypedQueue, SameBytes, ReadWritten}
 use Rattle.round_trip.proofs.Numbers.{below-take, below-drop, number-below, from-bytes-below, eight-written, numbers-written}
 use Rattle.round_trip.proofs.Parts.{join}
 use Rattle.round_trip.proofs.Tests.{countIn, rootCountIn, slashingCountIn, good-write}
@@ -42,32 +42,45 @@ module _ (bytes : List ℕ) (b : Below 256 bytes) where
       )
       (join 232 96 328 40 136 bytes refl refl)
 
+  queue-written : 384 ≤ length bytes → queueToBytes (queueFrom bytes) ≡ take 16 (drop 368 bytes)
+  queue-written h = rw (number-written 368 (omega arith), number-written 376 (omega arith)) (join 368 8 376 8 16 bytes refl refl)
+
   settings-written : 368 ≤ length bytes → numbersToBytes (settingsNumbers (contentsOf bytes .settings)) ≡ take 152 (drop 80 bytes)
   unfolding contentsOf numbersFromBytes
   settings-written h = run-written 80 19 (omega arith)
 
-  module _ (a : Accepted bytes) where
-    header-written : numbersToBytes (header (countIn (contentsOf bytes)) (rootCountIn (contentsOf bytes)) (slashingCountIn (contentsOf bytes))) ≡ take 80 bytes
-    header-written = rw (a .count, a .root-count, a .slashing-count, ← a .header .numbers) (run-written 0 10 (omega (arith, a .header .long)))
+  queue-typed : TypedQueue (queueFrom bytes)
+  queue-typed = record { last = number-below 368 b; number = number-below 376 b }
+
+  module _ (a : Accepted bytes) (v : versionOf bytes ≡ 2) where
+    queue-stored : queueIn bytes ≡ queueFrom bytes
+    unfolding queueIn
+    queue-stored = rw v
+
+    numbers : numbersFromBytes 10 bytes ≡ header 2 (countOf bytes) (rootCountOf bytes) (slashingCountOf bytes)
+    numbers = a .header .numbers ∙ ap (λ (version : ℕ). header version (countOf bytes) (rootCountOf bytes) (slashingCountOf bytes)) v
+
+    header-written : numbersToBytes (header 2 (countIn (contentsOf bytes)) (rootCountIn (contentsOf bytes)) (slashingCountIn (contentsOf bytes))) ≡ take 80 bytes
+    header-written = rw (a .count, a .root-count, a .slashing-count, ← numbers) (run-written 0 10 (omega (arith, a .header .long)))
 
     finality-part : finalityToBytes (contentsOf bytes .finality) ≡ take 136 (drop 232 bytes)
     unfolding contentsOf
     finality-part = finality-written (omega (arith, a .header .long))
 
-    registry-written : numbersToBytes (contentsOf bytes .registry) ≡ take (80 * countOf bytes) (drop 368 bytes)
+    registry-written : numbersToBytes (contentsOf bytes .registry) ≡ take (80 * countOf bytes) (drop 384 bytes)
     unfolding contentsOf
     registry-written =
         let n = countOf bytes in
         let e : 8 * (10 * n) ≡ 80 * n = omega arith in
-        rw (← e) (run-written 368 (10 * n) (omega (arith, a .header .long)))
+        rw (v, ← e) (run-written 384 (10 * n) (omega (arith, a .header .long)))
 
-    roots-written : contentsOf bytes .roots ≡ take (32 * rootCountOf bytes) (drop (rootsAt (countOf bytes)) bytes)
+    roots-written : contentsOf bytes .roots ≡ take (32 * rootCountOf bytes) (drop (rootsAt 2 (countOf bytes)) bytes)
     unfolding contentsOf
-    roots-written = refl
+    roots-written = rw v
 
-    slashings-written : numbersToBytes (contentsOf bytes .slashings) ≡ take (8 * slashingCountOf bytes) (drop (slashingsAt (countOf bytes) (rootCountOf bytes)) bytes)
+    slashings-written : numbersToBytes (contentsOf bytes .slashings) ≡ take (8 * slashingCountOf bytes) (drop (slashingsAt 2 (countOf bytes) (rootCountOf bytes)) bytes)
     unfolding contentsOf
-    slashings-written = run-written (slashingsAt (countOf bytes) (rootCountOf bytes)) (slashingCountOf bytes) (omega (arith, a .header .long))
+    slashings-written = rw v (run-written (slashingsAt 2 (countOf bytes) (rootCountOf bytes)) (slashingCountOf bytes) (omega (arith, a .header .long)))
 
     checkpoint-typed : (o : ℕ) → o + 40 ≤ 368 → TypedCheckpoint (checkpointAt o bytes)
     checkpoint-typed o h =
@@ -87,12 +100,12 @@ module _ (bytes : List ℕ) (b : Below 256 bytes) where
           previous = checkpoint-typed 248 (lit≤ tt);
           current = checkpoint-typed 288 (lit≤ tt);
           finalized = checkpoint-typed 328 (lit≤ tt);
-          registry = from-bytes-below (10 * countOf bytes) (below-drop 368 b);
-          roots = below-take (32 * rootCountOf bytes) (below-drop (rootsAt (countOf bytes)) b);
-          slashings = from-bytes-below (slashingCountOf bytes) (below-drop (slashingsAt (countOf bytes) (rootCountOf bytes)) b);
+          registry = from-bytes-below (10 * countOf bytes) (below-drop (validatorsAt (versionOf bytes)) b);
+          roots = below-take (32 * rootCountOf bytes) (below-drop (rootsAt (versionOf bytes) (countOf bytes)) b);
+          slashings = from-bytes-below (slashingCountOf bytes) (below-drop (slashingsAt (versionOf bytes) (countOf bytes) (rootCountOf bytes)) b);
         }
 
-    file-written : fileOf (contentsOf bytes) ≡ bytes
+    file-written : fileOf (contentsOf bytes) (queueFrom bytes) ≡ bytes
     unfolding fileOf
     file-written =
         let n = countOf bytes in
@@ -102,16 +115,18 @@ module _ (bytes : List ℕ) (b : Below 256 bytes) where
           header-written,
           settings-written (omega (arith, a .header .long)),
           finality-part,
+          queue-written (omega (arith, a .header .long)),
           registry-written,
           roots-written,
           slashings-written,
           join 0 80 80 152 232 bytes refl refl,
           join 0 232 232 136 368 bytes refl refl,
-          join 0 368 368 (80 * n) (rootsAt n) bytes refl refl,
-          join 0 (rootsAt n) (rootsAt n) (32 * S) (slashingsAt n S) bytes (omega arith) refl,
-          join 0 (slashingsAt n S) (slashingsAt n S) (8 * L) (fileLength n S L) bytes (omega arith) refl,
+          join 0 368 368 16 384 bytes refl refl,
+          join 0 384 384 (80 * n) (rootsAt 2 n) bytes refl refl,
+          join 0 (rootsAt 2 n) (rootsAt 2 n) (32 * S) (slashingsAt 2 n S) bytes (omega arith) refl,
+          join 0 (slashingsAt 2 n S) (slashingsAt 2 n S) (8 * L) (fileLength 2 n S L) bytes (omega arith) refl,
         )
-        (take-all (fileLength n S L) bytes (omega (arith, a .header .long)))
+        (take-all (fileLength 2 n S L) bytes (omega (arith, a .header .long)))
 
 -- what an accepted read finds is what the bytes hold
 contents-found : (bytes registry slashings : List ℕ) {c : Contents} → readFile bytes registry slashings ≡ value c → contentsOf bytes ≡ c
@@ -119,9 +134,19 @@ unfolding readFile
 contents-found bytes registry slashings e = value-same (bound (readTests bytes registry slashings) (λ _. value (contentsOf bytes)) e .then)
 
 pub read-written : ReadWritten
-read-written bytes registry slashings file c b e long =
+read-written bytes registry slashings file c b e v long =
     let d = contentsOf bytes in
+    let q = queueIn bytes in
     let a = accepted bytes registry slashings (read-passed bytes registry slashings e) in
-    let passes : writeTests d file ≡ value tt = good-write d file (a .good) (rw (a .count, a .root-count, a .slashing-count) (long ∙ a .header .long)) in
-    let same : SameBytes d bytes file = record { typed = contents-typed bytes b a; passes = passes; same = is-file d file passes ∙ file-written bytes b a } in
-    subst (λ (c : Contents). SameBytes c bytes file) (contents-found bytes registry slashings e) same
+    let as-long : length file ≡ fileLength 2 (countOf bytes) (rootCountOf bytes) (slashingCountOf bytes) = omega (arith, a .header .long) in
+    let passes : writeTests d q file ≡ value tt = good-write d q file (a .good) (rw (a .count, a .root-count, a .slashing-count) as-long) (a .queue) in
+    let stored = queue-stored bytes b a v in
+    let same : SameBytes d q bytes file =
+    record {
+      typed = contents-typed bytes b a v;
+      typed-pair = rw stored (queue-typed bytes b);
+      passes = passes;
+      same = is-file d q file passes ∙ rw stored (file-written bytes b a v);
+    }
+    in
+    subst (λ (c : Contents). SameBytes c q bytes file) (contents-found bytes registry slashings e) same

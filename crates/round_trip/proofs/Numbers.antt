@@ -6,7 +6,7 @@ use native.Mathlib.Nat.{pow-succ', mod-add-div}
 use native.Mathlib.Omega.{arith}
 use lib.ListN.{length, getD, take, drop, length-append, length-take, length-drop}
 use lib.Seq.{take-at, drop-at, take-add, drop-drop, getD-take, getD-drop, length-take-le}
-use Rattle.definitions.specs.File.{littleEndian, fromLittleEndian, numbersToBytes, numbersFromBytes, numberAt}
+use Rattle.definitions_file.specs.File.{littleEndian, fromLittleEndian, numbersToBytes, numbersFromBytes, numberAt}
 use Rattle.round_trip.specs.RoundTrip.{Below}
 
 -- Numbers below a bound, in parts

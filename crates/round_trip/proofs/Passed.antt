@@ -1,4 +1,4 @@
--- What an accepted file says: tests 6, 1, 2 and 3 of reading, in numbers.
+-- What an accepted file says: tests 6, 1, 2, 3 and 8 of reading, in numbers.
 use mathlib.Core.Path.{_≡_, refl, sym, ap₂}
 use mathlib.Core.Bool.{Bool, true, false, cond, false≢true}
 use mathlib.Core.List.{List, [], _∷_}
@@ -8,12 +8,14 @@ use borrow.Author.Tests.{leb-true, eqb-true}
 use lib.Dec.{leb, eqb}
 use lib.ListN.{length, drop, length-drop}
 use lib.Seq.{length-take-le}
+use Rattle.definitions.specs.Record.{decode}
 use Rattle.definitions.specs.Checked.{Checked, value, refused, badFile}
 use Rattle.definitions.specs.Refusals.{isVectorLength, lengthIs, goodSettings, goodFinality, goodRegistry}
-use Rattle.definitions.specs.File.{Contents, numbersFromBytes, header, countOf, rootCountOf, slashingCountOf, rootsAt, slashingsAt, fileLength, contentsOf, sameNumbers, goodHeader, fileShaped, readTests, readFile}
+use Rattle.definitions.specs.ExitQueue.{isQueueOf, queueTest}
+use Rattle.definitions_file.specs.File.{Contents, numbersFromBytes, versionOf, validatorsAt, queueIn, header, countOf, rootCountOf, slashingCountOf, rootsAt, slashingsAt, fileLength, contentsOf, sameNumbers, goodHeader, fileShaped, readTests, readFile}
 use Rattle.laws.proofs.Checked.{not-value, bound}
 use Rattle.round_trip.proofs.Numbers.{length-from-bytes}
-use Rattle.round_trip.proofs.Tests.{Good, countIn, rootCountIn, slashingCountIn, tests, in-order, vector-length}
+use Rattle.round_trip.proofs.Tests.{Good, countIn, rootCountIn, slashingCountIn, tests, in-order, vector-length, queue-passed}
 
 -- every test passes
 pub record Passed (bytes lentRegistry lentSlashings : List ℕ) : Type 0 where
@@ -22,6 +24,7 @@ pub record Passed (bytes lentRegistry lentSlashings : List ℕ) : Type 0 where
   pub settings : goodSettings (contentsOf bytes .settings) ≡ true
   pub finality : goodFinality (contentsOf bytes .finality) ≡ true
   pub registry : goodRegistry (contentsOf bytes .registry) ≡ true
+  pub queue : isQueueOf (queueIn bytes) (decode (contentsOf bytes .registry)) ≡ true
 
 header-passed : (t : Bool) (m : Checked (Unit {0})) {u : Unit {0}} → cond t m (refused badFile) ≡ value u → (t ≡ true) × (m ≡ value u)
 header-passed true m e = (refl, e)
@@ -33,16 +36,19 @@ read-passed bytes registry slashings e =
     let c = contentsOf bytes in
     let read = bound (readTests bytes registry slashings) (λ _. value c) e in
     let first = header-passed (goodHeader bytes) _ (read .gave) in
-    let order = in-order _ _ _ (first .1) in
+    let both = bound _ (λ _. queueTest (queueIn bytes) (decode (c .registry))) (first .1) in
+    let order = in-order _ _ _ (both .gave) in
     let recorded = tests (goodFinality (c .finality)) (goodRegistry (c .registry) ∷ []) (order .recorded) in
-    record { header = first .0; shaped = order .shaped; settings = order .settings; finality = recorded 0; registry = recorded 1 }
+    record { header = first .0; shaped = order .shaped; settings = order .settings; finality = recorded 0; registry = recorded 1; queue = queue-passed (queueIn bytes) (decode (c .registry)) (both .then) }
 
 -- Test 6
 
 pub record Header (bytes : List ℕ) : Type 0 where
   pub enough : 80 ≤ length bytes
-  pub numbers : numbersFromBytes 10 bytes ≡ header (countOf bytes) (rootCountOf bytes) (slashingCountOf bytes)
-  pub long : length bytes ≡ fileLength (countOf bytes) (rootCountOf bytes) (slashingCountOf bytes)
+  pub some-version : 1 ≤ versionOf bytes
+  pub known-version : versionOf bytes ≤ 2
+  pub numbers : numbersFromBytes 10 bytes ≡ header (versionOf bytes) (countOf bytes) (rootCountOf bytes) (slashingCountOf bytes)
+  pub long : length bytes ≡ fileLength (versionOf bytes) (countOf bytes) (rootCountOf bytes) (slashingCountOf bytes)
 
 same-equal : (xs ys : List ℕ) → sameNumbers xs ys ≡ true → xs ≡ ys
 unfolding sameNumbers
@@ -56,10 +62,17 @@ same-equal (x ∷ xs) (y ∷ ys) e =
 pub good-header : (bytes : List ℕ) → goodHeader bytes ≡ true → Header bytes
 unfolding goodHeader
 good-header bytes e =
-    let own = header (countOf bytes) (rootCountOf bytes) (slashingCountOf bytes) in
-    let long = fileLength (countOf bytes) (rootCountOf bytes) (slashingCountOf bytes) in
-    let test = tests (leb 80 (length bytes)) (sameNumbers (numbersFromBytes 10 bytes) own ∷ eqb (length bytes) long ∷ []) e in
-    record { enough = leb-true 80 (length bytes) (test 0); numbers = same-equal (numbersFromBytes 10 bytes) own (test 1); long = eqb-true (length bytes) long (test 2) }
+    let version = versionOf bytes in
+    let own = header version (countOf bytes) (rootCountOf bytes) (slashingCountOf bytes) in
+    let long = fileLength version (countOf bytes) (rootCountOf bytes) (slashingCountOf bytes) in
+    let test = tests (leb 80 (length bytes)) (leb 1 version ∷ leb version 2 ∷ sameNumbers (numbersFromBytes 10 bytes) own ∷ eqb (length bytes) long ∷ []) e in
+    record {
+      enough = leb-true 80 (length bytes) (test 0);
+      some-version = leb-true 1 version (test 1);
+      known-version = leb-true version 2 (test 2);
+      numbers = same-equal (numbersFromBytes 10 bytes) own (test 3);
+      long = eqb-true (length bytes) long (test 4);
+    }
 
 -- All of them
 
@@ -69,18 +82,19 @@ pub record Accepted (bytes : List ℕ) : Type 0 where
   pub root-count : rootCountIn (contentsOf bytes) ≡ rootCountOf bytes
   pub slashing-count : slashingCountIn (contentsOf bytes) ≡ slashingCountOf bytes
   pub good : Good (contentsOf bytes)
+  pub queue : isQueueOf (queueIn bytes) (decode (contentsOf bytes .registry)) ≡ true
 
 pub length-registry : (bytes : List ℕ) → length (contentsOf bytes .registry) ≡ 10 * countOf bytes
 unfolding contentsOf
-length-registry bytes = length-from-bytes (10 * countOf bytes) (drop 368 bytes)
+length-registry bytes = length-from-bytes (10 * countOf bytes) (drop (validatorsAt (versionOf bytes)) bytes)
 
-length-roots : (bytes : List ℕ) → length bytes ≡ fileLength (countOf bytes) (rootCountOf bytes) (slashingCountOf bytes) → length (contentsOf bytes .roots) ≡ 32 * rootCountOf bytes
+length-roots : (bytes : List ℕ) → length bytes ≡ fileLength (versionOf bytes) (countOf bytes) (rootCountOf bytes) (slashingCountOf bytes) → length (contentsOf bytes .roots) ≡ 32 * rootCountOf bytes
 unfolding contentsOf
-length-roots bytes e = length-take-le (32 * rootCountOf bytes) (drop (rootsAt (countOf bytes)) bytes) (omega (arith, length-drop (rootsAt (countOf bytes)) bytes))
+length-roots bytes e = length-take-le (32 * rootCountOf bytes) (drop (rootsAt (versionOf bytes) (countOf bytes)) bytes) (omega (arith, length-drop (rootsAt (versionOf bytes) (countOf bytes)) bytes))
 
 length-slashings : (bytes : List ℕ) → length (contentsOf bytes .slashings) ≡ slashingCountOf bytes
 unfolding contentsOf
-length-slashings bytes = length-from-bytes (slashingCountOf bytes) (drop (slashingsAt (countOf bytes) (rootCountOf bytes)) bytes)
+length-slashings bytes = length-from-bytes (slashingCountOf bytes) (drop (slashingsAt (versionOf bytes) (countOf bytes) (rootCountOf bytes)) bytes)
 
 pub accepted : (bytes registry slashings : List ℕ) → Passed bytes registry slashings → Accepted bytes
 unfolding fileShaped
@@ -117,4 +131,5 @@ accepted bytes registry slashings p =
             finality = p .finality;
             registry = p .registry;
           };
+      queue = p .queue;
     }

@@ -2,7 +2,7 @@
 use borrow.Author.Tests.{le-ltb}
 use lib.ListN.{length}
 use Rattle.definitions.specs.Checked.{bind}
-use Rattle.definitions.specs.File.{littleEndian, readFile, position, read, written}
+use Rattle.definitions_file.specs.File.{littleEndian, readFile, position, read, written}
 use Rattle.round_trip.specs.Refused.{ReadRefused, WriteRefused, ReadToEnd}
 use Rattle.round_trip.proofs.Passed.{read-passed, good-header}
 
@@ -13,6 +13,7 @@ read-refused bytes registry slashings r e =
       number = rw e;
       settings = rw e;
       finality = rw e;
+      queue = rw e;
       roots = rw e;
       registry = rw e;
       slashings = rw e;
@@ -20,10 +21,10 @@ read-refused bytes registry slashings r e =
 
 pub write-refused : WriteRefused
 unfolding written bind
-write-refused c file r e = rw e
+write-refused c q file r e = rw e
 
 pub read-to-end : ReadToEnd
 unfolding position
 read-to-end bytes registry slashings c e =
     let p = read-passed bytes registry slashings e in
-    rw (le-ltb (length bytes) 80 (good-header bytes (p .header) .enough), p .header, p .shaped, p .settings, p .finality, p .registry)
+    rw (le-ltb (length bytes) 80 (good-header bytes (p .header) .enough), p .header, p .shaped, p .settings, p .finality, p .registry, p .queue)

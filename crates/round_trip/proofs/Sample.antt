@@ -1,4 +1,5 @@
--- The premises can be met: a record of two validators that is written and read, and a file that stops in its second entry.
+-- The premises can be met: a record of two validators that is written and read, a file that stops in its second entry, one with a wrong pair,
+-- and a file of version 1, whose pair is worked out.
 use mathlib.Core.Path.{_≡_, refl}
 use mathlib.Core.Bool.{true}
 use mathlib.Core.List.{List, [], _∷_, _++_}
@@ -6,20 +7,22 @@ use Prim.Native.Nat.{ℕ, _<_}
 use native.Mathlib.Omega.{arith}
 use borrow.Author.Tests.{ltb-true}
 use lib.Dec.{ltb, lit<}
-use lib.ListN.{take, replicate, getD-replicate}
+use lib.ListN.{take, drop, replicate, getD-replicate}
 use Rattle.types.specs.declared.Settings.{Settings}
 use Rattle.types.specs.declared.Checkpoint.{Checkpoint}
-use Rattle.definitions.specs.Lists.{all}
+use Rattle.types.specs.declared.ExitQueue.{ExitQueue}
+use Rattle.definitions.specs.Lists.{all, filter, maximum}
 use Rattle.definitions.specs.Record.{decodeFirst, decode}
-use Rattle.definitions.specs.Checked.{value}
-use Rattle.definitions.specs.Refusals.{inOrder, settingsShaped, registryShaped, goodSettings, goodFinality, goodValidator, goodRegistry}
-use Rattle.definitions.specs.File.{Contents, littleEndian, fromLittleEndian, numbersToBytes, numbersFromBytes, contentsOf, fileOf, sameNumbers, goodHeader, fileShaped, badPlace, stoppedAt, position, writeTests}
+use Rattle.definitions.specs.Checked.{value, refused, badFile, bind}
+use Rattle.definitions.specs.Refusals.{inOrder, settingsNumbers, settingsShaped, registryShaped, goodSettings, goodFinality, goodValidator, goodRegistry}
+use Rattle.definitions.specs.ExitQueue.{queueOf, isQueueOf, queueTest}
+use Rattle.definitions_file.specs.File.{Contents, header, finalityToBytes, queueToBytes, queueIn, readTests, readFile, littleEndian, fromLittleEndian, numbersToBytes, numbersFromBytes, contentsOf, fileOf, sameNumbers, goodHeader, fileShaped, badPlace, stoppedAt, position, writeTests}
 use Rattle.round_trip.specs.RoundTrip.{Below, TypedCheckpoint, Typed, SameRecord}
-use Rattle.round_trip.specs.Refused.{StoppedInRegistry}
+use Rattle.round_trip.specs.Refused.{StoppedInRegistry, StoppedAtQueue}
 use Rattle.round_trip.proofs.Numbers.{below-nil, below-cons}
 use Rattle.round_trip.proofs.Tests.{tests}
 use Rattle.round_trip.proofs.Written.{written-read}
-use Rattle.round_trip.proofs.Stopped.{registry-refused}
+use Rattle.round_trip.proofs.Stopped.{registry-refused, queue-refused}
 
 below-by : (n : ℕ) (xs : List ℕ) → all (λ x. ltb x n) xs ≡ true → Below n xs
 unfolding all
@@ -56,19 +59,23 @@ settings =
 abbrev checkpoint : ℕ → Checkpoint
 checkpoint e = record { epoch = e; root = replicate 32 e }
 
-abbrev entry : ℕ → List ℕ
-entry flags = 32000000000 ∷ 1 ∷ 0 ∷ 0 ∷ 18446744073709551615 ∷ 18446744073709551615 ∷ 32000000001 ∷ flags ∷ 7 ∷ 9 ∷ []
+abbrev entry : ℕ → ℕ → List ℕ
+entry exit flags = 32000000000 ∷ 1 ∷ 0 ∷ 0 ∷ exit ∷ 18446744073709551615 ∷ 32000000001 ∷ flags ∷ 7 ∷ 9 ∷ []
 
--- previous flags of the second validator as given
+-- the second validator exits at 9; its previous flags as given
 abbrev sample : ℕ → Contents
 sample flags =
     record {
       settings = settings;
       finality = record { slot = 127; «justification_bits» = 15; «previous_justified_checkpoint» = checkpoint 2; «current_justified_checkpoint» = checkpoint 3; «finalized_checkpoint» = checkpoint 1 };
-      registry = entry 255 ++ entry flags;
+      registry = entry 18446744073709551615 255 ++ entry 9 flags;
       roots = replicate 32 255;
       slashings = 18446744073709551615 ∷ [];
     }
+
+-- so many leave at epoch 9
+abbrev pair : ℕ → ExitQueue
+pair number = record { «last_epoch» = 9; number = number }
 
 checkpoint-typed : (e : ℕ) → e < 256 → TypedCheckpoint (checkpoint e)
 checkpoint-typed e h =
@@ -89,23 +96,55 @@ sample-typed =
       slashings = below-by _ _ refl;
     }
 
-sample-passes : writeTests (sample 7) (replicate 568 0) ≡ value tt
-unfolding writeTests inOrder settingsShaped registryShaped goodSettings goodFinality goodRegistry goodValidator decode decodeFirst all
+sample-passes : writeTests (sample 7) (pair 1) (replicate 584 0) ≡ value tt
+unfolding writeTests bind inOrder settingsShaped registryShaped goodSettings goodFinality goodRegistry goodValidator decode decodeFirst all queueTest isQueueOf queueOf maximum filter
 sample-passes = refl
 
-pub sample-same : SameRecord (sample 7) (replicate 568 0) (replicate 20 0) (replicate 1 0)
-sample-same = written-read (sample 7) (replicate 568 0) (replicate 20 0) (replicate 1 0) sample-typed refl refl sample-passes
+pub sample-same : SameRecord (sample 7) (pair 1) (replicate 584 0) (replicate 20 0) (replicate 1 0)
+sample-same =
+    written-read (sample 7) (pair 1) (replicate 584 0) (replicate 20 0) (replicate 1 0) sample-typed (record { last = lit< tt; number = lit< tt }) refl refl sample-passes
 
 -- the file begins with its header
-pub sample-header : take 80 (fileOf (sample 7)) ≡ 1 ∷ 0 ∷ 0 ∷ 0 ∷ 0 ∷ 0 ∷ 0 ∷ 0 ∷ 56 ∷ 2 ∷ 0 ∷ 0 ∷ 0 ∷ 0 ∷ 0 ∷ 0 ∷ 2 ∷ 0 ∷ 0 ∷ 0 ∷ 0 ∷ 0 ∷ 0 ∷ 0 ∷ 1 ∷ 0 ∷ 0 ∷ 0 ∷ 0 ∷ 0 ∷ 0 ∷ 0 ∷ 1 ∷ 0 ∷ 0 ∷ 0 ∷ 0 ∷ 0 ∷ 0 ∷ 0 ∷ 80 ∷ 0 ∷ 0 ∷ 0 ∷ 0 ∷ 0 ∷ 0 ∷ 0 ∷ 232 ∷ 0 ∷ 0 ∷ 0 ∷ 0 ∷ 0 ∷ 0 ∷ 0 ∷ 112 ∷ 1 ∷ 0 ∷ 0 ∷ 0 ∷ 0 ∷ 0 ∷ 0 ∷ 16 ∷ 2 ∷ 0 ∷ 0 ∷ 0 ∷ 0 ∷ 0 ∷ 0 ∷ 48 ∷ 2 ∷ 0 ∷ 0 ∷ 0 ∷ 0 ∷ 0 ∷ 0 ∷ []
+pub sample-header : take 80 (fileOf (sample 7) (pair 1)) ≡ 2 ∷ 0 ∷ 0 ∷ 0 ∷ 0 ∷ 0 ∷ 0 ∷ 0 ∷ 72 ∷ 2 ∷ 0 ∷ 0 ∷ 0 ∷ 0 ∷ 0 ∷ 0 ∷ 2 ∷ 0 ∷ 0 ∷ 0 ∷ 0 ∷ 0 ∷ 0 ∷ 0 ∷ 1 ∷ 0 ∷ 0 ∷ 0 ∷ 0 ∷ 0 ∷ 0 ∷ 0 ∷ 1 ∷ 0 ∷ 0 ∷ 0 ∷ 0 ∷ 0 ∷ 0 ∷ 0 ∷ 80 ∷ 0 ∷ 0 ∷ 0 ∷ 0 ∷ 0 ∷ 0 ∷ 0 ∷ 232 ∷ 0 ∷ 0 ∷ 0 ∷ 0 ∷ 0 ∷ 0 ∷ 0 ∷ 128 ∷ 1 ∷ 0 ∷ 0 ∷ 0 ∷ 0 ∷ 0 ∷ 0 ∷ 32 ∷ 2 ∷ 0 ∷ 0 ∷ 0 ∷ 0 ∷ 0 ∷ 0 ∷ 64 ∷ 2 ∷ 0 ∷ 0 ∷ 0 ∷ 0 ∷ 0 ∷ 0 ∷ []
 unfolding fileOf numbersToBytes littleEndian
 sample-header = refl
 
 -- flags over 255 in place 7 of entry 1
-pub sample-stops : StoppedInRegistry (fileOf (sample 256)) (replicate 20 0) (replicate 1 0)
+pub sample-stops : StoppedInRegistry (fileOf (sample 256) (pair 1)) (replicate 20 0) (replicate 1 0)
 unfolding fileOf numbersToBytes littleEndian contentsOf numbersFromBytes fromLittleEndian sameNumbers goodHeader fileShaped goodSettings goodFinality goodRegistry goodValidator decode decodeFirst all
-sample-stops = registry-refused (fileOf (sample 256)) (replicate 20 0) (replicate 1 0) refl refl refl refl refl
+sample-stops = registry-refused (fileOf (sample 256) (pair 1)) (replicate 20 0) (replicate 1 0) refl refl refl refl refl
 
-pub sample-position : position (fileOf (sample 256)) (replicate 20 0) (replicate 1 0) ≡ 504
+pub sample-position : position (fileOf (sample 256) (pair 1)) (replicate 20 0) (replicate 1 0) ≡ 520
 unfolding position fileOf numbersToBytes littleEndian contentsOf numbersFromBytes fromLittleEndian sameNumbers goodHeader fileShaped goodSettings goodFinality goodRegistry goodValidator decode decodeFirst all badPlace stoppedAt
 sample-position = refl
+
+-- a stored pair that says two where one leaves
+pub sample-wrong : StoppedAtQueue (fileOf (sample 7) (pair 2)) (replicate 20 0) (replicate 1 0)
+unfolding fileOf numbersToBytes littleEndian contentsOf numbersFromBytes fromLittleEndian sameNumbers goodHeader fileShaped goodSettings goodFinality goodRegistry goodValidator decode decodeFirst all queueIn isQueueOf queueOf maximum filter
+sample-wrong = queue-refused (fileOf (sample 7) (pair 2)) (replicate 20 0) (replicate 1 0) refl refl refl refl refl refl
+
+-- Version 1: the same record, with no pair
+
+-- with the header and the part behind the finality as given
+abbrev fileWith : List ℕ → List ℕ → List ℕ
+fileWith numbers queue =
+    numbersToBytes numbers
+    ++ numbersToBytes (settingsNumbers settings)
+    ++ finalityToBytes (sample 7 .finality)
+    ++ queue
+    ++ numbersToBytes (sample 7 .registry)
+    ++ sample 7 .roots
+    ++ numbersToBytes (sample 7 .slashings)
+
+pub first-read : readFile (fileWith (header 1 2 1 1) []) (replicate 20 0) (replicate 1 0) ≡ value (sample 7)
+unfolding readFile readTests bind inOrder numbersToBytes littleEndian contentsOf numbersFromBytes fromLittleEndian sameNumbers goodHeader fileShaped goodSettings goodFinality goodRegistry goodValidator decode decodeFirst all queueIn queueTest isQueueOf queueOf maximum filter
+first-read = refl
+
+pub first-queue : queueIn (fileWith (header 1 2 1 1) []) ≡ pair 1
+unfolding numbersToBytes littleEndian contentsOf numbersFromBytes fromLittleEndian decode decodeFirst queueIn queueOf maximum filter
+first-queue = refl
+
+-- version 1 with the offsets of version 2, pair and all, gets 6
+pub first-mixed : readFile (fileWith (1 ∷ drop 1 (header 2 2 1 1)) (queueToBytes (pair 1))) (replicate 20 0) (replicate 1 0) ≡ refused badFile
+unfolding readFile readTests bind numbersToBytes littleEndian numbersFromBytes fromLittleEndian sameNumbers goodHeader
+first-mixed = refl

@@ -1,21 +1,23 @@
--- Reading stops at the first bad number of the first bad entry.
+-- Reading stops at the first bad number of the first bad entry, and at a stored pair that is not the register's.
 use mathlib.Core.Path.{_≡_, refl, sym, ap, _∙_}
 use mathlib.Core.Bool.{Bool, true, false, cond, _&&_, true≢false}
 use mathlib.Core.List.{List, [], _∷_}
 use Prim.Native.Nat.{ℕ, zero, suc, _+_, _*_, _<_}
 use native.Mathlib.Omega.{arith}
-use borrow.Author.Tests.{leb-true, leb-false, le-ltb}
-use lib.Dec.{leb}
+use borrow.Author.Tests.{leb-true, leb-false, le-ltb, ne-eqb, eqb-true, eqb-false}
+use lib.Dec.{leb, eqb}
 use lib.ListN.{length, getD, take, drop}
 use lib.Seq.{drop-drop, getD-take, getD-drop}
 use Rattle.definitions.specs.Lists.{all}
 use Rattle.definitions.specs.Record.{Validator, encodeOne, decode, nobody}
 use Rattle.definitions.specs.Checked.{refused, badRecord, bind}
 use Rattle.definitions.specs.Refusals.{inOrder, goodValidator, goodRegistry}
-use Rattle.definitions.specs.File.{numberAt, countOf, contentsOf, readTests, readFile, badPlace, stoppedAt, position}
+use Rattle.definitions.specs.ExitQueue.{isQueueOf, queueTest}
+use Rattle.definitions_file.specs.File.{numberAt, versionOf, validatorsAt, queueIn, countOf, contentsOf, readTests, readFile, badPlace, stoppedAt, position}
 use Rattle.laws.proofs.Encode.{entry-at, encode-decode, length-decode}
-use Rattle.round_trip.specs.Refused.{FirstBad, bad-slashed, bad-previous, bad-current, Stopped, StoppedAt, StoppedInRegistry, RegistryRefused}
+use Rattle.round_trip.specs.Refused.{FirstBad, bad-slashed, bad-previous, bad-current, Stopped, StoppedAt, StoppedInRegistry, RegistryRefused, QueueRefused}
 use Rattle.round_trip.proofs.Numbers.{number-at}
+use Rattle.round_trip.proofs.Tests.{queue-own}
 use Rattle.round_trip.proofs.Passed.{good-header, length-registry}
 
 first-bad : (v : Validator) → goodValidator v ≡ false → FirstBad v (badPlace v)
@@ -67,9 +69,9 @@ small-place (bad-previous p q) = omega arith
 small-place (bad-current p q r) = omega arith
 
 -- where a number of an entry stands in the file
-number-there : (bytes : List ℕ) (j : ℕ) → j < 10 * countOf bytes → numberAt (368 + 8 * j) bytes ≡ getD (contentsOf bytes .registry) j 0
+number-there : (bytes : List ℕ) (j : ℕ) → j < 10 * countOf bytes → numberAt (validatorsAt (versionOf bytes) + 8 * j) bytes ≡ getD (contentsOf bytes .registry) j 0
 unfolding contentsOf
-number-there bytes j h = rw (number-at (10 * countOf bytes) j (drop 368 bytes) h, drop-drop)
+number-there bytes j h = rw (number-at (10 * countOf bytes) j (drop (validatorsAt (versionOf bytes)) bytes) h, drop-drop)
 
 number-of-entry : (n i k : ℕ) (xs : List ℕ) → length xs ≡ 10 * n → i < n → k < 10 → getD xs (10 * i + k) 0 ≡ getD (encodeOne (getD (decode xs) i nobody)) k 0
 number-of-entry n i k xs l h small =
@@ -80,7 +82,7 @@ number-of-entry n i k xs l h small =
 stops-in-registry :
     (bytes registry slashings : List ℕ) →
     readFile bytes registry slashings ≡ refused badRecord →
-    position bytes registry slashings ≡ stoppedAt 368 (decode (contentsOf bytes .registry)) →
+    position bytes registry slashings ≡ stoppedAt (validatorsAt (versionOf bytes)) (decode (contentsOf bytes .registry)) →
     goodRegistry (contentsOf bytes .registry) ≡ false →
     StoppedInRegistry bytes registry slashings
 unfolding goodRegistry
@@ -88,12 +90,12 @@ stops-in-registry bytes registry slashings answer e bad =
     let xs = contentsOf bytes .registry in
     let n = countOf bytes in
     let l = length-registry bytes in
-    let s = stopped-at 368 (decode xs) bad in
+    let s = stopped-at (validatorsAt (versionOf bytes)) (decode xs) bad in
     let i = s .entry in
     let k = s .place in
     let h : i < n = omega (arith, s .inside, length-decode n xs l) in
     let small = small-place (s .first) in
-    let at : position bytes registry slashings ≡ 368 + 8 * (10 * i + k) = omega (arith, e, s .there) in
+    let at : position bytes registry slashings ≡ validatorsAt (versionOf bytes) + 8 * (10 * i + k) = omega (arith, e, s .there) in
     record {
       answer = answer;
       stopped = rw e s;
@@ -107,3 +109,21 @@ registry-refused bytes registry slashings header shaped settings finality bad =
     (rw (header, shaped, settings, finality, bad))
     (rw (le-ltb (length bytes) 80 (good-header bytes header .enough), header, shaped, settings, finality, bad))
     bad
+
+-- in version 1 the pair is the register's own
+first-own : (bytes : List ℕ) → (versionOf bytes ≡ 2 → ⊥) → isQueueOf (queueIn bytes) (decode (contentsOf bytes .registry)) ≡ true
+unfolding queueIn
+first-own bytes n = rw (ne-eqb (versionOf bytes) 2 n) (queue-own (decode (contentsOf bytes .registry)))
+
+stores : (bytes : List ℕ) → isQueueOf (queueIn bytes) (decode (contentsOf bytes .registry)) ≡ false → (t : Bool) → eqb (versionOf bytes) 2 ≡ t → versionOf bytes ≡ 2
+stores bytes wrong true e = eqb-true (versionOf bytes) 2 e
+stores bytes wrong false e = absurd (true≢false (sym (first-own bytes (eqb-false (versionOf bytes) 2 e)) ∙ wrong))
+
+pub queue-refused : QueueRefused
+unfolding position readFile readTests inOrder bind queueTest
+queue-refused bytes registry slashings header shaped settings finality good wrong =
+    record {
+      answer = rw (header, shaped, settings, finality, good, wrong);
+      there = rw (le-ltb (length bytes) 80 (good-header bytes header .enough), header, shaped, settings, finality, good, wrong);
+      stored = stores bytes wrong (eqb (versionOf bytes) 2) refl;
+    }

@@ -1,16 +1,19 @@
--- What tests 1, 2 and 3 say of a record in numbers, and that writing asks exactly that.
+-- What tests 1, 2 and 3 say of a record in numbers, that 8 says that the pair is the register's, and that writing asks exactly that.
 use mathlib.Core.Path.{_≡_, refl}
-use mathlib.Core.Bool.{Bool, true, false, _&&_, and-eq-true-iff}
+use mathlib.Core.Bool.{Bool, true, false, cond, _&&_, and-eq-true-iff}
 use mathlib.Core.List.{List, [], _∷_}
 use Prim.Native.Nat.{ℕ, zero, suc, _*_, _/_, _%_, _^_, _≤_}
 use native.Mathlib.Omega.{arith}
 use borrow.Author.Tests.{leb-true, eqb-true, le-leb, eq-eqb}
 use lib.Dec.{leb, eqb}
 use lib.ListN.{length, getD}
-use Rattle.definitions.specs.Checked.{value}
+use Rattle.types.specs.declared.ExitQueue.{ExitQueue}
+use Rattle.definitions.specs.Record.{Validator, decode}
+use Rattle.definitions.specs.Checked.{value, refused, wrongQueue, bind}
 use Rattle.definitions.specs.Refusals.{inOrder, isVectorLength, settingsShaped, registryShaped, rootsShaped, slashingsShaped, lengthIs, goodSettings, goodFinality, goodRegistry}
-use Rattle.definitions.specs.File.{Contents, fileLength, writeTests}
-use Rattle.laws.proofs.Checked.{not-value}
+use Rattle.definitions.specs.ExitQueue.{queueOf, isQueueOf, queueTest}
+use Rattle.definitions_file.specs.File.{Contents, fileLength, writeTests}
+use Rattle.laws.proofs.Checked.{not-value, bound}
 
 abbrev pub countIn : Contents → ℕ
 countIn c = length (c .registry) / 10
@@ -22,7 +25,7 @@ abbrev pub slashingCountIn : Contents → ℕ
 slashingCountIn c = c .settings .«epochs_per_slashings_vector»
 
 abbrev pub fileLengthOf : Contents → ℕ
-fileLengthOf c = fileLength (countIn c) (rootCountIn c) (slashingCountIn c)
+fileLengthOf c = fileLength 2 (countIn c) (rootCountIn c) (slashingCountIn c)
 
 -- c passes 1, 2 and 3
 pub record Good (c : Contents) : Type 0 where
@@ -67,21 +70,50 @@ in-order false b c e = absurd (not-value e)
 pub vector-length : (n : ℕ) → isVectorLength n ≡ true → (1 ≤ n) × (n ≤ 65536)
 vector-length n e = let t = tests (leb 1 n) (leb n 65536 ∷ []) e in (leb-true 1 n (t 0), leb-true n 65536 (t 1))
 
+-- Test 8
+
+pub queue-passed : (q : ExitQueue) (vs : List Validator) {u : Unit {0}} → queueTest q vs ≡ value u → isQueueOf q vs ≡ true
+unfolding queueTest
+queue-passed q vs e = go (isQueueOf q vs) e
+  where
+    go : (t : Bool) {u : Unit {0}} → cond t (value tt) (refused wrongQueue) ≡ value u → t ≡ true
+    go true e = refl
+    go false e = absurd (not-value e)
+
+pub queue-is : (q : ExitQueue) (vs : List Validator) → isQueueOf q vs ≡ true → q ≡ queueOf vs
+unfolding isQueueOf
+queue-is q vs e =
+    let t = tests (eqb (q .«last_epoch») (queueOf vs .«last_epoch»)) (eqb (q .number) (queueOf vs .number) ∷ []) e in
+    let last = eqb-true (q .«last_epoch») (queueOf vs .«last_epoch») (t 0) in
+    let number = eqb-true (q .number) (queueOf vs .number) (t 1) in
+    λ i. record { «last_epoch» = last i; number = number i }
+
+pub queue-own : (vs : List Validator) → isQueueOf (queueOf vs) vs ≡ true
+unfolding isQueueOf
+queue-own vs = rw (eq-eqb (queueOf vs .«last_epoch») (queueOf vs .«last_epoch») refl, eq-eqb (queueOf vs .number) (queueOf vs .number) refl)
+
 -- Writing
 
-pub write-good : (c : Contents) (file : List ℕ) → writeTests c file ≡ value tt → Good c × (length file ≡ fileLengthOf c)
+pub record Writes (c : Contents) (q : ExitQueue) (file : List ℕ) : Type 0 where
+  pub good : Good c
+  pub long : length file ≡ fileLengthOf c
+  pub queue : isQueueOf q (decode (c .registry)) ≡ true
+
+pub write-good : (c : Contents) (q : ExitQueue) (file : List ℕ) → writeTests c q file ≡ value tt → Writes c q file
 unfolding writeTests settingsShaped registryShaped
-write-good c file e =
+write-good c q file e =
     let s = c .settings in
-    let order = in-order _ _ _ e in
+    let both = bound _ (λ _. queueTest q (decode (c .registry))) e in
+    let order = in-order _ _ _ (both .gave) in
     let test = tests (settingsShaped s) (registryShaped (c .registry) ∷ rootsShaped s (c .roots) ∷ slashingsShaped s (c .slashings) ∷ lengthIs (fileLengthOf c) file ∷ []) (order .shaped) in
     let vectors = tests (isVectorLength (rootCountIn c)) (isVectorLength (slashingCountIn c) ∷ []) (test 0) in
     let counts = tests (eqb (length (c .registry) % 10) 0) (leb (countIn c) (2 ^ 24) ∷ []) (test 1) in
     let recorded = tests (goodFinality (c .finality)) (goodRegistry (c .registry) ∷ []) (order .recorded) in
     let roots = vector-length (rootCountIn c) (vectors 0) in
     let slashings = vector-length (slashingCountIn c) (vectors 1) in
-    let tens = eqb-true (length (c .registry) % 10) 0 (counts 0) in (
-      record {
+    let tens = eqb-true (length (c .registry) % 10) 0 (counts 0) in
+    record {
+      good = record {
         entries = omega arith;
         few = leb-true (countIn c) (2 ^ 24) (counts 1);
         some-roots = roots .0;
@@ -93,13 +125,14 @@ write-good c file e =
         settings = order .settings;
         finality = recorded 0;
         registry = recorded 1;
-      },
-      eqb-true (length file) (fileLengthOf c) (test 4),
-    )
+      };
+      long = eqb-true (length file) (fileLengthOf c) (test 4);
+      queue = queue-passed q (decode (c .registry)) (both .then);
+    }
 
-pub good-write : (c : Contents) (file : List ℕ) → Good c → length file ≡ fileLengthOf c → writeTests c file ≡ value tt
-unfolding writeTests inOrder settingsShaped registryShaped
-good-write c file g e =
+pub good-write : (c : Contents) (q : ExitQueue) (file : List ℕ) → Good c → length file ≡ fileLengthOf c → isQueueOf q (decode (c .registry)) ≡ true → writeTests c q file ≡ value tt
+unfolding writeTests inOrder settingsShaped registryShaped bind queueTest
+good-write c q file g e p =
     let zero-rest : length (c .registry) % 10 ≡ 0 = omega arith in
     rw (
       le-leb _ _ (g .some-roots),
@@ -114,4 +147,5 @@ good-write c file g e =
       g .settings,
       g .finality,
       g .registry,
+      p,
     )

@@ -11,13 +11,13 @@ ghost use Rattle.survey.specs.Found.{overAfter, sumsAfter, oversAfter, f
 use entries::flags_at;
 use entries::is_active;
 use entries::participates;
-use exit_queue::ExitQueue;
 use exit_queue::last_after;
 use exit_queue::number_after;
 use selection::keep;
 use selection::waiting_since;
 use std::num::wrapping_add_u64;
 use totals::raised;
+use types::ExitQueue;
 use types::Settings;
 
 // Sums over those active at the current epoch, over those that participate by the previous epoch's source, target and head flag, and over

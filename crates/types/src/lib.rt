@@ -115,3 +115,36 @@ pub struct Rules {
     pub fork: u64,
     pub bellatrix: Bellatrix,
 }
+
+// The exit queue's pair: the largest exit epoch below FAR, or 0 where there is none, and how many validators have exactly it.
+#[repr(C)]
+pub struct ExitQueue {
+    pub last_epoch: u64,
+    pub number: u64,
+}
+
+// 0 or the refusal's number, and the pair afterwards: on refusal it is the one handed in.
+#[repr(C)]
+pub struct QueueAnswer {
+    pub refusal: u64,
+    pub queue: ExitQueue,
+}
+
+// What justification answers: as CloseAnswer, and which of the four finality tests last set the checkpoint, 1 to 4, or 0.
+#[repr(C)]
+pub struct JustificationAnswer {
+    pub refusal: u64,
+    pub finality: Finality,
+    pub raised: Raised,
+    pub test: u64,
+}
+
+// What a close answers that is lent the exit queue's pair and a list of amounts: as JustificationAnswer, and the pair afterwards.
+#[repr(C)]
+pub struct FullAnswer {
+    pub refusal: u64,
+    pub finality: Finality,
+    pub queue: ExitQueue,
+    pub raised: Raised,
+    pub test: u64,
+}

@@ -14,7 +14,7 @@ use Rattle.laws.proofs.Checked.{value-same}
 use Rattle.laws.proofs.Encode.{ten}
 use Rattle.loops.proofs.Ran.{code-value}
 use Rattle.queue.specs.Cut.{queuedAt, admitOne}
-use Rattle.exit_queue.specs.declared.ExitQueue.{ExitQueue}
+use Rattle.types.specs.declared.ExitQueue.{ExitQueue}
 use Rattle.exit_queue.specs.declared.Turn.{Turn}
 use Rattle.exit_queue.specs.Queue.{moved, lastAfter, numberAfter}
 use Rattle.exit_queue.specs.Turns.{Turns}

@@ -8,7 +8,7 @@ use Rattle.types.specs.declared.Settings.{Settings}
 use Rattle.definitions.specs.Record.{decode}
 use Rattle.loops.specs.Ran.{Ran}
 use Rattle.loops.proofs.Entry.{entryAt, putAt}
-use Rattle.exit_queue.specs.declared.ExitQueue.{ExitQueue}
+use Rattle.types.specs.declared.ExitQueue.{ExitQueue}
 use Rattle.rates.specs.declared.Memo.{Memo}
 use Rattle.sweeps.specs.Sweep.{sweep, dropped}
 use Rattle.sweeps.proofs.Writing.{Writing, writing-none, writing-from, writing-to, writing-more, writing-stop, writing-all, swept-ran}

@@ -8,7 +8,7 @@ use Rattle.types.specs.declared.Settings.{Settings}
 use Rattle.definitions.specs.Record.{Validator}
 use Rattle.definitions.specs.Checked.{Checked, value, bind}
 use Rattle.queue.specs.Cut.{queuedAt, admitOne}
-use Rattle.exit_queue.specs.declared.ExitQueue.{ExitQueue}
+use Rattle.types.specs.declared.ExitQueue.{ExitQueue}
 use Rattle.exit_queue.specs.Queue.{moved}
 use Rattle.registry.specs.Updates.{turnBy}
 use Rattle.rates.specs.declared.Memo.{Memo}

@@ -12,7 +12,6 @@ ghost use Rattle.write_pass.specs.Planned.{Planned, lastBy};
 ghost use Rattle.write_pass.specs.Written.{MemoFor, Pays, writtenWith, Moves, Writes};
 use activation::admit_entry;
 use effective_balances::entry_update;
-use exit_queue::ExitQueue;
 use inactivity::entry_update_score;
 use participation_flags::entry_rotate;
 use rates::Memo;
@@ -22,6 +21,7 @@ use rates::rates_for;
 use registry::update_entry;
 use rewards::Shared;
 use slashings::entry_slash;
+use types::ExitQueue;
 use types::Number;
 use types::Settings;
 

@@ -38,7 +38,7 @@ use Rattle.effective_balances.proofs.Step.{updates-by}
 use Rattle.survey.specs.declared.Sums.{Sums}
 use Rattle.survey.specs.Sums.{weight, activeAt, balanceOf, PlainSums}
 use Rattle.write_steps.specs.RegistrySteps.{registrySteps}
-use Rattle.write_steps.specs.Numbers.{leakOf}
+use Rattle.write_steps.specs.Numbers.{leakOf, Lacks, noLeak, noAdjusted, noThresholds}
 use Rattle.write_steps.proofs.Leak.{leak-none, leak-some}
 use Rattle.write_steps.proofs.Kept.{bare, Keeps, score-keeps, reward-keeps, kept-map}
 
@@ -84,6 +84,11 @@ pub record Accepted (s : Settings) (slot fin : ℕ) (slashings : List ℕ) (vs :
   pub leak : Gave (leakOf s slot fin)
   pub adjusted : (total : ℕ) → Gave (adjustedBalance (s .«proportional_slashing_multiplier_altair») total slashings)
   pub thresholds : Gave (thresholdsOf s)
+
+pub none-lacks : {s : Settings} {slot fin : ℕ} {t : Sums} {slashings : List ℕ} {vs : List Validator} → Accepted s slot fin slashings vs → Lacks s slot fin t slashings → ⊥
+none-lacks g (noLeak e) = none-gave e (g .leak)
+none-lacks g (noAdjusted e) = none-gave e (g .adjusted _)
+none-lacks g (noThresholds e) = none-gave e (g .thresholds)
 
 -- sums of those that pass a test
 

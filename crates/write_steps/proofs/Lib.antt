@@ -1,10 +1,10 @@
 -- Why the pass is the steps.
-mod Leak
-mod Kept
+pub mod Leak
+pub mod Kept
 mod Only
-mod Rewards
+pub mod Rewards
 mod Last
-mod Made
+pub mod Made
 mod Tracked
 mod Seen
 mod Passes

@@ -1,5 +1,5 @@
 -- What the code's ways through the steps need of what was found.
-use mathlib.Core.Path.{_≡_, refl, sym, ap, _∙_}
+use mathlib.Core.Path.{_≡_, refl, sym, ap, subst, _∙_}
 use mathlib.Core.Bool.{Bool, true, false, true≢false}
 use mathlib.Core.List.{List, map}
 use Prim.Native.Nat.{ℕ, _*_, _/_, _≤_, max}
@@ -14,18 +14,23 @@ use Rattle.definitions.specs.Rust.Phase0.Helpers.{«get_current_epoch», «get_
 use Rattle.laws.proofs.Checked.{bound, not-value, value-same}
 use Rattle.laws.proofs.Encode.{length-decode}
 use Rattle.queue.specs.Cut.{CutAt, eligibleNow}
-use Rattle.exit_queue.specs.declared.ExitQueue.{ExitQueue}
+use Rattle.types.specs.declared.ExitQueue.{ExitQueue}
 use Rattle.exit_queue.specs.Queue.{Tracks, startPair}
 use Rattle.exit_queue.proofs.Tracks.{tracks-few, tracks-start}
 use Rattle.registry.specs.Updates.{leastExit}
 use Rattle.registry.proofs.Epochs.{Epochs}
+use Rattle.slashings.specs.Adjusted.{adjustedBalance}
+use Rattle.effective_balances.specs.declared.Thresholds.{Thresholds}
+use Rattle.effective_balances.specs.Thresholds.{thresholdsOf}
 use Rattle.survey.specs.declared.Sums.{Sums}
 use Rattle.survey.specs.declared.Findings.{Findings}
 use Rattle.survey.specs.Sums.{balanceOf, PlainSums, raisedTo}
 use Rattle.survey.specs.Found.{PlainSum, Finds, allFit}
 use Rattle.survey.proofs.Raised.{raised-totals}
 use Rattle.survey.proofs.Found.{plain-sums}
-use Rattle.write_steps.specs.Numbers.{Found}
+use Rattle.write_pass.specs.declared.Plan.{Plan}
+use Rattle.write_steps.specs.declared.PlanAnswer.the-variants.{Value, Refused}
+use Rattle.write_steps.specs.Numbers.{leakOf, Makes, PlanFor, Lacks, Plans, Found}
 
 pub queue-few : {least : ℕ} (xs : List ℕ) {q : ExitQueue} → length xs ≡ 10 * (length xs / 10) → Tracks least (decode xs) q → q .number ≤ length xs
 queue-few xs h t = let f = tracks-few t in omega (arith, length-decode (length xs / 10) xs h)
@@ -63,3 +68,13 @@ found-all s slot fin ep xs h fit t l q cut =
       queue = rw q (tracks-start (ep .fits) (h .queue));
       cut = cut;
     }
+
+-- The plan, or that there is none
+module _ {s : Settings} {slot fin : ℕ} {t : Sums} {ys : List ℕ} where
+  pub plan-made : {leaking : Bool} → leakOf s slot fin ≡ value leaking → {adjusted : ℕ} → adjustedBalance (s .«proportional_slashing_multiplier_altair») (t .active) ys ≡ value adjusted → {thresholds : Thresholds} → thresholdsOf s ≡ value thresholds → {p : Plan} → Makes s («get_current_epoch» s slot) («get_previous_epoch» s slot) leaking t adjusted (thresholds .downward) (thresholds .upward) p → Plans s slot fin t ys (Value p)
+  plan-made {leaking} l {adjusted} a {thresholds} h {p} m =
+      let by : PlanFor s slot fin t ys p = record { leaking = leaking; adjusted = adjusted; thresholds = thresholds; leak = l; times = a; limits = h; makes = m } in
+      record { given = λ r e. subst (λ (k : Plan). PlanFor s slot fin t ys k) (cc) by; none = λ q e. absurd (let z : _≡_ {A = ℕ} 0 1 = cc in omega arith) }
+
+  pub plan-lacks : {q : ℕ} → Lacks s slot fin t ys → Plans s slot fin t ys (Refused q)
+  plan-lacks h = record { given = λ r e. absurd (let z : _≡_ {A = ℕ} 0 1 = cc in omega arith); none = λ q e. h }

@@ -18,7 +18,7 @@ use Rattle.reward_balances.specs.Balances.{rewardedBalance}
 use Rattle.reward_balances.proofs.Only.{only-rewarded}
 use Rattle.reward_balances.proofs.Rewarded.{rewarded, not-rewarded}
 use Rattle.sweeps.proofs.Pure.{only-either}
-use Rattle.exit_queue.specs.declared.ExitQueue.{ExitQueue}
+use Rattle.types.specs.declared.ExitQueue.{ExitQueue}
 use Rattle.exit_queue.specs.Queue.{exitBy}
 use Rattle.exit_queue.proofs.Exits.{only-nextEpoch}
 use Rattle.registry.specs.Updates.{turnBy}

@@ -10,7 +10,7 @@ use Rattle.definitions.specs.Checked.{Checked, value, refused, bind, mapChecked
 use Rattle.definitions.specs.Document.Phase0.EpochProcessing.{dequeued}
 use Rattle.queue.specs.Cut.{CutAt, eligibleNow}
 use Rattle.queue.proofs.Dequeued.{dequeued-is}
-use Rattle.exit_queue.specs.declared.ExitQueue.{ExitQueue}
+use Rattle.types.specs.declared.ExitQueue.{ExitQueue}
 use Rattle.exit_queue.specs.Queue.{Tracks}
 use Rattle.registry.specs.Updates.{updateAt}
 use Rattle.sweeps.specs.Sweep.{Moved, sweep, last, dropped}

@@ -15,7 +15,7 @@ use Rattle.laws.proofs.Checked.{Bound, bound, value-same}
 use Rattle.arithmetic.proofs.Operations.{OnlyOverflow, only-value, only-bind}
 use Rattle.queue.specs.Queue.{mapBelow}
 use Rattle.queue.specs.Cut.{count, queuedAt, admitOne, admittedAt, admitted}
-use Rattle.exit_queue.specs.declared.ExitQueue.{ExitQueue}
+use Rattle.types.specs.declared.ExitQueue.{ExitQueue}
 use Rattle.exit_queue.specs.Queue.{Tracks, moved}
 use Rattle.exit_queue.proofs.Tracks.{tracks-set}
 use Rattle.registry.specs.Updates.{updateAt, turnBy}

@@ -34,7 +34,7 @@ module _ (s : Settings) (quotient stateSlot finalizedEpoch : ℕ) {current : ℕ
 
   module _ (n : current ≡ 0 → ⊥) where
     module _ {previous : ℕ} (p : previous ≡ «get_previous_epoch» s stateSlot) {leaking : Bool} (leak : «is_in_inactivity_leak» s stateSlot finalizedEpoch ≡ value leaking) where
-      scores : (vs : List Validator) → «process_inactivity_updates» s stateSlot finalizedEpoch vs ≡ mapChecked (updateInactivityScore s current previous leaking) vs
+      pub scores : (vs : List Validator) → «process_inactivity_updates» s stateSlot finalizedEpoch vs ≡ mapChecked (updateInactivityScore s current previous leaking) vs
       unfolding «process_inactivity_updates» bind
       scores vs = rw (← e, ← p, ne-eqb _ _ n, leak)
 

@@ -17,7 +17,7 @@ use Rattle.laws.proofs.Checked.{bound, value-same}
 use Rattle.queue.specs.Cut.{count, queuedBefore, Cuts, CutAt, eligibleNow}
 use Rattle.queue.proofs.Filter.{flag, count-more}
 use Rattle.queue.proofs.Cuts.{cut-cuts}
-use Rattle.exit_queue.specs.declared.ExitQueue.{ExitQueue}
+use Rattle.types.specs.declared.ExitQueue.{ExitQueue}
 use Rattle.exit_queue.specs.Queue.{exitBy, nextEpoch}
 use Rattle.registry.specs.Updates.{turnBy}
 use Rattle.sweeps.specs.Sweep.{Moved, Turning, sweep}

@@ -23,7 +23,7 @@ use Rattle.registry.proofs.Epochs.{Epochs}
 use Rattle.registry.proofs.Churn.{updates-by-numbers, limit-kept}
 use Rattle.registry.proofs.Total.{total-kept}
 use Rattle.queue.specs.Cut.{CutAt, eligibleNow}
-use Rattle.exit_queue.specs.declared.ExitQueue.{ExitQueue}
+use Rattle.types.specs.declared.ExitQueue.{ExitQueue}
 use Rattle.exit_queue.specs.Queue.{Tracks}
 use Rattle.slashings.specs.Adjusted.{adjustedBalance}
 use Rattle.effective_balances.specs.declared.Thresholds.{Thresholds}
@@ -36,7 +36,7 @@ use Rattle.write_pass.specs.Planned.{paidBy, lastBy}
 use Rattle.write_pass.specs.declared.Course.{Course}
 use Rattle.write_pass.specs.Written.{payOf, writtenWith}
 use Rattle.write_steps.specs.RegistrySteps.{registrySteps, lastSteps}
-use Rattle.write_steps.specs.Numbers.{leakOf, planOf, Found}
+use Rattle.write_steps.specs.Numbers.{planOf, PlanFor, Found}
 use Rattle.write_steps.proofs.Leak.{leak-some}
 use Rattle.write_steps.proofs.Kept.{kept-map, totals-kept}
 use Rattle.write_steps.proofs.Rewards.{no-scores, no-rewards, one-pass}
@@ -79,7 +79,7 @@ module _ (s : Settings) (slot fin : ℕ) (ep : Epochs s slot) (totals : Sums) (l
   abbrev pub plan : Plan
   plan = planOf s current previous leaking totals a b c adjusted (thresholds .downward) (thresholds .upward)
 
-  pays : (vs : List Validator) → Totals s current previous vs totals → ((current ≡ 0 → ⊥) → «is_in_inactivity_leak» s slot fin ≡ value leaking) → bind («process_inactivity_updates» s slot fin vs) («process_rewards_and_penalties» s quotient slot fin) ≡ mapChecked (payOf s plan) vs
+  pub pays : (vs : List Validator) → Totals s current previous vs totals → ((current ≡ 0 → ⊥) → «is_in_inactivity_leak» s slot fin ≡ value leaking) → bind («process_inactivity_updates» s slot fin vs) («process_rewards_and_penalties» s quotient slot fin) ≡ mapChecked (payOf s plan) vs
   unfolding bind
   pays vs h leak = go (eqb current 0) refl
     where
@@ -135,7 +135,7 @@ module _ (s : Settings) (slot fin : ℕ) (ep : Epochs s slot) (totals : Sums) (l
 
 -- The same of what the code has: the numbers as they were told
 module _ {s : Settings} {slot fin : ℕ} (ep : Epochs s slot) (slashings : List ℕ) {vs : List Validator} where
-  pub steps-run : {t : Sums} {q : ExitQueue} (course : Course) {quota : ℕ} → Found s slot fin vs t (course .limit) q (course .bound) quota → course .«finalized_epoch» ≡ fin → course .«activation_epoch» ≡ leastExit s («get_current_epoch» s slot) → {leaking : Bool} → leakOf s slot fin ≡ value leaking → {adjusted : ℕ} → adjustedBalance (s .«proportional_slashing_multiplier_altair») (t .active) slashings ≡ value adjusted → {thresholds : Thresholds} → thresholdsOf s ≡ value thresholds → {p : Plan} → p ≡ planOf s («get_current_epoch» s slot) («get_previous_epoch» s slot) leaking t (p .shared .«per_increment») (p .shared .denominator) (p .product) adjusted (thresholds .downward) (thresholds .upward) → {xs : List ℕ} {r : ℕ} → Ran (dropped (sweep (writtenWith s p course) (q, quota) vs)) xs r → Ran (registrySteps s slot fin slashings vs) xs r
-  steps-run {t} {q} course {quota} found isFin isLeast {leaking} leak {adjusted} times {thresholds} limits {p} is {xs} {r} ran =
-      let are = steps-are s slot fin ep t leaking (p .shared .«per_increment») (p .shared .denominator) (p .product) adjusted thresholds slashings times limits course q quota vs (found .totals) (λ n. sym (leak-some s slot fin n) ∙ leak) isFin isLeast (found .churn) (found .queue) (rw isFin (found .cut)) in
-      subst (λ k. Ran k xs r) (ap (λ (p : Plan). dropped (sweep (writtenWith s p course) (q, quota) vs)) is ∙ sym are) ran
+  pub steps-run : {t : Sums} {q : ExitQueue} (course : Course) {quota : ℕ} → Found s slot fin vs t (course .limit) q (course .bound) quota → course .«finalized_epoch» ≡ fin → course .«activation_epoch» ≡ leastExit s («get_current_epoch» s slot) → {p : Plan} → PlanFor s slot fin t slashings p → {xs : List ℕ} {r : ℕ} → Ran (dropped (sweep (writtenWith s p course) (q, quota) vs)) xs r → Ran (registrySteps s slot fin slashings vs) xs r
+  steps-run {t} {q} course {quota} found isFin isLeast {p} by {xs} {r} ran =
+      let are = steps-are s slot fin ep t (by .leaking) (p .shared .«per_increment») (p .shared .denominator) (p .product) (by .adjusted) (by .thresholds) slashings (by .times) (by .limits) course q quota vs (found .totals) (λ n. sym (leak-some s slot fin n) ∙ by .leak) isFin isLeast (found .churn) (found .queue) (rw isFin (found .cut)) in
+      subst (λ k. Ran k xs r) (ap (λ (p : Plan). dropped (sweep (writtenWith s p course) (q, quota) vs)) (by .makes .is) ∙ sym are) ran

@@ -11,7 +11,7 @@ use Rattle.definitions.specs.Record.{Validator, «FAR_FUTURE_EPOCH»}
 use Rattle.definitions.specs.Checked.{Checked, value, bind, mapChecked}
 use Rattle.definitions.specs.Document.Phase0.Helpers.{exitEpochs, exitQueueChurn}
 use Rattle.laws.proofs.Checked.{bound, value-same}
-use Rattle.exit_queue.specs.declared.ExitQueue.{ExitQueue}
+use Rattle.types.specs.declared.ExitQueue.{ExitQueue}
 use Rattle.exit_queue.specs.Queue.{Tracks}
 use Rattle.write_pass.specs.declared.Plan.{Plan}
 use Rattle.write_pass.specs.Planned.{scoredBy, rewardedBy, paidBy}

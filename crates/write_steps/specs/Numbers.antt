@@ -7,17 +7,22 @@ use lib.Dec.{eqb}
 use Rattle.types.specs.declared.Settings.{Settings}
 use Rattle.types.specs.declared.Number.{Number}
 use Rattle.definitions.specs.Record.{Validator}
-use Rattle.definitions.specs.Checked.{Checked, value}
+use Rattle.definitions.specs.Checked.{Checked, value, refused, overflow}
 use Rattle.definitions.specs.Rust.Phase0.Helpers.{«get_current_epoch», «get_previous_epoch», «get_validator_churn_limit»}
 use Rattle.definitions.specs.Rust.Phase0.EpochProcessing.{«is_in_inactivity_leak»}
 use Rattle.queue.specs.Cut.{CutAt, eligibleNow}
-use Rattle.exit_queue.specs.declared.ExitQueue.{ExitQueue}
+use Rattle.types.specs.declared.ExitQueue.{ExitQueue}
 use Rattle.exit_queue.specs.Queue.{Tracks}
 use Rattle.registry.specs.Updates.{leastExit}
 use Rattle.survey.specs.declared.Sums.{Sums}
 use Rattle.survey.specs.Sums.{Totals}
+use Rattle.slashings.specs.Adjusted.{adjustedBalance}
+use Rattle.effective_balances.specs.declared.Thresholds.{Thresholds}
+use Rattle.effective_balances.specs.Thresholds.{thresholdsOf}
 use Rattle.write_pass.specs.declared.Plan.{Plan}
 use Rattle.write_pass.specs.Planned.{Planned}
+use Rattle.write_steps.specs.declared.PlanAnswer.{PlanAnswer}
+use Rattle.write_steps.specs.declared.PlanAnswer.the-variants.{Value, Refused}
 
 -- no delay is evaluated at the genesis epoch
 unfoldable pub leakOf : Settings → ℕ → ℕ → Checked Bool
@@ -41,6 +46,26 @@ planOf s current previous leaking t perIncrement denominator product adjusted do
 pub record Makes (s : Settings) (current previous : ℕ) (leaking : Bool) (t : Sums) (adjusted downward upward : ℕ) (p : Plan) : Type 0 where
   pub planned : Planned s p
   pub is : p ≡ planOf s current previous leaking t (p .shared .«per_increment») (p .shared .denominator) (p .product) adjusted downward upward
+
+-- the leak, the adjusted balance and the thresholds of which p is made
+pub record PlanFor (s : Settings) (slot finalizedEpoch : ℕ) (t : Sums) (slashings : List ℕ) (p : Plan) : Type 0 where
+  pub leaking : Bool
+  pub adjusted : ℕ
+  pub thresholds : Thresholds
+  pub leak : leakOf s slot finalizedEpoch ≡ value leaking
+  pub times : adjustedBalance (s .«proportional_slashing_multiplier_altair») (t .active) slashings ≡ value adjusted
+  pub limits : thresholdsOf s ≡ value thresholds
+  pub makes : Makes s («get_current_epoch» s slot) («get_previous_epoch» s slot) leaking t adjusted (thresholds .downward) (thresholds .upward) p
+
+-- one of the three has left 64 bits
+pub data Lacks (s : Settings) (slot finalizedEpoch : ℕ) (t : Sums) (slashings : List ℕ) : Type 0 where
+  noLeak : leakOf s slot finalizedEpoch ≡ refused overflow → Lacks s slot finalizedEpoch t slashings
+  noAdjusted : adjustedBalance (s .«proportional_slashing_multiplier_altair») (t .active) slashings ≡ refused overflow → Lacks s slot finalizedEpoch t slashings
+  noThresholds : thresholdsOf s ≡ refused overflow → Lacks s slot finalizedEpoch t slashings
+
+pub record Plans (s : Settings) (slot finalizedEpoch : ℕ) (t : Sums) (slashings : List ℕ) (r : PlanAnswer) : Type 0 where
+  pub given : (p : Plan) → r ≡ Value p → PlanFor s slot finalizedEpoch t slashings p
+  pub none : (q : ℕ) → r ≡ Refused q → Lacks s slot finalizedEpoch t slashings
 
 -- What the steps ask of the whole registry, found before them
 pub record Found (s : Settings) (slot finalizedEpoch : ℕ) (vs : List Validator) (t : Sums) (limit : ℕ) (q : ExitQueue) (bound quota : ℕ) : Type 0 where

@@ -11,11 +11,10 @@ ghost use Rattle.definitions.specs.Rust.Phase0.Helpers.{«get_current_epoch», 
 ghost use Rattle.loops.specs.Ran.{Ran};
 ghost use Rattle.survey.specs.Found.{Finds};
 ghost use Rattle.write_steps.specs.RegistrySteps.{registrySteps};
-ghost use Rattle.write_steps.specs.Numbers.{leakOf, Makes, Found};
+ghost use Rattle.write_steps.specs.Numbers.{leakOf, Makes, Plans, Found};
 use arithmetic::mul64;
 use effective_balances::ThresholdsAnswer;
 use effective_balances::hysteresis;
-use exit_queue::ExitQueue;
 use exit_queue::start_pair;
 use finality::inactivity_leak;
 use leaf_refusals::current_epoch;
@@ -29,6 +28,7 @@ use survey::Sums;
 use survey::all_fit;
 use survey::totals;
 use totals::churn_by;
+use types::ExitQueue;
 use types::Number;
 use types::Settings;
 use types::Truth;
@@ -81,6 +81,50 @@ fn make_plan(
     }
 }
 
+pub enum PlanAnswer {
+    Value(Plan),
+    Refused(u64),
+}
+
+// The numbers that all validators share, by the opening's totals.
+pub fn plan_for(
+    s: Settings,
+    state_slot: u64,
+    finalized_epoch: u64,
+    totals: Sums,
+    slashings: &[u64],
+) -> PlanAnswer
+    requires { ⌜ (goodSettings s ≡ true) × (s .«effective_balance_increment» ≤ totals .active) ⌝ }
+    ensures { λ r. ⌜ Plans s «state_slot» «finalized_epoch» totals (now (slashings .entry)) r ⌝ }
+{
+    let current = current_epoch(s, state_slot);
+    let previous = previous_epoch(s, state_slot);
+    let Truth::Value(leaking) = leak_of(s, current, state_slot, finalized_epoch) else {
+        return PlanAnswer::Refused(5);
+    };
+    let Number::Value(adjusted) = adjusted_balance(
+        s.proportional_slashing_multiplier_altair,
+        totals.active,
+        slashings,
+    ) else {
+        return PlanAnswer::Refused(5);
+    };
+    let ThresholdsAnswer::Value(thresholds) = hysteresis(s) else {
+        return PlanAnswer::Refused(5);
+    };
+    let p = make_plan(
+        s,
+        current,
+        previous,
+        leaking,
+        totals,
+        adjusted,
+        thresholds.downward,
+        thresholds.upward,
+    );
+    PlanAnswer::Value(p)
+}
+
 // By the opening's totals, churn limit, exit queue and cut.
 fn write_found(
     s: Settings,
@@ -99,31 +143,10 @@ fn write_found(
     requires { ⌜ Found s «state_slot» «finalized_epoch» (decode (now opening)) totals limit queue (cut .bound) (cut .quota) ⌝ }
     ensures { λ r. ⌜ Ran (registrySteps s «state_slot» «finalized_epoch» (now (slashings .entry)) (decode (now (opening .entry)))) (now (closing .exit)) r ⌝ }
 {
+    let PlanAnswer::Value(p) = plan_for(s, state_slot, finalized_epoch, totals, slashings) else {
+        return 5;
+    };
     let current = current_epoch(s, state_slot);
-    let previous = previous_epoch(s, state_slot);
-    let Truth::Value(leaking) = leak_of(s, current, state_slot, finalized_epoch) else {
-        return 5;
-    };
-    let Number::Value(adjusted) = adjusted_balance(
-        s.proportional_slashing_multiplier_altair,
-        totals.active,
-        slashings,
-    ) else {
-        return 5;
-    };
-    let ThresholdsAnswer::Value(thresholds) = hysteresis(s) else {
-        return 5;
-    };
-    let p = make_plan(
-        s,
-        current,
-        previous,
-        leaking,
-        totals,
-        adjusted,
-        thresholds.downward,
-        thresholds.upward,
-    );
     let course = Course {
         limit: limit,
         finalized_epoch: finalized_epoch,

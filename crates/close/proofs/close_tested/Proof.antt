@@ -9,7 +9,7 @@ use Rattle.registry.proofs.Epochs.{Epochs, epochs}
 use Rattle.close.specs.Called.{called}
 use Rattle.close.specs.Worked.{recordTests}
 use Rattle.close.proofs.Lent.{entries-tested}
-use Rattle.close.proofs.Outcome.{tests-refused, steps-refused, steps-done}
+use Rattle.close.proofs.Outcome.{tests-refused, steps-closed}
 use Rattle.close.proofs.close_tested.Statement.{statement}
 use Rattle.close.proofs.close_tested.Tie as tie
 
@@ -49,8 +49,8 @@ returns c =
     let t = c .before in
     record { under = λ r u z. tests-refused (call r (t .before .before .before .before .before .before .before .before .before .before .before .before .before)) (tested r (t .before .before .before) z) (λ y. omega (arith, t .if1 .taken)) (c .none-raised .ensures) }
 
-run-steps-requires : tie.Need-run-steps-requires
-run-steps-requires c κs =
+close-surveyed-requires : tie.Need-close-surveyed-requires
+close-surveyed-requires c κs =
     let a = c .before .before .before .before .before .before .before .before .before .before .before .before .before .before .before .before in
     (a .pre .0, (a .pre .1 .0, rw (← c .before .before .before .before .before .before .before .before .before .current-epoch .ensures, ← c .before .before .before .before .before .before .before .before .previous-epoch .ensures) (c .before .before .before .before .before .before .survey-registry .ensures)))
 
@@ -64,38 +64,9 @@ same-length-4 : tie.Need-same-length-4
 same-length-4 c = search needs
 
 returns-2 : tie.Need-returns-2
-returns-2 c = record { under = λ r u z. steps-done (call r (c .before .before .before .before .before .before .before .before .before .before .before .before .before .before .before .before .before .before .before .before .before .before .before)) (tested r (c .before .before .before .before .before .before .before .before .before .before .before .before .before) z) (omega (arith, c .before .before .before .before .before .before .before .before .before .before .if1 .left)) u (c .before .before .before .before .before .before .run-steps .ensures) (omega (arith, c .if2 .taken)) }
-
--- a step was refused; its places are found by their types, so that other arguments of what follows do not move them
-abbrev refused : tie.Else2 → tie.Start
-refused e = e .before .before .before .before .before .before .before .before .before .before .before .before .before .before .before .before .before .before .before .before .before .before .before
-
-copy-requires : tie.Need-copy-requires
-copy-requires c κs =
-    let e : tie.Else2 = search needs in
-    omega (arith, refused e .pre .1 .0 .0, e .before .before .before .before .before .closing-registry .given)
-
-copy-requires-2 : tie.Need-copy-requires-2
-copy-requires-2 c κs =
-    let e : tie.Else2 = search needs in
-    omega (arith, refused e .pre .1 .0 .1, e .before .before .before .closing-slashings .given)
-
-same-length-5 : tie.Need-same-length-5
-same-length-5 c = search needs
-
-same-length-6 : tie.Need-same-length-6
-same-length-6 c = search needs
-
-same-length-7 : tie.Need-same-length-7
-same-length-7 c = search needs
-
-returns-3 : tie.Need-returns-3
-returns-3 c =
-    let e : tie.Else2 = search needs in
-    let first : tie.After-copy = search needs in
-    let second : tie.After-copy2 = search needs in
-    let worked = e .before .before .before .before .before .before in
-    record { under = λ r u z. steps-refused (call r (refused e)) (tested r (worked .before .before .before .before .before .before .before) z) (omega (arith, worked .before .before .before .before .if1 .left)) u (worked .run-steps .ensures) (λ y. omega (arith, e .if2 .left)) refl (λ kept. search needs) (λ none. search needs) (first .copy .ensures) (second .copy2 .ensures) }
+returns-2 c =
+    let k : tie.After-close-surveyed = search needs in
+    record { under = λ r u z. steps-closed (call r (k .before .before .before .before .before .before .before .before .before .before .before .before .before .before .before .before .before)) (tested r (k .before .before .before .before .before .before .before) z) (omega (arith, k .before .before .before .before .if1 .left)) u (k .close-surveyed .ensures) }
 
 pub close-tested-spec : {M : Type 1} → statement M
 close-tested-spec =
@@ -107,14 +78,8 @@ close-tested-spec =
     none-raised-requires
     same-length
     returns
-    run-steps-requires
+    close-surveyed-requires
     same-length-2
     same-length-3
     same-length-4
-    returns-2
-    copy-requires
-    copy-requires-2
-    same-length-5
-    same-length-6
-    same-length-7
-    returns-3)
+    returns-2)

@@ -2,7 +2,7 @@ use mathlib.Core.Path.{_≡_, refl}
 use native.Mathlib.Omega.{arith}
 use borrow.Author.Needs.{needs}
 use lib.ListN.{length}
-use Rattle.definitions.specs.File.{littleEndian}
+use Rattle.definitions_file.specs.File.{littleEndian}
 use Rattle.round_trip.proofs.Numbers.{length-little}
 use Rattle.fields.proofs.Stores.{stored-first, stored-more}
 use Rattle.fields.proofs.put_checkpoint.Statement.{statement}

@@ -1,6 +1,6 @@
 use Prim.Native.Nat.{_≤_, _+_, _-_, _%_}
 use native.Mathlib.Omega.{arith}
-use Rattle.definitions.specs.File.{littleEndian}
+use Rattle.definitions_file.specs.File.{littleEndian}
 use Rattle.fields.proofs.Bytes.{little-none, little-more}
 use Rattle.fields.proofs.Stores.{Storing, storing-none, storing-one, storing-all}
 use Rattle.fields.proofs.put_number.Statement.{statement}

@@ -2,7 +2,7 @@ use mathlib.Core.Path.{_≡_, refl, _∙_}
 use Prim.Native.Nat.{_≤_, _+_, _*_, _-_}
 use native.Mathlib.Omega.{arith}
 use lib.ListN.{length, drop}
-use Rattle.definitions.specs.File.{numbersFromBytes}
+use Rattle.definitions_file.specs.File.{numbersFromBytes}
 use Rattle.round_trip.proofs.Numbers.{length-from-bytes}
 use Rattle.fields.proofs.Bytes.{from-bytes-more, from-bytes-none}
 use Rattle.fields.proofs.Stores.{Storing, storing-none, storing-one, storing-all, sets-whole}

@@ -1,6 +1,6 @@
 use mathlib.Core.Path.{ap}
 use borrow.Author.Needs.{needs}
-use Rattle.definitions.specs.File.{settingsFrom}
+use Rattle.definitions_file.specs.File.{settingsFrom}
 use Rattle.fields.proofs.read_settings.Statement.{statement}
 use Rattle.fields.proofs.read_settings.Tie as tie
 

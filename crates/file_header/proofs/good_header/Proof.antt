@@ -4,9 +4,9 @@ use native.Mathlib.Omega.{arith}
 use borrow.Author.Tests.{eqb-true}
 use borrow.Author.Needs.{needs}
 use lib.ListN.{length, getD}
-use Rattle.definitions.specs.File.{fileLength}
+use Rattle.definitions_file.specs.File.{fileLength}
 use Rattle.refusals.proofs.All.{fails, passes}
-use Rattle.file_header.proofs.Headers.{header-short, header-wrong-length, header-wrong, header-right}
+use Rattle.file_header.proofs.Headers.{header-short, header-no-version, header-later-version, header-wrong-length, header-wrong, header-right}
 use Rattle.file_header.proofs.good_header.Statement.{statement}
 use Rattle.file_header.proofs.good_header.Tie as tie
 
@@ -19,6 +19,9 @@ slice-aggregate-read-numbers c = search needs
 read-numbers-requires : tie.Need-read-numbers-requires
 read-numbers-requires c κs = search needs
 
+array-read-version : tie.Need-array-read-version
+array-read-version c = search needs
+
 array-read-validators : tie.Need-array-read-validators
 array-read-validators c = search needs
 
@@ -28,17 +31,23 @@ array-read-roots c = search needs
 array-read-slashings : tie.Need-array-read-slashings
 array-read-slashings c = search needs
 
+returns-2 : tie.Need-returns-2
+returns-2 c = header-no-version (c .before .before .before .before .before .before .args .bytes .now) _ (c .before .before .read-numbers .ensures) (c .if2 .taken)
+
+returns-3 : tie.Need-returns-3
+returns-3 c = header-later-version (c .before .before .before .before .before .before .before .args .bytes .now) _ (c .before .before .before .read-numbers .ensures) (c .if3 .taken)
+
 as-long-requires : tie.Need-as-long-requires
 as-long-requires c κs = search needs
 
-returns-2 : tie.Need-returns-2
-returns-2 c = header-wrong-length (c .before .before .before .before .before .before .before .args .bytes .now) _ (c .before .before .before .read-numbers .ensures) (fails (c .before .as-long .ensures) (c .if2 .taken))
+returns-4 : tie.Need-returns-4
+returns-4 c = header-wrong-length (c .before .before .before .before .before .before .before .before .before .args .bytes .now) _ (c .before .before .before .before .before .read-numbers .ensures) (fails (c .before .as-long .ensures) (c .if4 .taken))
 
 header-of-requires : tie.Need-header-of-requires
 header-of-requires c κs =
-    let found = c .before .before .before .read-numbers .last .1 .1 .0 in
-    let e : length (c .before .before .before .before .before .before .before .args .bytes .now) ≡ fileLength (getD found 2 0) (getD found 3 0) (getD found 4 0) = eqb-true _ _ (passes (c .before .as-long .ensures) (c .if2 .left)) in
-    omega arith
+    let found = c .before .before .before .before .before .read-numbers .last .1 .1 .0 in
+    let e : length (c .before .before .before .before .before .before .before .before .before .args .bytes .now) ≡ fileLength (getD found 0 0) (getD found 2 0) (getD found 3 0) (getD found 4 0) = eqb-true _ _ (passes (c .before .as-long .ensures) (c .if4 .left)) in
+    (omega arith, omega arith, omega arith)
 
 slice-aggregate-same-numbers : tie.Need-slice-aggregate-same-numbers
 slice-aggregate-same-numbers c = search needs
@@ -49,16 +58,16 @@ slice-aggregate-same-numbers-2 c = search needs
 same-numbers-requires : tie.Need-same-numbers-requires
 same-numbers-requires c κs = search needs
 
-returns-3 : tie.Need-returns-3
-returns-3 c =
+returns-5 : tie.Need-returns-5
+returns-5 c =
     let t = c .before .same-numbers .ensures in
-    header-wrong (c .before .before .before .before .before .before .before .before .before .before .before .before .args .bytes .now) _ (c .before .before .before .before .before .before .before .before .read-numbers .ensures) (fails (rw (c .before .before .before .before .header-of .ensures) at t) (c .if3 .taken))
+    header-wrong (c .before .before .before .before .before .before .before .before .before .before .before .before .before .before .args .bytes .now) _ (c .before .before .before .before .before .before .before .before .before .before .read-numbers .ensures) (fails (rw (c .before .before .before .before .header-of .ensures) at t) (c .if5 .taken))
 
-returns-4 : tie.Need-returns-4
-returns-4 c =
+returns-6 : tie.Need-returns-6
+returns-6 c =
     let t = c .before .same-numbers .ensures in
-    let l : 80 ≤ length (c .before .before .before .before .before .before .before .before .before .before .before .before .args .bytes .now) = omega arith in
-    header-right (c .before .before .before .before .before .before .before .before .before .before .before .before .args .bytes .now) _ (c .before .before .before .before .before .before .before .before .read-numbers .ensures) l (passes (c .before .before .before .before .before .before .as-long .ensures) (c .before .before .before .before .before .if2 .left)) (passes (rw (c .before .before .before .before .header-of .ensures) at t) (c .if3 .left))
+    let l : 80 ≤ length (c .before .before .before .before .before .before .before .before .before .before .before .before .before .before .args .bytes .now) = c .before .before .before .before .before .before .before .before .before .before .before .before .if1 .left in
+    header-right (c .before .before .before .before .before .before .before .before .before .before .before .before .before .before .args .bytes .now) _ (c .before .before .before .before .before .before .before .before .before .before .read-numbers .ensures) l (c .before .before .before .before .before .before .before .before .if2 .left) (c .before .before .before .before .before .before .before .if3 .left) (passes (c .before .before .before .before .before .before .as-long .ensures) (c .before .before .before .before .before .if4 .left)) (passes (rw (c .before .before .before .before .header-of .ensures) at t) (c .if5 .left))
 
 pub good-header-spec : {M : Type 1} → statement M
 good-header-spec =
@@ -67,14 +76,17 @@ good-header-spec =
     returns
     slice-aggregate-read-numbers
     read-numbers-requires
+    array-read-version
     array-read-validators
     array-read-roots
     array-read-slashings
-    as-long-requires
     returns-2
+    returns-3
+    as-long-requires
+    returns-4
     header-of-requires
     slice-aggregate-same-numbers
     slice-aggregate-same-numbers-2
     same-numbers-requires
-    returns-3
-    returns-4)
+    returns-5
+    returns-6)

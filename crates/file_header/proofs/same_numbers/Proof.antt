@@ -3,7 +3,7 @@ use Prim.Native.Nat.{_≤_, _-_}
 use native.Mathlib.Omega.{arith}
 use borrow.Author.Tests.{eq-eqb, ne-eqb}
 use lib.ListN.{length, drop}
-use Rattle.definitions.specs.File.{sameNumbers}
+use Rattle.definitions_file.specs.File.{sameNumbers}
 use Rattle.file_header.proofs.Headers.{same-none, same-more}
 use Rattle.file_header.proofs.same_numbers.Statement.{statement}
 use Rattle.file_header.proofs.same_numbers.Tie as tie

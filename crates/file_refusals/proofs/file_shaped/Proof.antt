@@ -4,7 +4,7 @@ use mathlib.Core.List.{List}
 use Prim.Native.Nat.{ℕ, _^_, _≤_}
 use borrow.Author.Needs.{needs}
 use Rattle.definitions.specs.Refusals.{settingsShaped}
-use Rattle.definitions.specs.File.{countOf, rootCountOf, slashingCountOf}
+use Rattle.definitions_file.specs.File.{countOf, rootCountOf, slashingCountOf}
 use Rattle.refusals.proofs.All.{fails, passes}
 use Rattle.file_refusals.proofs.ReadTests.{settingsIn, too-many, unlike-roots, unlike-slashings, not-vectors, other-registry, other-slashings, shaped}
 use Rattle.file_refusals.proofs.file_shaped.Statement.{statement}

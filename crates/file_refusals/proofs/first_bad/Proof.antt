@@ -3,26 +3,26 @@ use Prim.Native.Nat.{_+_, _*_, _-_, _^_, _≤_, _<_}
 use native.Mathlib.Omega.{arith}
 use borrow.Author.Count.{below-more}
 use borrow.Author.Needs.{needs}
-use Rattle.definitions.specs.File.{numberAt}
+use Rattle.definitions_file.specs.File.{numberAt}
 use Rattle.file_refusals.specs.Tests.{limitAt}
 use Rattle.file_refusals.proofs.Registry.{Allowed, Passing, passing-none, passing-more, passing-all, passing-stop}
 use Rattle.file_refusals.proofs.first_bad.Statement.{statement}
 use Rattle.file_refusals.proofs.first_bad.Tie as tie
 
 abbrev Inv-loop : tie.InvT-loop
-Inv-loop bytes validators position₀ i k₀ position k = (position ≡ 368 + 80 * i + 8 * k) × (k ≤ 10) × Allowed bytes (368 + 80 * i) k
+Inv-loop bytes from validators position₀ i k₀ position k = (position ≡ from + 80 * i + 8 * k) × (k ≤ 10) × Allowed bytes (from + 80 * i) k
 
 abbrev μ-loop : tie.MeasureT-loop
-μ-loop bytes validators position₀ i k₀ position k = 10 - k
+μ-loop bytes from validators position₀ i k₀ position k = 10 - k
 
 abbrev Inv-validators : tie.InvT-validators
-Inv-validators bytes validators position₀ i₀ position i = (position ≡ 368 + 80 * i) × Passing bytes validators i
+Inv-validators bytes from validators position₀ i₀ position i = (position ≡ from + 80 * i) × Passing bytes from validators i
 
 abbrev μ-validators : tie.MeasureT-validators
-μ-validators bytes validators position₀ i₀ position i = validators - i
+μ-validators bytes from validators position₀ i₀ position i = validators - i
 
 validators-holds : tie.Need-validators-holds Inv-loop μ-loop Inv-validators μ-validators
-validators-holds c = (refl, passing-none _ _)
+validators-holds c = (omega arith, passing-none _ _ _)
 
 loop-holds : tie.Need-loop-holds Inv-loop μ-loop Inv-validators μ-validators
 loop-holds c = (omega arith, omega arith, λ j l. absurd (omega arith))
@@ -45,7 +45,7 @@ loop-again c =
     let i = c .before .before .before .before .before .before .before .validators .i in
     let l = c .before .before .before .before .before .loop in
     let next = c .before .before .before .read-number .ensures in
-    let h : numberAt (368 + 80 * i + 8 * l .k) (a .bytes .now) ≤ limitAt (l .k) = rw (c .before .before .limit .ensures, next .0, l .inv .0) at (c .if1 .left) in
+    let h : numberAt (a .from + 80 * i + 8 * l .k) (a .bytes .now) ≤ limitAt (l .k) = rw (c .before .before .limit .ensures, next .0, l .inv .0) at (c .if1 .left) in
     (omega arith, omega arith, below-more _ (l .k) (l .inv .2) h)
 
 add-i : tie.Need-add-i Inv-loop μ-loop Inv-validators μ-validators
@@ -70,9 +70,9 @@ returns-2 c =
     let v = c .before .before .before .before .before .before .before .validators in
     let l = c .before .before .before .before .before .loop in
     let next = c .before .before .before .read-number in
-    let over : limitAt (l .k) < numberAt (368 + 80 * v .i + 8 * l .k) (a .bytes .now) = rw (c .before .before .limit .ensures, next .ensures .0, l .inv .0) at (c .if1 .taken) in
+    let over : limitAt (l .k) < numberAt (a .from + 80 * v .i + 8 * l .k) (a .bytes .now) = rw (c .before .before .limit .ensures, next .ensures .0, l .inv .0) at (c .if1 .taken) in
     let r : next .result .number < 2 ^ 64 = omega arith in
-    let fits : numberAt (368 + 80 * v .i + 8 * l .k) (a .bytes .now) < 2 ^ 64 = rw (next .ensures .0, l .inv .0) at r in
+    let fits : numberAt (a .from + 80 * v .i + 8 * l .k) (a .bytes .now) < 2 ^ 64 = rw (next .ensures .0, l .inv .0) at r in
     l .inv .0 ∙ passing-stop (v .inv .1) (c .before .before .before .before .before .before .validators-test .taken) (l .k) (l .inv .2) over fits
 
 pub first-bad-spec : {M : Type 1} → statement M

@@ -1,15 +1,16 @@
 use mathlib.Core.Path.{_≡_, sym, ap, _∙_}
 use mathlib.Core.Bool.{true}
+use mathlib.Core.List.{List}
 use Prim.Native.Nat.{ℕ, _≤_, _+_, _*_}
 use native.Mathlib.Omega.{arith}
 use borrow.Author.Needs.{needs}
 use lib.ListN.{length}
 use Rattle.definitions.specs.Refusals.{goodSettings, goodFinality}
-use Rattle.definitions.specs.File.{fileLength, countOf, rootCountOf, slashingCountOf, contentsOf, goodHeader, fileShaped, stoppedAt}
+use Rattle.definitions_file.specs.File.{versionOf, validatorsAt, countOf, contentsOf, goodHeader, fileShaped, stoppedAt}
 use Rattle.refusals.proofs.All.{fails, passes}
-use Rattle.round_trip.proofs.Passed.{good-header}
+use Rattle.round_trip.proofs.Passed.{Header, good-header}
 use Rattle.file_refusals.proofs.Registry.{registryIn, registry-good, registry-bad}
-use Rattle.file_refusals.proofs.ReadTests.{answered-short, answered-header, answered-shape, answered-settings, answered-finality, answered-registry, answered-all}
+use Rattle.file_refusals.proofs.ReadTests.{answered-short, answered-header, answered-shape, answered-settings, answered-finality, answered-registry, answered-queue}
 use Rattle.file_refusals.proofs.read_tests.Statement.{statement}
 use Rattle.file_refusals.proofs.read_tests.Tie as tie
 
@@ -17,17 +18,17 @@ use Rattle.file_refusals.proofs.read_tests.Tie as tie
 abbrev start : tie.Else2 → tie.Start
 start c = c .before .before .before .before .before .before
 
-enough : (c : tie.Else2) → 80 ≤ length (start c .args .bytes .now)
+abbrev bytes : tie.Else2 → List ℕ
+bytes c = start c .args .bytes .now
+
+enough : (c : tie.Else2) → 80 ≤ length (bytes c)
 enough c = c .before .before .if1 .left
 
-header : (c : tie.Else2) → goodHeader (start c .args .bytes .now) ≡ true
+header : (c : tie.Else2) → goodHeader (bytes c) ≡ true
 header c = passes (c .before .good-header .ensures) (c .if2 .left)
 
-abbrev Long : tie.Start → Type 0
-Long c = length (c .args .bytes .now) ≡ fileLength (countOf (c .args .bytes .now)) (rootCountOf (c .args .bytes .now)) (slashingCountOf (c .args .bytes .now))
-
-long : (c : tie.Else2) → Long (start c)
-long c = good-header _ (header c) .long
+head : (c : tie.Else2) → Header (bytes c)
+head c = good-header _ (header c)
 
 abbrev Shaped : tie.Start → Type 0
 Shaped c = fileShaped (c .args .bytes .now) (c .args .registry .now) (c .args .slashings .now) ≡ true
@@ -35,114 +36,150 @@ Shaped c = fileShaped (c .args .bytes .now) (c .args .registry .now) (c .args .s
 shape : (c : tie.Else3) → Shaped (start (c .before .before))
 shape c = passes (c .before .file-shaped .ensures) (c .if3 .left)
 
-settings : (c : tie.Else4) → goodSettings (contentsOf (start (c .before .before .before .before .before) .args .bytes .now) .settings) ≡ true
+settings : (c : tie.Else4) → goodSettings (contentsOf (bytes (c .before .before .before .before .before)) .settings) ≡ true
 unfolding contentsOf
 settings c = passes (rw (c .before .before .read-settings .ensures) at (c .before .good-settings .ensures)) (c .if4 .left)
 
-finality : (c : tie.Else5) → goodFinality (contentsOf (start (c .before .before .before .before .before .before .before .before) .args .bytes .now) .finality) ≡ true
+finality : (c : tie.Else5) → goodFinality (contentsOf (bytes (c .before .before .before .before .before .before .before .before)) .finality) ≡ true
 unfolding contentsOf
 finality c = passes (rw (c .before .before .read-finality .ensures) at (c .before .good-finality .ensures)) (c .if5 .left)
 
-count : (c : tie.After-read-counts) → c .read-counts .result .validators ≡ countOf (start (c .before .before .before .before .before .before .before .before .before) .args .bytes .now)
+count : (c : tie.After-read-counts) → c .read-counts .result .validators ≡ countOf (bytes (c .before .before .before .before .before .before .before .before .before))
 count c = c .read-counts .ensures .0
 
-abbrev Stopped : ℕ → tie.Start → Type 0
-Stopped at c = at ≡ stoppedAt 368 (registryIn (c .args .bytes .now) (countOf (c .args .bytes .now)))
+from : (c : tie.After-validators-at) → c .validators-at .result ≡ validatorsAt (versionOf (bytes (c .before .before .before .before .before .before .before .before .before .before)))
+from c = c .validators-at .ensures ∙ ap validatorsAt (c .before .read-counts .ensures .3)
 
-stopped : (c : tie.After-first-bad) → Stopped (c .first-bad .result) (start (c .before .before .before .before .before .before .before .before .before .before))
-stopped c = c .first-bad .ensures ∙ ap (λ (n : ℕ). stoppedAt 368 (registryIn (start (c .before .before .before .before .before .before .before .before .before .before) .args .bytes .now) n)) (count (c .before))
+abbrev Stopped : ℕ → List ℕ → Type 0
+Stopped at xs = at ≡ stoppedAt (validatorsAt (versionOf xs)) (registryIn xs (validatorsAt (versionOf xs)) (countOf xs))
+
+stopped : (c : tie.After-first-bad) → Stopped (c .first-bad .result) (bytes (c .before .before .before .before .before .before .before .before .before .before .before))
+stopped c = rw (from (c .before), count (c .before .before)) at (c .first-bad .ensures)
+
+-- where the roots begin
+end : (c : tie.After-first-bad) → c .before .validators-at .result + 80 * c .before .before .read-counts .result .validators ≡ validatorsAt (versionOf (bytes (c .before .before .before .before .before .before .before .before .before .before .before))) + 80 * countOf (bytes (c .before .before .before .before .before .before .before .before .before .before .before))
+end c = omega (arith, from (c .before), count (c .before .before))
+
+refused-requires : tie.Need-refused-requires
+refused-requires c κs = search needs
 
 returns : tie.Need-returns
-returns c = answered-short _ _ _ (c .if1 .taken)
+returns c = rw (c .refused .ensures) (answered-short _ _ _ (c .before .if1 .taken))
 
 good-header-requires : tie.Need-good-header-requires
 good-header-requires c κs = search needs
 
+refused-requires-2 : tie.Need-refused-requires-2
+refused-requires-2 c κs = search needs
+
 returns-2 : tie.Need-returns-2
-returns-2 c = answered-header _ _ _ (c .before .before .if1 .left) (fails (c .before .good-header .ensures) (c .if2 .taken))
+returns-2 c = rw (c .refused2 .ensures) (answered-header _ _ _ (c .before .before .before .if1 .left) (fails (c .before .before .good-header .ensures) (c .before .if2 .taken)))
 
 file-shaped-requires : tie.Need-file-shaped-requires
-file-shaped-requires c κs = omega (arith, long c)
+file-shaped-requires c κs = omega (arith, head c .long)
+
+refused-requires-3 : tie.Need-refused-requires-3
+refused-requires-3 c κs = search needs
 
 returns-3 : tie.Need-returns-3
-returns-3 c = let p = c .before .before in answered-shape _ _ _ (enough p) (header p) (fails (c .before .file-shaped .ensures) (c .if3 .taken))
+returns-3 c = let p = c .before .before .before in rw (c .refused3 .ensures) (answered-shape _ _ _ (enough p) (header p) (fails (c .before .before .file-shaped .ensures) (c .before .if3 .taken)))
 
 read-settings-requires : tie.Need-read-settings-requires
-read-settings-requires c κs = omega (arith, long (c .before .before))
+read-settings-requires c κs = omega (arith, head (c .before .before) .long)
 
 good-settings-requires : tie.Need-good-settings-requires
 good-settings-requires c κs = search needs
 
+refused-requires-4 : tie.Need-refused-requires-4
+refused-requires-4 c κs = search needs
+
 returns-4 : tie.Need-returns-4
 unfolding contentsOf
 returns-4 c =
-    let p = c .before .before .before .before .before in
-    answered-settings _ _ _ (enough p) (header p) (shape (c .before .before .before)) (fails (rw (c .before .before .read-settings .ensures) at (c .before .good-settings .ensures)) (c .if4 .taken))
+    let p = c .before .before .before .before .before .before in
+    rw (c .refused4 .ensures) (answered-settings _ _ _ (enough p) (header p) (shape (c .before .before .before .before)) (fails (rw (c .before .before .before .read-settings .ensures) at (c .before .before .good-settings .ensures)) (c .before .if4 .taken)))
 
 read-finality-requires : tie.Need-read-finality-requires
-read-finality-requires c κs = omega (arith, long (c .before .before .before .before .before))
+read-finality-requires c κs = omega (arith, head (c .before .before .before .before .before) .long)
 
 good-finality-requires : tie.Need-good-finality-requires
 good-finality-requires c κs = search needs
 
+refused-requires-5 : tie.Need-refused-requires-5
+refused-requires-5 c κs = search needs
+
 returns-5 : tie.Need-returns-5
 unfolding contentsOf
 returns-5 c =
-    let p = c .before .before .before .before .before .before .before .before in
-    answered-finality _ _ _ (enough p) (header p) (shape (c .before .before .before .before .before .before)) (settings (c .before .before .before)) (fails (rw (c .before .before .read-finality .ensures) at (c .before .good-finality .ensures)) (c .if5 .taken))
+    let p = c .before .before .before .before .before .before .before .before .before in
+    rw (c .refused5 .ensures) (answered-finality _ _ _ (enough p) (header p) (shape (c .before .before .before .before .before .before .before)) (settings (c .before .before .before .before)) (fails (rw (c .before .before .before .read-finality .ensures) at (c .before .before .good-finality .ensures)) (c .before .if5 .taken)))
 
 read-counts-requires : tie.Need-read-counts-requires
 read-counts-requires c κs = enough (c .before .before .before .before .before .before .before .before)
 
+validators-at-requires : tie.Need-validators-at-requires
+validators-at-requires c κs = let h = head (c .before .before .before .before .before .before .before .before .before) in let v = c .read-counts .ensures .3 in (omega (arith, h .some-version), omega (arith, h .known-version))
+
 first-bad-requires : tie.Need-first-bad-requires
-first-bad-requires c κs = omega (arith, count c, long (c .before .before .before .before .before .before .before .before .before))
+first-bad-requires c κs = omega (arith, count (c .before), from c, head (c .before .before .before .before .before .before .before .before .before .before) .long)
 
 mul-if6 : tie.Need-mul-if6
-mul-if6 c = let p = c .before .before .before .before .before .before .before .before .before .before in omega (arith, count (c .before), long p, start p .good)
+mul-if6 c = let p = c .before .before .before .before .before .before .before .before .before .before .before in omega (arith, count (c .before .before), from (c .before), head p .long, start p .good)
 
 add-if6 : tie.Need-add-if6
-add-if6 c = let p = c .before .before .before .before .before .before .before .before .before .before in omega (arith, count (c .before), long p, start p .good)
+add-if6 c = let p = c .before .before .before .before .before .before .before .before .before .before .before in omega (arith, count (c .before .before), from (c .before), head p .long, start p .good)
+
+refused-requires-6 : tie.Need-refused-requires-6
+refused-requires-6 c κs = search needs
 
 returns-6 : tie.Need-returns-6
 unfolding contentsOf
 returns-6 c =
-    let p = c .before .before .before .before .before .before .before .before .before .before .before in
-    let bytes = start p .args .bytes .now in
-    let n = countOf bytes in
-    let e = stopped (c .before) in
-    let end : 368 + 80 * n ≡ 368 + 80 * c .before .before .read-counts .result .validators = omega (arith, count (c .before .before)) in
-    let bad = registry-bad bytes n (λ s. c .if6 .taken (e ∙ s ∙ end)) in
-    let r = answered-registry bytes _ _ (enough p) (header p) (shape (c .before .before .before .before .before .before .before .before .before)) (settings (c .before .before .before .before .before .before)) (finality (c .before .before .before)) bad in
-    record { number = r .number; place = e ∙ r .place }
+    let p = c .before .before .before .before .before .before .before .before .before .before .before .before .before in
+    let e = stopped (c .before .before) in
+    let bad = registry-bad (bytes p) (validatorsAt (versionOf (bytes p))) (countOf (bytes p)) (λ s. c .before .if6 .taken (e ∙ s ∙ sym (end (c .before .before)))) in
+    rw (c .refused6 .ensures, e) (answered-registry (bytes p) _ _ (enough p) (header p) (shape (c .before .before .before .before .before .before .before .before .before .before .before)) (settings (c .before .before .before .before .before .before .before .before)) (finality (c .before .before .before .before .before)) bad)
+
+queue-tests-requires : tie.Need-queue-tests-requires
+queue-tests-requires c κs =
+    let h = head (c .before .before .before .before .before .before .before .before .before .before .before .before) in
+    let counts = c .before .before .before .read-counts .ensures in
+    let v = counts .3 in
+    ((v, c .before .before .validators-at .ensures, counts .0), (omega (arith, h .some-version), omega (arith, h .known-version), omega (arith, count (c .before .before .before), from (c .before .before), h .long)))
 
 returns-7 : tie.Need-returns-7
 unfolding contentsOf
 returns-7 c =
-    let p = c .before .before .before .before .before .before .before .before .before .before .before in
-    let bytes = start p .args .bytes .now in
-    let n = countOf bytes in
-    let end : 368 + 80 * n ≡ 368 + 80 * c .before .before .read-counts .result .validators = omega (arith, count (c .before .before)) in
-    let good = registry-good bytes n (sym (stopped (c .before)) ∙ c .if6 .left ∙ sym end) in
-    answered-all _ _ _ (enough p) (header p) (shape (c .before .before .before .before .before .before .before .before .before)) (settings (c .before .before .before .before .before .before)) (finality (c .before .before .before)) good
+    let p = c .before .before .before .before .before .before .before .before .before .before .before .before .before in
+    let good = registry-good (bytes p) (validatorsAt (versionOf (bytes p))) (countOf (bytes p)) (sym (stopped (c .before .before)) ∙ c .before .if6 .left ∙ end (c .before .before)) in
+    answered-queue (bytes p) _ _ (enough p) (header p) (shape (c .before .before .before .before .before .before .before .before .before .before .before)) (settings (c .before .before .before .before .before .before .before .before)) (finality (c .before .before .before .before .before)) good (c .queue-tests .ensures)
 
 pub read-tests-spec : {M : Type 1} → statement M
 read-tests-spec =
     tie.close
     (tie.spec
+    refused-requires
     returns
     good-header-requires
+    refused-requires-2
     returns-2
     file-shaped-requires
+    refused-requires-3
     returns-3
     read-settings-requires
     good-settings-requires
+    refused-requires-4
     returns-4
     read-finality-requires
     good-finality-requires
+    refused-requires-5
     returns-5
     read-counts-requires
+    validators-at-requires
     first-bad-requires
     mul-if6
     add-if6
+    refused-requires-6
     returns-6
+    queue-tests-requires
     returns-7)

@@ -1,10 +1,10 @@
-use mathlib.Core.Path.{_≡_, sym, _∙_}
+use mathlib.Core.Path.{_≡_}
 use mathlib.Core.Bool.{true}
 use borrow.Author.Needs.{needs}
-use Rattle.definitions.specs.Refusals.{goodSettings, goodFinality}
+use Rattle.definitions.specs.Refusals.{goodSettings, goodFinality, goodRegistry}
 use Rattle.refusals.proofs.All.{fails, passes}
 use Rattle.file_refusals.specs.Tests.{writeShaped}
-use Rattle.file_refusals.proofs.WriteTests.{write-shape, write-settings, write-finality, write-registry, write-all}
+use Rattle.file_refusals.proofs.WriteTests.{write-shape, write-tens, write-settings, write-finality, write-registry, write-queue, write-all}
 use Rattle.file_refusals.proofs.write_tests.Statement.{statement}
 use Rattle.file_refusals.proofs.write_tests.Tie as tie
 
@@ -24,32 +24,44 @@ settings c = passes (c .before .good-settings .ensures) (c .if2 .left)
 finality : (c : tie.Else3) → goodFinality (start (c .before .before .before .before) .args .finality) ≡ true
 finality c = passes (c .before .good-finality .ensures) (c .if3 .left)
 
+registry : (c : tie.Else4) → goodRegistry (start (c .before .before .before .before .before .before) .args .registry .now) ≡ true
+registry c = passes (c .before .good-registry .ensures) (c .if4 .left)
+
 write-shaped-requires : tie.Need-write-shaped-requires
 write-shaped-requires c κs = search needs
 
 returns : tie.Need-returns
-returns c = write-shape _ _ _ _ _ _ (fails (c .before .write-shaped .ensures) (c .if1 .taken))
+returns c = write-shape _ _ _ _ _ _ _ (fails (c .before .write-shaped .ensures) (c .if1 .taken))
 
 good-settings-requires : tie.Need-good-settings-requires
 good-settings-requires c κs = search needs
 
 returns-2 : tie.Need-returns-2
-returns-2 c = write-settings _ _ _ _ _ _ (shape (c .before .before)) (fails (c .before .good-settings .ensures) (c .if2 .taken))
+returns-2 c = write-settings _ _ _ _ _ _ _ (shape (c .before .before)) (fails (c .before .good-settings .ensures) (c .if2 .taken))
 
 good-finality-requires : tie.Need-good-finality-requires
 good-finality-requires c κs = search needs
 
 returns-3 : tie.Need-returns-3
-returns-3 c = write-finality _ _ _ _ _ _ (shape (c .before .before .before .before)) (settings (c .before .before)) (fails (c .before .good-finality .ensures) (c .if3 .taken))
+returns-3 c = write-finality _ _ _ _ _ _ _ (shape (c .before .before .before .before)) (settings (c .before .before)) (fails (c .before .good-finality .ensures) (c .if3 .taken))
 
 good-registry-requires : tie.Need-good-registry-requires
 good-registry-requires c κs = search needs
 
 returns-4 : tie.Need-returns-4
-returns-4 c = write-all _ _ _ _ _ _ (shape (c .before .before .before .before .before .before)) (settings (c .before .before .before .before)) (finality (c .before .before)) (sym (c .before .good-registry .ensures) ∙ c .if4 .taken)
+returns-4 c = write-registry _ _ _ _ _ _ _ (shape (c .before .before .before .before .before .before)) (settings (c .before .before .before .before)) (finality (c .before .before)) (fails (c .before .good-registry .ensures) (c .if4 .taken))
+
+queue-of-requires : tie.Need-queue-of-requires
+queue-of-requires c κs = let a = start (c .before .before .before .before .before .before) .args in write-tens (a .settings) (a .finality) (a .queue) (a .registry .now) (a .roots .now) (a .slashings .now) (a .file .now) (shape (c .before .before .before .before .before .before))
+
+same-queue-requires : tie.Need-same-queue-requires
+same-queue-requires c κs = search needs
 
 returns-5 : tie.Need-returns-5
-returns-5 c = write-registry _ _ _ _ _ _ (shape (c .before .before .before .before .before .before)) (settings (c .before .before .before .before)) (finality (c .before .before)) (sym (c .before .good-registry .ensures) ∙ c .if4 .left)
+returns-5 c = write-queue _ _ _ _ _ _ _ (shape (c .before .before .before .before .before .before .before .before .before)) (settings (c .before .before .before .before .before .before .before)) (finality (c .before .before .before .before .before)) (registry (c .before .before .before)) (c .before .before .queue-of .ensures) (fails (c .before .same-queue .ensures) (c .if5 .taken))
+
+returns-6 : tie.Need-returns-6
+returns-6 c = write-all _ _ _ _ _ _ _ (shape (c .before .before .before .before .before .before .before .before .before)) (settings (c .before .before .before .before .before .before .before)) (finality (c .before .before .before .before .before)) (registry (c .before .before .before)) (c .before .before .queue-of .ensures) (passes (c .before .same-queue .ensures) (c .if5 .left))
 
 pub write-tests-spec : {M : Type 1} → statement M
 write-tests-spec =
@@ -63,4 +75,7 @@ write-tests-spec =
     returns-3
     good-registry-requires
     returns-4
-    returns-5)
+    queue-of-requires
+    same-queue-requires
+    returns-5
+    returns-6)

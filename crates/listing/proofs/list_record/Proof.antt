@@ -27,7 +27,7 @@ returns : tie.Need-returns
 returns c =
     let r = c .before .before .before .before .before .before .before .before .before .before .read-file .ensures in
     let p = c .before .before .put-refused .ensures in
-    record-refused (c .before .before .before .before .before .before .before .before .before .before .before .before .before .before .before .before .before .before .before .args .bytes .now) (lentTo (c .before .before .before .before .before .before .before .before .before .before .before .before .before .before .before .before .before .before .before)) (r .0) (r .1 .1 .1 .1 .0) (r .1 .1 .1 .1 .1) (c .before .before .before .before .if1 .taken) (p .0) (omega (arith, p .1, c .before .before .before .before .before .before .before .before .before .before .before .before .before .before .before .before .before .before .before .pre))
+    record-refused (c .before .before .before .before .before .before .before .before .before .before .before .before .before .before .before .before .before .before .before .args .bytes .now) (lentTo (c .before .before .before .before .before .before .before .before .before .before .before .before .before .before .before .before .before .before .before)) (r .0) (r .1 .1 .1 .1 .1 .0) (r .1 .1 .1 .1 .1 .1) (c .before .before .before .before .if1 .taken) (p .0) (omega (arith, p .1, c .before .before .before .before .before .before .before .before .before .before .before .before .before .before .before .before .before .before .before .pre))
 
 file-roots-requires : tie.Need-file-roots-requires
 file-roots-requires c κs = search needs
@@ -53,7 +53,7 @@ same-length-8 c = c .before .text2 .given
 returns-2 : tie.Need-returns-2
 returns-2 c =
     let r = c .before .before .before .before .before .before .before .before .before .before .before .before .before .before .before .before .before .before .before .before .before .before .before .read-file .ensures in
-    record-listed (c .before .before .before .before .before .before .before .before .before .before .before .before .before .before .before .before .before .before .before .before .before .before .before .before .before .before .before .before .before .before .before .before .args .bytes .now) (lentTo (c .before .before .before .before .before .before .before .before .before .before .before .before .before .before .before .before .before .before .before .before .before .before .before .before .before .before .before .before .before .before .before .before)) (r .0) (r .1 .1 .1 .1 .0) (r .1 .1 .1 .1 .1) (c .before .before .before .before .before .before .before .before .before .before .before .before .before .before .before .before .before .if1 .left) (r .1 .1 .0) (r .1 .1 .1 .0) (c .before .before .before .before .before .before .before .before .before .before .before .before .before .before .file-roots .ensures) (c .before .before .before .before .before .before .before .before .before .before .before .before .before .before .before .before .before .before .before .before .before .before .registry .given) (c .before .before .before .before .before .before .before .before .before .before .before .before .before .before .before .before .before .before .before .before .slashings .given) (c .before .before .before .before .before .before .list-close .ensures)
+    record-listed (c .before .before .before .before .before .before .before .before .before .before .before .before .before .before .before .before .before .before .before .before .before .before .before .before .before .before .before .before .before .before .before .before .args .bytes .now) (lentTo (c .before .before .before .before .before .before .before .before .before .before .before .before .before .before .before .before .before .before .before .before .before .before .before .before .before .before .before .before .before .before .before .before)) (r .0) (r .1 .1 .1 .1 .1 .0) (r .1 .1 .1 .1 .1 .1) (c .before .before .before .before .before .before .before .before .before .before .before .before .before .before .before .before .before .if1 .left) (r .1 .1 .0) (r .1 .1 .1 .0) (c .before .before .before .before .before .before .before .before .before .before .before .before .before .before .file-roots .ensures) (c .before .before .before .before .before .before .before .before .before .before .before .before .before .before .before .before .before .before .before .before .before .before .registry .given) (c .before .before .before .before .before .before .before .before .before .before .before .before .before .before .before .before .before .before .before .before .slashings .given) (c .before .before .before .before .before .before .list-close .ensures)
 
 pub list-record-spec : {M : Type 1} → statement M
 list-record-spec =

@@ -67,7 +67,7 @@ put-read-requires c κs =
     let r = c .before .before .before .before .before .before .before .before .before .before .before .before .before .before .before .before .before .before .read-file .ensures in (
       record { header = x .header; few = x .few; openings = x .openings; pairs = x .pairs; entries = c .before .before .before .before .before .before .before .before .before .before .before .before .before .before .before .before .before .registry .given ∙ x .entries; sums = c .before .before .before .before .before .before .before .before .before .before .before .before .before .before .before .slashings .given ∙ x .sums; places = x .places; closing-entries = x .closing-entries; closing-sums = x .closing-sums; bytes = x .bytes },
       (
-        opened-from (a .file .now) (a .registry .now) (a .slashings .now) (x .entries) (x .sums) (r .0) (c .before .before .before .before .before .before .before .before .before .before .before .before .if1 .left) (r .1 .1 .0) (r .1 .1 .1 .0) (r .1 .1 .1 .1 .0) (r .1 .1 .1 .1 .1),
+        opened-from (a .file .now) (a .registry .now) (a .slashings .now) (x .entries) (x .sums) (r .0) (c .before .before .before .before .before .before .before .before .before .before .before .before .if1 .left) (r .1 .1 .0) (r .1 .1 .1 .0) (r .1 .1 .1 .1 .1 .0) (r .1 .1 .1 .1 .1 .1),
         tail-passes (a .tail .now) (c .before .before .before .before .before .before .before .before .before .before .before .good-tail .ensures) (omega (arith, x .entries, c .before .before .before .before .before .before .before .before .before .before .before .before .before .before .before .before .before .registry .given)) (c .before .before .before .before .before .before .before .before .before .before .if2 .left),
       ),
     )

@@ -1,7 +1,7 @@
 use mathlib.Core.Path.{_∙_}
 use native.Mathlib.Omega.{arith}
 use lib.ListN.{length-take, length-drop}
-use Rattle.definitions.specs.File.{countOf}
+use Rattle.definitions_file.specs.File.{countOf}
 use Rattle.outage.proofs.Text.{text-run}
 use Rattle.outage.proofs.Ended.{printed-same}
 use Rattle.outage.proofs.Filled.{Tail, good-tail, roots-long, filled, shaped, ready, room, planned}

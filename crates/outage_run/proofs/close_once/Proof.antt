@@ -2,7 +2,7 @@ use mathlib.Core.Path.{sym, ap, _∙_}
 use native.Mathlib.Omega.{arith}
 use borrow.Author.Needs.{needs}
 use Rattle.definitions.specs.Rules.{altairRules}
-use Rattle.definitions.specs.File.{Contents}
+use Rattle.definitions_file.specs.File.{Contents}
 use Rattle.definitions.specs.Close.{Call, Outcome}
 use Rattle.file_refusals.specs.Tests.{contentsWith}
 use Rattle.close.specs.Called.{called}

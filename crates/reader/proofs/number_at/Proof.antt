@@ -2,7 +2,7 @@ use mathlib.Core.Path.{_≡_, refl, _∙_}
 use Prim.Native.Nat.{_≤_, _<_, _+_, _-_, _^_}
 use native.Mathlib.Omega.{arith}
 use lib.ListN.{take, drop}
-use Rattle.definitions.specs.File.{fromLittleEndian}
+use Rattle.definitions_file.specs.File.{fromLittleEndian}
 use Rattle.reader.proofs.Bytes.{field-back, field-whole, field-small}
 use Rattle.reader.proofs.number_at.Statement.{statement}
 use Rattle.reader.proofs.number_at.Tie as tie

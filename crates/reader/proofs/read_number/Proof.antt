@@ -45,7 +45,7 @@ use denote.Triple.Walked.{says, needs, Stays, stay-none, stay-none-slice, walkOf
 use denote.Exit.{yes}
 use borrow.Table.OneValue.{part-in-at, part-out-at}
 use borrow.Within.Token.{Rest, within-token, within-end}
-use Rattle.definitions.specs.File.{numberAt}
+use Rattle.definitions_file.specs.File.{numberAt}
 use Rattle.reader.specs.declared.Reader.{Reader}
 use Rattle.reader.specs.declared.Next.{Next}
 use Rattle.reader.proofs.Reader as T

@@ -1,7 +1,7 @@
 use mathlib.Core.Path.{sym, ap, _∙_}
 use native.Mathlib.Omega.{arith}
 use borrow.Author.Needs.{needs}
-use Rattle.definitions.specs.File.{Contents, contentsOf, read}
+use Rattle.definitions_file.specs.File.{Contents, contentsOf, read}
 use Rattle.record_file.proofs.Reading.{Lengths, read-refused, read-accepted, read-lengths, registry-part, slashings-part}
 use Rattle.record_file.proofs.read_file.Statement.{statement}
 use Rattle.record_file.proofs.read_file.Tie as tie
@@ -9,8 +9,8 @@ use Rattle.record_file.proofs.read_file.Tie as tie
 abbrev Long : tie.Start → Type 0
 Long c = Lengths (c .args .bytes .now) (c .args .registry .now) (c .args .slashings .now)
 
-lengths : (c : tie.Else1) → Long (c .before .before .before .before .before .before .before .before)
-lengths c = read-lengths _ _ _ (c .before .before .read-tests .ensures .number) (c .if1 .left)
+lengths : (c : tie.Else1) → Long (c .before .before .before .before .before .before .before .before .before)
+lengths c = read-lengths _ _ _ (c .before .before .before .read-tests .ensures .number) (c .if1 .left)
 
 read-tests-requires : tie.Need-read-tests-requires
 read-tests-requires c κs = search needs
@@ -30,31 +30,34 @@ same-length-2 c = search needs
 returns : tie.Need-returns
 unfolding read
 returns c =
-    let t = c .before .before .before .before .read-tests .ensures in
+    let t = c .before .before .before .before .before .read-tests .ensures in
     let g = read-refused _ _ _ (t .number) (c .before .before .if1 .taken) in
     let settings = c .before .no-settings .ensures ∙ sym (ap (λ (k : Contents). k .settings) (g .contents)) in
     let finality = c .no-finality .ensures ∙ sym (ap (λ (k : Contents). k .finality) (g .contents)) in
     let registry = sym (ap (λ (k : Contents). k .registry) (g .contents)) in
     let slashings = sym (ap (λ (k : Contents). k .slashings) (g .contents)) in
-    (g .number, (t .place, (settings, (finality, (registry, slashings)))))
+    (g .number, (t .place, (settings, (finality, (t .pair, (registry, slashings))))))
 
 read-settings-requires : tie.Need-read-settings-requires
-read-settings-requires c κs = omega (arith, lengths c)
+read-settings-requires c κs = omega (arith, lengths (c))
 
 read-finality-requires : tie.Need-read-finality-requires
 read-finality-requires c κs = omega (arith, lengths (c .before))
 
+registry-at-requires : tie.Need-registry-at-requires
+registry-at-requires c κs = lengths (c .before .before) .header
+
 mul-slashings-at : tie.Need-mul-slashings-at
-mul-slashings-at c = omega (arith, lengths (c .before .before))
+mul-slashings-at c = omega (arith, lengths (c .before .before .before), c .before .before .before .before .before .before .before .before .before .before .before .before .good)
 
 sub-slashings-at : tie.Need-sub-slashings-at
-sub-slashings-at c = omega (arith, lengths (c .before .before))
+sub-slashings-at c = omega (arith, lengths (c .before .before .before))
 
 read-numbers-requires : tie.Need-read-numbers-requires
-read-numbers-requires c κs = omega (arith, lengths (c .before .before .before))
+read-numbers-requires c κs = omega (arith, lengths (c .before .before .before .before), c .before .registry-at .ensures)
 
 read-numbers-requires-2 : tie.Need-read-numbers-requires-2
-read-numbers-requires-2 c κs = omega (arith, lengths (c .before .before .before .before .before .before .before))
+read-numbers-requires-2 c κs = omega (arith, lengths (c .before .before .before .before .before .before .before .before))
 
 same-length-3 : tie.Need-same-length-3
 same-length-3 c = search needs
@@ -65,14 +68,14 @@ same-length-4 c = search needs
 returns-2 : tie.Need-returns-2
 unfolding read contentsOf
 returns-2 c =
-    let t = c .before .before .before .before .before .before .before .before .before .before .before .before .read-tests .ensures in
-    let l = lengths (c .before .before .before .before .before .before .before .before .before .before) in
-    let g = read-accepted _ _ _ (t .number) (c .before .before .before .before .before .before .before .before .before .before .if1 .left) in
-    let settings = c .before .before .before .before .before .before .before .before .before .read-settings .ensures ∙ sym (ap (λ (k : Contents). k .settings) (g .contents)) in
-    let finality = c .before .before .before .before .before .before .before .before .read-finality .ensures ∙ sym (ap (λ (k : Contents). k .finality) (g .contents)) in
-    let registry = c .before .before .before .before .before .before .read-numbers .ensures ∙ registry-part l ∙ sym (ap (λ (k : Contents). k .registry) (g .contents)) in
+    let t = c .before .before .before .before .before .before .before .before .before .before .before .before .before .before .read-tests .ensures in
+    let l = lengths (c .before .before .before .before .before .before .before .before .before .before .before) in
+    let g = read-accepted _ _ _ (t .number) (c .before .before .before .before .before .before .before .before .before .before .before .if1 .left) in
+    let settings = c .before .before .before .before .before .before .before .before .before .before .read-settings .ensures ∙ sym (ap (λ (k : Contents). k .settings) (g .contents)) in
+    let finality = c .before .before .before .before .before .before .before .before .before .read-finality .ensures ∙ sym (ap (λ (k : Contents). k .finality) (g .contents)) in
+    let registry = (rw (c .before .before .before .before .before .before .before .before .registry-at .ensures) at (c .before .before .before .before .before .before .read-numbers .ensures)) ∙ registry-part l ∙ sym (ap (λ (k : Contents). k .registry) (g .contents)) in
     let slashings = c .before .before .read-numbers2 .ensures ∙ slashings-part l ∙ sym (ap (λ (k : Contents). k .slashings) (g .contents)) in
-    (g .number, (t .place, (settings, (finality, (registry, slashings)))))
+    (g .number, (t .place, (settings, (finality, (t .pair, (registry, slashings))))))
 
 pub read-file-spec : {M : Type 1} → statement M
 read-file-spec =
@@ -86,6 +89,7 @@ read-file-spec =
     returns
     read-settings-requires
     read-finality-requires
+    registry-at-requires
     mul-slashings-at
     sub-slashings-at
     read-numbers-requires

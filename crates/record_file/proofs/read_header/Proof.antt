@@ -1,7 +1,7 @@
 use mathlib.Core.Path.{_≡_, _∙_}
 use mathlib.Core.Bool.{true}
 use borrow.Author.Needs.{needs}
-use Rattle.definitions.specs.File.{goodHeader}
+use Rattle.definitions_file.specs.File.{goodHeader}
 use Rattle.refusals.proofs.All.{fails, passes}
 use Rattle.round_trip.proofs.Passed.{good-header}
 use Rattle.record_file.proofs.Reading.{header-refused, header-accepted}

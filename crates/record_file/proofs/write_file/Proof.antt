@@ -1,6 +1,7 @@
 use mathlib.Core.Path.{sym, _∙_}
 use borrow.Author.Needs.{needs}
 use Rattle.refusals.proofs.Answers.{passed}
+use Rattle.round_trip.proofs.Tests.{write-good}
 use Rattle.round_trip.proofs.Written.{is-file}
 use Rattle.record_file.proofs.Writing.{write-refused}
 use Rattle.record_file.proofs.write_file.Statement.{statement}
@@ -15,10 +16,12 @@ same-length c = search needs
 returns : tie.Need-returns
 returns c =
     let e = c .before .write-tests .ensures in
-    (e, write-refused _ _ e (c .if1 .taken))
+    (e, write-refused _ _ _ e (c .if1 .taken))
 
 put-record-requires : tie.Need-put-record-requires
-put-record-requires c κs = passed _ (c .before .before .write-tests .ensures) (c .before .if1 .left)
+put-record-requires c κs =
+    let w = write-good _ _ _ (passed _ (c .before .before .write-tests .ensures) (c .before .if1 .left)) in
+    record { entries = w .good .entries; roots = w .good .roots; slashings = w .good .slashings; long = w .long }
 
 same-length-2 : tie.Need-same-length-2
 same-length-2 c = search needs
@@ -27,7 +30,7 @@ returns-2 : tie.Need-returns-2
 returns-2 c =
     let e = c .before .before .before .before .before .write-tests .ensures in
     let z = c .before .before .before .before .if1 .left in
-    (sym z ∙ e, c .before .before .put-record .ensures ∙ sym (is-file _ _ (passed _ e z)))
+    (sym z ∙ e, c .before .before .put-record .ensures ∙ sym (is-file _ _ _ (passed _ e z)))
 
 pub write-file-spec : {M : Type 1} → statement M
 write-file-spec =

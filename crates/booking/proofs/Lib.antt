@@ -1,0 +1,5 @@
+-- Why what is filled is the amounts.
+mod Way
+mod Booked
+mod Cleared
+pub mod Amounts

@@ -1,0 +1,2 @@
+-- The step calls as the definition has them.
+pub mod Stepped

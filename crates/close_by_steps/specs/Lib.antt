@@ -1,0 +1,2 @@
+-- What contracts of the step calls cite.
+pub mod Stepped

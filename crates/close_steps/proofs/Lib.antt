@@ -1,0 +1,2 @@
+-- What comes of a call once its tests have passed.
+pub mod Done

@@ -1,0 +1,3 @@
+-- What contracts of a close by steps cite.
+pub mod Called
+pub mod Ready

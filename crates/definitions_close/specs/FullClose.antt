@@ -1,0 +1,70 @@
+-- The close that a user calls: `close` of definitions, lent besides the exit queue's pair (02, R-8) and a list of nine numbers a validator
+-- (02, R-4), which also says which of the four finality tests last set the checkpoint.
+use mathlib.Core.Bool.{cond}
+use mathlib.Core.List.{List}
+use Prim.Native.Nat.{ℕ}
+use Rattle.types.specs.declared.Settings.{Settings}
+use Rattle.types.specs.declared.Finality.{Finality}
+use Rattle.types.specs.declared.Raised.{Raised}
+use Rattle.types.specs.declared.ExitQueue.{ExitQueue}
+use Rattle.definitions.specs.Record.{Validator, BeaconState, encode, decode}
+use Rattle.definitions.specs.Checked.{Checked, value, refused, badShape, bind, codeOf, settle}
+use Rattle.definitions.specs.Refusals.{afterTests, closingBuffer}
+use Rattle.definitions.specs.Rules.{settingsUnder}
+use Rattle.definitions.specs.Raised.{raisedTotals, raisedUnlessRefused}
+use Rattle.definitions.specs.ExitQueue.{queueOf, queueTest}
+use Rattle.definitions.specs.Close.{Call, stateOf, closeTests, «process_epoch»}
+use Rattle.definitions_amounts.specs.Amounts.{amountsShaped, closingAmounts}
+use Rattle.definitions_amounts.specs.FinalizingTest.{finalizingTest}
+
+-- All that a close is handed: what `close` is, the pair beside the finality, and a list of any contents for the amounts
+pub record FullCall : Type 0 where
+  pub call : Call
+  pub queue : ExitQueue
+  pub amounts : List ℕ
+
+-- 1, 2, 3 and then 8: R-8, "tested after 3, nothing written"; R-4, "A list of the wrong length gets refusal 1"
+unfoldable pub fullTests : FullCall → Checked (Unit {0})
+fullTests c =
+    let others = bind (closeTests (c .call)) (λ _. queueTest (c .queue) (decode (c .call .registry))) in
+    cond (amountsShaped (c .call .registry) (c .amounts)) others (refused badShape)
+
+abbrev pub settingsOf : FullCall → Settings
+settingsOf c = settingsUnder (c .call .rules)
+
+-- the closed state, or the refusal
+unfoldable pub fullyClosed : FullCall → Checked BeaconState
+fullyClosed c = afterTests (fullTests c) («process_epoch» (settingsOf c) (stateOf (c .call)))
+
+-- the pair goes in and comes back: on refusal the opening's
+unfoldable pub closingQueue : Checked BeaconState → ExitQueue → ExitQueue
+closingQueue (value after) before = queueOf (after .validators)
+closingQueue (refused r) before = before
+
+-- What comes back and what the lent lists hold afterwards
+pub record FullOutcome : Type 0 where
+  pub refusal : ℕ
+  pub finality : Finality
+  pub queue : ExitQueue
+  pub raised : Raised
+  pub test : ℕ
+  pub closingRegistry : List ℕ
+  pub closingSlashings : List ℕ
+  pub amounts : List ℕ
+
+unfoldable pub fullClose : FullCall → FullOutcome
+fullClose c =
+    let s = settingsOf c in
+    let opening = stateOf (c .call) in
+    let tests = fullTests c in
+    let work = «process_epoch» s opening in
+    record {
+      refusal = codeOf (fullyClosed c);
+      finality = settle (fullyClosed c) opening .finality;
+      queue = closingQueue (fullyClosed c) (c .queue);
+      raised = raisedUnlessRefused (fullyClosed c) (raisedTotals (c .call .rules .settings) (opening .finality .slot) (opening .validators));
+      test = finalizingTest (c .call .rules .settings) (opening .finality) (bind (fullyClosed c) (λ after. value (after .finality)));
+      closingRegistry = closingBuffer (λ st. encode (st .validators)) tests work (c .call .registry) (c .call .closingRegistry);
+      closingSlashings = closingBuffer (λ st. st .slashings) tests work (c .call .slashings) (c .call .closingSlashings);
+      amounts = closingAmounts tests s opening (c .amounts);
+    }

@@ -1,0 +1,1 @@
+// Definitions alone: what the justification step answers.

@@ -1,0 +1,1 @@
+// Definitions alone: what a reader must believe of a shelf of records. See specs/.

@@ -1,0 +1,2 @@
+-- Figures of a store.
+pub mod Figures

@@ -1,0 +1,3 @@
+-- R-14 of the calls that a user makes.
+pub mod Orders
+pub mod ExitCalls

@@ -1,0 +1,80 @@
+// A close that is run one step a call, and the exit orders that are taken meanwhile.
+ghost use mathlib.Core.Path.{_≡_};
+ghost use Rattle.definitions_orders.specs.CloseBySteps.{closeStep};
+ghost use Rattle.definitions_orders.specs.Orders.{takeOrder, carryOut};
+ghost use Rattle.full_close.specs.Called.{fullCalled};
+ghost use Rattle.close_steps.specs.Called.{stepCalled, stepOutcome};
+ghost use Rattle.orders.specs.Called.{orderCalled, orderOutcome, ninthCalled, ninthOutcome};
+use definitions_orders::Running;
+use definitions_orders::RunningAnswer;
+use types::ExitQueue;
+use types::Finality;
+use types::Rules;
+
+#[no_mangle]
+pub extern "C" fn altair_close_step(
+    number: u64,
+    running: Running,
+    rules: Rules,
+    finality: Finality,
+    queue: ExitQueue,
+    registry: &[u64],
+    slashings: &[u64],
+    roots: &[u8],
+    closing_registry: &mut [u64],
+    closing_slashings: &mut [u64],
+    amounts: &mut [u64],
+) -> RunningAnswer
+    ensures { λ r. ⌜
+        stepOutcome r (now («closing_registry» .exit)) (now («closing_slashings» .exit)) (now (amounts .exit))
+        ≡ closeStep (stepCalled number running (fullCalled rules finality queue (now (registry .entry)) (now (slashings .entry)) (now (roots .entry)) (now («closing_registry» .entry)) (now («closing_slashings» .entry)) (now (amounts .entry)))) ⌝ }
+{
+    close_by_steps::close_step(
+        number,
+        rules,
+        running,
+        finality,
+        queue,
+        registry,
+        slashings,
+        roots,
+        closing_registry,
+        closing_slashings,
+        amounts,
+    )
+}
+
+#[no_mangle]
+pub extern "C" fn altair_take_order(
+    running: Running,
+    validator: u64,
+    start: u64,
+    orders: &mut [u64],
+) -> RunningAnswer
+    ensures { λ r. ⌜ orderOutcome r (now (orders .exit)) ≡ takeOrder (orderCalled running validator start (now (orders .entry))) ⌝ }
+{
+    orders::take_order(running, validator, start, orders)
+}
+
+#[no_mangle]
+pub extern "C" fn altair_carry_out(
+    rules: Rules,
+    shard_committee_period: u64,
+    running: Running,
+    closing_registry: &mut [u64],
+    orders: &[u64],
+    answers: &mut [u64],
+) -> RunningAnswer
+    ensures { λ r. ⌜
+        ninthOutcome r (now («closing_registry» .exit)) (now (answers .exit))
+        ≡ carryOut (ninthCalled rules «shard_committee_period» running (now («closing_registry» .entry)) (now (orders .entry)) (now (answers .entry))) ⌝ }
+{
+    ninth_call::carry_out(
+        rules,
+        shard_committee_period,
+        running,
+        closing_registry,
+        orders,
+        answers,
+    )
+}

@@ -1,0 +1,31 @@
+use mathlib.Core.Path.{refl}
+use borrow.Author.Needs.{needs}
+use Rattle.definitions_file.specs.File.{littleEndian}
+use Rattle.round_trip.proofs.Numbers.{length-little}
+use Rattle.fields.proofs.Stores.{stored-first, stored-more}
+use Rattle.fields.proofs.put_queue.Statement.{statement}
+use Rattle.fields.proofs.put_queue.Tie as tie
+
+put-number-requires : tie.Need-put-number-requires
+put-number-requires c κs = search needs
+
+add-put-number : tie.Need-add-put-number
+add-put-number c = search needs
+
+put-number-requires-2 : tie.Need-put-number-requires-2
+put-number-requires-2 c κs = search needs
+
+same-length : tie.Need-same-length
+same-length c = search needs
+
+returns : tie.Need-returns
+returns c =
+    let a = c .before .before .before .before .before .before .before .before .before .args in
+    let q = a .q in
+    let last = stored-first (a .file .now) (a .at) (littleEndian 8 (q .«last_epoch»)) (length-little 8 (q .«last_epoch»)) (c .before .before .before .before .before .before .put-number .ensures) in
+    stored-more last (littleEndian 8 (q .number)) (length-little 8 (q .number)) refl refl (c .before .before .put-number2 .ensures) .is
+
+pub put-queue-spec : {M : Type 1} → statement M
+put-queue-spec =
+    tie.close
+    (tie.spec put-number-requires add-put-number put-number-requires-2 same-length returns)

@@ -1,0 +1,52 @@
+use mathlib.Core.Path.{_≡_, ap, _∙_}
+use native.Mathlib.Omega.{arith}
+use borrow.Author.Needs.{needs}
+use Rattle.definitions.specs.Record.{decode}
+use Rattle.definitions.specs.ExitQueue.{queueOf}
+use Rattle.definitions_file.specs.File.{versionOf, validatorsAt, contentsOf}
+use Rattle.refusals.proofs.All.{fails, passes}
+use Rattle.file_refusals.proofs.ReadTests.{queue-worked-out, queue-stored, queue-wrong}
+use Rattle.file_refusals.proofs.queue_tests.Statement.{statement}
+use Rattle.file_refusals.proofs.queue_tests.Tie as tie
+
+own : (c : tie.After-queue-at) → c .queue-at .result ≡ queueOf (decode (contentsOf (c .before .before .args .bytes .now) .registry))
+unfolding contentsOf
+own c =
+    let p = c .before .before .pre .0 in
+    rw (p .1 ∙ ap validatorsAt (p .0), p .2) at (c .queue-at .ensures)
+
+second : (c : tie.Else1) → versionOf (c .before .before .before .args .bytes .now) ≡ 2
+second c = omega (arith, c .before .before .before .pre, c .if1 .left)
+
+queue-at-requires : tie.Need-queue-at-requires
+queue-at-requires c κs = search needs
+
+returns : tie.Need-returns
+returns c = queue-worked-out _ (λ z. omega (arith, c .before .before .before .pre .0 .0)) (own (c .before))
+
+read-queue-requires : tie.Need-read-queue-requires
+read-queue-requires c κs = search needs
+
+same-queue-requires : tie.Need-same-queue-requires
+same-queue-requires c κs = search needs
+
+refused-requires : tie.Need-refused-requires
+refused-requires c κs = search needs
+
+returns-2 : tie.Need-returns-2
+returns-2 c = rw (c .refused .ensures) (queue-wrong (c .before .before .before .before .before .before .before .args .bytes .now) (second (c .before .before .before .before)) (c .before .before .before .read-queue .ensures) (own (c .before .before .before .before .before)) (fails (c .before .before .same-queue .ensures) (c .before .if2 .taken)))
+
+returns-3 : tie.Need-returns-3
+returns-3 c = queue-stored (c .before .before .before .before .before .before .args .bytes .now) (second (c .before .before .before)) (c .before .before .read-queue .ensures) (own (c .before .before .before .before)) (passes (c .before .same-queue .ensures) (c .if2 .left))
+
+pub queue-tests-spec : {M : Type 1} → statement M
+queue-tests-spec =
+    tie.close
+    (tie.spec
+    queue-at-requires
+    returns
+    read-queue-requires
+    same-queue-requires
+    refused-requires
+    returns-2
+    returns-3)

@@ -1,0 +1,2 @@
+-- The tests, read off the bits at once.
+mod Runs

@@ -1,0 +1,26 @@
+-- What an accepted close did: justification gave its finality, and the steps over the registry its registry.
+use mathlib.Core.Path.{_≡_, refl, sym, subst, _∙_}
+use Rattle.types.specs.declared.Settings.{Settings}
+use Rattle.types.specs.declared.Finality.{Finality}
+use Rattle.definitions.specs.Record.{BeaconState}
+use Rattle.definitions.specs.Checked.{Checked, value, refused, numberOf}
+use Rattle.definitions.specs.Rust.Altair.EpochProcessing.{«process_justification_and_finalization»}
+use Rattle.definitions.specs.Close.{«process_epoch»}
+use Rattle.laws.proofs.Checked.{not-value, value-same, bound}
+use Rattle.history.proofs.Justification.{justification-moves}
+use Rattle.write_steps.specs.RegistrySteps.{registrySteps}
+use Rattle.close.proofs.Steps.{justification-refused, eight-steps}
+
+pub record Accepted (s : Settings) (st after : BeaconState) : Type 0 where
+  pub justified : «process_justification_and_finalization» s (st .«block_roots») (st .finality) (st .validators) ≡ value (after .finality)
+  pub slot : after .finality .slot ≡ st .finality .slot
+  pub steps : registrySteps s (after .finality .slot) (after .finality .«finalized_checkpoint» .epoch) (st .slashings) (st .validators) ≡ value (after .validators)
+
+pub accepted : (s : Settings) (st : BeaconState) {after : BeaconState} → «process_epoch» s st ≡ value after → Accepted s st after
+accepted s st {after} h = go («process_justification_and_finalization» s (st .«block_roots») (st .finality) (st .validators)) refl
+  where
+    go : (m : Checked Finality) → «process_justification_and_finalization» s (st .«block_roots») (st .finality) (st .validators) ≡ m → Accepted s st after
+    go (value f) e =
+        let b = bound (registrySteps s (f .slot) (f .«finalized_checkpoint» .epoch) (st .slashings) (st .validators)) _ (sym (eight-steps s st e) ∙ h) in
+        subst (λ (a : BeaconState). Accepted s st a) (value-same (b .then)) (record { justified = e; slot = justification-moves s _ _ _ e .slot; steps = b .gave })
+    go (refused p) e = absurd (not-value (sym (justification-refused s st {q = numberOf p} (record { why = p; is = e; number = refl }) .is) ∙ h))

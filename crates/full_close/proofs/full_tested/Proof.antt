@@ -1,0 +1,104 @@
+use mathlib.Core.Path.{_≡_, refl, sym}
+use native.Mathlib.Omega.{arith}
+use borrow.Author.Needs.{needs}
+use Rattle.types.specs.declared.Rules.{Rules}
+use Rattle.definitions.specs.Checked.{codeOf}
+use Rattle.definitions_close.specs.FullClose.{FullCall, fullTests}
+use Rattle.refusals.proofs.Laws.{small, good-settings}
+use Rattle.registry.proofs.Epochs.{Epochs, epochs}
+use Rattle.exit_queue.proofs.QueueOf.{tracks-is}
+use Rattle.close.specs.Worked.{recordTests}
+use Rattle.close.proofs.Lent.{entries-tested}
+use Rattle.full_close.specs.Called.{fullCalled}
+use Rattle.full_close.proofs.Tests.{queue-tested}
+use Rattle.full_close.proofs.Outcome.{full-tests-refused, full-steps-closed}
+use Rattle.full_close.proofs.full_tested.Statement.{statement}
+use Rattle.full_close.proofs.full_tested.Tie as tie
+
+-- the call under these rules
+abbrev call : Rules → tie.Start → FullCall
+call r c = fullCalled r (c .args .finality) (c .args .queue) (c .args .registry .now) (c .args .slashings .now) (c .args .roots .now) (c .args .closing-registry .now) (c .args .closing-slashings .now) (c .args .amounts .now)
+
+ep : (c : tie.Start) → Epochs (c .args .s) (c .args .finality .slot)
+ep c = let p = c .pre .0 .settings in epochs (c .args .s) (c .args .finality .slot) (p .good) (small _ (p .small))
+
+-- with the survey's tests of entries and pair
+abbrev start : tie.After-first-refusal → tie.Start
+start c = c .before .before .before .before .before .before .before .before .before .before .before .before .before .before .before .before
+
+tested : (r : Rules) (c : tie.After-first-refusal) → codeOf (recordTests (call r (start c) .call)) ≡ 0 → c .first-refusal .result ≡ codeOf (fullTests (call r (start c)))
+tested r c z =
+    let found = c .before .before .before .before .before .survey-registry .ensures in
+    queue-tested (call r (start c)) (start c .pre .1 .0 .2) (entries-tested (call r (start c) .call) (sym z) refl (found .tested)) (tracks-is (found .queue)) (c .before .queue-refusal .ensures) (c .first-refusal .ensures)
+
+current-epoch-requires : tie.Need-current-epoch-requires
+current-epoch-requires c κs = good-settings _ (c .before .before .before .before .before .before .before .pre .0 .settings .good) .positive .«slots_per_epoch»
+
+previous-epoch-requires : tie.Need-previous-epoch-requires
+previous-epoch-requires c κs = good-settings _ (c .before .before .before .before .before .before .before .before .pre .0 .settings .good) .positive .«slots_per_epoch»
+
+survey-registry-requires : tie.Need-survey-registry-requires
+survey-registry-requires c κs =
+    let a = c .before .before .before .before .before .before .before .before .before .before in
+    (a .pre .0 .registry, (omega (arith, c .before .before .current-epoch .ensures, ep a .small), a .pre .1 .1))
+
+queue-refusal-requires : tie.Need-queue-refusal-requires
+queue-refusal-requires c κs = search needs
+
+first-refusal-requires : tie.Need-first-refusal-requires
+first-refusal-requires c κs = search needs
+
+unclosed-requires : tie.Need-unclosed-requires
+unclosed-requires c κs = search needs
+
+same-length : tie.Need-same-length
+same-length c = search needs
+
+returns : tie.Need-returns
+returns c =
+    let k = c .before .before in
+    record { under = λ r u z. full-tests-refused (call r (start k)) (tested r k z) (c .before .if1 .taken) (c .unclosed .ensures) }
+
+full-surveyed-requires : tie.Need-full-surveyed-requires
+full-surveyed-requires c κs =
+    let k = c .before .before .before .before .before in
+    let a = start k in
+    (a .pre .0, (a .pre .1 .0, rw (← k .before .before .before .before .before .before .before .before .current-epoch .ensures, ← k .before .before .before .before .before .before .before .previous-epoch .ensures) (k .before .before .before .before .before .survey-registry .ensures)))
+
+same-length-2 : tie.Need-same-length-2
+same-length-2 c = search needs
+
+same-length-3 : tie.Need-same-length-3
+same-length-3 c = search needs
+
+same-length-4 : tie.Need-same-length-4
+same-length-4 c = search needs
+
+same-length-5 : tie.Need-same-length-5
+same-length-5 c = search needs
+
+returns-2 : tie.Need-returns-2
+returns-2 c =
+    let closed : tie.After-full-surveyed = search needs in
+    let e = closed .before .before .before .before .before in
+    let k = e .before in
+    record { under = λ r u z. full-steps-closed (call r (start k)) (tested r k z) (omega (arith, e .if1 .left)) u (closed .full-surveyed .ensures) }
+
+pub full-tested-spec : {M : Type 1} → statement M
+full-tested-spec =
+    tie.close
+    (tie.spec
+    current-epoch-requires
+    previous-epoch-requires
+    survey-registry-requires
+    queue-refusal-requires
+    first-refusal-requires
+    unclosed-requires
+    same-length
+    returns
+    full-surveyed-requires
+    same-length-2
+    same-length-3
+    same-length-4
+    same-length-5
+    returns-2)

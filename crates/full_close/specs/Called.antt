@@ -1,0 +1,32 @@
+-- A call of the close with pair and amounts, and what it came back with, as the definition's records.
+use mathlib.Core.List.{List}
+use Prim.Native.Nat.{ℕ}
+use Rattle.types.specs.declared.Rules.{Rules}
+use Rattle.types.specs.declared.Finality.{Finality}
+use Rattle.types.specs.declared.ExitQueue.{ExitQueue}
+use Rattle.types.specs.declared.FullAnswer.{FullAnswer}
+use Rattle.definitions.specs.Raised.{noneRaised}
+use Rattle.definitions_close.specs.FullClose.{FullCall, FullOutcome}
+use Rattle.close.specs.Called.{called}
+
+abbrev pub fullCalled : Rules → Finality → ExitQueue → List ℕ → List ℕ → List ℕ → List ℕ → List ℕ → List ℕ → FullCall
+fullCalled rules f queue registry slashings roots closingRegistry closingSlashings amounts =
+    record { call = called rules f registry slashings roots closingRegistry closingSlashings; queue = queue; amounts = amounts }
+
+-- the answer, and what the lent lists hold
+abbrev pub fullOutcome : FullAnswer → List ℕ → List ℕ → List ℕ → FullOutcome
+fullOutcome r closingRegistry closingSlashings amounts =
+    record {
+      refusal = r .refusal;
+      finality = r .finality;
+      queue = r .queue;
+      raised = r .raised;
+      test = r .test;
+      closingRegistry = closingRegistry;
+      closingSlashings = closingSlashings;
+      amounts = amounts;
+    }
+
+-- the answer where a test refuses
+abbrev pub unclosed : ℕ → Finality → ExitQueue → FullAnswer
+unclosed refusal f queue = record { refusal = refusal; finality = f; queue = queue; raised = noneRaised; test = 0 }

@@ -1,0 +1,3 @@
+-- The answer with the test's number.
+mod Answered
+pub mod Told

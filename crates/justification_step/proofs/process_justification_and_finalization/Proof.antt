@@ -1,0 +1,37 @@
+use mathlib.Core.Path.{refl, ap}
+use native.Mathlib.Omega.{arith}
+use borrow.Author.Needs.{needs}
+use Rattle.types.specs.declared.CloseAnswer.{CloseAnswer}
+use Rattle.justification_step.proofs.Answered.{answer-refused, answer-given, tests-passed}
+use Rattle.justification_step.proofs.process_justification_and_finalization.Statement.{statement}
+use Rattle.justification_step.proofs.process_justification_and_finalization.Tie as tie
+
+process-justification-and-finalization-requires : tie.Need-process-justification-and-finalization-requires
+process-justification-and-finalization-requires c κs = search needs
+
+returns : tie.Need-returns
+returns c =
+    let k : tie.After-process-justification-and-finalization = search needs in
+    answer-refused _ _ _ _ (k .process-justification-and-finalization .ensures) (c .if1 .taken) refl refl
+
+finalizing-test-requires : tie.Need-finalizing-test-requires
+finalizing-test-requires c κs =
+    let k : tie.After-process-justification-and-finalization = search needs in
+    let e : tie.Else1 = search needs in
+    let p = tests-passed _ _ _ _ _ (ap (λ (a : CloseAnswer). a .refusal) (k .process-justification-and-finalization .ensures)) (omega (arith, e .if1 .left)) in
+    (p .epoch, p .finality)
+
+returns-2 : tie.Need-returns-2
+returns-2 c =
+    let k : tie.After-process-justification-and-finalization = search needs in
+    let e : tie.Else1 = search needs in
+    answer-given _ _ _ _ (k .process-justification-and-finalization .ensures) (omega (arith, e .if1 .left)) refl (c .finalizing-test .ensures)
+
+pub process-justification-and-finalization-spec : {M : Type 1} → statement M
+process-justification-and-finalization-spec =
+    tie.close
+    (tie.spec
+    process-justification-and-finalization-requires
+    returns
+    finalizing-test-requires
+    returns-2)

@@ -1,0 +1,2 @@
+-- What is told of every call.
+pub mod Told

@@ -1,0 +1,2 @@
+-- The steps after the first, each in place.
+mod Later

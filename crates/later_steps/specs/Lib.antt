@@ -1,0 +1,2 @@
+-- What contracts of the later steps cite.
+pub mod Later

@@ -1,0 +1,60 @@
+use mathlib.Core.Path.{_∙_}
+use borrow.Author.Tests.{eq-eqb, ne-eqb}
+use Rattle.definitions_orders.specs.Orders.{carryOut}
+use Rattle.orders.specs.Called.{ninthCalled}
+use Rattle.ninth_call.proofs.Tests.{ready}
+use Rattle.ninth_call.proofs.Carried.{turned-away, carries-out}
+use borrow.Author.Needs.{needs}
+use Rattle.ninth_call.proofs.carry_out.Statement.{statement}
+use Rattle.ninth_call.proofs.carry_out.Tie as tie
+
+returns : tie.Need-returns
+unfolding carryOut
+returns c = rw (eq-eqb _ _ (c .if1 .taken))
+
+returns-2 : tie.Need-returns-2
+unfolding carryOut
+returns-2 c = rw (ne-eqb _ _ (c .before .if1 .left), ne-eqb _ _ (c .if2 .taken))
+
+ninth-tests-requires : tie.Need-ninth-tests-requires
+ninth-tests-requires c κs = search needs
+
+same-length : tie.Need-same-length
+same-length c = search needs
+
+same-length-2 : tie.Need-same-length-2
+same-length-2 c = search needs
+
+returns-3 : tie.Need-returns-3
+returns-3 c = turned-away (ninthCalled _ _ _ _ _ _) (c .before .ninth-tests .ensures) (c .before .before .before .before .if2 .left) (c .if3 .taken)
+
+settings-under-requires : tie.Need-settings-under-requires
+settings-under-requires c κs = search needs
+
+carry-tested-requires : tie.Need-carry-tested-requires
+carry-tested-requires c κs = rw (c .before .before .settings-under .ensures) (ready (ninthCalled _ _ _ _ _ _) (c .before .before .before .before .ninth-tests .ensures) (c .before .before .before .if3 .left))
+
+same-length-3 : tie.Need-same-length-3
+same-length-3 c = search needs
+
+same-length-4 : tie.Need-same-length-4
+same-length-4 c = search needs
+
+returns-4 : tie.Need-returns-4
+returns-4 c = c .before .before .before .before .carry-tested .ensures ∙ rw (c .before .before .before .before .before .before .before .settings-under .ensures) (carries-out (ninthCalled _ _ _ _ _ _) (c .before .before .before .before .before .before .before .before .before .ninth-tests .ensures) (c .before .before .before .before .before .before .before .before .before .before .before .before .if2 .left) (c .before .before .before .before .before .before .before .before .if3 .left))
+
+pub carry-out-spec : {M : Type 1} → statement M
+carry-out-spec =
+    tie.close
+    (tie.spec
+    returns
+    returns-2
+    ninth-tests-requires
+    same-length
+    same-length-2
+    returns-3
+    settings-under-requires
+    carry-tested-requires
+    same-length-3
+    same-length-4
+    returns-4)

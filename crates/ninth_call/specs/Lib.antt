@@ -1,0 +1,2 @@
+-- What contracts of the ninth call cite.
+pub mod Ninth

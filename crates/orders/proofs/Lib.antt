@@ -1,0 +1,2 @@
+-- Orders by numbers, one and all.
+pub mod Tried

@@ -1,0 +1,3 @@
+-- What contracts of exit orders cite.
+pub mod Called
+pub mod Tried

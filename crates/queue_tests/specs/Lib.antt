@@ -1,0 +1,2 @@
+-- What contracts of test 8 cite.
+pub mod Found

@@ -1,0 +1,46 @@
+use native.Mathlib.Omega.{arith}
+use borrow.Author.Needs.{needs}
+use Rattle.refusals.proofs.Laws.{small, good-settings}
+use Rattle.registry.proofs.Epochs.{Epochs, epochs}
+use Rattle.registry_close.proofs.close_kept.Statement.{statement}
+use Rattle.registry_close.proofs.close_kept.Tie as tie
+
+ep : (c : tie.Start) → Epochs (c .args .s) (c .args .finality .slot)
+ep c = let p = c .pre .0 .settings in epochs (c .args .s) (c .args .finality .slot) (p .good) (small _ (p .small))
+
+current-epoch-requires : tie.Need-current-epoch-requires
+current-epoch-requires c κs = good-settings _ (c .before .before .before .before .before .pre .0 .settings .good) .positive .«slots_per_epoch»
+
+previous-epoch-requires : tie.Need-previous-epoch-requires
+previous-epoch-requires c κs = good-settings _ (c .before .before .before .before .before .before .pre .0 .settings .good) .positive .«slots_per_epoch»
+
+survey-registry-requires : tie.Need-survey-registry-requires
+survey-registry-requires c κs =
+    let a = c .before .before .before .before .before .before .before .before in
+    (a .pre .0 .registry, (omega (arith, c .before .before .current-epoch .ensures, ep a .small), a .pre .1 .1))
+
+run-steps-requires : tie.Need-run-steps-requires
+run-steps-requires c κs =
+    let a = c .before .before .before .before .before .before .before .before .before .before .before .before .before in
+    (a .pre .0, (a .pre .1 .0, rw (← c .before .before .before .before .before .before .before .current-epoch .ensures, ← c .before .before .before .before .before .before .previous-epoch .ensures) (c .before .before .before .before .survey-registry .ensures)))
+
+same-length : tie.Need-same-length
+same-length c = search needs
+
+same-length-2 : tie.Need-same-length-2
+same-length-2 c = search needs
+
+returns : tie.Need-returns
+returns c = c .before .before .run-steps .ensures
+
+pub close-kept-spec : {M : Type 1} → statement M
+close-kept-spec =
+    tie.close
+    (tie.spec
+    current-epoch-requires
+    previous-epoch-requires
+    survey-registry-requires
+    run-steps-requires
+    same-length
+    same-length-2
+    returns)

@@ -1,0 +1,77 @@
+use mathlib.Core.Path.{refl, sym}
+use native.Mathlib.Omega.{arith}
+use borrow.Author.Needs.{needs}
+use Rattle.registry.proofs.Epochs.{epochs}
+use Rattle.registry_step.proofs.Tests.{StepPassed, turned-away, step-passed, found-tests, true-pair, step-ran}
+use Rattle.registry_step.proofs.step_surveyed.Statement.{statement}
+use Rattle.registry_step.proofs.step_surveyed.Tie as tie
+
+-- the first tests had passed
+abbrev tested : (c : tie.Start) → StepPassed (c .args .stop) (c .args .s) (c .args .state-slot) (c .args .finalized-epoch) (c .args .opening .now) (c .args .closing .now)
+tested c = let a = c .args in step-passed (a .stop) (a .s) (a .state-slot) (a .finalized-epoch) (a .queue) (a .opening .now) (a .closing .now) (sym (c .pre .0)) refl
+
+current-epoch-requires : tie.Need-current-epoch-requires
+current-epoch-requires c κs = tested (c .before .before .before) .positive .«slots_per_epoch»
+
+previous-epoch-requires : tie.Need-previous-epoch-requires
+previous-epoch-requires c κs = tested (c .before .before .before .before) .positive .«slots_per_epoch»
+
+survey-registry-requires : tie.Need-survey-registry-requires
+survey-registry-requires c κs =
+    let p = tested (c .before .before .before .before .before .before) in
+    (p .long, (omega (arith, epochs _ _ (p .good) (p .slot) .small, c .before .before .current-epoch .ensures), c .before .before .before .before .before .before .pre .1))
+
+found-refusal-requires : tie.Need-found-refusal-requires
+found-refusal-requires c κs = search needs
+
+same-length : tie.Need-same-length
+same-length c = search needs
+
+returns : tie.Need-returns
+returns c =
+    let i = c in
+    let see = i .before .before .before .before .before in
+    let s = see .before .before .before .before .before .before .before in
+    let a = s .args in
+    let e = found-tests (a .stop) (a .s) (a .state-slot) (a .finalized-epoch) (a .queue) (a .opening .now) (a .closing .now) (sym (s .pre .0)) refl (see .survey-registry .ensures) (i .before .found-refusal .ensures) in
+    turned-away (a .stop) (a .s) (a .state-slot) (a .finalized-epoch) (a .queue) (a .opening .now) (a .closing .now) e (i .if1 .taken)
+
+run-step-requires : tie.Need-run-step-requires
+run-step-requires c κs =
+    let i = c .before .before in
+    let see = i .before .before .before .before .before in
+    let s = see .before .before .before .before .before .before .before in
+    let a = s .args in
+    let e = found-tests (a .stop) (a .s) (a .state-slot) (a .finalized-epoch) (a .queue) (a .opening .now) (a .closing .now) (sym (s .pre .0)) refl (see .survey-registry .ensures) (i .before .found-refusal .ensures) in
+    let p = tested s in
+    (p .good, ((p .slot, p .finalized), ((p .long, p .same), (p .stops, (true-pair (a .stop) (a .s) (a .state-slot) (a .finalized-epoch) (a .queue) (a .opening .now) (a .closing .now) e (i .if1 .left), rw (← see .before .before .before .current-epoch .ensures, ← see .before .before .previous-epoch .ensures) (see .survey-registry .ensures))))))
+
+same-length-2 : tie.Need-same-length-2
+same-length-2 c = search needs
+
+same-length-3 : tie.Need-same-length-3
+same-length-3 c = search needs
+
+returns-2 : tie.Need-returns-2
+returns-2 c =
+    let i = c .before .before .before .before .before in
+    let see = i .before .before .before .before .before in
+    let s = see .before .before .before .before .before .before .before in
+    let a = s .args in
+    let e = found-tests (a .stop) (a .s) (a .state-slot) (a .finalized-epoch) (a .queue) (a .opening .now) (a .closing .now) (sym (s .pre .0)) refl (see .survey-registry .ensures) (i .before .found-refusal .ensures) in
+    step-ran (a .stop) (a .s) (a .state-slot) (a .finalized-epoch) (a .queue) (a .opening .now) (a .closing .now) e (i .if1 .left) (c .before .before .run-step .ensures)
+
+pub step-surveyed-spec : {M : Type 1} → statement M
+step-surveyed-spec =
+    tie.close
+    (tie.spec
+    current-epoch-requires
+    previous-epoch-requires
+    survey-registry-requires
+    found-refusal-requires
+    same-length
+    returns
+    run-step-requires
+    same-length-2
+    same-length-3
+    returns-2)

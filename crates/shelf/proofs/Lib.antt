@@ -1,0 +1,3 @@
+-- Laws of a shelf.
+pub mod Lengths
+pub mod Shelving

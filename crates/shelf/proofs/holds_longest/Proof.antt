@@ -1,0 +1,72 @@
+use mathlib.Core.Path.{_≡_, refl, sym, _∙_}
+use Prim.Native.Nat.{_*_, _-_, _≤_}
+use native.Mathlib.Omega.{arith}
+use borrow.Author.Tests.{le-leb}
+use lib.Dec.{leb}
+use lib.ListN.{length, drop}
+use Rattle.definitions.specs.Lists.{maximum}
+use Rattle.definitions_shelf.specs.Shelf.{holdsLongest}
+use Rattle.shelf.proofs.Lengths.{within-more, beyond, longest-none}
+use Rattle.shelf.proofs.holds_longest.Statement.{statement}
+use Rattle.shelf.proofs.holds_longest.Tie as tie
+
+abbrev Inv-loop : tie.InvT-loop
+Inv-loop lengths numbers i₀ i-end i = (i ≤ length lengths) × (holdsLongest lengths numbers ≡ leb (maximum 0 (drop i lengths)) (8 * length numbers))
+
+abbrev μ-loop : tie.MeasureT-loop
+μ-loop lengths numbers i₀ i-end i = length lengths - i
+
+loop-holds : tie.Need-loop-holds Inv-loop μ-loop
+loop-holds c = (omega arith, refl)
+
+mul-needed : tie.Need-mul-needed Inv-loop μ-loop
+mul-needed c = omega arith
+
+shared-slice-read-needed : tie.Need-shared-slice-read-needed Inv-loop μ-loop
+shared-slice-read-needed c = omega arith
+
+mul-needed-2 : tie.Need-mul-needed-2 Inv-loop μ-loop
+mul-needed-2 c = omega arith
+
+shared-slice-read-needed-2 : tie.Need-shared-slice-read-needed-2 Inv-loop μ-loop
+shared-slice-read-needed-2 c = omega arith
+
+add-needed : tie.Need-add-needed Inv-loop μ-loop
+add-needed c = omega arith
+
+add-needed-2 : tie.Need-add-needed-2 Inv-loop μ-loop
+add-needed-2 c = let i = c .before .before .before .loop .i in omega (arith, c .shared-slice-known2 .given i, c .before .shared-slice-known .given i)
+
+returns : tie.Need-returns Inv-loop μ-loop
+returns c = let a = c .before .before .before .before .before .args in let l = c .before .before .before .before .loop in sym (l .inv .1 ∙ beyond (a .lengths .now) (l .i) (8 * length (a .numbers .now)) (c .before .before .before .loop-test .taken) (omega arith))
+
+add-i : tie.Need-add-i Inv-loop μ-loop
+add-i c = omega arith
+
+loop-less : tie.Need-loop-less Inv-loop μ-loop
+loop-less c = omega arith
+
+loop-again : tie.Need-loop-again Inv-loop μ-loop
+loop-again c = let a = c .before .before .before .before .before .args in let l = c .before .before .before .before .loop in (omega arith, l .inv .1 ∙ within-more (a .lengths .now) (l .i) (8 * length (a .numbers .now)) (c .before .before .before .loop-test .taken) (omega arith))
+
+returns-2 : tie.Need-returns-2 Inv-loop μ-loop
+returns-2 c = let a = c .before .before .args in sym (c .before .loop .inv .1 ∙ rw (longest-none (a .lengths .now) (c .before .loop .i) (c .loop-test .left)) (le-leb 0 (8 * length (a .numbers .now)) (omega arith)))
+
+pub holds-longest-spec : {M : Type 1} → statement M
+holds-longest-spec =
+    tie.close
+    (tie.spec
+    Inv-loop
+    μ-loop
+    loop-holds
+    mul-needed
+    shared-slice-read-needed
+    mul-needed-2
+    shared-slice-read-needed-2
+    add-needed
+    add-needed-2
+    returns
+    add-i
+    loop-less
+    loop-again
+    returns-2)

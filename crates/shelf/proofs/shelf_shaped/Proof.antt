@@ -1,0 +1,49 @@
+use mathlib.Core.Bool.{and-false}
+use borrow.Author.Tests.{eq-eqb, ne-eqb}
+use borrow.Author.Needs.{needs}
+use Rattle.definitions_shelf.specs.Shelf.{shelfShaped}
+use Rattle.refusals.proofs.All.{fails, passes}
+use Rattle.shelf.proofs.shelf_shaped.Statement.{statement}
+use Rattle.shelf.proofs.shelf_shaped.Tie as tie
+
+sums-to-requires : tie.Need-sums-to-requires
+sums-to-requires c κs = search needs
+
+returns : tie.Need-returns
+unfolding shelfShaped
+returns c = rw (fails (c .before .sums-to .ensures) (c .if1 .taken))
+
+returns-2 : tie.Need-returns-2
+unfolding shelfShaped
+returns-2 c = rw (ne-eqb _ _ (c .if2 .taken), and-false)
+
+holds-longest-requires : tie.Need-holds-longest-requires
+holds-longest-requires c κs = search needs
+
+returns-3 : tie.Need-returns-3
+unfolding shelfShaped
+returns-3 c = rw (fails (c .before .holds-longest .ensures) (c .if3 .taken), and-false)
+
+holds-longest-requires-2 : tie.Need-holds-longest-requires-2
+holds-longest-requires-2 c κs = search needs
+
+returns-4 : tie.Need-returns-4
+unfolding shelfShaped
+returns-4 c = rw (fails (c .before .holds-longest2 .ensures) (c .if4 .taken), and-false)
+
+returns-5 : tie.Need-returns-5
+unfolding shelfShaped
+returns-5 c = rw (passes (c .before .before .before .before .before .before .sums-to .ensures) (c .before .before .before .before .before .if1 .left), eq-eqb _ _ (c .before .before .before .before .if2 .left), passes (c .before .before .before .holds-longest .ensures) (c .before .before .if3 .left), passes (c .before .holds-longest2 .ensures) (c .if4 .left))
+
+pub shelf-shaped-spec : {M : Type 1} → statement M
+shelf-shaped-spec =
+    tie.close
+    (tie.spec
+    sums-to-requires
+    returns
+    returns-2
+    holds-longest-requires
+    returns-3
+    holds-longest-requires-2
+    returns-4
+    returns-5)

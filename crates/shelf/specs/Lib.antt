@@ -1,0 +1,2 @@
+-- What the contract of a shelf cites.
+pub mod Lent

@@ -1,0 +1,227 @@
+-- The tests of one file of a shelf: by its reading's and by the rules, and what holds once they have passed.
+use mathlib.Core.Path.{_≡_, refl, sym, ap, ap₂, subst, _∙_}
+use mathlib.Core.Bool.{Bool, true, false, cond, _&&_, _||_}
+use mathlib.Core.List.{List}
+use Prim.Native.Nat.{ℕ, _*_, _/_, _%_}
+use native.Mathlib.Omega.{arith}
+use borrow.Author.Tests.{le-leb, eq-eqb, eqb-true}
+use lib.Dec.{leb, eqb}
+use lib.ListN.{length, drop}
+use Rattle.types.specs.declared.Settings.{Settings}
+use Rattle.types.specs.declared.Finality.{Finality}
+use Rattle.types.specs.declared.CloseAnswer.{CloseAnswer}
+use Rattle.types.specs.declared.Bellatrix.{Bellatrix}
+use Rattle.types.specs.declared.Rules.{Rules}
+use Rattle.definitions.specs.Record.{BeaconState, decode}
+use Rattle.definitions.specs.Checked.{Checked, value, refused, badFile, wrongQueue, bind, codeOf, settle}
+use Rattle.definitions.specs.Refusals.{inOrder, settingsShaped, registryShaped, goodSettings, goodFinality, goodRegistry, afterTests, closingBuffer}
+use Rattle.definitions.specs.Rules.{«BELLATRIX», isAltair, goodBellatrix, settingsUnder, rulesShaped, goodRules}
+use Rattle.definitions.specs.ExitQueue.{queueOf, isQueueOf, queueTest}
+use Rattle.definitions.specs.Rust.Phase0.EpochProcessing.{resetSlashings}
+use Rattle.definitions.specs.Close.{Call}
+use Rattle.definitions_file.specs.File.{Contents, versionOf, countOf, rootCountOf, slashingCountOf, slashingsAt, contentsOf, queueIn, goodHeader, fileShaped, readTests, fileLength, fileOf}
+use Rattle.definitions_shelf.specs.ClosedFile.{rulesIn, stateIn, fileTests, work, closedContents, closedFile, answerFor, partFor}
+use Rattle.laws.proofs.Checked.{not-value, bound}
+use Rattle.refusals.proofs.All.{both}
+use Rattle.rules.specs.Refusal.{rulesRefusal}
+use Rattle.round_trip.proofs.Numbers.{length-from-bytes}
+use Rattle.round_trip.proofs.Tests.{in-order, queue-passed}
+use Rattle.round_trip.proofs.Passed.{Passed, Accepted, accepted, length-registry}
+use Rattle.close.specs.Called.{called}
+use Rattle.close.specs.Worked.{recordTests, stateNow, Tested, Worked}
+use Rattle.loops.proofs.Ran.{code-value}
+use Rattle.laws.proofs.Encode.{decode-encode}
+use Rattle.record_file.specs.Answers.{Sized, contentsWith}
+use Rattle.close.proofs.Worked.{code-refused}
+use Rattle.close.proofs.Lent.{lent}
+use Rattle.shelf_file.specs.Parts.{FileClosed}
+
+abbrev eight : Bool → Checked (Unit {0})
+eight t = cond t (value tt) (refused wrongQueue)
+
+-- fork (f) and pair (p) beside the tests of reading: 1 (a), 2 (g), 3 (r), 8 (t)
+beside : (f a p g r t : Bool) → let x = codeOf (bind (inOrder a g r) (λ _. eight t)) in cond f (cond (eqb x 1) 1 (cond p x 2)) 1 ≡ codeOf (bind (inOrder (a && f) (g && p) r) (λ _. eight t))
+unfolding inOrder bind
+beside false true p g r t = refl
+beside false false p g r t = refl
+beside true false p g r t = refl
+beside true true false false r t = refl
+beside true true false true false t = refl
+beside true true false true true false = refl
+beside true true false true true true = refl
+beside true true true false r t = refl
+beside true true true true false t = refl
+beside true true true true true false = refl
+beside true true true true true true = refl
+
+-- test 1 asks only how long the lent buffers are
+same-shape : (file xs ys us vs : List ℕ) → length xs ≡ length us → length ys ≡ length vs → fileShaped file xs ys ≡ fileShaped file us vs
+unfolding fileShaped
+same-shape file xs ys us vs l m = rw (l, m)
+
+pub length-slashings : (file : List ℕ) → length (contentsOf file .slashings) ≡ slashingCountOf file
+unfolding contentsOf
+length-slashings file = length-from-bytes (slashingCountOf file) (drop (slashingsAt (versionOf file) (countOf file) (rootCountOf file)) file)
+
+module _ (fork : ℕ) (pair : Bellatrix) (file : List ℕ) where
+  abbrev r : Rules
+  r = rulesIn fork pair file
+
+  abbrev c : Contents
+  c = contentsOf file
+
+  pub off-shelf : (goodHeader file && eqb (versionOf file) 2) ≡ false → (part : List ℕ) → FileClosed fork pair file part part 6
+  unfolding fileTests answerFor partFor afterTests bind closingBuffer
+  off-shelf e part = record { number = rw e; part = rw e }
+
+  pub same-rules : (own : Rules) → own .settings ≡ c .settings → own .fork ≡ fork → own .bellatrix ≡ pair → own ≡ r
+  same-rules own a b d = λ i. record { settings = a i; fork = b i; bellatrix = d i }
+
+  module _ (h : goodHeader file ≡ true) (v : versionOf file ≡ 2) (xs ys : List ℕ) (l : length xs ≡ 10 * countOf file) (m : length ys ≡ slashingCountOf file) where
+    shape : fileShaped file xs ys ≡ fileShaped file (c .registry) (c .slashings)
+    shape = same-shape file xs ys (c .registry) (c .slashings) (l ∙ sym (length-registry file)) (m ∙ sym (length-slashings file))
+
+    pub tested : {x y : ℕ} → y ≡ rulesRefusal r x → x ≡ codeOf (readTests file xs ys) → y ≡ codeOf (fileTests fork pair file)
+    unfolding readTests fileTests rulesRefusal goodRules queueTest
+    tested {x} {y} e f =
+        let recorded = goodFinality (c .finality) && goodRegistry (c .registry) in
+        let t = isQueueOf (queueIn file) (decode (c .registry)) in
+        let number : x ≡ codeOf (bind (inOrder (fileShaped file (c .registry) (c .slashings)) (goodSettings (c .settings)) recorded) (λ _. eight t)) = f ∙ rw (h, shape) in
+        e ∙ rw (h, v, number) (beside (leb fork «BELLATRIX») (fileShaped file (c .registry) (c .slashings)) (isAltair r || goodBellatrix pair) (goodSettings (c .settings)) recorded t)
+
+  -- refused: the part stays
+  pub refused-tests : {x : ℕ} → x ≡ codeOf (fileTests fork pair file) → (x ≡ 0 → ⊥) → (part : List ℕ) → FileClosed fork pair file part part x
+  unfolding answerFor partFor afterTests bind closingBuffer
+  refused-tests {x} e z part =
+      let p = code-refused (fileTests fork pair file) e z in
+      record { number = rw (p .is) (p .number); part = rw (p .is) }
+
+  -- All of them passed
+
+  pub record Passes : Type 0 where
+    pub header : goodHeader file ≡ true
+    pub second : versionOf file ≡ 2
+    pub fork-known : leb fork «BELLATRIX» ≡ true
+    pub rules : goodRules r ≡ true
+    pub accepts : Accepted file
+
+  first-passed : (t : Bool) (m : Checked (Unit {0})) → cond t m (refused badFile) ≡ value tt → (t ≡ true) × (m ≡ value tt)
+  first-passed true m e = (refl, e)
+  first-passed false m e = absurd (not-value e)
+
+  module _ (e : fileTests fork pair file ≡ value tt) where
+    pub passes : Passes
+    unfolding fileTests goodRules
+    passes =
+        let shaped = fileShaped file (c .registry) (c .slashings) in
+        let first = first-passed (goodHeader file && eqb (versionOf file) 2) _ e in
+        let head = both (goodHeader file) (eqb (versionOf file) 2) (first .0) in
+        let then = bound _ (λ _. queueTest (queueIn file) (decode (c .registry))) (first .1) in
+        let order = in-order _ _ _ (then .gave) in
+        let shape = both shaped (leb fork «BELLATRIX») (order .shaped) in
+        let recorded = both (goodFinality (c .finality)) (goodRegistry (c .registry)) (order .recorded) in
+        let settings = both (goodSettings (c .settings)) (isAltair r || goodBellatrix pair) (order .settings) in
+        let p : Passed file (c .registry) (c .slashings) =
+        record {
+          header = head .first;
+          shaped = shape .first;
+          settings = settings .first;
+          finality = recorded .first;
+          registry = recorded .second;
+          queue = queue-passed (queueIn file) (decode (c .registry)) (then .then);
+        }
+        in
+        record {
+          header = head .first;
+          second = eqb-true (versionOf file) 2 (head .second);
+          fork-known = shape .second;
+          rules = order .settings;
+          accepts = accepted file (c .registry) (c .slashings) p;
+        }
+
+    abbrev call : Call
+    call = called r (c .finality) (c .registry) (c .slashings) (c .roots) (c .registry) (c .slashings)
+
+    record-passes : 0 ≡ codeOf (recordTests call)
+    unfolding recordTests rulesShaped settingsShaped registryShaped inOrder
+    record-passes =
+        let p = passes in
+        let g = p .accepts .good in
+        let zero-rest : length (c .registry) % 10 ≡ 0 = omega (arith, g .entries) in
+        rw (
+          le-leb _ _ (g .some-roots),
+          le-leb _ _ (g .few-roots),
+          le-leb _ _ (g .some-slashings),
+          le-leb _ _ (g .few-slashings),
+          p .fork-known,
+          eq-eqb _ _ zero-rest,
+          le-leb _ _ (g .few),
+          eq-eqb _ _ (g .roots),
+          eq-eqb _ _ (g .slashings),
+          eq-eqb (length (c .registry)) (length (c .registry)) refl,
+          eq-eqb (length (c .slashings)) (length (c .slashings)) refl,
+          p .rules,
+          g .finality,
+        )
+
+    -- what the steps rely on
+    pub steps-tested : Tested (settingsUnder r) (c .finality) (c .registry) (c .slashings) (c .roots)
+    steps-tested = lent call record-passes refl .opening
+
+    -- a record of the same lengths fits the part
+    pub sized : {s : Settings} {f : Finality} {us roots ys part : List ℕ} → s ≡ c .settings → roots ≡ c .roots → length us ≡ 10 * countOf file → length ys ≡ slashingCountOf file → length part ≡ length file → Sized (contentsWith s f us roots ys) part
+    sized {s} {f} {us} {roots} {ys} {part} a b l m n =
+        let k = passes .accepts in
+        let tens : length us / 10 ≡ countOf file = omega arith in
+        let S : s .«slots_per_historical_root» ≡ rootCountOf file = rw a (k .root-count) in
+        let L : s .«epochs_per_slashings_vector» ≡ slashingCountOf file = rw a (k .slashing-count) in
+        let long : length file ≡ fileLength 2 (countOf file) (rootCountOf file) (slashingCountOf file) = omega (arith, k .header .long, passes .second) in
+        record {
+          entries = omega arith;
+          roots = rw b (k .good .roots ∙ rw (k .root-count, S));
+          slashings = m ∙ sym L;
+          long = n ∙ long ∙ rw (tens, S, L);
+        }
+
+    -- the steps on what was read are those on the file's record
+    module _ {s : Settings} {f : Finality} {xs ys roots : List ℕ} (a : s ≡ settingsUnder r) (b : f ≡ c .finality) (d : xs ≡ c .registry) (g : ys ≡ c .slashings) (h : roots ≡ c .roots) where
+      pub read-tested : Tested s f xs ys roots
+      read-tested = rw (a, b, d, g, h) steps-tested
+
+      pub read-worked : {us : List ℕ} {answer : CloseAnswer} → Worked s (stateNow f xs ys roots) us (resetSlashings s (f .slot) ys) answer → Worked (settingsUnder r) (stateIn file) us (resetSlashings s (f .slot) ys) answer
+      read-worked {us} {answer} w = subst (λ (st : BeaconState). Worked (settingsUnder r) st us (resetSlashings s (f .slot) ys) answer) state (subst (λ (t : Settings). Worked t (stateNow f xs ys roots) us (resetSlashings s (f .slot) ys) answer) a w)
+        where
+          state : stateNow f xs ys roots ≡ stateIn file
+          state = rw (b, d, g, h)
+
+    module _ {x : ℕ} (w : x ≡ codeOf (work fork pair file)) where
+      answer-is : x ≡ answerFor fork pair file
+      unfolding answerFor afterTests bind
+      answer-is = w ∙ rw e
+
+      -- a step refused: the file's own bytes
+      pub closed-refused : (x ≡ 0 → ⊥) → (before : List ℕ) {after : List ℕ} → after ≡ file → FileClosed fork pair file before after x
+      unfolding partFor closingBuffer
+      closed-refused z before a =
+          let p = code-refused (work fork pair file) w z in
+          record { number = answer-is; part = a ∙ rw (e, p .is) }
+
+      -- none did: the closed record
+      pub closed-done : (before : List ℕ) {after : List ℕ} (state : BeaconState) → work fork pair file ≡ value state → after ≡ closedFile file state → FileClosed fork pair file before after x
+      unfolding partFor closingBuffer
+      closed-done before state v a = record { number = answer-is; part = a ∙ rw (e, v) }
+
+    -- from the steps' contract
+    module _ {us ys : List ℕ} {answer : CloseAnswer} (w : Worked (settingsUnder r) (stateIn file) us ys answer) where
+      pub put-refused : (answer .refusal ≡ 0 → ⊥) → (before : List ℕ) {after : List ℕ} → after ≡ file → FileClosed fork pair file before after (answer .refusal)
+      put-refused z before a = closed-refused (w .code) z before a
+
+      pub put-done : answer .refusal ≡ 0 → (before : List ℕ) {after : List ℕ} {s : Settings} {roots zs : List ℕ} → s ≡ c .settings → roots ≡ c .roots → zs ≡ ys → after ≡ fileOf (contentsWith s (answer .finality) us roots zs) (queueOf (decode us)) → FileClosed fork pair file before after 0
+      put-done y before {after} {s} {roots} {zs} a b d k =
+          let state = settle (work fork pair file) (stateIn file) in
+          let v : work fork pair file ≡ value state = code-value (work fork pair file) (stateIn file) (sym (w .code) ∙ y) in
+          let held = w .held state v in
+          let f : answer .finality ≡ state .finality = w .finality in
+          let vs : decode us ≡ state .validators = ap decode (held .0) ∙ decode-encode (state .validators) in
+          let same : contentsWith s (answer .finality) us roots zs ≡ closedContents file state = λ i. record { settings = a i; finality = f i; registry = held .0 i; roots = b i; slashings = (d ∙ held .1) i } in
+          closed-done (sym y ∙ w .code) before state v (k ∙ ap₂ fileOf same (ap queueOf vs))

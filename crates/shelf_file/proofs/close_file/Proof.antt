@@ -1,0 +1,114 @@
+use mathlib.Core.Path.{_≡_, ap, _∙_}
+use mathlib.Core.Bool.{true, _&&_}
+use Prim.Native.Nat.{ℕ, _+_, _*_}
+use native.Mathlib.Omega.{arith}
+use borrow.Author.Needs.{needs}
+use borrow.Author.Tests.{eqb-true}
+use lib.Dec.{eqb}
+use lib.ListN.{length-take}
+use lib.Seq.{length-take-le}
+use Rattle.definitions_file.specs.File.{versionOf, contentsOf, goodHeader}
+use Rattle.refusals.proofs.All.{Both, both, fails, passes}
+use Rattle.refusals.proofs.Answers.{passed}
+use Rattle.round_trip.proofs.Passed.{good-header}
+use Rattle.shelf_file.specs.Parts.{Counts}
+use Rattle.shelf_file.proofs.Parts.{counts-long}
+use Rattle.shelf_file.proofs.Tests.{off-shelf, refused-tests}
+use Rattle.shelf_file.proofs.close_file.Statement.{statement}
+use Rattle.shelf_file.proofs.close_file.Tie as tie
+
+head : (c : tie.Else1) → Both (goodHeader (c .before .before .before .before .before .before .args .file .now)) (eqb (versionOf (c .before .before .before .before .before .before .args .file .now)) 2)
+head c = both _ _ (passes (c .before .on-shelf .ensures) (c .if1 .left))
+
+counts : (c : tie.After-read-counts) → let n = c .read-counts .result in Counts (c .before .before .before .before .before .before .before .args .file .now) (10 * n .validators) (10 * n .validators + n .slashings)
+counts c =
+    let e = c .read-counts .ensures in
+    let h = head (c .before) in
+    record {
+      header = h .first;
+      second = eqb-true _ 2 (h .second);
+      registry = ap (λ (n : ℕ). 10 * n) (e .0);
+      slashings = ap (λ (l : ℕ). 10 * c .read-counts .result .validators + l) (e .2);
+    }
+
+on-shelf-requires : tie.Need-on-shelf-requires
+on-shelf-requires c κs = search needs
+
+returns : tie.Need-returns
+returns c =
+    let s = c .before .before .before .before .before .before in
+    let f = off-shelf (s .args .fork) (s .args .bellatrix) (s .args .file .now) (fails (c .before .on-shelf .ensures) (c .if1 .taken)) (s .args .part .now) in
+    (f .number, f .part)
+
+read-counts-requires : tie.Need-read-counts-requires
+read-counts-requires c κs = good-header _ (head c .first) .enough
+
+mul-a : tie.Need-mul-a
+mul-a c = omega (arith, counts-long (counts c), c .read-counts .ensures .0, c .before .before .before .before .before .before .before .good .0)
+
+add-b : tie.Need-add-b
+add-b c = omega (arith, counts-long (counts c), c .read-counts .ensures, c .before .before .before .before .before .before .before .good .0)
+
+read-settings-requires : tie.Need-read-settings-requires
+read-settings-requires c κs = omega (arith, counts-long (counts c))
+
+file-tests-requires : tie.Need-file-tests-requires
+unfolding contentsOf
+file-tests-requires c κs = let k = counts (c .before .before) in (record { counts = k; room = omega (arith, counts-long k, k, c .before .before .before .before .before .before .before .before .before .pre .1 .0) }, c .before .read-settings .ensures)
+
+same-length : tie.Need-same-length
+same-length c = search needs
+
+returns-2 : tie.Need-returns-2
+returns-2 c =
+    let s = c .before .before .before .before .before .before .before .before .before .before .before in
+    let f = refused-tests (s .args .fork) (s .args .bellatrix) (s .args .file .now) (c .before .file-tests .ensures) (c .if2 .taken) (s .args .part .now) in
+    (f .number, f .part)
+
+slice-relend-prefix-close-passed : tie.Need-slice-relend-prefix-close-passed
+slice-relend-prefix-close-passed c = let k = counts (c .before .before .before .before .before) in omega (arith, counts-long k, k, c .before .before .before .before .before .before .before .before .before .before .before .before .pre .1 .1)
+
+slice-aggregate-close-passed : tie.Need-slice-aggregate-close-passed
+slice-aggregate-close-passed c =
+    let k = counts (c .before .before .before .before .before .before) in
+    omega (arith, counts-long k, k, c .before .before .before .before .before .before .before .before .before .before .before .before .before .pre .1 .1, length-take (10 * c .before .before .before .before .before .before .read-counts .result .validators) (c .before .before .before .before .before .before .before .before .before .before .before .before .before .args .closing-numbers .now))
+
+close-passed-requires : tie.Need-close-passed-requires
+unfolding contentsOf
+close-passed-requires c κs =
+    let s = c .before .before .before .before .before .before .before .before .before .before .before .before .before .before in
+    let k = counts (c .before .before .before .before .before .before .before) in
+    (record { counts = k; room = omega (arith, counts-long k, k, s .pre .1 .0) }, ((c .before .before .before .before .before .before .read-settings .ensures, passed _ (c .before .before .before .before .file-tests .ensures) (c .before .before .before .if2 .left)), (length-take-le _ (s .args .closing-numbers .now) (omega (arith, counts-long k, k, s .pre .1 .1)), s .pre .0)))
+
+same-length-2 : tie.Need-same-length-2
+same-length-2 c = search needs
+
+same-length-3 : tie.Need-same-length-3
+same-length-3 c = search needs
+
+same-length-4 : tie.Need-same-length-4
+same-length-4 c = search needs
+
+returns-3 : tie.Need-returns-3
+returns-3 c = let f = c .before .before .before .before .before .before .close-passed .ensures in (f .number, f .part)
+
+pub close-file-spec : {M : Type 1} → statement M
+close-file-spec =
+    tie.close
+    (tie.spec
+    on-shelf-requires
+    returns
+    read-counts-requires
+    mul-a
+    add-b
+    read-settings-requires
+    file-tests-requires
+    same-length
+    returns-2
+    slice-relend-prefix-close-passed
+    slice-aggregate-close-passed
+    close-passed-requires
+    same-length-2
+    same-length-3
+    same-length-4
+    returns-3)

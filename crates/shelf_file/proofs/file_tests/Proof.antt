@@ -1,0 +1,55 @@
+use mathlib.Core.Path.{refl, ap, _∙_}
+use Prim.Native.Nat.{ℕ}
+use native.Mathlib.Omega.{arith}
+use borrow.Author.Needs.{needs}
+use lib.ListN.{length-take}
+use Rattle.types.specs.declared.Rules.{Rules}
+use Rattle.rules.specs.Refusal.{rulesRefusal}
+use Rattle.shelf_file.proofs.Parts.{front-length, behind-length}
+use Rattle.shelf_file.proofs.Tests.{same-rules, tested}
+use Rattle.shelf_file.proofs.file_tests.Statement.{statement}
+use Rattle.shelf_file.proofs.file_tests.Tie as tie
+
+slice-aggregate-read-tests : tie.Need-slice-aggregate-read-tests
+slice-aggregate-read-tests c = omega (arith, length-take (c .before .before .before .args .a) (c .before .before .before .args .numbers .now))
+
+mul-read-tests : tie.Need-mul-read-tests
+mul-read-tests c = search needs
+
+sub-read-tests : tie.Need-sub-read-tests
+sub-read-tests c = search needs
+
+part-read-tests-start : tie.Need-part-read-tests-start
+part-read-tests-start c = search needs
+
+part-read-tests-end : tie.Need-part-read-tests-end
+part-read-tests-end c = search needs
+
+read-tests-requires : tie.Need-read-tests-requires
+read-tests-requires c κs = search needs
+
+rules-refusal-requires : tie.Need-rules-refusal-requires
+rules-refusal-requires c κs = search needs
+
+returns : tie.Need-returns
+returns c =
+    let s = c .before .before .before .before .before .before in
+    let a = s .args in
+    let p = s .pre .0 in
+    let k = p .counts in
+    let t = c .before .read-tests in
+    let e = c .rules-refusal .ensures ∙ ap (λ (r : Rules). rulesRefusal r (t .result .refusal)) (same-rules (a .rules .fork) (a .rules .bellatrix) (a .file .now) (a .rules) (s .pre .1) refl refl) in
+    tested (a .rules .fork) (a .rules .bellatrix) (a .file .now) (k .header) (k .second) _ _ (front-length p ∙ k .registry) (behind-length p) e (t .ensures .number)
+
+pub file-tests-spec : {M : Type 1} → statement M
+file-tests-spec =
+    tie.close
+    (tie.spec
+    slice-aggregate-read-tests
+    mul-read-tests
+    sub-read-tests
+    part-read-tests-start
+    part-read-tests-end
+    read-tests-requires
+    rules-refusal-requires
+    returns)

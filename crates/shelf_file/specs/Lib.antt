@@ -1,0 +1,2 @@
+-- What contracts of one file's close cite.
+pub mod Parts

@@ -1,0 +1,2 @@
+-- What contracts of the slashings step that books cite.
+pub mod Taken

@@ -1,0 +1,4 @@
+-- A list of zeros
+mod Clearing
+-- Rewards that book as they go
+mod Rewards

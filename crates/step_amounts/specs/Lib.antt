@@ -1,0 +1,2 @@
+-- What contracts of the rewards step that books cite.
+pub mod Booked

@@ -1,0 +1,26 @@
+-- Where the entry of an epoch stands; the answers of reading and adding as the definition's records.
+use mathlib.Core.List.{List, []}
+use mathlib.Core.Path.{_≡_}
+use Prim.Native.Nat.{ℕ, _≤_, _<_}
+use lib.ListN.{length, getD}
+use Rattle.types.specs.declared.Rules.{Rules}
+use Rattle.definitions.specs.Checked.{value, refused, noEntry}
+use Rattle.definitions_store.specs.declared.RulesAnswer.{RulesAnswer}
+use Rattle.definitions_store.specs.declared.CountAnswer.{CountAnswer}
+use Rattle.definitions_store.specs.Store.{Entry, entryOf, entryFor, noRules, AddOutcome}
+use Rattle.store_entries.specs.Lent.{lent}
+
+-- the place r is that of the epoch's entry, or past the end where there is none
+pub record Finds (epoch : ℕ) (es : List Entry) (r : ℕ) : Type 0 where
+  pub found : r < length es → entryFor epoch es ≡ value (getD es r (entryOf []))
+  pub none : length es ≤ r → entryFor epoch es ≡ refused noEntry
+
+abbrev pub turnedAway : ℕ → RulesAnswer
+turnedAway number = record { refusal = number; rules = noRules }
+
+abbrev pub newEntry : ℕ → Rules → Entry
+newEntry start rules = record { start = start; rules = rules }
+
+-- the answer of an addition, and the store afterwards
+abbrev pub addOutcome : CountAnswer → List ℕ → AddOutcome
+addOutcome r numbers = record { refusal = r .refusal; store = lent numbers (r .count) }

@@ -1,0 +1,2 @@
+-- What the contracts of reading and adding cite.
+pub mod Answers

@@ -1,0 +1,226 @@
+// A store of settings by starting epoch (02, R-10): reading the rules of an epoch, and adding an entry.
+ghost use mathlib.Core.Path.{_≡_};
+ghost use Prim.Native.Nat.{_*_, _≤_};
+ghost use lib.Dec.{ltb};
+ghost use lib.ListN.{length};
+ghost use Rattle.definitions.specs.Checked.{codeOf};
+ghost use Rattle.definitions_store.specs.Store.{entriesFrom, keeps, lastOf, ofLast, storeTests, rulesAt, readRules, rulesAnswerFor, noRules, numbersOf, additionShaped, additionTests, added};
+ghost use Rattle.store_entries.specs.Lent.{lent};
+ghost use Rattle.store.specs.Answers.{Finds, turnedAway, newEntry, addOutcome};
+use buffers::copy;
+use definitions_store::CountAnswer;
+use definitions_store::RulesAnswer;
+use store_entries::entry_rules;
+use store_entries::good_entries;
+use store_entries::good_rules;
+use store_entries::keeps;
+use store_entries::rules_shaped;
+use store_entries::store_shaped;
+use types::Bellatrix;
+use types::Rules;
+use types::Settings;
+
+// The place of the last of the first n entries whose start is not above the epoch; n where there is none.
+fn find_entry(store: &[u64], n: usize, epoch: u64) -> usize
+    requires { ⌜ 23 * n ≤ length (now store) ⌝ }
+    ensures { λ r. ⌜ Finds epoch (entriesFrom n (now (store .entry))) r ⌝ }
+{
+    let mut left = n;
+    while 0 < left {
+        let k = left - 1;
+        let a = 23 * k;
+        if store[a] <= epoch {
+            return k;
+        }
+        left -= 1;
+    }
+    n
+}
+
+// Zeros beside the refusal's number.
+pub fn turned_away(refusal: u64) -> RulesAnswer
+    ensures { λ r. ⌜ r ≡ turnedAway refusal ⌝ }
+{
+    let settings = Settings {
+        slots_per_epoch: 0,
+        slots_per_historical_root: 0,
+        epochs_per_slashings_vector: 0,
+        effective_balance_increment: 0,
+        max_effective_balance: 0,
+        hysteresis_quotient: 0,
+        hysteresis_downward_multiplier: 0,
+        hysteresis_upward_multiplier: 0,
+        base_reward_factor: 0,
+        min_epochs_to_inactivity_penalty: 0,
+        inactivity_score_bias: 0,
+        inactivity_score_recovery_rate: 0,
+        inactivity_penalty_quotient_altair: 0,
+        proportional_slashing_multiplier_altair: 0,
+        max_seed_lookahead: 0,
+        min_validator_withdrawability_delay: 0,
+        ejection_balance: 0,
+        min_per_epoch_churn_limit: 0,
+        churn_limit_quotient: 0,
+    };
+    let bellatrix = Bellatrix {
+        inactivity_penalty_quotient_bellatrix: 0,
+        proportional_slashing_multiplier_bellatrix: 0,
+    };
+    let rules = Rules {
+        settings,
+        fork: 0,
+        bellatrix,
+    };
+    RulesAnswer { refusal, rules }
+}
+
+// The rules of an epoch, once tests 1 and 2 have passed; 13 where no start is at or below it.
+pub fn rules_at(store: &[u64], n: usize, epoch: u64) -> RulesAnswer
+    requires { ⌜ 23 * n ≤ length (now store) ⌝ }
+    ensures { λ r. ⌜ r ≡ rulesAnswerFor (rulesAt epoch (entriesFrom n (now (store .entry)))) ⌝ }
+{
+    let k = find_entry(store, n, epoch);
+    if n <= k {
+        return turned_away(13);
+    }
+    let a = 23 * k;
+    let b = a + 23;
+    let rules = entry_rules(&store[a..b]);
+    RulesAnswer { refusal: 0, rules }
+}
+
+// Tests 1 and 2: 0, or the number of the first that failed.
+fn store_tests(store: &[u64], count: u64) -> u64
+    ensures { λ r. ⌜ r ≡ codeOf (storeTests (lent (now (store .entry)) count)) ⌝ }
+{
+    if !store_shaped(store, count) {
+        return 1;
+    }
+    if !good_entries(store, count as usize) {
+        return 2;
+    }
+    0
+}
+
+pub fn read_rules(store: &[u64], count: u64, epoch: u64) -> RulesAnswer
+    ensures { λ r. ⌜ r ≡ rulesAnswerFor (readRules (lent (now (store .entry)) count) epoch) ⌝ }
+{
+    let refusal = store_tests(store, count);
+    if refusal != 0 {
+        return turned_away(refusal);
+    }
+    rules_at(store, count as usize, epoch)
+}
+
+// The last of the first n entries, if there is one, has the same slots_per_epoch, S and L.
+fn keeps_last(store: &[u64], n: usize, settings: Settings) -> bool
+    requires { ⌜ 23 * n ≤ length (now store) ⌝ }
+    ensures { λ r. ⌜ r ≡ ofLast (λ e. keeps (e .rules .settings) settings) (lastOf (entriesFrom n (now (store .entry)))) ⌝ }
+{
+    if n == 0 {
+        return true;
+    }
+    let b = 23 * n;
+    let a = b - 23;
+    let last = entry_rules(&store[a..b]);
+    keeps(last.settings, settings)
+}
+
+// The last of the first n entries, if there is one, starts earlier.
+fn starts_after(store: &[u64], n: usize, start: u64) -> bool
+    requires { ⌜ 23 * n ≤ length (now store) ⌝ }
+    ensures { λ r. ⌜ r ≡ ofLast (λ e. ltb (e .start) start) (lastOf (entriesFrom n (now (store .entry)))) ⌝ }
+{
+    if n == 0 {
+        return true;
+    }
+    let a = 23 * n - 23;
+    store[a] < start
+}
+
+// Test 1 of an addition.
+fn addition_shaped(store: &[u64], count: u64, start: u64, rules: Rules) -> bool
+    ensures { λ r. ⌜ r ≡ additionShaped (lent (now (store .entry)) count) (newEntry start rules) ⌝ }
+{
+    if !store_shaped(store, count) {
+        return false;
+    }
+    let n = count as usize;
+    if store.len() / 23 <= n {
+        return false;
+    }
+    if !rules_shaped(rules) {
+        return false;
+    }
+    keeps_last(store, n, rules.settings)
+}
+
+// Tests 1, 2 and 12.
+fn addition_tests(store: &[u64], count: u64, start: u64, rules: Rules) -> u64
+    ensures { λ r. ⌜ r ≡ codeOf (additionTests (lent (now (store .entry)) count) (newEntry start rules)) ⌝ }
+{
+    if !addition_shaped(store, count, start, rules) {
+        return 1;
+    }
+    if !good_entries(store, count as usize) {
+        return 2;
+    }
+    if !good_rules(rules) {
+        return 2;
+    }
+    if !starts_after(store, count as usize, start) {
+        return 12;
+    }
+    0
+}
+
+// An entry's 23 numbers.
+fn put_entry(entry: &mut [u64], start: u64, rules: Rules)
+    requires { ⌜ length (now entry) ≡ 23 ⌝ }
+    ensures { λ _. ⌜ now (entry .exit) ≡ numbersOf (newEntry start rules) ⌝ }
+{
+    let s = rules.settings;
+    let pair = rules.bellatrix;
+    let numbers = [
+        start,
+        rules.fork,
+        s.slots_per_epoch,
+        s.slots_per_historical_root,
+        s.epochs_per_slashings_vector,
+        s.effective_balance_increment,
+        s.max_effective_balance,
+        s.hysteresis_quotient,
+        s.hysteresis_downward_multiplier,
+        s.hysteresis_upward_multiplier,
+        s.base_reward_factor,
+        s.min_epochs_to_inactivity_penalty,
+        s.inactivity_score_bias,
+        s.inactivity_score_recovery_rate,
+        s.inactivity_penalty_quotient_altair,
+        s.proportional_slashing_multiplier_altair,
+        s.max_seed_lookahead,
+        s.min_validator_withdrawability_delay,
+        s.ejection_balance,
+        s.min_per_epoch_churn_limit,
+        s.churn_limit_quotient,
+        pair.inactivity_penalty_quotient_bellatrix,
+        pair.proportional_slashing_multiplier_bellatrix,
+    ];
+    copy(&numbers, entry);
+}
+
+pub fn add_rules(store: &mut [u64], count: u64, start: u64, rules: Rules) -> CountAnswer
+    ensures { λ r. ⌜ addOutcome r (now (store .exit)) ≡ added (lent (now (store .entry)) count) (newEntry start rules) ⌝ }
+{
+    let refusal = addition_tests(store, count, start, rules);
+    if refusal != 0 {
+        return CountAnswer { refusal, count };
+    }
+    let a = 23 * (count as usize);
+    let b = a + 23;
+    put_entry(&mut store[a..b], start, rules);
+    CountAnswer {
+        refusal: 0,
+        count: count + 1,
+    }
+}

@@ -1,0 +1,2 @@
+-- What a close with a store is, from the rules that it was given.
+pub mod Closes

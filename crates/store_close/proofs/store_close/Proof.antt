@@ -1,0 +1,74 @@
+use mathlib.Core.Path.{_≡_, ap, _∙_}
+use borrow.Author.Needs.{needs}
+use Rattle.definitions_store.specs.Store.{rulesAnswerFor}
+use Rattle.definitions_store.specs.StoreClose.{StoreCall, rulesFor}
+use Rattle.store_entries.specs.Lent.{lent}
+use Rattle.store_rules.specs.Called.{storeCalled}
+use Rattle.store_rules.proofs.Given.{rules-with}
+use Rattle.store_close.proofs.Closes.{turned-away, closed-by}
+use Rattle.store_close.proofs.store_close.Statement.{statement}
+use Rattle.store_close.proofs.store_close.Tie as tie
+
+-- the call, and that its rules were asked
+abbrev start : tie.After-rules-for → tie.Start
+start c = c .before .before .before .before .before .before .before .before .before .before .before
+
+abbrev call : tie.After-rules-for → StoreCall
+call c =
+    let a = start c .args in
+    storeCalled (lent (a .store .now) (a .count)) (a .finality) (a .queue) (a .registry .now) (a .slashings .now) (a .roots .now) (a .closing-registry .now) (a .closing-slashings .now) (a .amounts .now)
+
+asked : (c : tie.After-rules-for) → c .rules-for .result ≡ rulesAnswerFor (rulesFor (call c))
+asked c = c .rules-for .ensures ∙ ap rulesAnswerFor (rules-with (call c))
+
+rules-for-requires : tie.Need-rules-for-requires
+rules-for-requires c κs = search needs
+
+none-raised-requires : tie.Need-none-raised-requires
+none-raised-requires c κs = search needs
+
+same-length : tie.Need-same-length
+same-length c = search needs
+
+same-length-2 : tie.Need-same-length-2
+same-length-2 c = search needs
+
+same-length-3 : tie.Need-same-length-3
+same-length-3 c = search needs
+
+returns : tie.Need-returns
+returns c = let d = c .before .before in turned-away (call d) (asked d) (c .none-raised .ensures) (c .before .if1 .taken)
+
+full-close-requires : tie.Need-full-close-requires
+full-close-requires c κs = search needs
+
+same-length-4 : tie.Need-same-length-4
+same-length-4 c = search needs
+
+same-length-5 : tie.Need-same-length-5
+same-length-5 c = search needs
+
+same-length-6 : tie.Need-same-length-6
+same-length-6 c = search needs
+
+returns-2 : tie.Need-returns-2
+returns-2 c =
+    let f = c .before .before .before .before .before .before in
+    let e = f .before .before .before .before in
+    f .full-close .ensures ∙ closed-by (call (e .before)) (asked (e .before)) (e .if1 .left)
+
+pub store-close-spec : {M : Type 1} → statement M
+store-close-spec =
+    tie.close
+    (tie.spec
+    rules-for-requires
+    none-raised-requires
+    same-length
+    same-length-2
+    same-length-3
+    returns
+    full-close-requires
+    same-length-4
+    same-length-5
+    same-length-6
+    returns-2)

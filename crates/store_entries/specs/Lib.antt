@@ -1,0 +1,2 @@
+-- What the contracts of a store's code cite.
+pub mod Lent

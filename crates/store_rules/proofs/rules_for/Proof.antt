@@ -1,0 +1,59 @@
+use mathlib.Core.Path.{_∙_}
+use borrow.Author.Needs.{needs}
+use Rattle.definitions.specs.Checked.{bind}
+use Rattle.definitions.specs.Refusals.{inOrder, afterTests}
+use Rattle.refusals.proofs.All.{fails, passes}
+use Rattle.store_rules.specs.Called.{rulesWith}
+use Rattle.store_rules.proofs.Given.{with-fits}
+use Rattle.store_rules.proofs.rules_for.Statement.{statement}
+use Rattle.store_rules.proofs.rules_for.Tie as tie
+
+call-shaped-requires : tie.Need-call-shaped-requires
+call-shaped-requires c κs = search needs
+
+turned-away-requires : tie.Need-turned-away-requires
+turned-away-requires c κs = search needs
+
+returns : tie.Need-returns
+unfolding rulesWith afterTests inOrder bind
+returns c =
+    let d = c .before in
+    c .turned-away .ensures ∙ rw (fails (d .before .call-shaped .ensures) (d .if1 .taken))
+
+good-entries-requires : tie.Need-good-entries-requires
+good-entries-requires c κs = with-fits _ _ _ _ _ _ _ (passes (c .before .call-shaped .ensures) (c .if1 .left))
+
+turned-away-requires-2 : tie.Need-turned-away-requires-2
+turned-away-requires-2 c κs = search needs
+
+returns-2 : tie.Need-returns-2
+unfolding rulesWith afterTests inOrder bind
+returns-2 c =
+    let e = c .before in
+    let d = e .before .before in
+    c .turned-away2 .ensures ∙ rw (passes (d .before .call-shaped .ensures) (d .if1 .left), fails (e .before .good-entries .ensures) (e .if2 .taken))
+
+rules-at-slot-requires : tie.Need-rules-at-slot-requires
+rules-at-slot-requires c κs =
+    let d = c .before .before in
+    (with-fits _ _ _ _ _ _ _ (passes (d .before .call-shaped .ensures) (d .if1 .left)), passes (c .before .good-entries .ensures) (c .if2 .left))
+
+returns-3 : tie.Need-returns-3
+unfolding rulesWith afterTests inOrder bind
+returns-3 c =
+    let e = c .before in
+    let d = e .before .before in
+    c .rules-at-slot .ensures ∙ rw (passes (d .before .call-shaped .ensures) (d .if1 .left), passes (e .before .good-entries .ensures) (e .if2 .left))
+
+pub rules-for-spec : {M : Type 1} → statement M
+rules-for-spec =
+    tie.close
+    (tie.spec
+    call-shaped-requires
+    turned-away-requires
+    returns
+    good-entries-requires
+    turned-away-requires-2
+    returns-2
+    rules-at-slot-requires
+    returns-3)

@@ -1,0 +1,3 @@
+-- What is claimed of a store.
+pub mod Laws
+pub mod Stages

@@ -1,0 +1,2 @@
+-- What contracts of the exit leaf cite.
+pub mod Exits
