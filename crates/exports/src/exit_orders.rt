@@ -1,21 +1,23 @@
 // A close that is run one step a call, and the exit orders that are taken meanwhile.
 ghost use mathlib.Core.Path.{_≡_};
-ghost use Rattle.definitions_orders.specs.CloseBySteps.{closeStep};
-ghost use Rattle.definitions_orders.specs.Orders.{takeOrder, carryOut};
-ghost use Rattle.full_close.specs.Called.{fullCalled};
-ghost use Rattle.close_steps.specs.Called.{stepCalled, stepOutcome};
-ghost use Rattle.orders.specs.Called.{orderCalled, orderOutcome, ninthCalled, ninthOutcome};
+ghost use Rattle.definitions_orders.specs.Orders.{takeOrder};
+ghost use Rattle.definitions_store.specs.StoreSteps.{storeStep, storeCarryOut};
+ghost use Rattle.close_steps.specs.Called.{stepOutcome};
+ghost use Rattle.orders.specs.Called.{orderCalled, orderOutcome, ninthOutcome};
+ghost use Rattle.store_entries.specs.Lent.{lent};
+ghost use Rattle.store_rules.specs.Called.{storeCalled};
+ghost use Rattle.store_steps.specs.Called.{storeStepCalled, storeNinthCalled};
 use definitions_orders::Running;
 use definitions_orders::RunningAnswer;
 use types::ExitQueue;
 use types::Finality;
-use types::Rules;
 
 #[no_mangle]
 pub extern "C" fn altair_close_step(
     number: u64,
     running: Running,
-    rules: Rules,
+    store: &[u64],
+    count: u64,
     finality: Finality,
     queue: ExitQueue,
     registry: &[u64],
@@ -27,12 +29,13 @@ pub extern "C" fn altair_close_step(
 ) -> RunningAnswer
     ensures { λ r. ⌜
         stepOutcome r (now («closing_registry» .exit)) (now («closing_slashings» .exit)) (now (amounts .exit))
-        ≡ closeStep (stepCalled number running (fullCalled rules finality queue (now (registry .entry)) (now (slashings .entry)) (now (roots .entry)) (now («closing_registry» .entry)) (now («closing_slashings» .entry)) (now (amounts .entry)))) ⌝ }
+        ≡ storeStep (storeStepCalled number running (storeCalled (lent (now (store .entry)) count) finality queue (now (registry .entry)) (now (slashings .entry)) (now (roots .entry)) (now («closing_registry» .entry)) (now («closing_slashings» .entry)) (now (amounts .entry)))) ⌝ }
 {
-    close_by_steps::close_step(
+    store_steps::store_step(
         number,
-        rules,
         running,
+        store,
+        count,
         finality,
         queue,
         registry,
@@ -58,7 +61,8 @@ pub extern "C" fn altair_take_order(
 
 #[no_mangle]
 pub extern "C" fn altair_carry_out(
-    rules: Rules,
+    store: &[u64],
+    count: u64,
     shard_committee_period: u64,
     running: Running,
     closing_registry: &mut [u64],
@@ -67,10 +71,11 @@ pub extern "C" fn altair_carry_out(
 ) -> RunningAnswer
     ensures { λ r. ⌜
         ninthOutcome r (now («closing_registry» .exit)) (now (answers .exit))
-        ≡ carryOut (ninthCalled rules «shard_committee_period» running (now («closing_registry» .entry)) (now (orders .entry)) (now (answers .entry))) ⌝ }
+        ≡ storeCarryOut (storeNinthCalled (lent (now (store .entry)) count) «shard_committee_period» running (now («closing_registry» .entry)) (now (orders .entry)) (now (answers .entry))) ⌝ }
 {
-    ninth_call::carry_out(
-        rules,
+    store_steps::store_carry_out(
+        store,
+        count,
         shard_committee_period,
         running,
         closing_registry,

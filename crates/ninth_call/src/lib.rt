@@ -27,7 +27,7 @@ use types::Settings;
 use validator_exit::see_registry;
 
 // Both lists: the second is as many orders long.
-fn lists_shaped(count: u64, orders: &[u64], answers: &[u64]) -> bool
+pub fn lists_shaped(count: u64, orders: &[u64], answers: &[u64]) -> bool
     ensures { λ r. ⌜ r ≡ listsShaped count (now (orders .entry)) (now (answers .entry)) ⌝ }
 {
     if !orders_shaped(count, orders) {

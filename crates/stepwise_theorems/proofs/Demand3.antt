@@ -125,7 +125,7 @@ shaped-on w c d os size (onward st count orders u e h) period answers z =
 shaped-on w c d os size (ended s) period answers z = λ t.
     absurd (s .refusal (sym (ap (λ (a : FullAnswer). a .refusal) (s .gives .answer)) ∙ eqb→eq _ 0 (subst (λ (out : NinthOutcome). T (eqb (out .answer .running .answer .refusal) 0)) (says (ninthCall c d period answers) (stopped-done c d s)) t)))
 
-each-shaped : (c : Bool × AnyClose) → Shaped (event (closeOf c))
+pub each-shaped : (c : Bool × AnyClose) → Shaped (event (closeOf c))
 each-shaped (w, wholly c) = full-shaped (w, c)
 each-shaped (w, bySteps b) = shaped-on w (b .whole) (eighth b) _ _ (eight-on (b .whole) (b .desk) (b .begins) (b .list) (b .turns)) (b .period) (b .answers) (b .ended)
 

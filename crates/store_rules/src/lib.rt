@@ -97,7 +97,7 @@ fn call_shaped(
 }
 
 // The rules of a slot's epoch; slots_per_epoch is the same in all entries, and not 0 once they are good.
-fn rules_at_slot(store: &[u64], n: usize, slot: u64) -> RulesAnswer
+pub fn rules_at_slot(store: &[u64], n: usize, slot: u64) -> RulesAnswer
     requires { ⌜ 23 * n ≤ length (now store) ⌝ }
     requires { ⌜ goodEntries (entriesFrom n (now store)) ≡ true ⌝ }
     ensures { λ r. ⌜ r ≡ rulesAnswerFor (rulesAtSlot slot (entriesFrom n (now (store .entry)))) ⌝ }

@@ -1,0 +1,75 @@
+use mathlib.Core.Path.{_≡_, ap, _∙_}
+use Rattle.definitions_store.specs.Store.{rulesAnswerFor}
+use Rattle.definitions_store.specs.StoreClose.{StoreCall, rulesFor}
+use Rattle.definitions_store.specs.StoreSteps.{StoreStepCall, storeSoFar}
+use Rattle.store_entries.specs.Lent.{lent}
+use Rattle.store_rules.specs.Called.{storeCalled}
+use Rattle.store_rules.proofs.Given.{rules-with}
+use Rattle.store_steps.specs.Called.{storeStepCalled}
+use Rattle.store_steps.proofs.Steps.{later-by, later-turned}
+use borrow.Author.Needs.{needs}
+use Rattle.store_steps.proofs.later_step.Statement.{statement}
+use Rattle.store_steps.proofs.later_step.Tie as tie
+
+-- the call, and that its rules were asked
+abbrev start : tie.After-rules-for → tie.Start
+start c = c .before .before .before .before .before .before .before .before .before .before .before .before .before
+
+abbrev call : tie.After-rules-for → StoreStepCall
+call c =
+    let a = start c .args in
+    storeStepCalled (a .number) (a .running) (storeCalled (lent (a .store .now) (a .count)) (a .finality) (a .queue) (a .registry .now) (a .slashings .now) (a .roots .now) (a .closing-registry .now) (a .closing-slashings .now) (a .amounts .now))
+
+abbrev soFar : tie.After-rules-for → StoreCall
+soFar c = storeSoFar (call c .running) (call c .whole)
+
+asked : (c : tie.After-rules-for) → c .rules-for .result ≡ rulesAnswerFor (rulesFor (soFar c))
+asked c = c .rules-for .ensures ∙ ap rulesAnswerFor (rules-with (soFar c))
+
+rules-for-requires : tie.Need-rules-for-requires
+rules-for-requires c κs = search needs
+
+same-length : tie.Need-same-length
+same-length c = search needs
+
+same-length-2 : tie.Need-same-length-2
+same-length-2 c = search needs
+
+same-length-3 : tie.Need-same-length-3
+same-length-3 c = search needs
+
+returns : tie.Need-returns
+returns c = let d = c .before in later-turned (call d) (asked d) (start d .pre) (c .if1 .taken)
+
+close-step-requires : tie.Need-close-step-requires
+close-step-requires c κs = search needs
+
+same-length-4 : tie.Need-same-length-4
+same-length-4 c = search needs
+
+same-length-5 : tie.Need-same-length-5
+same-length-5 c = search needs
+
+same-length-6 : tie.Need-same-length-6
+same-length-6 c = search needs
+
+returns-2 : tie.Need-returns-2
+returns-2 c =
+    let f = c .before .before .before .before .before .before in
+    let e = f .before .before .before .before in
+    f .close-step .ensures ∙ later-by (call (e .before)) (asked (e .before)) (e .if1 .left)
+
+pub later-step-spec : {M : Type 1} → statement M
+later-step-spec =
+    tie.close
+    (tie.spec
+    rules-for-requires
+    same-length
+    same-length-2
+    same-length-3
+    returns
+    close-step-requires
+    same-length-4
+    same-length-5
+    same-length-6
+    returns-2)

@@ -1,0 +1,70 @@
+use mathlib.Core.Path.{_≡_, ap, _∙_}
+use borrow.Author.Tests.{eq-eqb, ne-eqb}
+use Rattle.definitions_store.specs.Store.{rulesAnswerFor}
+use Rattle.definitions_store.specs.StoreSteps.{StoreNinthCall, ninthRules, storeCarryOut}
+use Rattle.store_entries.specs.Lent.{lent}
+use Rattle.store_steps.specs.Called.{storeNinthCalled}
+use Rattle.store_steps.proofs.Steps.{ninth-with, ninth-turned, ninth-by}
+use borrow.Author.Needs.{needs}
+use Rattle.store_steps.proofs.store_carry_out.Statement.{statement}
+use Rattle.store_steps.proofs.store_carry_out.Tie as tie
+
+-- the call, and that its rules were asked
+abbrev call : tie.After-ninth-rules → StoreNinthCall
+call c =
+    let a = c .before .before .before .before .before .before .before .before .before .before .before .args in
+    storeNinthCalled (lent (a .store .now) (a .count)) (a .shard-committee-period) (a .running) (a .closing-registry .now) (a .orders .now) (a .answers .now)
+
+asked : (c : tie.After-ninth-rules) → c .ninth-rules .result ≡ rulesAnswerFor (ninthRules (call c))
+asked c = c .ninth-rules .ensures ∙ ap rulesAnswerFor (ninth-with (call c))
+
+returns : tie.Need-returns
+unfolding storeCarryOut
+returns c = rw (eq-eqb _ _ (c .if1 .taken))
+
+returns-2 : tie.Need-returns-2
+unfolding storeCarryOut
+returns-2 c = rw (ne-eqb _ _ (c .before .if1 .left), ne-eqb _ _ (c .if2 .taken))
+
+ninth-rules-requires : tie.Need-ninth-rules-requires
+ninth-rules-requires c κs = search needs
+
+same-length : tie.Need-same-length
+same-length c = search needs
+
+same-length-2 : tie.Need-same-length-2
+same-length-2 c = search needs
+
+returns-3 : tie.Need-returns-3
+returns-3 c = let d = c .before in ninth-turned (call d) (asked d) (d .before .before .before .before .before .if2 .left) (c .if3 .taken)
+
+carry-out-requires : tie.Need-carry-out-requires
+carry-out-requires c κs = search needs
+
+same-length-3 : tie.Need-same-length-3
+same-length-3 c = search needs
+
+same-length-4 : tie.Need-same-length-4
+same-length-4 c = search needs
+
+returns-4 : tie.Need-returns-4
+returns-4 c =
+    let f = c .before .before .before .before in
+    let e = f .before .before .before in
+    let d = e .before in
+    f .carry-out .ensures ∙ ninth-by (call d) (asked d) (d .before .before .before .before .before .if2 .left) (e .if3 .left)
+
+pub store-carry-out-spec : {M : Type 1} → statement M
+store-carry-out-spec =
+    tie.close
+    (tie.spec
+    returns
+    returns-2
+    ninth-rules-requires
+    same-length
+    same-length-2
+    returns-3
+    carry-out-requires
+    same-length-3
+    same-length-4
+    returns-4)

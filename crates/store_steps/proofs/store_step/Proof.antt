@@ -1,0 +1,83 @@
+use mathlib.Core.Path.{_∙_}
+use borrow.Author.Tests.{eq-eqb}
+use Rattle.definitions_orders.specs.CloseBySteps.{unwritten}
+use Rattle.definitions_store.specs.StoreSteps.{StoreStepCall, storeStep}
+use Rattle.refusals.proofs.All.{fails, passes}
+use Rattle.store_entries.specs.Lent.{lent}
+use Rattle.store_rules.specs.Called.{storeCalled}
+use Rattle.store_steps.specs.Called.{storeStepCalled}
+use Rattle.store_steps.proofs.Steps.{out-of-turn, first, later}
+use borrow.Author.Needs.{needs}
+use Rattle.store_steps.proofs.store_step.Statement.{statement}
+use Rattle.store_steps.proofs.store_step.Tie as tie
+
+abbrev call : tie.Start → StoreStepCall
+call s =
+    let a = s .args in
+    storeStepCalled (a .number) (a .running) (storeCalled (lent (a .store .now) (a .count)) (a .finality) (a .queue) (a .registry .now) (a .slashings .now) (a .roots .now) (a .closing-registry .now) (a .closing-slashings .now) (a .amounts .now))
+
+returns : tie.Need-returns
+unfolding storeStep unwritten
+returns c = rw (eq-eqb _ _ (c .if1 .taken))
+
+in-turn-requires : tie.Need-in-turn-requires
+in-turn-requires c κs = search needs
+
+returns-2 : tie.Need-returns-2
+returns-2 c = out-of-turn (call (c .before .before .before .before .before .before .before .before .before .before)) (c .before .before .if1 .left) (fails (c .before .in-turn .ensures) (c .if2 .taken))
+
+first-step-requires : tie.Need-first-step-requires
+first-step-requires c κs = search needs
+
+same-length : tie.Need-same-length
+same-length c = search needs
+
+same-length-2 : tie.Need-same-length-2
+same-length-2 c = search needs
+
+same-length-3 : tie.Need-same-length-3
+same-length-3 c = search needs
+
+returns-3 : tie.Need-returns-3
+returns-3 c =
+    let f = c .before .before .before .before .before .before in
+    let e = f .before .before .before .before in
+    let d = e .before in
+    f .first-step .ensures ∙ first (call (d .before .before .before .before .before .before .before .before .before .before)) (d .before .before .if1 .left) (passes (d .before .in-turn .ensures) (d .if2 .left)) (e .if3 .taken)
+
+later-step-requires : tie.Need-later-step-requires
+later-step-requires c κs = search needs
+
+same-length-4 : tie.Need-same-length-4
+same-length-4 c = search needs
+
+same-length-5 : tie.Need-same-length-5
+same-length-5 c = search needs
+
+same-length-6 : tie.Need-same-length-6
+same-length-6 c = search needs
+
+returns-4 : tie.Need-returns-4
+returns-4 c =
+    let f = c .before .before .before .before .before .before in
+    let e = f .before .before .before .before in
+    let d = e .before in
+    f .later-step .ensures ∙ later (call (d .before .before .before .before .before .before .before .before .before .before)) (d .before .before .if1 .left) (passes (d .before .in-turn .ensures) (d .if2 .left)) (e .if3 .left)
+
+pub store-step-spec : {M : Type 1} → statement M
+store-step-spec =
+    tie.close
+    (tie.spec
+    returns
+    in-turn-requires
+    returns-2
+    first-step-requires
+    same-length
+    same-length-2
+    same-length-3
+    returns-3
+    later-step-requires
+    same-length-4
+    same-length-5
+    same-length-6
+    returns-4)

@@ -1,0 +1,2 @@
+-- What contracts of a close by steps with a store cite.
+pub mod Called

@@ -1,0 +1,299 @@
+// A close by steps with a store in place of settings, fork and pair (02, R-9 with R-10): the call that is made eight times, and the ninth.
+ghost use mathlib.Core.Path.{_≡_};
+ghost use mathlib.Core.Bool.{_&&_};
+ghost use Prim.Native.Nat.{_+_, _≤_};
+ghost use lib.Dec.{leb, eqb};
+ghost use Rattle.definitions_store.specs.Store.{rulesAnswerFor};
+ghost use Rattle.definitions_store.specs.StoreSteps.{storeStep, storeCarryOut};
+ghost use Rattle.close_steps.specs.Called.{stepOutcome};
+ghost use Rattle.orders.specs.Called.{ninthOutcome};
+ghost use Rattle.store_entries.specs.Lent.{lent};
+ghost use Rattle.store_rules.specs.Called.{storeCalled};
+ghost use Rattle.store_steps.specs.Called.{storeStepCalled, firstStep, laterStep, storeNinthCalled, ninthRulesWith};
+use close_by_steps::close_step;
+use close_steps::ended_by;
+use definitions_orders::Running;
+use definitions_orders::RunningAnswer;
+use definitions_store::RulesAnswer;
+use ninth_call::carry_out;
+use ninth_call::lists_shaped;
+use refusals::is_small;
+use refusals::registry_shaped;
+use store::turned_away;
+use store_entries::good_entries;
+use store_entries::store_shaped;
+use store_rules::rules_at_slot;
+use store_rules::rules_for;
+use types::ExitQueue;
+use types::Finality;
+
+// The first call, by the opening's epoch. Where the store has no rules for it the close ends as the whole close is refused.
+fn first_step(
+    number: u64,
+    running: Running,
+    store: &[u64],
+    count: u64,
+    finality: Finality,
+    queue: ExitQueue,
+    registry: &[u64],
+    slashings: &[u64],
+    roots: &[u8],
+    closing_registry: &mut [u64],
+    closing_slashings: &mut [u64],
+    amounts: &mut [u64],
+) -> RunningAnswer
+    requires { ⌜ running .done ≡ 0 ⌝ }
+    ensures { λ r. ⌜
+        stepOutcome r (now («closing_registry» .exit)) (now («closing_slashings» .exit)) (now (amounts .exit))
+        ≡ firstStep (storeStepCalled number running (storeCalled (lent (now (store .entry)) count) finality queue (now (registry .entry)) (now (slashings .entry)) (now (roots .entry)) (now («closing_registry» .entry)) (now («closing_slashings» .entry)) (now (amounts .entry)))) ⌝ }
+{
+    let found = rules_for(
+        store,
+        count,
+        finality.slot,
+        registry,
+        slashings,
+        roots,
+        &closing_registry[..],
+        &closing_slashings[..],
+        &amounts[..],
+    );
+    let refusal = found.refusal;
+    if refusal != 0 {
+        return ended_by(refusal, finality, queue, 0);
+    }
+    close_step(
+        number,
+        found.rules,
+        running,
+        finality,
+        queue,
+        registry,
+        slashings,
+        roots,
+        closing_registry,
+        closing_slashings,
+        amounts,
+    )
+}
+
+// A later one, by the epoch of the record so far. Where the store has no rules for it the call alone is turned away.
+fn later_step(
+    number: u64,
+    running: Running,
+    store: &[u64],
+    count: u64,
+    finality: Finality,
+    queue: ExitQueue,
+    registry: &[u64],
+    slashings: &[u64],
+    roots: &[u8],
+    closing_registry: &mut [u64],
+    closing_slashings: &mut [u64],
+    amounts: &mut [u64],
+) -> RunningAnswer
+    requires { ⌜ 1 ≤ running .done ⌝ }
+    ensures { λ r. ⌜
+        stepOutcome r (now («closing_registry» .exit)) (now («closing_slashings» .exit)) (now (amounts .exit))
+        ≡ laterStep (storeStepCalled number running (storeCalled (lent (now (store .entry)) count) finality queue (now (registry .entry)) (now (slashings .entry)) (now (roots .entry)) (now («closing_registry» .entry)) (now («closing_slashings» .entry)) (now (amounts .entry)))) ⌝ }
+{
+    let so_far = running.answer;
+    let present = so_far.finality;
+    let found = rules_for(
+        store,
+        count,
+        present.slot,
+        &closing_registry[..],
+        &closing_slashings[..],
+        roots,
+        registry,
+        slashings,
+        &amounts[..],
+    );
+    let refusal = found.refusal;
+    if refusal != 0 {
+        return RunningAnswer {
+            refusal,
+            ended: 0,
+            running,
+        };
+    }
+    close_step(
+        number,
+        found.rules,
+        running,
+        finality,
+        queue,
+        registry,
+        slashings,
+        roots,
+        closing_registry,
+        closing_slashings,
+        amounts,
+    )
+}
+
+// The step that comes next, and no ninth.
+fn in_turn(number: u64, done: u64) -> bool
+    ensures { λ r. ⌜ r ≡ (eqb number (done + 1) && leb number 8) ⌝ }
+{
+    if 7 < done {
+        return false;
+    }
+    number == done + 1
+}
+
+pub fn store_step(
+    number: u64,
+    running: Running,
+    store: &[u64],
+    count: u64,
+    finality: Finality,
+    queue: ExitQueue,
+    registry: &[u64],
+    slashings: &[u64],
+    roots: &[u8],
+    closing_registry: &mut [u64],
+    closing_slashings: &mut [u64],
+    amounts: &mut [u64],
+) -> RunningAnswer
+    ensures { λ r. ⌜
+        stepOutcome r (now («closing_registry» .exit)) (now («closing_slashings» .exit)) (now (amounts .exit))
+        ≡ storeStep (storeStepCalled number running (storeCalled (lent (now (store .entry)) count) finality queue (now (registry .entry)) (now (slashings .entry)) (now (roots .entry)) (now («closing_registry» .entry)) (now («closing_slashings» .entry)) (now (amounts .entry)))) ⌝ }
+{
+    let done = running.done;
+    if done == 9 {
+        return RunningAnswer {
+            refusal: 0,
+            ended: 1,
+            running,
+        };
+    }
+    if !in_turn(number, done) {
+        return RunningAnswer {
+            refusal: 1,
+            ended: 0,
+            running,
+        };
+    }
+    if done == 0 {
+        return first_step(
+            number,
+            running,
+            store,
+            count,
+            finality,
+            queue,
+            registry,
+            slashings,
+            roots,
+            closing_registry,
+            closing_slashings,
+            amounts,
+        );
+    }
+    later_step(
+        number,
+        running,
+        store,
+        count,
+        finality,
+        queue,
+        registry,
+        slashings,
+        roots,
+        closing_registry,
+        closing_slashings,
+        amounts,
+    )
+}
+
+// The rules that the ninth call goes by: 1 of all that is lent, 2 of every entry and of the period, then 13.
+fn ninth_rules(
+    store: &[u64],
+    count: u64,
+    period: u64,
+    slot: u64,
+    taken: u64,
+    registry: &[u64],
+    orders: &[u64],
+    answers: &[u64],
+) -> RulesAnswer
+    ensures { λ r. ⌜ r ≡ rulesAnswerFor (ninthRulesWith (lent (now (store .entry)) count) period slot taken (now (registry .entry)) (now (orders .entry)) (now (answers .entry))) ⌝ }
+{
+    if !store_shaped(store, count) {
+        return turned_away(1);
+    }
+    if !registry_shaped(registry) {
+        return turned_away(1);
+    }
+    if !lists_shaped(taken, orders, answers) {
+        return turned_away(1);
+    }
+    let n = count as usize;
+    if !good_entries(store, n) {
+        return turned_away(2);
+    }
+    if !is_small(period) {
+        return turned_away(2);
+    }
+    rules_at_slot(store, n, slot)
+}
+
+pub fn store_carry_out(
+    store: &[u64],
+    count: u64,
+    shard_committee_period: u64,
+    running: Running,
+    closing_registry: &mut [u64],
+    orders: &[u64],
+    answers: &mut [u64],
+) -> RunningAnswer
+    ensures { λ r. ⌜
+        ninthOutcome r (now («closing_registry» .exit)) (now (answers .exit))
+        ≡ storeCarryOut (storeNinthCalled (lent (now (store .entry)) count) «shard_committee_period» running (now («closing_registry» .entry)) (now (orders .entry)) (now (answers .entry))) ⌝ }
+{
+    let done = running.done;
+    if done == 9 {
+        return RunningAnswer {
+            refusal: 0,
+            ended: 1,
+            running,
+        };
+    }
+    if done != 8 {
+        return RunningAnswer {
+            refusal: 1,
+            ended: 0,
+            running,
+        };
+    }
+    let so_far = running.answer;
+    let finality = so_far.finality;
+    let found = ninth_rules(
+        store,
+        count,
+        shard_committee_period,
+        finality.slot,
+        running.orders,
+        &closing_registry[..],
+        orders,
+        &answers[..],
+    );
+    let refusal = found.refusal;
+    if refusal != 0 {
+        return RunningAnswer {
+            refusal,
+            ended: 0,
+            running,
+        };
+    }
+    carry_out(
+        found.rules,
+        shard_committee_period,
+        running,
+        closing_registry,
+        orders,
+        answers,
+    )
+}
