@@ -99,12 +99,12 @@ nth (suc (suc (suc (suc (suc (suc (suc zero))))))) l = refl
 nth (suc (suc (suc (suc (suc (suc (suc (suc n)))))))) l = absurd (omega arith)
 
 -- the next step that is called is the next in turn
-record Next (n k : ℕ) (rest : List ℕ) : Type 0 where
-  below : n < 8
-  is : k ≡ n + 1
-  then : rest ≡ drop (n + 1) oneToEight
+pub record Next (n k : ℕ) (rest : List ℕ) : Type 0 where
+  pub below : n < 8
+  pub is : k ≡ n + 1
+  pub then : rest ≡ drop (n + 1) oneToEight
 
-next : (n k : ℕ) (rest : List ℕ) → k ∷ rest ≡ drop n oneToEight → Next n k rest
+pub next : (n k : ℕ) (rest : List ℕ) → k ∷ rest ≡ drop n oneToEight → Next n k rest
 next n k rest e =
     let l : n < 8 = omega (arith, ap length e, length-drop n oneToEight) in
     let f = e ∙ drop-cons oneToEight n 0 l in
@@ -114,7 +114,7 @@ begun : (c : FullCall) (d : Desk) → NotBegun c d → d ≡ notBegun c (d .runn
 begun c d h =
     rw (sym (h .done), sym (h .closingRegistry), sym (h .closingSlashings), sym (h .amounts))
 
-step-on : (c : FullCall) (n : ℕ) (d : Desk) (os : List Order) (size : ℕ) → n < 8 → On c n d os size → On c (n + 1) (act c d (stepping (n + 1))) os size
+pub step-on : (c : FullCall) (n : ℕ) (d : Desk) (os : List Order) (size : ℕ) → n < 8 → On c n d os size → On c (n + 1) (act c d (stepping (n + 1))) os size
 step-on c n d os size l (waiting e h none long) =
     subst (λ (j : ℕ). On c (j + 1) (act c d (stepping (j + 1))) os size) (sym e)
     (rw none
@@ -126,10 +126,10 @@ step-on c (suc m) d os size l (onward st count orders u e h) =
 step-on c n d os size l (ended s) = ended (subst (Stopped c) (sym (ended-act c d (stepping (n + 1)) (stopped-done c d s))) s)
 
 -- with the order, where it is taken
-abbrev with : Desk → Order → List Order → List Order
+abbrev pub with : Desk → Order → List Order → List Order
 with d o os = cond (isTaken (takeOrder (orderCall d o))) (os ++ (o ∷ [])) os
 
-order-on : (c : FullCall) (n : ℕ) (d : Desk) (o : Order) (os : List Order) (size : ℕ) → On c n d os size → On c n (act c d (ordering o)) (with d o os) size
+pub order-on : (c : FullCall) (n : ℕ) (d : Desk) (o : Order) (os : List Order) (size : ℕ) → On c n d os size → On c n (act c d (ordering o)) (with d o os) size
 unfolding act
 order-on c n d o os size (waiting e h none long) =
     let w = waiting-order c d o (h .done) in

@@ -1,4 +1,5 @@
--- The statements of demands 2 and 3 for closes with stores.
+-- The statements about closes with stores, whole and by steps: what eight and nine calls leave, demands 2 and 3, and R-14.
+pub mod Steps
 pub mod Demand2
 pub mod Demand3
 pub mod ExitEpochs

@@ -28,14 +28,14 @@ use Rattle.store_theorems.specs.Stages.{Staged, turned, byEntry, Stages}
 use Rattle.store_theorems.proofs.Sequence.{Same, read-same, all-read}
 
 -- Test 1 passed, with `last` the last entry
-record Lent (c : StoreCall) (last : Entry) : Type 0 where
-  store : storeShaped (c .store) ≡ true
-  registry : registryShaped (c .registry) ≡ true
-  closing-registry : sameLength (c .registry) (c .closingRegistry) ≡ true
-  closing-slashings : sameLength (c .slashings) (c .closingSlashings) ≡ true
-  amounts : amountsShaped (c .registry) (c .amounts) ≡ true
-  roots : rootsShaped (last .rules .settings) (c .roots) ≡ true
-  slashings : slashingsShaped (last .rules .settings) (c .slashings) ≡ true
+pub record Lent (c : StoreCall) (last : Entry) : Type 0 where
+  pub store : storeShaped (c .store) ≡ true
+  pub registry : registryShaped (c .registry) ≡ true
+  pub closing-registry : sameLength (c .registry) (c .closingRegistry) ≡ true
+  pub closing-slashings : sameLength (c .slashings) (c .closingSlashings) ≡ true
+  pub amounts : amountsShaped (c .registry) (c .amounts) ≡ true
+  pub roots : rootsShaped (last .rules .settings) (c .roots) ≡ true
+  pub slashings : slashingsShaped (last .rules .settings) (c .slashings) ≡ true
 
 lent : (c : StoreCall) (last : Entry) → lastOf (entries (c .store)) ≡ value last → storeCallShaped c ≡ true → Lent c last
 unfolding storeCallShaped ofLast
@@ -65,14 +65,14 @@ lent c last l h =
 
 -- The rules of an entry
 
-record Entered (c : StoreCall) (rules : Rules) : Type 0 where
-  last : Entry
-  lent-by : Lent c last
-  shaped : rulesShaped rules ≡ true
-  good : goodRules rules ≡ true
-  same : Same (rules .settings) (last .rules .settings)
+pub record Entered (c : StoreCall) (rules : Rules) : Type 0 where
+  pub last : Entry
+  pub lent-by : Lent c last
+  pub shaped : rulesShaped rules ≡ true
+  pub good : goodRules rules ≡ true
+  pub same : Same (rules .settings) (last .rules .settings)
 
-entered : (c : StoreCall) (rules : Rules) → rulesFor c ≡ value rules → Entered c rules
+pub entered : (c : StoreCall) (rules : Rules) → rulesFor c ≡ value rules → Entered c rules
 unfolding rulesFor afterTests rulesAtSlot rulesAt goodEntries
 entered c rules h =
     let es = entries (c .store) in
