@@ -20,7 +20,7 @@ use Rattle.history.proofs.Computing.{computing}
 use Rattle.history.proofs.Premises.{met, least}
 use Rattle.history.proofs.Small.{settingsWith, validator, far, record-of}
 use Rattle.history.proofs.Follow.{follow}
-use Rattle.store_history.specs.Demand3.{storeCloseOf}
+use Rattle.store_history.specs.Demand3.{wholly, closeOf}
 use Rattle.store_history.proofs.Demand3.{store-demand3}
 
 abbrev entry : ℕ → ℕ → ℕ → Entry
@@ -59,7 +59,7 @@ abbrev opening : BeaconState
 opening = record-of 19 7 2 3 2 (validator 0 0 7 7 ∷ validator 1 8 0 0 ∷ validator 0 8 0 0 ∷ validator 0 8 0 0 ∷ validator 1 far 0 0 ∷ [])
 
 unfoldable pub run : List Event
-run = map event (map storeCloseOf ((false, call before start) ∷ (false, call after opening) ∷ []))
+run = map event (map closeOf ((false, wholly (call before start)) ∷ (false, wholly (call after opening)) ∷ []))
 
 unfoldable storing : Unit {0}
 unfolding computing queueOf isQueueOf queueTest fullTests fullyClosed fullClose entriesFrom lastOf keeps follows inSequence storeShaped goodEntries storeTests entryFor rulesAt ofLast additionShaped startTest additionTests withEntry addEntry storeCallShaped rulesAtSlot rulesFor closeBy storeClose
@@ -96,14 +96,14 @@ exactly = record { grown = refl; limits = refl; waiting = tt; three-ahead = refl
 
 pub claimed : Claim 2 start run
 unfolding run
-claimed = store-demand3 2 start ((false, call before start) ∷ (false, call after opening) ∷ []) (premises .0) (premises .1)
+claimed = store-demand3 2 start ((false, wholly (call before start)) ∷ (false, wholly (call after opening)) ∷ []) (premises .0) (premises .1)
 
 -- m above a limit that was used: by an entry with limit 1, number 3, with one ahead, is not activated in floor(1 / 2) + 1 closes
 abbrev slow : Store
 slow = record { numbers = numbersOf (entry 0 0 1); count = 1 }
 
 unfoldable pub run-slow : List Event
-run-slow = map event (map storeCloseOf ((false, call slow start) ∷ []))
+run-slow = map event (map closeOf ((false, wholly (call slow start)) ∷ []))
 
 pub record Slow : Type 0 where
   pub premises-met : Premises start run-slow

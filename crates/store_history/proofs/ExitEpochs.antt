@@ -1,18 +1,26 @@
--- R-14 of runs in which closes go by stores: an accepted one is a full close by the rules of an entry.
+-- R-14 of runs in which closes go by stores: an accepted one, whole or by steps, is a close by the rules of an entry, and so are orders carried out.
+use mathlib.Core.Bool.{Bool, true, false, cond}
 use mathlib.Core.List.{List, [], _∷_, map}
-use mathlib.Core.Path.{refl}
-use lib.Dec.{eqb→eq}
+use mathlib.Core.Path.{_≡_, refl, sym, subst}
+use lib.Dec.{eqb, eqb→eq}
 use Rattle.types.specs.declared.Rules.{Rules}
-use Rattle.definitions.specs.Checked.{Checked, value, refused, numberOf, settle}
+use Rattle.definitions.specs.Checked.{Checked, value, refused, badShape, numberOf, settle}
 use Rattle.definitions_close.specs.FullClose.{fullClose}
+use Rattle.definitions_orders.specs.CloseBySteps.{saysEnded, hasEnded, turnedAway}
+use Rattle.definitions_orders.specs.Orders.{untried, carryOut}
 use Rattle.definitions_store.specs.Store.{noRules}
 use Rattle.definitions_store.specs.StoreClose.{StoreCall, callBy, rulesFor, closeBy, storeClose}
+use Rattle.definitions_store.specs.StoreSteps.{StoreNinthCall, ninthBy, ninthOf, ninthRules, carryBy, storeCarryOut}
 use Rattle.laws.proofs.Checked.{number-not-zero}
-use Rattle.exit_epochs.proofs.Shape.{Shaped}
+use Rattle.stepwise_theorems.specs.Desk as desk
+use Rattle.stepwise_theorems.specs.Desk.{Desk, Act, stepsOf, oneToEight}
+use Rattle.exit_epochs.proofs.Shape.{Shaped, kept}
 use Rattle.exit_epochs.proofs.EveryRun.{EachShaped, claim}
 use Rattle.exit_calls.specs.ExitCalls as calls
 use Rattle.exit_calls.proofs.ExitCalls as shape
-use Rattle.store_history.specs.ExitEpochs.{Called, storing, other, event, Defined, StoreExitCalls}
+use Rattle.store_history.specs.ExitEpochs.{Called, storing, stepping, carrying, other, event, Defined, StoreExitCalls}
+use Rattle.store_history.specs.Steps.{acts, NotBegun}
+use Rattle.store_history.proofs.Steps.{begun, same-acts, turned-acts}
 
 -- by what the store gave
 shaped-by : (c : StoreCall) (m : Checked Rules) → Shaped (calls.closeEvent (callBy c (settle m noRules)) (closeBy c m .closingRegistry) (closeBy c m .refusal))
@@ -20,9 +28,27 @@ unfolding closeBy
 shaped-by c (value rules) = shape.shaped (calls.closing (callBy c rules) (fullClose (callBy c rules))) refl
 shaped-by c (refused r) = λ t. absurd (number-not-zero r (eqb→eq (numberOf r) 0 t))
 
+steps-by : (c : StoreCall) (d : Desk) (list : List Act) → NotBegun c d → stepsOf list ≡ oneToEight → (m : Checked Rules) → rulesFor c ≡ m → Shaped (calls.closeEvent (callBy c (settle m noRules)) (acts c d list .closingRegistry) (acts c d list .running .answer .refusal))
+steps-by c d list h p (value rules) e =
+    subst (λ (x : Desk). Shaped (calls.closeEvent (callBy c rules) (x .closingRegistry) (x .running .answer .refusal))) (sym (same-acts c rules e d h list p))
+    (shape.shaped (calls.stepping (callBy c rules) d list) (begun c rules d h, p))
+steps-by c d list h p (refused r) e =
+    subst (λ (x : Desk). Shaped (calls.closeEvent (callBy c noRules) (x .closingRegistry) (x .running .answer .refusal))) (sym (turned-acts c e d h list p))
+    (λ t. absurd (number-not-zero r (eqb→eq (numberOf r) 0 t)))
+
+-- turned away, the ninth call leaves the register as it was lent
+carries-by : (c : StoreNinthCall) (a b : Bool) (m : Checked Rules) → Shaped (calls.event (calls.carrying (ninthBy c (settle m noRules)) (cond a (untried (saysEnded (c .running)) (ninthOf c)) (cond b (carryBy c m) (untried (turnedAway badShape (c .running)) (ninthOf c))))))
+unfolding carryBy
+carries-by c true b m t = kept refl
+carries-by c false false m t = kept refl
+carries-by c false true (refused r) t = kept refl
+carries-by c false true (value rules) t = shape.shaped (calls.carrying (ninthBy c rules) (carryOut (ninthBy c rules))) refl t
+
 shaped : (c : Called) → Defined c → Shaped (event c)
-unfolding storeClose
+unfolding storeClose storeCarryOut
 shaped (storing c o) e = rw e (shaped-by c (rulesFor c))
+shaped (stepping c d list after) (h, p, e) = rw e (steps-by c d list h p (rulesFor c) refl)
+shaped (carrying c o) e = rw e (carries-by c (hasEnded (c .running)) (eqb (c .running .done) 8) (ninthRules c))
 shaped (other c) e = shape.shaped c e
 
 each : (calls : List ((c : Called) × Defined c)) → EachShaped (map (λ c. event (c .0)) calls)

@@ -120,7 +120,7 @@ read-so c rules e =
     let b = bound (inOrder (storeCallShaped c) (goodEntries es) true) (λ _. rulesAtSlot (c .finality .slot) es) e in
     record { entry = entered c rules e; good = in-order (storeCallShaped c) (goodEntries es) true (ap codeOf (b .gave)) .second; at = b .then }
 
-begun : (c : StoreCall) (rules : Rules) (d : Desk) → NotBegun c d → desk.NotBegun (callBy c rules) d
+pub begun : (c : StoreCall) (rules : Rules) (d : Desk) → NotBegun c d → desk.NotBegun (callBy c rules) d
 begun c rules d h = record { done = h .done; closingRegistry = h .closingRegistry; closingSlashings = h .closingSlashings; amounts = h .amounts }
 
 module _ (c : StoreCall) (rules : Rules) (e : rulesFor c ≡ value rules) where
