@@ -1,4 +1,5 @@
--- R-14 of every run of calls of `altair_close` and `altair_initiate_validator_exit`; `Learnt` is the function's own contract.
+-- R-14 of every run of whole closes, closes by steps, orders carried out and exits of one validator, by the library's own calls; `Learnt` is a
+-- function's own contract.
 use mathlib.Core.Path.{_≡_, sym, subst}
 use mathlib.Core.List.{List, map, map-map}
 use contract.Lifetimes.{Lfts}
@@ -8,9 +9,10 @@ use denote.Ref.{now}
 use Rattle.definitions.specs.Record.{Validator}
 use Rattle.exit_epochs.specs.ExitEpochs.{Premises, Claim}
 use Rattle.exit_calls.specs.ExitCalls.{exiting}
-use Rattle.store_history.specs.ExitEpochs.{Called, storing, other, Defined, event}
+use Rattle.store_history.specs.ExitEpochs.{Called, storing, stepping, carrying, other, Defined, event}
 use Rattle.store_history.proofs.ExitEpochs.{store-exit-calls}
 use Rattle.exports.proofs.Closes as closes
+use Rattle.exports.proofs.StepCalls.{actOf, StepsCame, eighth, all-acts, NinthCame, ninthOf, ninthBack}
 use Rattle.exports.proofs.phase0_helpers.altair_initiate_validator_exit.Kinds as exitKinds
 use Rattle.exports.proofs.phase0_helpers.altair_initiate_validator_exit.Reads as exit
 
@@ -24,11 +26,18 @@ pub record ExitCame : Type 0 where
 
 pub data CameBack : Type 0 where
   ofClose : closes.Came → CameBack
+  -- eight calls of `altair_close_step`, with whatever calls of `altair_take_order` between them
+  ofSteps : StepsCame → CameBack
+  -- `altair_carry_out`
+  ofNinth : NinthCame → CameBack
   ofExit : ExitCame → CameBack
 
 -- the call as the statement sees it, and that it came back as its definition says
 abbrev pub called : CameBack → (c : Called) × Defined c
 called (ofClose c) = (storing (closes.called c) (closes.cameBack c), c .holds)
+called (ofSteps s) =
+    (stepping (s .whole) (s .desk) (map actOf (s .calls)) (eighth s), (s .begins, s .turns, all-acts (s .whole) (s .desk) (s .calls) (s .chain)))
+called (ofNinth n) = (carrying (ninthOf n) (ninthBack n), n .holds)
 called (ofExit c) =
     let a = c .lent in
     (other (exiting (a .0) (a .1 .0) (a .1 .1 .0) (a .1 .1 .1 .0) (now (a .1 .1 .1 .1 .0)) (c .answer) (now (c .end .1 .1 .1 .1 .0))), c .holds)
