@@ -117,29 +117,32 @@ uint64_t altair_checked_write_file(altair_settings settings, altair_finality fin
                              slashings_length, file, file_length);
 }
 
-altair_running_answer altair_checked_close_step(uint64_t number, altair_running running, altair_rules rules,
-                                                altair_finality finality, altair_queue queue, const uint64_t *registry,
-                                                size_t registry_length, const uint64_t *slashings,
-                                                size_t slashings_length, const uint8_t *roots, size_t roots_length,
-                                                uint64_t *closing_registry, size_t closing_registry_length,
-                                                uint64_t *closing_slashings, size_t closing_slashings_length,
-                                                uint64_t *amounts, size_t amounts_length) {
-    if (!APART(READ(registry), READ(slashings), READ(roots), WRITTEN(closing_registry), WRITTEN(closing_slashings),
-               WRITTEN(amounts)))
+altair_running_answer altair_checked_close_step(uint64_t number, altair_running running, const uint64_t *store,
+                                                size_t store_length, uint64_t count, altair_finality finality,
+                                                altair_queue queue, const uint64_t *registry, size_t registry_length,
+                                                const uint64_t *slashings, size_t slashings_length,
+                                                const uint8_t *roots, size_t roots_length, uint64_t *closing_registry,
+                                                size_t closing_registry_length, uint64_t *closing_slashings,
+                                                size_t closing_slashings_length, uint64_t *amounts,
+                                                size_t amounts_length) {
+    if (!APART(READ(store), READ(registry), READ(slashings), READ(roots), WRITTEN(closing_registry),
+               WRITTEN(closing_slashings), WRITTEN(amounts)))
         return (altair_running_answer){ALTAIR_BAD_SHAPE, 0, running};
-    return altair_close_step(number, running, rules, finality, queue, registry, registry_length, slashings,
-                             slashings_length, roots, roots_length, closing_registry, closing_registry_length,
-                             closing_slashings, closing_slashings_length, amounts, amounts_length);
+    return altair_close_step(number, running, store, store_length, count, finality, queue, registry, registry_length,
+                             slashings, slashings_length, roots, roots_length, closing_registry,
+                             closing_registry_length, closing_slashings, closing_slashings_length, amounts,
+                             amounts_length);
 }
 
-altair_running_answer altair_checked_carry_out(altair_rules rules, uint64_t shard_committee_period,
-                                               altair_running running, uint64_t *closing_registry,
-                                               size_t closing_registry_length, const uint64_t *orders,
-                                               size_t orders_length, uint64_t *answers, size_t answers_length) {
-    if (!APART(WRITTEN(closing_registry), READ(orders), WRITTEN(answers)))
+altair_running_answer altair_checked_carry_out(const uint64_t *store, size_t store_length, uint64_t count,
+                                               uint64_t shard_committee_period, altair_running running,
+                                               uint64_t *closing_registry, size_t closing_registry_length,
+                                               const uint64_t *orders, size_t orders_length, uint64_t *answers,
+                                               size_t answers_length) {
+    if (!APART(READ(store), WRITTEN(closing_registry), READ(orders), WRITTEN(answers)))
         return (altair_running_answer){ALTAIR_BAD_SHAPE, 0, running};
-    return altair_carry_out(rules, shard_committee_period, running, closing_registry, closing_registry_length, orders,
-                            orders_length, answers, answers_length);
+    return altair_carry_out(store, store_length, count, shard_committee_period, running, closing_registry,
+                            closing_registry_length, orders, orders_length, answers, answers_length);
 }
 
 uint64_t altair_checked_close_shelf(const uint8_t *files, size_t files_length, const uint64_t *lengths,

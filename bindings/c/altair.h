@@ -168,8 +168,8 @@ typedef struct altair_rules {
 } altair_rules;
 
 /* Settings by starting epoch. A store is an array of entries of 23 numbers, lent with the count of those in use: starting epoch, fork,
- * the nineteen settings and the pair. A read or a close goes by the last entry whose start is not above its epoch. Entries beyond the
- * count are not looked at. altair_put_entry writes one, altair_add_rules adds one behind those in use. */
+ * the nineteen settings and the pair. A read or a close, whole or by steps, goes by the last entry whose start is not above its epoch.
+ * Entries beyond the count are not looked at. altair_put_entry writes one, altair_add_rules adds one behind those in use. */
 enum altair_entry {
     ALTAIR_ENTRY_START = 0,
     ALTAIR_ENTRY_FORK = 1,
@@ -456,17 +456,19 @@ uint64_t altair_close_shelf(const uint8_t *files, size_t files_length, const uin
 /* -- A close by steps, and exit orders meanwhile ----------------------------------------------------------------------- */
 
 /* Between the calls of one close nobody else changes what it was lent or handed back. Eight calls of altair_close_step, 1 to 8 in their
- * order, leave what altair_close leaves, amounts too, whatever orders come between them. */
+ * order, leave what altair_close leaves, amounts too, whatever orders come between them. Every call is lent the store, and reads it for
+ * the epoch of the record that it finds: the opening at the first, and then the record so far. */
 
 /* Runs step `number`: answers 0, or 1 for a call out of turn. The first call makes every test of the whole close and, refused, ends it. In
- * a later one 1, 2, 3 and 8 turn away that call alone, which may be made again; it tests the record so far, and not the opening's
+ * a later one 1, 2, 13, 3 and 8 turn away that call alone, which may be made again; it tests the record so far, and not the opening's
  * contents again. 4 and 5 end the close.
  * Closing buffers hold the record so far, and amounts what was booked so far; they are lent again at the next call. After 4 and 5 closing
  * buffers hold the opening's numbers, and amounts zeros; after another refusal all is as before. */
-altair_running_answer altair_close_step(uint64_t number, altair_running running, altair_rules rules,
-                                        altair_finality finality, altair_queue queue, const uint64_t *registry,
-                                        size_t registry_length, const uint64_t *slashings, size_t slashings_length,
-                                        const uint8_t *roots, size_t roots_length, uint64_t *closing_registry,
+altair_running_answer altair_close_step(uint64_t number, altair_running running, const uint64_t *store,
+                                        size_t store_length, uint64_t count, altair_finality finality,
+                                        altair_queue queue, const uint64_t *registry, size_t registry_length,
+                                        const uint64_t *slashings, size_t slashings_length, const uint8_t *roots,
+                                        size_t roots_length, uint64_t *closing_registry,
                                         size_t closing_registry_length, uint64_t *closing_slashings,
                                         size_t closing_slashings_length, uint64_t *amounts, size_t amounts_length);
 
@@ -478,10 +480,11 @@ altair_running_answer altair_take_order(altair_running running, uint64_t validat
 
 /* The ninth call, after the eight: tries the orders in order of arrival, each on the record as it then stands, as phase0's voluntary exits
  * without the signature, and ends the close. answers has a number an order that there is room for. Answers 0, or 1, 2 (also for a
- * shard_committee_period of 2^48 or more; mainnet's is 256), 3 or 8, and the call may be made again.
+ * shard_committee_period of 2^48 or more; mainnet's is 256), 13, 3 or 8, and the call may be made again.
  * closing_registry holds the record with the exits, answers 0, 9, 10 or 5 for each order that was tried and else what it held; after a
  * refusal all is as before. */
-altair_running_answer altair_carry_out(altair_rules rules, uint64_t shard_committee_period, altair_running running,
+altair_running_answer altair_carry_out(const uint64_t *store, size_t store_length, uint64_t count,
+                                       uint64_t shard_committee_period, altair_running running,
                                        uint64_t *closing_registry, size_t closing_registry_length,
                                        const uint64_t *orders, size_t orders_length, uint64_t *answers,
                                        size_t answers_length);
@@ -769,18 +772,20 @@ uint64_t altair_checked_write_file(altair_settings settings, altair_finality fin
                                    size_t roots_length, const uint64_t *slashings, size_t slashings_length, uint8_t *file,
                                    size_t file_length);
 
-altair_running_answer altair_checked_close_step(uint64_t number, altair_running running, altair_rules rules,
-                                                altair_finality finality, altair_queue queue, const uint64_t *registry,
-                                                size_t registry_length, const uint64_t *slashings,
-                                                size_t slashings_length, const uint8_t *roots, size_t roots_length,
-                                                uint64_t *closing_registry, size_t closing_registry_length,
-                                                uint64_t *closing_slashings, size_t closing_slashings_length,
-                                                uint64_t *amounts, size_t amounts_length);
+altair_running_answer altair_checked_close_step(uint64_t number, altair_running running, const uint64_t *store,
+                                                size_t store_length, uint64_t count, altair_finality finality,
+                                                altair_queue queue, const uint64_t *registry, size_t registry_length,
+                                                const uint64_t *slashings, size_t slashings_length,
+                                                const uint8_t *roots, size_t roots_length, uint64_t *closing_registry,
+                                                size_t closing_registry_length, uint64_t *closing_slashings,
+                                                size_t closing_slashings_length, uint64_t *amounts,
+                                                size_t amounts_length);
 
-altair_running_answer altair_checked_carry_out(altair_rules rules, uint64_t shard_committee_period,
-                                               altair_running running, uint64_t *closing_registry,
-                                               size_t closing_registry_length, const uint64_t *orders,
-                                               size_t orders_length, uint64_t *answers, size_t answers_length);
+altair_running_answer altair_checked_carry_out(const uint64_t *store, size_t store_length, uint64_t count,
+                                               uint64_t shard_committee_period, altair_running running,
+                                               uint64_t *closing_registry, size_t closing_registry_length,
+                                               const uint64_t *orders, size_t orders_length, uint64_t *answers,
+                                               size_t answers_length);
 
 uint64_t altair_checked_close_shelf(const uint8_t *files, size_t files_length, const uint64_t *lengths,
                                     size_t lengths_length, uint8_t *closing, size_t closing_length,

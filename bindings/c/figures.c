@@ -452,23 +452,33 @@ static void the_file(void) {
     SAME(header.refusal, 6), SAME(header.validators, 0);
 }
 
-/* a close by steps, an order taken meanwhile, and what comes of it */
+/* a close by steps, an order taken meanwhile, and what comes of it; and calls without an entry for the epoch */
 static void by_steps(void) {
     static uint8_t roots[32 * 8192];
     static uint64_t slashings[8192], closing_slashings[8192];
     uint64_t registry[FIVE], closing[FIVE], whole[FIVE], amounts[45], whole_amounts[45], orders[4], answers[] = {77, 77};
-    uint64_t store[ALTAIR_ENTRY_LENGTH];
+    uint64_t store[2 * ALTAIR_ENTRY_LENGTH], *later = store + ALTAIR_ENTRY_LENGTH; /* epoch 3 goes by the first of two entries */
     const altair_queue none = {0, 0};
     const altair_finality f = finality_at(127);
     fill(registry, 5);
-    altair_put_entry(store, 0, altair);
+    altair_put_entry(store, 3, altair);
+    altair_put_entry(later, 4, bellatrix);
     const altair_full_answer all =
-        altair_close(store, ALTAIR_ENTRY_LENGTH, 1, f, none, registry, FIVE, slashings, 8192, roots, sizeof roots, whole, FIVE,
-                     closing_slashings, 8192, whole_amounts, 45);
-    altair_running_answer at = {.running = {0}};
-#define STEP_NUMBER(k)                                                                                                 \
-    altair_close_step(k, at.running, altair, f, none, registry, FIVE, slashings, 8192, roots, sizeof roots, closing, FIVE, \
-                      closing_slashings, 8192, amounts, 45)
+        altair_close(store, 2 * ALTAIR_ENTRY_LENGTH, 2, f, none, registry, FIVE, slashings, 8192, roots, sizeof roots,
+                     whole, FIVE, closing_slashings, 8192, whole_amounts, 45);
+    altair_running_answer at = {.running = {0}}, no;
+#define STEP_BY(by, entries, k)                                                                                        \
+    altair_close_step(k, at.running, by, ALTAIR_ENTRY_LENGTH * (entries), entries, f, none, registry, FIVE, slashings, \
+                      8192, roots, sizeof roots, closing, FIVE, closing_slashings, 8192, amounts, 45)
+#define STEP_NUMBER(k) STEP_BY(store, 2, k)
+#define NINTH_BY(by, entries, period)                                                                                  \
+    altair_carry_out(by, ALTAIR_ENTRY_LENGTH * (entries), entries, period, at.running, closing, FIVE, orders, 4,       \
+                     answers, 2)
+    /* the first call ends the close as the whole close is refused, and writes nothing */
+    closing[0] = amounts[0] = 99;
+    no = STEP_BY(later, 1, 1);
+    SAME(no.refusal, 13), SAME(no.ended, 0), SAME(no.running.done, 9), SAME(no.running.answer.refusal, 13);
+    SAME(no.running.answer.finality.slot, 127), SAME(closing[0], 99), SAME(amounts[0], 99);
     SAME(STEP_NUMBER(2).refusal, 1), SAME(altair_take_order(at.running, 1, 0, orders, 4).refusal, 1);
     for (uint64_t k = 1; k <= 8; k++) {
         at = STEP_NUMBER(k);
@@ -476,16 +486,20 @@ static void by_steps(void) {
         SAME(STEP_NUMBER(k).refusal, 1);
         if (k == 3 || k == 8)
             at = altair_take_order(at.running, k == 3 ? 1 : 9, 0, orders, 4);
+        /* a later call is turned away alone */
+        no = k == 8 ? NINTH_BY(later, 1, 3) : STEP_BY(later, 1, k + 1);
+        SAME(no.refusal, 13), SAME(no.ended, 0), SAME(memcmp(&no.running, &at.running, sizeof no.running), 0);
+        SAME((k == 8 ? NINTH_BY(store, 0, 3) : STEP_BY(store, 0, k + 1)).refusal, 13);
     }
     SAME(altair_take_order(at.running, 2, 0, orders, 4).refusal, 11), SAME(altair_take_order(at.running, 2, 0, orders, 3).refusal, 1);
     SAME(memcmp(&at.running.answer, &all, sizeof all), 0), SAME(memcmp(closing, whole, sizeof whole), 0);
     SAME(memcmp(amounts, whole_amounts, sizeof amounts), 0);
-    SAME(altair_carry_out(altair, UINT64_C(1) << 48, at.running, closing, FIVE, orders, 4, answers, 2).refusal, 2);
-    at = altair_carry_out(altair, 3, at.running, closing, FIVE, orders, 4, answers, 2);
+    SAME(NINTH_BY(store, 2, UINT64_C(1) << 48).refusal, 2), SAME(NINTH_BY(later, 1, UINT64_C(1) << 48).refusal, 2);
+    at = NINTH_BY(store, 2, 3);
     SAME(at.refusal, 0), SAME(at.running.done, 9), SAME(at.running.orders, 0), SAME(answers[0], 0), SAME(answers[1], 9);
     SAME(closing[ENTRY + ALTAIR_EXIT_EPOCH], 8), SAME(at.running.answer.queue.last_epoch, 8), SAME(at.running.answer.queue.number, 1);
     SAME(STEP_NUMBER(1).ended, 1), SAME(altair_take_order(at.running, 2, 0, orders, 4).ended, 1);
-    SAME(altair_carry_out(altair, 3, at.running, closing, FIVE, orders, 4, answers, 2).ended, 1);
+    SAME(NINTH_BY(store, 2, 3).ended, 1), SAME(NINTH_BY(store, 0, 3).ended, 1);
 }
 
 /* a good file, one of version 1 and a damaged one, closed in one call; each leaves its own part alone */

@@ -13,7 +13,7 @@ import re
 import sys
 from collections import defaultdict
 
-from altair_close import Desk, REFUSALS, Record, Refused, Rules
+from altair_close import Desk, REFUSALS, Record, Refused
 
 STEPS = ("justification", "inactivity", "rewards", "registry", "slashings", "effective balances", "slashings reset", "participation flags")
 
@@ -39,7 +39,7 @@ def asked(words):
 
 
 def run(record, period, orders):
-    desk = Desk(record, Rules(record.settings), room=sum(map(len, orders.values())))
+    desk = Desk(record, record.settings, room=sum(map(len, orders.values())))
     taken = []
     for number, name in enumerate(STEPS, 1):
         desk.step()

@@ -1,12 +1,15 @@
 /* The table of the functions, one line for each. A new function is one line more.
  *
- * Buffers: T a store, of which c->count entries are in use, R a registry, V one validator, S slashings, B roots, F a file, P a registry of which only the length is
- * tested, M marks, Q the first buffer's numbers with other balances. H files one behind another and L their
- * lengths, O a list of orders. Behind '>' those that are written: R, S, F, A amounts, C the closed files, W a working list, N an answer for each; r, v, u,
- * s, a, o, m a registry, a validator, a store, slashings, amounts, orders and their answers changed in place. Numbers that are tested: s the settings, k fork and pair, f the finality, q the exit
- * queue's pair, t the slot, z the finalized
- * epoch, i an index, o a stop, which is c->index, g a flag index of 0 to 2, G one of 0 to 7, e a participation epoch,
- * j a step's number, which is c->number, in the turn of c->running, y the same of the ninth call, with its period in c->number, n a new start, which is c->epoch, x the epoch of a read, which is c->epoch too, p that an order can be taken, d a total to divide by, c the clock, w a second, which is c->number. */
+ * Buffers: T a store, of which c->count entries are in use, R a registry, V one validator, S slashings, B roots, F a file, P a registry
+ * of which only the length is tested, M marks, Q the first buffer's numbers with other balances, H files one behind another and L their
+ * lengths, O a list of orders. Behind '>' those that are written: R, S, F, A amounts, C the closed files, W a working list, N an answer
+ * for each; r, v, u, s, a, o, m a registry, a validator, a store, slashings, amounts, orders and their answers changed in place.
+ *
+ * Numbers that are tested: s the settings, k fork and pair, f the finality, q the exit queue's pair, t the slot, z the finalized epoch,
+ * i an index, o a stop, which is c->index, g a flag index of 0 to 2, G one of 0 to 7, e a participation epoch, n a new start, which is
+ * c->epoch, x the epoch of a read, which is c->epoch too, p that an order can be taken, d a total to divide by, c the clock, w a second,
+ * which is c->number, j a step's number, which is c->number, in the turn of c->running, y the same of the ninth call, with its period in
+ * c->number. After the first call of a close by steps f and q are those of c->running. */
 #include "fuzz.h"
 
 #include <string.h>
@@ -28,11 +31,11 @@
     X(read_header, VALUES, altair_header, "F", "", "", IN(0))                                                          \
     X(read_file, READ, altair_read_answer, "F>RS", "", "", IN(0), OUT(0), OUT(1))                                      \
     X(write_file, NUMBER, uint64_t, "RBS>F", "sfq", "", c->s, c->f, c->queue, IN(0), IN(1), IN(2), OUT(0))              \
-    X(close_step, RUNNING, altair_running_answer, "RSB>rsa", "skfqj", "45", c->number, c->running, c->rules, c->f,       \
-      c->queue, IN(0), IN(1), IN(2), OUT(0), OUT(1), OUT(2))                                                           \
+    X(close_step, RUNNING, altair_running_answer, "TRSB>rsa", "fqj", "45", c->number, c->running, IN(0), c->count, c->f, \
+      c->queue, IN(1), IN(2), IN(3), OUT(0), OUT(1), OUT(2))                                                           \
     X(take_order, RUNNING, altair_running_answer, ">o", "p", "", c->running, c->number, c->epoch, OUT(0))               \
-    X(carry_out, RUNNING, altair_running_answer, "O>rm", "skfqy", "", c->rules, c->number, c->running, OUT(0), IN(0),   \
-      OUT(1))                                                                                                          \
+    X(carry_out, RUNNING, altair_running_answer, "TO>rm", "fqy", "", IN(0), c->count, c->number, c->running, OUT(0),    \
+      IN(1), OUT(1))                                                                                                   \
     X(close_shelf, NUMBER, uint64_t, "HL>CWWN", "", "", IN(0), IN(1), OUT(0), OUT(1), OUT(2), OUT(3), c->rules.fork,     \
       c->rules.bellatrix)                                                                                              \
     X(process_justification_and_finalization, FINALITY, altair_justification_answer, "BR", "sf", "45", c->s, IN(0), c->f,      \
@@ -93,10 +96,10 @@
       IN(3), OUT(0), OUT(1), OUT(2))                                                                                   \
     X(checked_read_file, READ, altair_read_answer, "F>RS", "", "", IN(0), OUT(0), OUT(1))                              \
     X(checked_write_file, NUMBER, uint64_t, "RBS>F", "sfq", "", c->s, c->f, c->queue, IN(0), IN(1), IN(2), OUT(0))      \
-    X(checked_close_step, RUNNING, altair_running_answer, "RSB>rsa", "skfqj", "45", c->number, c->running, c->rules,    \
-      c->f, c->queue, IN(0), IN(1), IN(2), OUT(0), OUT(1), OUT(2))                                                     \
-    X(checked_carry_out, RUNNING, altair_running_answer, "O>rm", "skfqy", "", c->rules, c->number, c->running, OUT(0),  \
-      IN(0), OUT(1))                                                                                                   \
+    X(checked_close_step, RUNNING, altair_running_answer, "TRSB>rsa", "fqj", "45", c->number, c->running, IN(0),        \
+      c->count, c->f, c->queue, IN(1), IN(2), IN(3), OUT(0), OUT(1), OUT(2))                                           \
+    X(checked_carry_out, RUNNING, altair_running_answer, "TO>rm", "fqy", "", IN(0), c->count, c->number, c->running,    \
+      OUT(0), IN(1), OUT(1))                                                                                           \
     X(checked_close_shelf, NUMBER, uint64_t, "HL>CWWN", "", "", IN(0), IN(1), OUT(0), OUT(1), OUT(2), OUT(3),           \
       c->rules.fork, c->rules.bellatrix)                                                                               \
     X(checked_process_inactivity_updates, NUMBER, uint64_t, "R>R", "stz", "5", c->s, c->slot, c->finalized, IN(0),     \

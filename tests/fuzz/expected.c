@@ -166,7 +166,10 @@ static bool tests(const row *row, char letter) { return strchr(row->tests, lette
 /* a store without entries: what a setting calls for is not asked */
 static bool by_no_entry(const lent *c) { return c->by_store && c->count == 0; }
 
-static bool shaped(char letter, buffer b, const lent *c, size_t validators) {
+/* the buffer of a letter among those that are read */
+static buffer read_as(char letter, const row *row, const lent *c) { return c->in[strchr(row->lends, letter) - row->lends]; }
+
+static bool shaped(char letter, buffer b, const row *row, const lent *c, size_t validators) {
     switch (letter) {
     case 'R':
     case 'r':
@@ -183,14 +186,14 @@ static bool shaped(char letter, buffer b, const lent *c, size_t validators) {
     case 'u':
         return shaped_store(b, c->count);
     case 's': /* the record so far is as long as the opening */
-        return b.length == c->in[1].length && b.length == c->s.epochs_per_slashings_vector;
+        return b.length == read_as('S', row, c).length;
     case 'a':
         return b.length == ALTAIR_AMOUNTS_LENGTH * validators;
     case 'O':
     case 'o':
         return b.length % 2 == 0 && c->running.orders <= b.length / 2;
     case 'm':
-        return b.length == c->in[0].length / 2;
+        return b.length == read_as('O', row, c).length / 2;
     case 'F':
         return b.length ==
                ALTAIR_FILE_LENGTH(validators, c->s.slots_per_historical_root, c->s.epochs_per_slashings_vector);
@@ -233,19 +236,23 @@ uint64_t expected(const row *row, const lent *c) {
         (tests(row, 'p') && (c->running.done < 1 || c->running.done > 8)))
         return 1;
     if (tests(row, 'p'))
-        return !shaped('o', c->out[0], c, 0) ? 1 : c->running.orders == c->out[0].length / 2 ? 11 : 0;
+        return !shaped('o', c->out[0], row, c, 0) ? 1 : c->running.orders == c->out[0].length / 2 ? 11 : 0;
     if (tests(row, 'c') && c->clock.seconds_per_slot == 0)
         return 15;
     if (row->lends[0] == 'F')
         return row->kind == READ ? file_tests(c, &position) : good_header(c->in[0]) ? 0 : 6;
     const char *read = row->lends, *written = written_letters(row);
     const size_t reads = strcspn(read, ">"), writes = strlen(written);
+    /* what a close by steps finds: the opening at its first call, and then the record so far */
+    const bool opening = tests(row, 'j') && c->running.done == 0, so_far = row->kind == RUNNING && !opening;
+    const altair_finality f = so_far ? c->running.answer.finality : c->f;
+    const altair_queue queue = so_far ? c->running.answer.queue : c->queue;
     buffer registry = {NULL, 0, 8}; /* the registry whose validators are counted, and tested */
     bool good = true, whole = true;
     for (size_t i = 0; i < reads; i++)
         if (strchr("RVP", read[i]) != NULL)
             registry = c->in[i], whole = whole && read[i] != 'P';
-    if (writes > 0 && (written[0] == 'r' || written[0] == 'v'))
+    if (writes > 0 && (written[0] == 'r' || written[0] == 'v') && !opening)
         registry = c->out[0];
     const size_t validators = registry.length / 10;
     if (writes > 0 && written[0] == 'u')
@@ -254,14 +261,14 @@ uint64_t expected(const row *row, const lent *c) {
     if (tests(row, 's'))
         good = is_vector(c->s.slots_per_historical_root) && is_vector(c->s.epochs_per_slashings_vector);
     for (size_t i = 0; i < reads; i++)
-        good = good && shaped(read[i], c->in[i], c, validators);
+        good = good && shaped(read[i], c->in[i], row, c, validators);
     for (size_t i = 0; i < writes; i++)
         if (written[i] == 'R' || (written[i] == 'S' && memchr(read, 'S', reads) != NULL))
             good = good && c->out[i].length == c->in[(const char *)memchr(read, written[i], reads) - read].length;
         else
-            good = good && shaped(written[i], c->out[i], c, validators);
+            good = good && shaped(written[i], c->out[i], row, c, validators);
     if (tests(row, 'j'))
-        good = good && c->out[0].length == c->in[0].length;
+        good = good && c->out[0].length == read_as('R', row, c).length;
     if (!good || (tests(row, 'i') && c->index >= validators) || (tests(row, 'o') && c->index > validators) ||
         (tests(row, 'g') && c->flag_index > 2) || (tests(row, 'G') && c->flag_index > 7) ||
         (tests(row, 'd') && c->totals[0] == 0) || (tests(row, 'e') && !participation_epoch(c)) ||
@@ -284,17 +291,17 @@ uint64_t expected(const row *row, const lent *c) {
     if (read[0] == 'T' && !has_entry(c->in[0], c->count,
                                      tests(row, 'x') ? c->epoch
                                      : c->count == 0 ? 0
-                                                     : c->f.slot / settings_of(c->in[0].at).slots_per_epoch))
+                                                     : f.slot / settings_of(c->in[0].at).slots_per_epoch))
         return 13;
     if (tests(row, 'c') && (c->clock.slots_per_epoch == 0 || !is_small(c->clock.slots_per_epoch)))
         return 2;
     if (tests(row, 'w') && c->number < c->clock.genesis_time)
         return 14;
     if ((tests(row, 't') && !is_small(c->slot)) || (tests(row, 'z') && !is_small(c->finalized)) ||
-        (tests(row, 'f') && !good_finality(&c->f)) || (whole && first_bad(registry.at, validators) != 10 * validators))
+        (tests(row, 'f') && !good_finality(&f)) || (whole && first_bad(registry.at, validators) != 10 * validators))
         return 3;
     for (size_t i = 0; i < reads; i++)
         if (read[i] == 'M' && !good_marks(c->in[i]))
             return 3;
-    return tests(row, 'q') && !is_queue_of(c->queue, registry.at, validators) ? 8 : 0;
+    return tests(row, 'q') && !is_queue_of(queue, registry.at, validators) ? 8 : 0;
 }

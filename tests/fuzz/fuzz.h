@@ -64,7 +64,7 @@ typedef struct lent {
     altair_rules rules; /* with these settings */
     altair_finality f;
     altair_queue queue;
-    altair_running running; /* with this finality and pair */
+    altair_running running; /* with this finality and pair, or nearly so */
     altair_clock clock;
     uint64_t slot, finalized, epoch, number, flag_index, index, count, totals[3];
     uint8_t flags;

@@ -3,6 +3,7 @@
  * else, and that what stood in a buffer or an answer before does not show. */
 #include "fuzz.h"
 
+#include <ctype.h>
 #include <inttypes.h>
 #include <string.h>
 
@@ -83,11 +84,15 @@ static size_t longest_file(void) {
     return longest;
 }
 
-/* A close about as far as its step's number says, with the record's finality and pair, and orders in a list. */
+/* A close about as far as its step's number says, with the record's finality and pair or nearly so, and orders in a list. */
 static void random_running(const record *r, lent *c) {
     memset(&c->running, 0, sizeof c->running);
     c->running.done = one_in(12) ? odd_number() : below(10);
     c->running.answer.finality = r->f;
+    if (one_in(6)) /* another epoch, by which the store is read */
+        c->running.answer.finality.slot += below(65) - 32;
+    if (one_in(24))
+        c->running.answer.finality.justification_bits = odd_number();
     c->running.answer.queue = r->queue;
     c->running.answer.raised.active = below(2);
     c->running.answer.test = below(5);
@@ -123,6 +128,18 @@ static buffer random_orders(const record *r, int slot) {
     for (size_t i = 0; i < 4; i++)
         orders[2 * i] = below(r->validators + 2), orders[2 * i + 1] = one_in(3) ? odd_number() : below(9);
     return with(slot, orders, 2 * (2 + below(3)), 8);
+}
+
+/* The registry of a record so far: the record's own, now and then with another validator, and the pair counted again where it was right. */
+static buffer registry_so_far(const record *r, lent *c, int slot) {
+    static uint64_t registry[10 * 400];
+    const altair_queue right = count_queue(r->registry, r->validators);
+    memcpy(registry, r->registry, 80 * r->validators);
+    if (r->validators > 0 && one_in(3))
+        random_validator(&r->s, 3, registry + 10 * below(r->validators));
+    if (memcmp(&r->queue, &right, sizeof right) == 0)
+        c->running.answer.queue = count_queue(registry, r->validators);
+    return with(slot, registry, 10 * r->validators, 8);
 }
 
 static buffer read_buffer(char letter, const record *r, lent *c, int slot) {
@@ -164,31 +181,47 @@ static buffer read_buffer(char letter, const record *r, lent *c, int slot) {
     fail("no buffer has the letter %c", letter);
 }
 
-/* what is written holds poison before, but for a buffer that is changed in place */
-static const uint64_t no_amounts[ALTAIR_AMOUNTS_LENGTH * 400];
+/* Whether what stands in a written buffer is read: it is changed in place. The first call of a close by steps does not read the record so
+ * far. Other buffers hold poison before. */
+static bool in_place(const row *row, const lent *c, char letter) {
+    const bool begins = strchr(row->tests, 'j') != NULL && c->running.done == 0;
+    return strchr("rvusaom", letter) != NULL && !begins;
+}
+
+/* numbers that are any, as those that stand where amounts or answers are about to be put */
+static uint64_t *any_numbers(size_t count) {
+    static uint64_t numbers[ALTAIR_AMOUNTS_LENGTH * 400];
+    for (size_t i = 0; i < count; i++)
+        numbers[i] = below(100);
+    return numbers;
+}
 
 static buffer written_buffer(char letter, const row *row, const record *r, lent *c, int slot) {
     uint64_t validator[10];
+    buffer so_far;
     const char *opening = memchr(row->lends, letter, strcspn(row->lends, ">"));
     size_t length = opening != NULL ? c->in[opening - row->lends].length
                     : letter == 'R' ? 10 * r->validators
                                     : r->slashings_length;
     switch (letter) {
     case 'r':
-        return with(slot, r->registry, 10 * r->validators, 8);
+        return row->kind == RUNNING ? registry_so_far(r, c, slot) : with(slot, r->registry, 10 * r->validators, 8);
     case 'v':
         random_validator(&r->s, 3, validator);
         return with(slot, validator, 10, 8);
     case 'u':
         return random_store(r, c, slot);
     case 's':
-        return with(slot, r->slashings, r->slashings_length, 8);
+        so_far = with(slot, r->slashings, r->slashings_length, 8);
+        if (so_far.length > 0)
+            ((uint64_t *)so_far.at)[below(so_far.length)] = below(100) * 1000000000;
+        return so_far;
     case 'a':
-        return with(slot, no_amounts, ALTAIR_AMOUNTS_LENGTH * r->validators, 8);
+        return with(slot, any_numbers(ALTAIR_AMOUNTS_LENGTH * r->validators), ALTAIR_AMOUNTS_LENGTH * r->validators, 8);
     case 'o':
         return random_orders(r, slot);
     case 'm':
-        return with(slot, no_amounts, c->in[0].length / 2, 8);
+        return with(slot, any_numbers(c->in[1].length / 2), c->in[1].length / 2, 8);
     case 'F':
         return lend(slot, odd_length(file_length(r, 2)), 1);
     case 'C':
@@ -308,11 +341,12 @@ static void refused_answer(const row *row, const lent *c, const uint8_t *answer)
 static void refused_buffers(const row *row, const lent *c, uint64_t number) {
     const char *written = written_letters(row);
     for (size_t k = 0; k < strlen(written); k++) {
-        if (written[k] == 'A' && (number == 4 || number == 5)) {
+        const char letter = (char)toupper(written[k]);
+        if (letter == 'A' && (number == 4 || number == 5)) {
             MUST(zeros(c->out[k].at, bytes_of(c->out[k])));
             continue;
         }
-        const char *opening = memchr(row->lends, written[k], strcspn(row->lends, ">"));
+        const char *opening = memchr(row->lends, letter, strcspn(row->lends, ">"));
         const void *held =
             opening != NULL && (number == 4 || number == 5) ? c->in[opening - row->lends].at : saved[WRITTEN + k];
         MUST(bytes_of(c->out[k]) == 0 || memcmp(c->out[k].at, held, bytes_of(c->out[k])) == 0);
@@ -396,7 +430,7 @@ void try_row(size_t place, const record *r) {
     }
     for (size_t k = 0; k < writes; k++) {
         c.out[k] = written_buffer(written[k], row, r, &c, WRITTEN + (int)k);
-        if (bytes_of(c.out[k]) > 0 && strchr("rvusaom", written[k]) == NULL)
+        if (bytes_of(c.out[k]) > 0 && !in_place(row, &c, written[k]))
             memset(c.out[k].at, 0xa5, bytes_of(c.out[k]));
         save(WRITTEN + (int)k, c.out[k]);
     }
@@ -426,7 +460,7 @@ void try_row(size_t place, const record *r) {
         if (bytes_of(c.out[k]) > 0)
             memcpy(left[k], c.out[k].at, bytes_of(c.out[k]));
         c.out[k] = lend(WRITTEN + (int)k, c.out[k].length, c.out[k].size);
-        if (bytes_of(c.out[k]) > 0 && strchr("rvusaom", written[k]) != NULL)
+        if (bytes_of(c.out[k]) > 0 && in_place(row, &c, written[k]))
             memcpy(c.out[k].at, saved[WRITTEN + k], bytes_of(c.out[k]));
         else if (bytes_of(c.out[k]) > 0)
             memset(c.out[k].at, 0x5a, bytes_of(c.out[k]));

@@ -198,12 +198,12 @@ SIGNATURES = {
                              opening_numbers=Numbers(written=working), closing_numbers=Numbers(written=working),
                              answers=Numbers(written=as_long_as("lengths")), fork=NUMBER, bellatrix=BELLATRIX),
     # a close by steps
-    "close_step": Signature(TOLD, number=NUMBER, running=RUNNING, rules=RULES, finality=FINALITY, queue=QUEUE, registry=REGISTRY,
+    "close_step": Signature(TOLD, number=NUMBER, running=RUNNING, store=STORE, finality=FINALITY, queue=QUEUE, registry=REGISTRY,
                             slashings=SLASHINGS, roots=ROOTS, closing_registry=KEPT_REGISTRY, closing_slashings=KEPT,
                             amounts=KEPT_AMOUNTS),
     "take_order": Signature(TOLD, running=RUNNING, validator=NUMBER, start=NUMBER, orders=KEPT),
-    "carry_out": Signature(TOLD, rules=RULES, shard_committee_period=NUMBER, running=RUNNING, closing_registry=KEPT_REGISTRY, orders=SLASHINGS,
-                           answers=KEPT),
+    "carry_out": Signature(TOLD, store=STORE, shard_committee_period=NUMBER, running=RUNNING, closing_registry=KEPT_REGISTRY,
+                           orders=SLASHINGS, answers=KEPT),
     # the eight steps, in the order of the close
     "process_justification_and_finalization": Signature(JUSTIFIED, settings=SETTINGS, roots=ROOTS, finality=FINALITY,
                                                         registry=REGISTRY),

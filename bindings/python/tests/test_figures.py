@@ -7,6 +7,7 @@ from altair_close import *
 ETH = 10**9
 FAR = altair.FAR_FUTURE_EPOCH
 HIT = [32 * ETH, 0, 0, 0, FAR, FAR, 32 * ETH, 7, 7, 0]
+RECORD = Record(MINIMAL, Finality(31, 3, Checkpoint(1), Checkpoint(2), Checkpoint(1)), HIT * 5, [0] * 64, bytes(32 * 64))
 
 
 def changed(numbers, **places):
@@ -216,8 +217,7 @@ class Figures(unittest.TestCase):
         self.assertEqual((read_rules(roomy, 40).fork, grown.count, read_rules(grown, 40).fork), (1, 3, 0))
         self.assertEqual([read_rules(grown, epoch) for epoch in (10, 29)], [read_rules(roomy, epoch) for epoch in (10, 29)])
 
-        settings = MINIMAL
-        record = Record(settings, Finality(31, 3, Checkpoint(1), Checkpoint(2), Checkpoint(1)), HIT * 5, [0] * 64, bytes(32 * 64))
+        settings, record = MINIMAL, RECORD
         store = Store.of((2, settings._replace(base_reward_factor=1)), (3, settings), (4, settings._replace(base_reward_factor=1)))
         self.assertEqual(record.closing(store=store), record.closing())
         self.assertEqual(record.closing(store=Rules(settings)), record.closing())
@@ -227,7 +227,7 @@ class Figures(unittest.TestCase):
         self.refused(13, lambda: record._replace(finality=Finality(2**48)).closing(store=Store.of((2**46, settings))))
 
     def test_the_shelf(self):
-        record = Record(MINIMAL, Finality(31, 3, Checkpoint(1), Checkpoint(2), Checkpoint(1)), HIT * 5, [0] * 64, bytes(32 * 64))
+        record = RECORD
         rich = record._replace(registry=changed(HIT * 5, balance=FAR))
         good, overflowing, damaged = record.write(), rich.write(), bytes(80)
         closed = record.close().write()
@@ -251,7 +251,7 @@ class Figures(unittest.TestCase):
         self.assertEqual((caught.exception.number, closing[-1]), (1, 7))
 
     def test_a_close_by_steps(self):
-        record = Record(MINIMAL, Finality(31, 3, Checkpoint(1), Checkpoint(2), Checkpoint(1)), HIT * 5, [0] * 64, bytes(32 * 64))
+        record = RECORD
         desk = Desk(record, MINIMAL, room=3)
         self.refused(1, desk.order, 1, 0)
         for step in range(8):
@@ -279,6 +279,8 @@ class Figures(unittest.TestCase):
         self.assertEqual((list(desk.registry), set(desk.amounts), desk.closed()), (rich.registry, {0}, None))
         self.assertRaises(altair.Ended, desk.carry_out, 3)
         # what is wrong with an argument is told with its name
+        with self.assertRaisesRegex(TypeError, "^store"):
+            Desk(record, None, room=1).step()
         for bad in (None, 1, (0,) * 7, altair.Running(done=-1), altair.Running(raised=(1, 0, 0)), altair.Running(queue=None)):
             with self.assertRaisesRegex((TypeError, ValueError), "^running"):
                 altair.take_order(bad, 1, 0, desk.orders)
@@ -286,6 +288,32 @@ class Figures(unittest.TestCase):
             altair.take_order(altair.Running(), 1, 0, None)
         with self.assertRaisesRegex(TypeError, "orders"):
             altair.take_order(altair.Running(), 1, 0, [0, 0])
+
+    def test_a_close_by_steps_by_a_store(self):
+        record = RECORD
+        other = MINIMAL._replace(base_reward_factor=1)
+        late, store = Store.of((4, MINIMAL)), Store.of((2, other), (3, MINIMAL), (4, other))
+        desk, whole = Desk(record, store, room=1), record.closing()
+        for step in range(8):
+            desk.step()
+            # without an entry for the epoch a later call is turned away alone, also where the record so far is of an earlier epoch
+            running = desk.running
+            early = running._replace(finality=running.finality._replace(slot=15))
+            for desk.store, desk.running in (late, running), (Store(), running), (store, early):
+                before = desk.running
+                self.refused(13, *([desk.step] if step < 7 else [desk.carry_out, 3]))
+                self.assertEqual(desk.running, before)
+            desk.store, desk.running = store, running
+        self.assertEqual((desk.registry.tobytes(), desk.amounts.tobytes()), (whole.registry.tobytes(), whole.amounts.tobytes()))
+        self.assertEqual((desk.carry_out(3), desk.closed().finality), ([], whole.finality))
+        # and the first call ends the close as the whole close is refused, and writes nothing
+        for none, roots in (late, record.roots), (Store(), b""):
+            desk = Desk(record._replace(roots=roots), none, room=1)
+            desk.amounts[0] = 7
+            self.refused(13, desk.step)
+            self.assertEqual((desk.running, desk.amounts[0]), (altair.Running(9, 13, record.finality, ExitQueue(0, 0)), 7))
+            self.assertRaises(altair.Ended, desk.step)
+        self.refused(1, Desk(record._replace(roots=b""), store, room=1).step)
 
     def test_net_changes(self):
         """Both ends of the range, and one beyond either."""

@@ -1,6 +1,6 @@
 //! The whole close, and the figures of its listing.
 use crate::exit_queue;
-use crate::raw;
+use crate::raw::{self, Lent};
 use crate::refusal::Refusal;
 use crate::store::By;
 use crate::types::{Amounts, Closed, ExitQueue, Finality, Head, Line, Settings};
@@ -42,27 +42,18 @@ pub fn close<'a>(
 ) -> Result<Closed, Refusal> {
     let by = by.into();
     let (store, count) = by.lent();
-    unsafe {
-        raw::altair_close(
-            store.as_ptr(),
-            store.len(),
-            count,
-            *finality,
-            pair_of(queue, registry),
-            registry.as_ptr(),
-            registry.len(),
-            slashings.as_ptr(),
-            slashings.len(),
-            roots.as_ptr(),
-            roots.len(),
-            closing_registry.as_mut_ptr(),
-            closing_registry.len(),
-            closing_slashings.as_mut_ptr(),
-            closing_slashings.len(),
-            amounts.as_mut_ptr().cast(),
-            9 * amounts.len(),
-        )
-    }
+    raw::close(Lent {
+        store,
+        count,
+        finality: *finality,
+        queue: pair_of(queue, registry),
+        registry,
+        slashings,
+        roots,
+        closing_registry,
+        closing_slashings,
+        amounts,
+    })
     .result()
 }
 

@@ -1,8 +1,9 @@
 //! A close that is run one step a call, and exit orders that are taken meanwhile and carried out at its end.
 use crate::close::pair_of;
-use crate::raw;
+use crate::raw::{self, Lent};
 use crate::refusal::Refusal;
-use crate::types::{Amounts, Closed, ExitQueue, Rules, Running};
+use crate::store::By;
+use crate::types::{Amounts, Closed, ExitQueue, Running};
 use crate::{validator, ClosedRecord, Record};
 use std::error::Error;
 use std::fmt;
@@ -27,7 +28,7 @@ impl fmt::Display for NotDone {
 
 impl Error for NotDone {}
 
-/// A close between its calls, with buffers of its own; the opening stays lent until it has ended.
+/// A close between its calls, with buffers of its own; the opening, and a store by which it goes, stay lent until it has ended.
 ///
 /// ```
 /// use altair_close::{validator, Desk, Finality, NotDone, Record, Refusal, Rules, Settings};
@@ -57,7 +58,7 @@ impl Error for NotDone {}
 /// ```
 pub struct Desk<'a> {
     record: &'a Record,
-    rules: Rules,
+    by: By<'a>,
     queue: ExitQueue,
     running: Running,
     registry: Vec<u64>,
@@ -68,11 +69,11 @@ pub struct Desk<'a> {
 }
 
 impl<'a> Desk<'a> {
-    /// A close that is about to begin, with room for so many orders.
-    pub fn new(record: &'a Record, rules: &Rules, orders: usize) -> Desk<'a> {
+    /// A close that is about to begin, by what [`close`](crate::close) goes by, with room for so many orders.
+    pub fn new(record: &'a Record, by: impl Into<By<'a>>, orders: usize) -> Desk<'a> {
         Desk {
             record,
-            rules: *rules,
+            by: by.into(),
             queue: pair_of(record.queue.as_ref(), &record.registry),
             running: Running::default(),
             registry: vec![0; record.registry.len()],
@@ -98,28 +99,20 @@ impl<'a> Desk<'a> {
 
     /// The next of the eight steps.
     pub fn step(&mut self) -> Result<(), NotDone> {
-        let r = self.record;
-        let answer = unsafe {
-            raw::altair_close_step(
-                self.running.done + 1,
-                self.running,
-                self.rules,
-                r.finality,
-                self.queue,
-                r.registry.as_ptr(),
-                r.registry.len(),
-                r.slashings.as_ptr(),
-                r.slashings.len(),
-                r.roots.as_ptr(),
-                r.roots.len(),
-                self.registry.as_mut_ptr(),
-                self.registry.len(),
-                self.slashings.as_mut_ptr(),
-                self.slashings.len(),
-                self.amounts.as_mut_ptr().cast(),
-                9 * self.amounts.len(),
-            )
+        let (store, count) = self.by.lent();
+        let lent = Lent {
+            store,
+            count,
+            finality: self.record.finality,
+            queue: self.queue,
+            registry: &self.record.registry,
+            slashings: &self.record.slashings,
+            roots: &self.record.roots,
+            closing_registry: &mut self.registry,
+            closing_slashings: &mut self.slashings,
+            amounts: &mut self.amounts,
         };
+        let answer = raw::close_step(self.running.done + 1, self.running, lent);
         self.told(answer)
     }
 
@@ -133,9 +126,12 @@ impl<'a> Desk<'a> {
     /// The ninth call: tries every order in order of arrival, and ends the close. What came of each.
     pub fn carry_out(&mut self, shard_committee_period: u64) -> Result<Vec<Result<(), Refusal>>, NotDone> {
         let tried = self.running.orders as usize;
+        let (store, count) = self.by.lent();
         let answer = unsafe {
             raw::altair_carry_out(
-                self.rules,
+                store.as_ptr(),
+                store.len(),
+                count,
                 shard_committee_period,
                 self.running,
                 self.registry.as_mut_ptr(),

@@ -1,7 +1,7 @@
 //! The library's functions as bindings/c/altair.h declares them: a slice is a pointer and a length in elements.
 use crate::refusal::Refusal;
 use crate::types::{
-    Amounts, Bellatrix, Checkpoint, Clock, Closed, Deltas, ExitQueue, Finality, Head, Justified, Line, Passes,
+    Amounts, Answer, Bellatrix, Checkpoint, Clock, Deltas, ExitQueue, Finality, Head, Justified, Line, Passes,
     RaisedNumbers, Rules, Running, Settings, Total, Votes,
 };
 
@@ -15,15 +15,6 @@ pub struct FinalityAnswer {
 pub struct JustificationAnswer {
     pub refusal: u64,
     pub finality: Finality,
-    pub raised: RaisedNumbers,
-    pub test: u64,
-}
-
-#[repr(C)]
-pub struct FullAnswer {
-    pub refusal: u64,
-    pub finality: Finality,
-    pub queue: ExitQueue,
     pub raised: RaisedNumbers,
     pub test: u64,
 }
@@ -164,13 +155,6 @@ impl JustificationAnswer {
     }
 }
 
-impl FullAnswer {
-    pub fn result(self) -> Result<Closed, Refusal> {
-        let FullAnswer { refusal, finality, queue, raised, test } = self;
-        Refusal::or(refusal, Closed { finality, queue, raised: raised.told(), test })
-    }
-}
-
 impl QueueAnswer {
     pub fn result(self) -> Result<ExitQueue, Refusal> {
         Refusal::or(self.refusal, self.queue)
@@ -240,29 +224,80 @@ const _: () = assert!(size_of::<Settings>() == 152 && size_of::<Checkpoint>() ==
 const _: () = assert!(size_of::<Clock>() == 24 && size_of::<Rules>() == 176);
 const _: () = assert!(size_of::<ExitQueue>() == 16 && size_of::<Amounts>() == 72);
 
+/// All that a close is lent, whole or by steps.
+pub struct Lent<'a> {
+    pub store: &'a [u64],
+    pub count: u64,
+    pub finality: Finality,
+    pub queue: ExitQueue,
+    pub registry: &'a [u64],
+    pub slashings: &'a [u64],
+    pub roots: &'a [u8],
+    pub closing_registry: &'a mut [u64],
+    pub closing_slashings: &'a mut [u64],
+    pub amounts: &'a mut [Amounts],
+}
+
+// a call that is lent these: C's words for them, behind those that are its own
+macro_rules! close_call {
+    ($safe:ident: $name:ident($($own:ident: $kind:ty),*) -> $answer:ty) => {
+        extern "C" {
+            pub fn $name(
+                $($own: $kind,)*
+                store: *const u64,
+                store_length: usize,
+                count: u64,
+                finality: Finality,
+                queue: ExitQueue,
+                registry: *const u64,
+                registry_length: usize,
+                slashings: *const u64,
+                slashings_length: usize,
+                roots: *const u8,
+                roots_length: usize,
+                closing_registry: *mut u64,
+                closing_registry_length: usize,
+                closing_slashings: *mut u64,
+                closing_slashings_length: usize,
+                amounts: *mut u64,
+                amounts_length: usize,
+            ) -> $answer;
+        }
+
+        pub fn $safe($($own: $kind,)* lent: Lent) -> $answer {
+            unsafe {
+                $name(
+                    $($own,)*
+                    lent.store.as_ptr(),
+                    lent.store.len(),
+                    lent.count,
+                    lent.finality,
+                    lent.queue,
+                    lent.registry.as_ptr(),
+                    lent.registry.len(),
+                    lent.slashings.as_ptr(),
+                    lent.slashings.len(),
+                    lent.roots.as_ptr(),
+                    lent.roots.len(),
+                    lent.closing_registry.as_mut_ptr(),
+                    lent.closing_registry.len(),
+                    lent.closing_slashings.as_mut_ptr(),
+                    lent.closing_slashings.len(),
+                    lent.amounts.as_mut_ptr().cast(),
+                    9 * lent.amounts.len(),
+                )
+            }
+        }
+    };
+}
+
+close_call!(close: altair_close() -> Answer);
+close_call!(close_step: altair_close_step(number: u64, running: Running) -> RunningAnswer);
+
 extern "C" {
     pub fn altair_version() -> u64;
 
-    // the close
-    pub fn altair_close(
-        store: *const u64,
-        store_length: usize,
-        count: u64,
-        finality: Finality,
-        queue: ExitQueue,
-        registry: *const u64,
-        registry_length: usize,
-        slashings: *const u64,
-        slashings_length: usize,
-        roots: *const u8,
-        roots_length: usize,
-        closing_registry: *mut u64,
-        closing_registry_length: usize,
-        closing_slashings: *mut u64,
-        closing_slashings_length: usize,
-        amounts: *mut u64,
-        amounts_length: usize,
-    ) -> FullAnswer;
+    // settings by starting epoch, and who is charged
     pub fn altair_read_rules(store: *const u64, store_length: usize, count: u64, epoch: u64) -> RulesAnswer;
     pub fn altair_add_rules(store: *mut u64, store_length: usize, count: u64, start: u64, rules: Rules) -> CountAnswer;
     pub fn altair_charged(settings: Settings, state_slot: u64, registry: *const u64, length: usize) -> NumberAnswer;
@@ -309,25 +344,6 @@ extern "C" {
     ) -> u64;
 
     // a close by steps
-    pub fn altair_close_step(
-        number: u64,
-        running: Running,
-        rules: Rules,
-        finality: Finality,
-        queue: ExitQueue,
-        registry: *const u64,
-        registry_length: usize,
-        slashings: *const u64,
-        slashings_length: usize,
-        roots: *const u8,
-        roots_length: usize,
-        closing_registry: *mut u64,
-        closing_registry_length: usize,
-        closing_slashings: *mut u64,
-        closing_slashings_length: usize,
-        amounts: *mut u64,
-        amounts_length: usize,
-    ) -> RunningAnswer;
     pub fn altair_take_order(
         running: Running,
         validator: u64,
@@ -336,7 +352,9 @@ extern "C" {
         orders_length: usize,
     ) -> RunningAnswer;
     pub fn altair_carry_out(
-        rules: Rules,
+        store: *const u64,
+        store_length: usize,
+        count: u64,
         shard_committee_period: u64,
         running: Running,
         closing_registry: *mut u64,

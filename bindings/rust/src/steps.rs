@@ -35,21 +35,9 @@ pub fn process_justification_and_finalization(
     .result()
 }
 
-type ByFinality<By> = unsafe extern "C" fn(By, u64, u64, *const u64, usize, *mut u64, usize) -> u64;
-
-// the two steps over the registry that read the slot and the finalized epoch
-fn by_finality<By>(
-    step: ByFinality<By>,
-    by: By,
-    state_slot: u64,
-    finalized_epoch: u64,
-    opening: &[u64],
-    closing: &mut [u64],
-) -> Result<(), Refusal> {
-    let number = unsafe {
-        step(by, state_slot, finalized_epoch, opening.as_ptr(), opening.len(), closing.as_mut_ptr(), closing.len())
-    };
-    Refusal::or(number, ())
+// a step from an opening buffer to a closing one: C's four words for them, behind those that are the step's own
+fn step<A>(opening: &[u64], closing: &mut [u64], call: impl FnOnce(*const u64, usize, *mut u64, usize) -> A) -> A {
+    call(opening.as_ptr(), opening.len(), closing.as_mut_ptr(), closing.len())
 }
 
 /// The registry with the new inactivity scores.
@@ -60,7 +48,10 @@ pub fn process_inactivity_updates(
     opening: &[u64],
     closing: &mut [u64],
 ) -> Result<(), Refusal> {
-    by_finality(raw::altair_process_inactivity_updates, *settings, state_slot, finalized_epoch, opening, closing)
+    let number = step(opening, closing, |from, n, to, m| unsafe {
+        raw::altair_process_inactivity_updates(*settings, state_slot, finalized_epoch, from, n, to, m)
+    });
+    Refusal::or(number, ())
 }
 
 /// The registry with the new balances.
@@ -71,7 +62,10 @@ pub fn process_rewards_and_penalties(
     opening: &[u64],
     closing: &mut [u64],
 ) -> Result<(), Refusal> {
-    by_finality(raw::altair_process_rewards_and_penalties, rules.into(), state_slot, finalized_epoch, opening, closing)
+    let number = step(opening, closing, |from, n, to, m| unsafe {
+        raw::altair_process_rewards_and_penalties(rules.into(), state_slot, finalized_epoch, from, n, to, m)
+    });
+    Refusal::or(number, ())
 }
 
 /// The registry after queueing, ejecting and activating, and its exit queue's pair, which counts the ejections.
@@ -83,18 +77,10 @@ pub fn process_registry_updates(
     opening: &[u64],
     closing: &mut [u64],
 ) -> Result<ExitQueue, Refusal> {
-    unsafe {
-        raw::altair_process_registry_updates(
-            *settings,
-            state_slot,
-            finalized_epoch,
-            pair_of(queue, opening),
-            opening.as_ptr(),
-            opening.len(),
-            closing.as_mut_ptr(),
-            closing.len(),
-        )
-    }
+    let queue = pair_of(queue, opening);
+    step(opening, closing, |from, n, to, m| unsafe {
+        raw::altair_process_registry_updates(*settings, state_slot, finalized_epoch, queue, from, n, to, m)
+    })
     .result()
 }
 
@@ -120,19 +106,10 @@ pub fn process_registry_updates_to(
     opening: &[u64],
     closing: &mut [u64],
 ) -> Result<ExitQueue, Refusal> {
-    unsafe {
-        raw::altair_process_registry_updates_to(
-            stop,
-            *settings,
-            state_slot,
-            finalized_epoch,
-            pair_of(queue, opening),
-            opening.as_ptr(),
-            opening.len(),
-            closing.as_mut_ptr(),
-            closing.len(),
-        )
-    }
+    let queue = pair_of(queue, opening);
+    step(opening, closing, |from, n, to, m| unsafe {
+        raw::altair_process_registry_updates_to(stop, *settings, state_slot, finalized_epoch, queue, from, n, to, m)
+    })
     .result()
 }
 
@@ -144,18 +121,10 @@ pub fn process_slashings(
     opening: &[u64],
     closing: &mut [u64],
 ) -> Result<(), Refusal> {
-    let number = unsafe {
-        raw::altair_process_slashings(
-            rules.into(),
-            state_slot,
-            slashings.as_ptr(),
-            slashings.len(),
-            opening.as_ptr(),
-            opening.len(),
-            closing.as_mut_ptr(),
-            closing.len(),
-        )
-    };
+    let (sums, count) = (slashings.as_ptr(), slashings.len());
+    let number = step(opening, closing, |from, n, to, m| unsafe {
+        raw::altair_process_slashings(rules.into(), state_slot, sums, count, from, n, to, m)
+    });
     Refusal::or(number, ())
 }
 
@@ -175,15 +144,9 @@ pub fn process_effective_balance_updates(
     opening: &[u64],
     closing: &mut [u64],
 ) -> Result<(), Refusal> {
-    let number = unsafe {
-        raw::altair_process_effective_balance_updates(
-            *settings,
-            opening.as_ptr(),
-            opening.len(),
-            closing.as_mut_ptr(),
-            closing.len(),
-        )
-    };
+    let number = step(opening, closing, |from, n, to, m| unsafe {
+        raw::altair_process_effective_balance_updates(*settings, from, n, to, m)
+    });
     Refusal::or(number, ())
 }
 
@@ -194,28 +157,16 @@ pub fn process_slashings_reset(
     opening: &[u64],
     closing: &mut [u64],
 ) -> Result<(), Refusal> {
-    let number = unsafe {
-        raw::altair_process_slashings_reset(
-            *settings,
-            state_slot,
-            opening.as_ptr(),
-            opening.len(),
-            closing.as_mut_ptr(),
-            closing.len(),
-        )
-    };
+    let number = step(opening, closing, |from, n, to, m| unsafe {
+        raw::altair_process_slashings_reset(*settings, state_slot, from, n, to, m)
+    });
     Refusal::or(number, ())
 }
 
 /// The registry with current flags as previous ones and none current.
 pub fn process_participation_flag_updates(opening: &[u64], closing: &mut [u64]) -> Result<(), Refusal> {
-    let number = unsafe {
-        raw::altair_process_participation_flag_updates(
-            opening.as_ptr(),
-            opening.len(),
-            closing.as_mut_ptr(),
-            closing.len(),
-        )
-    };
+    let number = step(opening, closing, |from, n, to, m| unsafe {
+        raw::altair_process_participation_flag_updates(from, n, to, m)
+    });
     Refusal::or(number, ())
 }

@@ -1,4 +1,5 @@
 //! What goes in and comes back by value.
+use crate::refusal::Refusal;
 
 /// 2^64 - 1, which means none.
 pub const FAR_FUTURE_EPOCH: u64 = u64::MAX;
@@ -284,11 +285,20 @@ impl RaisedNumbers {
     }
 }
 
+impl Answer {
+    fn told(&self) -> Closed {
+        Closed { finality: self.finality, queue: self.queue, raised: self.raised.told(), test: self.test }
+    }
+
+    pub(crate) fn result(self) -> Result<Closed, Refusal> {
+        Refusal::or(self.refusal, self.told())
+    }
+}
+
 impl Running {
     /// What the close answers, once it has ended and was not refused.
     pub fn closed(&self) -> Option<Closed> {
-        let Answer { refusal, finality, queue, raised, test } = self.answer;
-        (self.done == 9 && refusal == 0).then(|| Closed { finality, queue, raised: raised.told(), test })
+        (self.done == 9 && self.answer.refusal == 0).then(|| self.answer.told())
     }
 }
 

@@ -331,6 +331,34 @@ fn the_close() {
     assert_eq!((registry, slashings, amounts), (far.registry, far.slashings, vec![Amounts::default(); 5]));
 }
 
+// epoch 3 goes by the second of three entries: what eight steps and no order leave is what the whole close leaves
+#[test]
+fn by_steps() {
+    let record = worked();
+    let other = Rules::altair(&Settings { base_reward_factor: 1, ..record.settings });
+    let mut store = Store::new();
+    for (start, rules) in [(2, other), (3, Rules::altair(&record.settings)), (4, other)] {
+        store.add(start, &rules).unwrap();
+    }
+    let mut desk = Desk::new(&record, &store, 1);
+    for done in 1..=8 {
+        assert_eq!((desk.step(), desk.done()), (Ok(()), done));
+    }
+    assert_eq!(desk.step(), Err(NotDone::Refused(Refusal::Shape)));
+    assert_eq!(desk.carry_out(1 << 48), Err(NotDone::Refused(Refusal::Settings)));
+    assert_eq!(desk.carry_out(256), Ok(vec![]));
+    assert_eq!((desk.closed(), record.close_by(&store)), (record.close().ok(), record.close()));
+
+    // without an entry for the epoch the first call ends the close
+    let mut late = Store::new();
+    late.add(4, &other).unwrap();
+    for none in [Store::new(), late] {
+        let mut desk = Desk::new(&record, &none, 1);
+        assert_eq!((desk.step(), desk.done()), (Err(NotDone::Refused(Refusal::NoEntry)), 9));
+        assert_eq!((desk.step(), desk.closed()), (Err(NotDone::Ended), None));
+    }
+}
+
 #[test]
 fn votes_not_yet_counted() {
     let settings =
