@@ -188,5 +188,8 @@ module _ (bytes : List ℕ) (from n : ℕ) where
   pub numbers-long : length (numbersFromBytes (10 * n) (drop from bytes)) ≡ 10 * n
   numbers-long = length-from-bytes (10 * n) (drop from bytes)
 
-  pub exit-number : (i : ℕ) → i < n → numberAt (from + 8 * (10 * i + 4)) bytes ≡ getD (numbersFromBytes (10 * n) (drop from bytes)) (10 * i + 4) 0
-  exit-number i l = sym (number-at (10 * n) (10 * i + 4) (drop from bytes) (omega arith) ∙ rw drop-drop)
+  -- the number that is read where the reader then stands behind validator i's exit epoch
+  pub exit-number : (i : ℕ) → i < n → (at : ℕ) {x next : ℕ} → (x ≡ numberAt at bytes) × (next ≡ at + 8) → next ≡ from + 8 * (10 * i + 4) + 8 → x ≡ getD (numbersFromBytes (10 * n) (drop from bytes)) (10 * i + 4) 0
+  exit-number i l at e behind =
+      let place : at ≡ from + 8 * (10 * i + 4) = omega (arith, e .1, behind) in
+      e .0 ∙ rw place (sym (number-at (10 * n) (10 * i + 4) (drop from bytes) (omega arith) ∙ rw drop-drop))

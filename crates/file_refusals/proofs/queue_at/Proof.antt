@@ -1,5 +1,5 @@
 use mathlib.Core.Path.{_≡_}
-use Prim.Native.Nat.{_*_, _-_}
+use Prim.Native.Nat.{_+_, _*_, _-_}
 use native.Mathlib.Omega.{arith}
 use lib.ListN.{drop}
 use Rattle.definitions_file.specs.File.{numbersFromBytes}
@@ -46,7 +46,9 @@ loop-again c =
     let a = c .before .before .before .before .before .args in
     let i = c .before .before .before .loop .i in
     let l = c .before .before .loop-test .taken in
-    tracking-more (c .before .before .before .loop .inv) l (rw (c .before .read-number .ensures .0, exit-number (a .bytes .now) (a .from) (a .validators) i l) at (c .exited .ensures))
+    let next = c .before .read-number in
+    let behind : next .result .position ≡ a .from + 8 * (10 * i + 4) + 8 = omega arith in
+    tracking-more (c .before .before .before .loop .inv) l (rw (exit-number (a .bytes .now) (a .from) (a .validators) i l _ (next .ensures) behind) at (c .exited .ensures))
 
 returns : tie.Need-returns Inv-loop μ-loop
 returns c = tracking-all (c .before .loop .inv) (c .loop-test .left)
