@@ -1,4 +1,5 @@
-use mathlib.Core.Path.{_∙_}
+use mathlib.Core.Path.{_≡_, _∙_}
+use native.Mathlib.Omega.{arith}
 use borrow.Author.Tests.{eq-eqb, ne-eqb}
 use Rattle.definitions_orders.specs.Orders.{carryOut}
 use Rattle.orders.specs.Called.{ninthCalled}
@@ -10,11 +11,13 @@ use Rattle.ninth_call.proofs.carry_out.Tie as tie
 
 returns : tie.Need-returns
 unfolding carryOut
-returns c = rw (eq-eqb _ _ (c .if1 .taken))
+returns c = rw (eq-eqb (c .before .before .before .before .args .running .done) 9 (omega (arith, c .if1 .taken)))
 
 returns-2 : tie.Need-returns-2
 unfolding carryOut
-returns-2 c = rw (ne-eqb _ _ (c .before .if1 .left), ne-eqb _ _ (c .if2 .taken))
+returns-2 c =
+    let done = c .before .before .before .before .before .args .running .done in
+    rw (ne-eqb done 9 (λ e. omega (arith, e, c .before .if1 .left)), ne-eqb done 8 (λ e. omega (arith, e, c .if2 .taken)))
 
 ninth-tests-requires : tie.Need-ninth-tests-requires
 ninth-tests-requires c κs = search needs
@@ -26,7 +29,9 @@ same-length-2 : tie.Need-same-length-2
 same-length-2 c = search needs
 
 returns-3 : tie.Need-returns-3
-returns-3 c = turned-away (ninthCalled _ _ _ _ _ _) (c .before .ninth-tests .ensures) (c .before .before .before .before .if2 .left) (c .if3 .taken)
+returns-3 c =
+    let eighth : c .before .before .before .before .before .before .before .before .before .args .running .done ≡ 8 = omega (arith, c .before .before .before .before .if2 .left) in
+    turned-away (ninthCalled _ _ _ _ _ _) (c .before .ninth-tests .ensures) eighth (c .if3 .taken)
 
 settings-under-requires : tie.Need-settings-under-requires
 settings-under-requires c κs = search needs
@@ -41,7 +46,9 @@ same-length-4 : tie.Need-same-length-4
 same-length-4 c = search needs
 
 returns-4 : tie.Need-returns-4
-returns-4 c = c .before .before .before .before .carry-tested .ensures ∙ rw (c .before .before .before .before .before .before .before .settings-under .ensures) (carries-out (ninthCalled _ _ _ _ _ _) (c .before .before .before .before .before .before .before .before .before .ninth-tests .ensures) (c .before .before .before .before .before .before .before .before .before .before .before .before .if2 .left) (c .before .before .before .before .before .before .before .before .if3 .left))
+returns-4 c =
+    let eighth : c .before .before .before .before .before .before .before .before .before .before .before .before .before .before .before .before .before .args .running .done ≡ 8 = omega (arith, c .before .before .before .before .before .before .before .before .before .before .before .before .if2 .left) in
+    c .before .before .before .before .carry-tested .ensures ∙ rw (c .before .before .before .before .before .before .before .settings-under .ensures) (carries-out (ninthCalled _ _ _ _ _ _) (c .before .before .before .before .before .before .before .before .before .ninth-tests .ensures) eighth (c .before .before .before .before .before .before .before .before .if3 .left))
 
 pub carry-out-spec : {M : Type 1} → statement M
 carry-out-spec =

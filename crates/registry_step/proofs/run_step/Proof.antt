@@ -1,3 +1,4 @@
+use native.Mathlib.Omega.{arith}
 use borrow.Author.Needs.{needs}
 use Rattle.definitions.specs.RegisterOrder.{registryUpdatesTo}
 use Rattle.registry_step.proofs.Run.{run-restored, run-done}
@@ -21,7 +22,7 @@ same-length c = search needs
 returns : tie.Need-returns
 returns c =
     let a = c .before .before .before .before .before .before .before .before .before .before .before .before .before .before .before .before .args in
-    run-restored (registryUpdatesTo (a .stop) (a .s) (a .state-slot) (a .finalized-epoch)) _ (c .before .before .before .before .before .before .before .update-registry .ensures) (c .before .before .before .before .if1 .taken) (c .before .before .copy2 .ensures)
+    run-restored (registryUpdatesTo (a .stop) (a .s) (a .state-slot) (a .finalized-epoch)) _ (c .before .before .before .before .before .before .before .update-registry .ensures) (λ z. omega (arith, z, c .before .before .before .before .if1 .taken)) (c .before .before .copy2 .ensures)
 
 queue-of-requires : tie.Need-queue-of-requires
 queue-of-requires c κs = search needs
@@ -32,7 +33,7 @@ same-length-2 c = search needs
 returns-2 : tie.Need-returns-2
 returns-2 c =
     let a = c .before .before .before .before .before .before .before .before .before .before .before .before .before .before .args in
-    run-done (registryUpdatesTo (a .stop) (a .s) (a .state-slot) (a .finalized-epoch)) _ (c .before .before .before .before .before .update-registry .ensures) (c .before .before .if1 .left) (c .queue-of .ensures)
+    run-done (registryUpdatesTo (a .stop) (a .s) (a .state-slot) (a .finalized-epoch)) _ (c .before .before .before .before .before .update-registry .ensures) (omega (arith, c .before .before .if1 .left)) (c .queue-of .ensures)
 
 pub run-step-spec : {M : Type 1} → statement M
 run-step-spec =

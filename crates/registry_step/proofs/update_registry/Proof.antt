@@ -44,7 +44,7 @@ update-by-requires c κs =
     let e = c .before .before .before .before .before .current-epoch .ensures in
     let p = epochs _ _ (s .pre .0) (s .pre .1 .0 .0) in
     rw (s .pre .1 .1 .0 .1)
-    ((s .pre .1 .1 .0 .0, omega (arith, p .small, e), good-settings _ (s .pre .0) .small .«max_seed_lookahead»), (s .pre .1 .1 .1 .0, (rw (c .before .start-pair .ensures) (tracks-start (omega (arith, p .fits, e)) (rw (s .pre .1 .1 .1 .1 .0) (tracks-queue _))), c .before .before .before .cut-queue .ensures)))
+    ((s .pre .1 .1 .0 .0, omega (arith, p .small, e), good-settings _ (s .pre .0) .small .«max_seed_lookahead»), (s .pre .1 .1 .1 .0, (rw (c .before .start-pair .ensures) (tracks-start (omega (arith, p .fits, e)) (rw (sym (s .pre .1 .1 .1 .1 .0)) at (tracks-queue (decode (s .args .opening .now))))), c .before .before .before .cut-queue .ensures)))
 
 same-length : tie.Need-same-length
 same-length c = search needs
