@@ -60,10 +60,13 @@ fn shelf_shaped(
     if !holds_longest(lengths, closing_numbers) {
         return false;
     }
-    answers.len() == lengths.len()
+    if answers.len() != lengths.len() {
+        return false;
+    }
+    true
 }
 
-// File by file, each in its own part.
+// File by file, each in its own part, to the last, whatever was answered before.
 fn close_files(
     files: &[u8],
     lengths: &[u64],
@@ -79,7 +82,9 @@ fn close_files(
     ensures { λ _. ⌜ now (closing .exit) ≡ partsFor fork bellatrix (now (lengths .entry)) (now (files .entry)) (now (closing .entry)) ⌝ }
 {
     let mut at: usize = 0;
-    for i in 0..lengths.len() {
+    let mut i: usize = 0;
+    let mut more = 0 < lengths.len();
+    while more {
         let end = at + (lengths[i] as usize);
         let answer = close_file(
             &files[at..end],
@@ -91,6 +96,8 @@ fn close_files(
         );
         answers[i] = answer;
         at = end;
+        i += 1;
+        more = i < lengths.len();
     }
 }
 

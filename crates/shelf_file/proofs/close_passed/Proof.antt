@@ -71,7 +71,7 @@ returns c =
     let t = start j in
     let k = c .before .before .before .before .before .before .before .before .close-opening in
     let w = read-worked (t .args .rules .fork) (t .args .rules .bellatrix) (t .args .file .now) (t .pre .1 .0 .1) (under j) (found j) (j .before .before .before .read-opening .ensures .registry) (j .before .before .before .read-opening .ensures .slashings) (j .roots-of .ensures) (k .ensures) in
-    put-refused (t .args .rules .fork) (t .args .rules .bellatrix) (t .args .file .now) (t .pre .1 .0 .1) w (c .before .before .before .before .if1 .taken) _ (c .before .before .put-bytes .ensures ∙ sets-whole (t .args .part .now) (t .args .file .now) (sym (t .pre .1 .1 .1)))
+    put-refused (t .args .rules .fork) (t .args .rules .bellatrix) (t .args .file .now) (t .pre .1 .0 .1) w (λ z. omega (arith, z, c .before .before .before .before .if1 .taken)) _ (c .before .before .put-bytes .ensures ∙ sets-whole (t .args .part .now) (t .args .file .now) (sym (t .pre .1 .1 .1)))
 
 mul-slashings-reset-core : tie.Need-mul-slashings-reset-core
 mul-slashings-reset-core c = let t = c .before .before .before .before .before .before .before .before .before .before .before .before .before .before .before .before .before .before .before .before in omega (arith, t .pre .0 .counts, counts-long (t .pre .0 .counts), t .good .0)
@@ -115,7 +115,7 @@ returns-2 c =
     let t = start j in
     let k = c .before .before .before .before .before .before .before .before .before .before .before .before .before .before .before .close-opening in
     let w = read-worked (t .args .rules .fork) (t .args .rules .bellatrix) (t .args .file .now) (t .pre .1 .0 .1) (under j) (found j) (j .before .before .before .read-opening .ensures .registry) (j .before .before .before .read-opening .ensures .slashings) (j .roots-of .ensures) (k .ensures) in
-    put-done (t .args .rules .fork) (t .args .rules .bellatrix) (t .args .file .now) (t .pre .1 .0 .1) w (c .before .before .before .before .before .before .before .before .before .before .before .if1 .left) _ (t .pre .1 .0 .0) (j .roots-of .ensures) (behind (c .before .before .before .before .before .before .before .before) ∙ c .before .before .before .before .before .before .before .before .slashings-reset-core .ensures) (c .before .before .put-closed .ensures)
+    put-done (t .args .rules .fork) (t .args .rules .bellatrix) (t .args .file .now) (t .pre .1 .0 .1) w (omega (arith, c .before .before .before .before .before .before .before .before .before .before .before .if1 .left)) _ (t .pre .1 .0 .0) (j .roots-of .ensures) (behind (c .before .before .before .before .before .before .before .before) ∙ c .before .before .before .before .before .before .before .before .slashings-reset-core .ensures) (c .before .before .put-closed .ensures)
 
 pub close-passed-spec : {M : Type 1} → statement M
 close-passed-spec =
