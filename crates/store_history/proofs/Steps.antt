@@ -11,13 +11,12 @@ use lib.ListN.{length, take, drop}
 use Rattle.types.specs.declared.Settings.{Settings}
 use Rattle.types.specs.declared.Rules.{Rules}
 use Rattle.definitions.specs.Record.{BeaconState, encode}
-use Rattle.definitions.specs.Checked.{Refusal, badShape, badSettings, numberOf, Checked, value, refused, bind, foldChecked, codeOf}
+use Rattle.definitions.specs.Checked.{Refusal, numberOf, Checked, value, refused, bind, foldChecked, codeOf}
 use Rattle.definitions.specs.Refusals.{inOrder, afterTests, lengthIs, isSmall, registryShaped}
 use Rattle.definitions.specs.Raised.{noneRaised}
 use Rattle.definitions.specs.Rules.{rulesShaped, goodRules}
 use Rattle.definitions.specs.Close.{Step, justificationStep, inactivityStep, rewardsStep, registryStep, slashingsStep, effectiveBalancesStep, slashingsResetStep, participationFlagsStep, steps, step, closeUpTo}
 use Rattle.definitions_close.specs.FullClose.{FullCall, FullOutcome, fullClose}
-use Rattle.definitions_orders.specs.declared.Running.{Running}
 use Rattle.definitions_orders.specs.CloseBySteps.{StepOutcome, saysEnded, hasEnded, inTurn, endedBy, unwritten, closeStep}
 use Rattle.definitions_orders.specs.Orders.{Order, room, ordersShaped, takeOrder, ninthTests, ninthInTurn, untried, carryOut}
 use Rattle.definitions_store.specs.Store.{entries, storeShaped, goodEntries}
@@ -28,7 +27,7 @@ use Rattle.frames.proofs.Frames.{frames}
 use Rattle.refusals.proofs.Laws.{in-order}
 use Rattle.stepwise_theorems.specs.Desk as desk
 use Rattle.stepwise_theorems.specs.Desk.{Desk, Act, stepping, ordering, stepsOf, oneToEight, Gives}
-use Rattle.stepwise_theorems.proofs.Tests.{Passed, full-passed, shaped-as, long-as}
+use Rattle.stepwise_theorems.proofs.Tests.{full-passed, shaped-as, long-as}
 use Rattle.stepwise_theorems.proofs.Turns.{UnderWay, deskAt, On, waiting, onward, ended}
 use Rattle.stepwise_theorems.proofs.Eight.{stopped-done, next, step-on, order-on, eight-on, eight-calls}
 use Rattle.stepwise_theorems.proofs.Nine.{nine-calls}

@@ -5,7 +5,6 @@ use mathlib.Core.List.{List, [], _∷_}
 use Prim.Native.Nat.{ℕ}
 use Rattle.types.specs.declared.Rules.{Rules}
 use Rattle.definitions.specs.Checked.{value}
-use Rattle.definitions_close.specs.FullClose.{fullClose}
 use Rattle.definitions_orders.specs.CloseBySteps.{saysEnded}
 use Rattle.definitions_orders.specs.Orders.{takeOrder, untried}
 use Rattle.definitions_store.specs.Store.{noRules}

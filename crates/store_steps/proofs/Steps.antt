@@ -8,11 +8,11 @@ use lib.Dec.{leb, eqb}
 use Rattle.types.specs.declared.Rules.{Rules}
 use Rattle.definitions.specs.Checked.{Checked}
 use Rattle.definitions_orders.specs.declared.RunningAnswer.{RunningAnswer}
-use Rattle.definitions_orders.specs.CloseBySteps.{saysEnded, inTurn, endedBy, unwritten, closeStep}
+use Rattle.definitions_orders.specs.CloseBySteps.{inTurn, endedBy, unwritten, closeStep}
 use Rattle.definitions_orders.specs.Orders.{carryOut}
 use Rattle.definitions_store.specs.declared.RulesAnswer.{RulesAnswer}
 use Rattle.definitions_store.specs.Store.{rulesAnswerFor}
-use Rattle.definitions_store.specs.StoreClose.{StoreCall, rulesFor}
+use Rattle.definitions_store.specs.StoreClose.{rulesFor}
 use Rattle.definitions_store.specs.StoreSteps.{StoreStepCall, stepBy, stepOf, storeSoFar, storeFound, stepRefused, storeStepBy, storeStep, StoreNinthCall, ninthBy, ninthRules, carryBy, storeCarryOut}
 use Rattle.close_steps.specs.Called.{stepOutcome, endedAnswer}
 use Rattle.orders.specs.Called.{ninthOutcome}

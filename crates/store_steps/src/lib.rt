@@ -80,7 +80,7 @@ fn first_step(
 // A later one, by the epoch of the record so far. Where the store has no rules for it the call alone is turned away.
 fn later_step(
     number: u64,
-    running: Running,
+    so_far: Running,
     store: &[u64],
     count: u64,
     finality: Finality,
@@ -92,13 +92,13 @@ fn later_step(
     closing_slashings: &mut [u64],
     amounts: &mut [u64],
 ) -> RunningAnswer
-    requires { ⌜ 1 ≤ running .done ⌝ }
+    requires { ⌜ 1 ≤ «so_far» .done ⌝ }
     ensures { λ r. ⌜
         stepOutcome r (now («closing_registry» .exit)) (now («closing_slashings» .exit)) (now (amounts .exit))
-        ≡ laterStep (storeStepCalled number running (storeCalled (lent (now (store .entry)) count) finality queue (now (registry .entry)) (now (slashings .entry)) (now (roots .entry)) (now («closing_registry» .entry)) (now («closing_slashings» .entry)) (now (amounts .entry)))) ⌝ }
+        ≡ laterStep (storeStepCalled number «so_far» (storeCalled (lent (now (store .entry)) count) finality queue (now (registry .entry)) (now (slashings .entry)) (now (roots .entry)) (now («closing_registry» .entry)) (now («closing_slashings» .entry)) (now (amounts .entry)))) ⌝ }
 {
-    let so_far = running.answer;
-    let present = so_far.finality;
+    let answer = so_far.answer;
+    let present = answer.finality;
     let found = rules_for(
         store,
         count,
@@ -115,13 +115,13 @@ fn later_step(
         return RunningAnswer {
             refusal,
             ended: 0,
-            running,
+            running: so_far,
         };
     }
     close_step(
         number,
         found.rules,
-        running,
+        so_far,
         finality,
         queue,
         registry,

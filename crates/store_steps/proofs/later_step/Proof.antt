@@ -18,7 +18,7 @@ start c = c .before .before .before .before .before .before .before .before .bef
 abbrev call : tie.After-rules-for → StoreStepCall
 call c =
     let a = start c .args in
-    storeStepCalled (a .number) (a .running) (storeCalled (lent (a .store .now) (a .count)) (a .finality) (a .queue) (a .registry .now) (a .slashings .now) (a .roots .now) (a .closing-registry .now) (a .closing-slashings .now) (a .amounts .now))
+    storeStepCalled (a .number) (a .so-far) (storeCalled (lent (a .store .now) (a .count)) (a .finality) (a .queue) (a .registry .now) (a .slashings .now) (a .roots .now) (a .closing-registry .now) (a .closing-slashings .now) (a .amounts .now))
 
 abbrev soFar : tie.After-rules-for → StoreCall
 soFar c = storeSoFar (call c .running) (call c .whole)
