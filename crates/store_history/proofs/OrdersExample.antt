@@ -25,6 +25,7 @@ use Rattle.exit_epochs.specs.ExitEpochs.{Event, Others, after, standing, met, h
 use Rattle.exit_epochs.proofs.Runs.{follow}
 use Rattle.exit_calls.specs.ExitCalls.{triedBy, ordersMeet}
 use Rattle.store_history.specs.Steps.{act, acts, ninthCall}
+use Rattle.store_history.specs.Demand3.{StoreBySteps}
 use Rattle.store_history.specs.ExitEpochs as called
 use Rattle.store_history.specs.ExitEpochs.{Called, Defined, event}
 use Rattle.store_history.proofs.ExitEpochs.{store-exit-calls}
@@ -119,6 +120,25 @@ pub record Exactly : Type 0 where
 pub exactly : Exactly
 unfolding run eighth ninth carrying
 exactly = record { answers = refl; limits = refl; before = refl; eight = refl; nine = refl }
+
+-- and what demand 3 asks of a close by steps
+pub by-steps : StoreBySteps
+unfolding eighth ninth stepsOf carrying
+by-steps =
+    record {
+      whole = whole;
+      desk = desk;
+      begins = record { done = refl; closingRegistry = refl; closingSlashings = refl; amounts = refl };
+      list = list;
+      turns = refl;
+      eighth = eighth;
+      eight = refl;
+      period = 3;
+      answers = 7 ∷ 7 ∷ 7 ∷ [];
+      ninth = ninth;
+      nine = refl;
+      ended = refl;
+    }
 
 pub claimed : Claim (opening .validators) events
 claimed = store-exit-calls (opening .validators) run premises
