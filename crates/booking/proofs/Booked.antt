@@ -28,17 +28,18 @@ use Rattle.effective_balances.specs.declared.Thresholds.{Thresholds}
 use Rattle.registry.proofs.Epochs.{Epochs}
 use Rattle.survey.specs.declared.Sums.{Sums}
 use Rattle.survey.specs.Sums.{Totals}
-use Rattle.write_pass.specs.declared.Plan.{Plan}
-use Rattle.write_pass.specs.Planned.{scoredBy}
-use Rattle.write_pass.specs.Written.{payOf}
-use Rattle.amounts.specs.Filled.{eightBy, nineBy, Between, Passed, nineAt, Filled}
-use Rattle.write_steps.specs.Numbers.{planOf, leakOf, PlanFor}
+use Rattle.write_turn.specs.declared.Plan.{Plan}
+use Rattle.write_turn.specs.Planned.{scoredBy}
+use Rattle.write_turn.specs.Written.{payOf}
+use Rattle.write_pass.specs.Filled.{eightBy, nineBy, nineAt, Filled}
+use Rattle.write_steps.specs.Numbers.{planOf, leakOf, BookedBy}
+use Rattle.write_steps.specs.RegistrySteps.{registrySteps}
 use Rattle.write_steps.proofs.Leak.{leak-some}
 use Rattle.write_steps.proofs.Kept.{score-keeps, totals-kept}
 use Rattle.write_steps.proofs.Rewards.{scores}
 use Rattle.write_steps.proofs.Steps.{pays}
 use Rattle.booking.specs.StepAmounts.{stepAmounts}
-use Rattle.booking.proofs.Way.{score-kept, updated-long, balance-less}
+use Rattle.booking.proofs.Way.{way, updated-long}
 
 module _ {s : Settings} {slot fin : ℕ} {ys : List ℕ} {vs ws : List Validator} (w : Way s slot fin ys vs ws) where
   -- the nine numbers of the steps
@@ -85,10 +86,6 @@ module _ {s : Settings} {slot fin : ℕ} {ys : List ℕ} {vs ws : List Validator
       paid-at : payOf s plan v ≡ value (getD (w .paid) i nobody)
       paid-at = each-at (payOf s plan) nobody nobody vs paid-all i l
 
-      pub between : Between s plan v (getD ws i nobody)
-      between =
-          record { paid = getD (w .paid) i nobody; pays = paid-at; score = score-kept w i; less = balance-less w i (omega (arith, l, paid-long)) }
-
       eight-first : current ≡ 0 → eightBy s plan v ≡ value (getD (by-rewards w .eights) i [])
       unfolding eightBy bookedByRewards
       eight-first z =
@@ -132,9 +129,6 @@ module _ {s : Settings} {slot fin : ℕ} {ys : List ℕ} {vs ws : List Validator
           (ap (λ (x : ℕ). getD (by-rewards w .eights) i [] ++ (x ∷ [])) (sym (filled-ninth w i l))
           ∙ sym (nine-at (by-rewards w .eights) (by-slashings w .ninths) eights i (omega (arith, l, by-rewards w .long, scored-long))))
 
-    pub passed : Passed s plan vs ws
-    passed = record { at = between }
-
     nine-long : (i : ℕ) → 9 * i + 9 - 9 * i ≡ 9
     nine-long i = omega arith
 
@@ -146,13 +140,9 @@ module _ {s : Settings} {slot fin : ℕ} {ys : List ℕ} {vs ws : List Validator
         (λ i l. ap (λ (k : ℕ). take k (drop (9 * i) xs)) (sym (nine-long i)) ∙ nine i l ∙ nine-is i (omega (arith, l, e)))))
 
 -- By a plan as the code has it
-module _ {s : Settings} {slot fin : ℕ} {ys : List ℕ} (opening closing : List ℕ) (ep : Epochs s slot) (w : Way s slot fin ys (decode opening) (decode closing)) {t : Sums} (totals : Totals s («get_current_epoch» s slot) («get_previous_epoch» s slot) (decode opening) t) {p : Plan} (by : PlanFor s slot fin t ys p) where
-  pub plan-passed : Passed s p (decode opening) (decode closing)
-  plan-passed =
-      subst (λ (k : Plan). Passed s k (decode opening) (decode closing)) (sym (by .makes .is))
-      (passed w ep totals (by .leaking) (by .leak) (p .shared .«per_increment») (p .shared .denominator) (p .product) (by .adjusted) (by .thresholds))
-
-  pub plan-filled : length opening ≡ 10 * (length opening / 10) → {xs : List ℕ} → Filled s p opening closing xs → stepAmounts s slot fin ys (decode opening) ≡ value xs
-  plan-filled long {xs} h =
-      filled w ep totals (by .leaking) (by .leak) (p .shared .«per_increment») (p .shared .denominator) (p .product) (by .adjusted) (by .thresholds) (length opening / 10) (length-decode (length opening / 10) opening long) (h .long)
-      (subst (λ (k : Plan). Filled s k opening closing xs) (by .makes .is) h .nine)
+pub steps-booked : (s : Settings) (slot fin : ℕ) (ys opening closing : List ℕ) → Epochs s slot → length opening ≡ 10 * (length opening / 10) → registrySteps s slot fin ys (decode opening) ≡ value (decode closing) → {xs : List ℕ} → BookedBy s slot fin ys opening closing xs → stepAmounts s slot fin ys (decode opening) ≡ value xs
+steps-booked s slot fin ys opening closing ep long gave {xs} h =
+    let by = h .planned in
+    let p = h .plan in
+    filled (way s slot fin ys (decode opening) gave) ep (h .summed) (by .leaking) (by .leak) (p .shared .«per_increment») (p .shared .denominator) (p .product) (by .adjusted) (by .thresholds) (length opening / 10) (length-decode (length opening / 10) opening long) (h .filled .long)
+    (subst (λ (k : Plan). Filled s k opening closing xs) (by .makes .is) (h .filled) .nine)

@@ -1,5 +1,5 @@
 -- Why what is filled is the amounts.
 mod Way
-mod Booked
 mod Cleared
+pub mod Booked
 pub mod Amounts

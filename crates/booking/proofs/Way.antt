@@ -1,4 +1,4 @@
--- The registry between the steps of an accepted close: what the steps after rewards leave, and the plan's pass as far as rewards.
+-- The registry between the steps of an accepted close.
 use mathlib.Core.Path.{_≡_, refl, sym, ap, subst, _∙_}
 use mathlib.Core.List.{List, map}
 use Prim.Native.Nat.{ℕ, _≤_, _<_}
@@ -42,38 +42,13 @@ way s slot fin ys vs h =
       rotates = value-same (e .then);
     }
 
-abbrev score : Validator → ℕ
-score v = v .«inactivity_score»
-
 abbrev balance : Validator → ℕ
 balance v = v .balance
 
--- by the validator's number
-one-by-one : (f : Validator → ℕ) (vs ws : List Validator) → map f ws ≡ map f vs → (i : ℕ) → f (getD ws i nobody) ≡ f (getD vs i nobody)
-one-by-one f vs ws e i = sym (List·getD-map f ws i nobody) ∙ ap (λ (xs : List ℕ). getD xs i (f nobody)) e ∙ List·getD-map f vs i nobody
-
--- No step after rewards writes the score or raises the balance
+-- No step changes how many validators there are
 module _ {s : Settings} {slot fin : ℕ} {ys : List ℕ} {vs ws : List Validator} (w : Way s slot fin ys vs ws) where
-  -- a field that effective balances and flags leave
-  last-two : (f : Validator → ℕ) → ((v : Validator) → f (withEffectiveBalance 0 v) ≡ f v) → ((v : Validator) → f (withParticipation 0 0 v) ≡ f v) → map f ws ≡ map f (w .lessened)
-  last-two f a b =
-      ap (map f) (sym (w .rotates))
-      ∙ told (withParticipation 0 0) f b (w .balanced) («process_participation_flag_updates» (w .balanced)) (rotation-writes (w .balanced))
-      ∙ told (withEffectiveBalance 0) f a (w .lessened) (w .balanced) (effective-balances-write s (w .lessened) (w .balances))
-
   registered : (f : Validator → ℕ) → ((v : Validator) → f (withoutEpochs v) ≡ f v) → map f (w .updated) ≡ map f (w .paid)
   registered f a = told withoutEpochs f a (w .paid) (w .updated) (registry-writes s slot fin (w .paid) (w .registers))
 
-  pub score-kept : (i : ℕ) → getD ws i nobody .«inactivity_score» ≡ getD (w .paid) i nobody .«inactivity_score»
-  score-kept =
-      one-by-one score (w .paid) ws
-      (last-two score (λ v. refl) (λ v. refl)
-      ∙ told (withBalance 0) score (λ v. refl) (w .updated) (w .lessened) (slashings-write s _ slot ys (w .updated) (w .slashes))
-      ∙ registered score (λ v. refl))
-
   pub updated-long : length (w .updated) ≡ length (w .paid)
   updated-long = sym (length-map (w .updated) balance) ∙ ap length (registered balance (λ v. refl)) ∙ length-map (w .paid) balance
-
-  pub balance-less : (i : ℕ) → i < length (w .paid) → balanceAt ws i ≤ balanceAt (w .paid) i
-  balance-less i l =
-      omega (arith, one-by-one balance (w .lessened) ws (last-two balance (λ v. refl) (λ v. refl)) i, by-slashings w .equal i (omega (arith, l, updated-long)), one-by-one balance (w .paid) (w .updated) (registered balance (λ v. refl)) i)

@@ -43,6 +43,10 @@ bind-refused k e p = record { why = p .why; is = e ∙ rw (p .is); number = p .n
 refusal-is : {r a : CloseAnswer} → r ≡ a → r .refusal ≡ a .refusal
 refusal-is e = ap (λ (b : CloseAnswer). b .refusal) e
 
+pub answered : (q : ℕ) (f : Finality) (raised : Raised) {answer : CloseAnswer} → answer ≡ answerWith q f raised → answer .refusal ≡ q
+unfolding answerWith
+answered q f raised e = refusal-is e
+
 finality-is : {r a : CloseAnswer} → r ≡ a → r .finality ≡ a .finality
 finality-is e = ap (λ (b : CloseAnswer). b .finality) e
 

@@ -10,6 +10,7 @@ ghost use Rattle.definitions.specs.Rules.{altairRules};
 ghost use Rattle.definitions.specs.Close.{close as closeOf};
 ghost use Rattle.selection.specs.Keep.{Blank};
 ghost use Rattle.survey.specs.Found.{Finds};
+ghost use Rattle.write_steps.specs.Numbers.{Books};
 ghost use Rattle.close.specs.Called.{called, outcome};
 ghost use Rattle.close.specs.Worked.{settingsTests, recordTests, totalOf, stateNow, Tested, Worked, StepsClosed, ClosedUnder};
 use buffers::copy;
@@ -131,7 +132,8 @@ fn total_of(sum: u64, over: u64, increment: u64) -> TotalAnswer
     TotalAnswer::Value(total_from(sum, increment))
 }
 
-// The eight steps from the survey: justification, the steps over the registry, the slashings' reset, which is never refused.
+// The eight steps from the survey: justification, the steps over the registry, the slashings' reset, which is never refused. The amounts are
+// booked where a list of nine numbers a validator is lent.
 fn run_steps(
     s: Settings,
     finality: Finality,
@@ -142,11 +144,13 @@ fn run_steps(
     roots: &[u8],
     closing_registry: &mut [u64],
     closing_slashings: &mut [u64],
+    amounts: &mut [u64],
 ) -> CloseAnswer
     requires { ⌜ Tested s finality (now registry) (now slashings) (now roots) ⌝ }
     requires { ⌜ (length (now «closing_registry») ≡ length (now registry)) × (length (now «closing_slashings») ≡ length (now slashings)) ⌝ }
     requires { ⌜ Finds s («get_current_epoch» s (finality .slot)) («get_previous_epoch» s (finality .slot)) (now registry) (now kept) found ⌝ }
     ensures { λ r. ⌜ Worked s (stateNow finality (now (registry .entry)) (now (slashings .entry)) (now (roots .entry))) (now («closing_registry» .exit)) (now («closing_slashings» .exit)) r ⌝ }
+    ensures { λ r. ⌜ Books s (r .finality .slot) (r .finality .«finalized_checkpoint» .epoch) (now (slashings .entry)) (now (registry .entry)) (now («closing_registry» .exit)) (now (amounts .entry)) (now (amounts .exit)) (r .refusal) ⌝ }
 {
     let increment = s.effective_balance_increment;
     let sums = found.sums;
@@ -170,6 +174,7 @@ fn run_steps(
         slashings,
         registry,
         closing_registry,
+        amounts,
     );
     if refusal != 0 {
         return answer_with(refusal, finality, raised);
@@ -194,11 +199,13 @@ pub fn close_surveyed(
     roots: &[u8],
     closing_registry: &mut [u64],
     closing_slashings: &mut [u64],
+    amounts: &mut [u64],
 ) -> CloseAnswer
     requires { ⌜ Tested s finality (now registry) (now slashings) (now roots) ⌝ }
     requires { ⌜ (length (now «closing_registry») ≡ length (now registry)) × (length (now «closing_slashings») ≡ length (now slashings)) ⌝ }
     requires { ⌜ Finds s («get_current_epoch» s (finality .slot)) («get_previous_epoch» s (finality .slot)) (now registry) (now kept) found ⌝ }
     ensures { λ r. ⌜ StepsClosed s (stateNow finality (now (registry .entry)) (now (slashings .entry)) (now (roots .entry))) (now (registry .entry)) (now («closing_registry» .entry)) (now («closing_slashings» .entry)) (now («closing_registry» .exit)) (now («closing_slashings» .exit)) r ⌝ }
+    ensures { λ r. ⌜ Books s (r .finality .slot) (r .finality .«finalized_checkpoint» .epoch) (now (slashings .entry)) (now (registry .entry)) (now («closing_registry» .exit)) (now (amounts .entry)) (now (amounts .exit)) (r .refusal) ⌝ }
 {
     let answer = run_steps(
         s,
@@ -210,6 +217,7 @@ pub fn close_surveyed(
         roots,
         closing_registry,
         closing_slashings,
+        amounts,
     );
     if answer.refusal == 0 {
         return answer;
@@ -247,6 +255,7 @@ fn close_tested(
             raised: none_raised(),
         };
     }
+    let mut unbooked = [0u64; 1];
     close_surveyed(
         s,
         finality,
@@ -257,6 +266,7 @@ fn close_tested(
         roots,
         closing_registry,
         closing_slashings,
+        &mut unbooked[0..0],
     )
 }
 

@@ -13,7 +13,6 @@ use Rattle.definitions.specs.Record.{Validator, BeaconState, encode, decode}
 use Rattle.definitions.specs.Checked.{Checked, value, bind, codeOf, settle}
 use Rattle.definitions.specs.Refusals.{closingBuffer}
 use Rattle.definitions.specs.ExitQueue.{queueOf}
-use Rattle.definitions.specs.Rust.Phase0.Helpers.{«get_current_epoch», «get_previous_epoch»}
 use Rattle.definitions.specs.Close.{«process_epoch»}
 use Rattle.definitions_amounts.specs.Amounts.{amounts, closingAmounts}
 use Rattle.definitions_amounts.specs.FinalizingTest.{finalizingTest}
@@ -21,14 +20,10 @@ use Rattle.definitions_close.specs.FullClose.{closingQueue}
 use Rattle.laws.proofs.Encode.{decode-encode}
 use Rattle.loops.proofs.Ran.{code-value}
 use Rattle.registry.proofs.Epochs.{Epochs}
-use Rattle.survey.specs.declared.Findings.{Findings}
-use Rattle.survey.specs.Sums.{PlainSums}
-use Rattle.survey.specs.Found.{Finds}
-use Rattle.survey.proofs.Found.{plain-sums}
 use Rattle.write_steps.specs.RegistrySteps.{registrySteps}
-use Rattle.write_steps.proofs.Accepted.{accepted as steps-accepted}
-use Rattle.write_steps.proofs.Made.{plain-fit}
+use Rattle.write_steps.specs.Numbers.{BookedBy}
 use Rattle.booking.specs.StepAmounts.{stepAmounts}
+use Rattle.booking.proofs.Booked.{steps-booked}
 use Rattle.booking.proofs.Amounts.{amounts-are}
 use Rattle.close.specs.Worked.{StepsClosed}
 use Rattle.close.proofs.Worked.{code-refused}
@@ -74,18 +69,18 @@ module _ {s : Settings} {st : BeaconState} {opening lent lentSlashings closing c
     steps-gave =
         subst (λ (f : Finality). registrySteps s (f .slot) (f .«finalized_checkpoint» .epoch) (st .slashings) (st .validators) ≡ value (decode closing)) (sym (w .finality)) (did .steps ∙ ap value (sym closing-is))
 
-    -- the survey's sums are plain sums
-    pub sums-gave : Epochs s (st .finality .slot) → {registry kept : List ℕ} {found : Findings} → Finds s («get_current_epoch» s (st .finality .slot)) («get_previous_epoch» s (st .finality .slot)) registry kept found → st .validators ≡ decode registry → PlainSums («get_current_epoch» s (r .finality .slot)) («get_previous_epoch» s (r .finality .slot)) (decode registry) (found .sums)
-    sums-gave ep {registry} {kept} {found} h e =
+    -- what was booked, by the registry xs that was lent
+    pub booked-gave : Epochs s (st .finality .slot) → (xs : List ℕ) → st .validators ≡ decode xs → length xs ≡ 10 * (length xs / 10) → {filled : List ℕ} → BookedBy s (r .finality .slot) (r .finality .«finalized_checkpoint» .epoch) (st .slashings) xs closing filled → amounts s st ≡ value filled
+    booked-gave ep xs e long {filled} h =
+        let slot = r .finality .slot in
         let fin = r .finality .«finalized_checkpoint» .epoch in
-        let steps = subst (λ (vs : List Validator). registrySteps s (st .finality .slot) fin (st .slashings) vs ≡ value (decode closing)) e (subst (λ (x : ℕ). registrySteps s x fin (st .slashings) (st .validators) ≡ value (decode closing)) slot-same steps-gave) in
-        let fit = plain-fit h (steps-accepted s (st .finality .slot) fin ep (st .slashings) (decode registry) steps .plain) in
-        subst (λ (x : ℕ). PlainSums («get_current_epoch» s x) («get_previous_epoch» s x) (decode registry) (found .sums)) (sym slot-same) (plain-sums h fit)
+        let steps = subst (λ (vs : List Validator). registrySteps s slot fin (st .slashings) vs ≡ value (decode closing)) e steps-gave in
+        let booked = steps-booked s slot fin (st .slashings) xs closing (subst (Epochs s) (sym slot-same) ep) long steps h in
+        amounts-are s st (did .justified ∙ ap value (sym (w .finality))) (subst (λ (vs : List Validator). stepAmounts s slot fin (st .slashings) vs ≡ value filled) (sym e) booked)
 
-    pub full-accepted : {q : ExitQueue} {lentAmounts filled : List ℕ} {answer : FullAnswer} → answer .refusal ≡ 0 → answer .finality ≡ r .finality → answer .queue ≡ queueOf (decode closing) → answer .raised ≡ r .raised → answer .test ≡ finalizingTest s (st .finality) (value (r .finality)) → stepAmounts s (r .finality .slot) (r .finality .«finalized_checkpoint» .epoch) (st .slashings) (st .validators) ≡ value filled → FullWorked s st q opening lent lentSlashings lentAmounts closing closingSlashings filled answer
+    pub full-accepted : {q : ExitQueue} {lentAmounts filled : List ℕ} {answer : FullAnswer} → answer .refusal ≡ 0 → answer .finality ≡ r .finality → answer .queue ≡ queueOf (decode closing) → answer .raised ≡ r .raised → answer .test ≡ finalizingTest s (st .finality) (value (r .finality)) → amounts s st ≡ value filled → FullWorked s st q opening lent lentSlashings lentAmounts closing closingSlashings filled answer
     unfolding closingQueue closingAmounts closingBuffer bind
-    full-accepted number same pair flags test booked =
-        let are = amounts-are s st (did .justified ∙ ap value (sym (w .finality))) booked in
+    full-accepted number same pair flags test are =
         record {
           code = number ∙ sym z ∙ w .code;
           finality = same ∙ w .finality;

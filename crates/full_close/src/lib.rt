@@ -11,7 +11,6 @@ ghost use Rattle.survey.specs.Found.{Finds};
 ghost use Rattle.close.specs.Worked.{stateNow, Tested};
 ghost use Rattle.full_close.specs.Called.{fullCalled, fullOutcome, unclosed as unclosedAnswer};
 ghost use Rattle.full_close.specs.Worked.{FullWorked, FullUnder};
-use booking::book;
 use booking::clear_amounts;
 use close::close_surveyed;
 use close::record_tests;
@@ -82,6 +81,7 @@ fn full_surveyed(
         roots,
         closing_registry,
         closing_slashings,
+        amounts,
     );
     let closed = answer.finality;
     let raised = answer.raised;
@@ -95,18 +95,6 @@ fn full_surveyed(
             test: 0,
         };
     }
-    let finalized = closed.finalized_checkpoint;
-    let sums = found.sums;
-    book(
-        s,
-        closed.slot,
-        finalized.epoch,
-        sums,
-        slashings,
-        registry,
-        closing_registry,
-        amounts,
-    );
     let after = queue_of(closing_registry);
     let test = finalizing_test(s, finality, closed);
     FullAnswer {

@@ -1,4 +1,4 @@
-// One validator's turn of process_registry_updates: eligibility and ejection. registry_step and write_pass run it over the registry.
+// One validator's turn of process_registry_updates: eligibility and ejection. registry_step and write_turn run it over the registry.
 ghost use mathlib.Core.Path.{_≡_};
 ghost use Prim.Native.Nat.{_^_, _<_};
 ghost use lib.ListN.{length};

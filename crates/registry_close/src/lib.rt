@@ -59,6 +59,7 @@ fn run_steps(
     let weighed = justified.finality;
     let raised = justified.raised;
     let finalized = weighed.finalized_checkpoint;
+    let mut unbooked = [0u64; 1];
     let refusal = write_registry(
         s,
         weighed.slot,
@@ -68,6 +69,7 @@ fn run_steps(
         slashings,
         registry,
         closing_registry,
+        &mut unbooked[0..0],
     );
     if refusal != 0 {
         return answer_with(refusal, finality, raised);

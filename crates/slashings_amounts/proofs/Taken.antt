@@ -16,8 +16,8 @@ use Rattle.laws.proofs.Checked.{value-same, number-not-zero}
 use Rattle.laws.proofs.Encode.{length-encode, length-decode, decode-encode}
 use Rattle.loops.specs.Ran.{Ran}
 use Rattle.loops.proofs.Entry.{number-at}
-use Rattle.amounts.specs.Filled.{nineAt}
-use Rattle.amounts.proofs.Nine.{putNine, nine-nine, nine-same, nine-other}
+use Rattle.write_pass.specs.Filled.{nineAt, putNine}
+use Rattle.write_pass.proofs.Nine.{nine-nine, nine-same, nine-other}
 use Rattle.amounts_theorems.specs.Laws.{balanceAt}
 use Rattle.amounts_theorems.proofs.Nines.{Eights, nine-at, nines-long, nine-ext, first-eight, last}
 use Rattle.amounts_theorems.proofs.Slashed.{Slashed, slashed}

@@ -10,7 +10,7 @@ use Rattle.definitions.specs.Rust.Altair.EpochProcessing.{«process_slashings»
 use Rattle.definitions_amounts.specs.Amounts.{takenBySlashings, nines}
 use Rattle.definitions_orders.specs.CloseBySteps.{eights}
 use Rattle.loops.specs.Ran.{Ran}
-use Rattle.amounts.specs.Filled.{nineAt}
+use Rattle.write_pass.specs.Filled.{nineAt}
 
 pub record SlashingsBooked (s : Settings) (multiplier stateSlot : ℕ) (slashings before after lent amounts : List ℕ) (r : ℕ) : Type 0 where
   pub ran : Ran («process_slashings» s multiplier stateSlot slashings (decode before)) after r

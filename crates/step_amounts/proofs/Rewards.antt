@@ -31,10 +31,10 @@ use Rattle.reward_balances.specs.Balances.{appliedBalance, rewardedBalance}
 use Rattle.reward_balances.proofs.Only.{only-flag, only-penalty}
 use Rattle.reward_balances.proofs.Rewarded.{rewarded, not-rewarded, put-balance}
 use Rattle.flag_rewards.specs.Totals.{flagTotalsOf}
-use Rattle.amounts.specs.declared.Pairs.{Pairs}
-use Rattle.amounts.specs.Filled.{four, left, Fits, nineAt}
-use Rattle.amounts.proofs.Booked.{Applied, applied}
-use Rattle.amounts.proofs.Nine.{putNine, nine-nine, nine-same, nine-other}
+use Rattle.write_pass.specs.declared.Pairs.{Pairs}
+use Rattle.write_pass.specs.Filled.{four, left, Fits, nineAt, putNine}
+use Rattle.write_pass.proofs.Booked.{Applied, applied}
+use Rattle.write_pass.proofs.Nine.{nine-nine, nine-same, nine-other}
 use Rattle.amounts_theorems.proofs.Lists.{each-length, each-at, at-map}
 use Rattle.amounts_theorems.proofs.Nines.{Eights, nine-at, nines-long, nine-ext}
 use Rattle.step_amounts.specs.declared.PairsAnswer.the-variants.{Value, Refused}

@@ -11,8 +11,8 @@ use Rattle.definitions.specs.Rust.Altair.Helpers.{FlagTotals, flagIndexDeltas, 
 use Rattle.definitions.specs.Rust.Altair.EpochProcessing.{«process_rewards_and_penalties»}
 use Rattle.definitions_amounts.specs.Amounts.{pairs, booked, bookedByRewards, nines}
 use Rattle.loops.specs.Ran.{Settles, Ran}
-use Rattle.amounts.specs.declared.Pairs.{Pairs}
-use Rattle.amounts.specs.Filled.{nineAt}
+use Rattle.write_pass.specs.declared.Pairs.{Pairs}
+use Rattle.write_pass.specs.Filled.{nineAt}
 use Rattle.step_amounts.specs.declared.PairsAnswer.{PairsAnswer}
 use Rattle.step_amounts.specs.declared.PairsAnswer.the-variants.{Value, Refused}
 

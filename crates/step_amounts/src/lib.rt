@@ -11,8 +11,6 @@ ghost use Rattle.definitions.specs.Rust.Altair.EpochProcessing.{rewardAndPenali
 ghost use Rattle.rewards.specs.Shared.{SharedBy, totalsOf};
 ghost use Rattle.flag_rewards.specs.Totals.{flagTotalsOf};
 ghost use Rattle.step_amounts.specs.Booked.{SaysPairs, fourOf, eightOf, BooksEntry, BooksAll, RewardsBooked};
-use amounts::Pairs;
-use amounts::put_amounts;
 use arithmetic::mul64;
 use base_rewards::entry_base_reward;
 use finality::inactivity_leak;
@@ -29,6 +27,8 @@ use types::DeltasAnswer;
 use types::Number;
 use types::Settings;
 use types::Truth;
+use write_pass::Pairs;
+use write_pass::put_amounts;
 
 pub enum PairsAnswer {
     Value(Pairs),

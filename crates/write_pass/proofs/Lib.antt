@@ -1,4 +1,6 @@
--- The functions on one entry, and the loop.
-mod Copied
-mod Entry
+-- The nine numbers of one validator, and the loop over all.
+pub mod Nine
+mod Scored
+pub mod Booked
+mod Between
 mod Loop

@@ -1,3 +1,2 @@
 -- What the contracts cite.
-pub mod Planned
-pub mod Written
+pub mod Filled

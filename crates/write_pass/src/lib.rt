@@ -1,223 +1,263 @@
-// The closing registry in one pass over the opening one: for each validator its ten numbers are copied, and then the entry functions of the
-// six steps run on them in place, in order. The exit queue's pair, what is left of the cut's quota, and the amounts of the last two
-// effective balances are carried along. What stood in the closing registry does not matter.
+// The closing registry and the amounts (R-4) in one pass over the opening one. A validator's nine numbers are booked after its turn, from its
+// opening and closing numbers and the rates that its turn found: no step before rewards writes what they read but the score, which is the
+// closing one, and what slashing took is what the balance after the four pairs is above the closing one.
 ghost use mathlib.Core.Path.{_≡_};
-ghost use Prim.Native.Nat.{_*_, _/_, _^_, _<_, _≤_};
-ghost use lib.ListN.{length};
-ghost use Rattle.definitions.specs.Record.{decode};
+ghost use mathlib.Core.List.{[], _∷_, _++_};
+ghost use Prim.Native.Nat.{_+_, _-_, _*_, _/_, _^_, _≤_, _<_};
+ghost use lib.ListN.{length, getD};
+ghost use Rattle.definitions.specs.Record.{decodeOne, decode};
+ghost use Rattle.definitions_amounts.specs.Amounts.{booked};
+ghost use Rattle.definitions.specs.Checked.{mul64};
+ghost use Rattle.definitions.specs.Answers.{Says};
 ghost use Rattle.loops.specs.Ran.{Ran};
-ghost use Rattle.sweeps.specs.Runs.{Runs};
+ghost use Rattle.rates.specs.Rated.{Most, Fits as FitsRates};
 ghost use Rattle.sweeps.specs.Sweep.{sweep, dropped};
-ghost use Rattle.write_pass.specs.Planned.{Planned, lastBy};
-ghost use Rattle.write_pass.specs.Written.{MemoFor, Pays, writtenWith, Moves, Writes};
-use activation::admit_entry;
-use effective_balances::entry_update;
-use inactivity::entry_update_score;
-use participation_flags::entry_rotate;
-use rates::Memo;
-use rates::entry_reward_by;
+ghost use Rattle.write_turn.specs.Planned.{Planned};
+ghost use Rattle.write_turn.specs.Written.{RatesFor, writtenWith};
+ghost use Rattle.write_pass.specs.Filled.{Given, flagAnswer, Charges, Gives, Books, four, left, Fits, nineBy, Between, PutAt, Fills};
+use entries::entry_is_eligible;
+use entries::entry_is_participating;
+use rates::Amount;
+use rates::Rates;
 use rates::no_memo;
-use rates::rates_for;
-use registry::update_entry;
-use rewards::Shared;
-use slashings::entry_slash;
+use types::Deltas;
 use types::ExitQueue;
 use types::Number;
 use types::Settings;
+use write_turn::Course;
+use write_turn::Plan;
+use write_turn::write_entry;
 
-// The numbers that all validators share. Of rewards: the increments of the three flags' participants, and the bias times the quotient. Of
-// slashings: the adjusted balance. Of effective balances: the thresholds.
-pub struct Plan {
-    pub shared: Shared,
-    pub source: u64,
-    pub target: u64,
-    pub head: u64,
-    pub quotient: u64,
-    pub product: Number,
-    pub adjusted: u64,
-    pub downward: u64,
-    pub upward: u64,
+// The four pairs of a validator.
+pub struct Pairs {
+    pub source: Deltas,
+    pub target: Deltas,
+    pub head: Deltas,
+    pub inactivity: Deltas,
 }
 
-// Of the registry's step: the churn limit, the cut of the activation queue, and the epoch that it gives.
-pub struct Course {
-    pub limit: u64,
-    pub finalized_epoch: u64,
-    pub bound: u64,
-    pub activation_epoch: u64,
-}
-
-struct Paid {
-    refusal: u64,
-    memo: Memo,
-}
-
-struct Moved {
-    refusal: u64,
-    queue: ExitQueue,
+// What a penalty took, and what it left.
+struct Booking {
+    taken: u64,
     left: u64,
 }
 
-struct Written {
-    refusal: u64,
-    queue: ExitQueue,
-    left: u64,
-    memo: Memo,
-}
-
-// The ten numbers of one validator.
-fn copy_entry(from: &[u64], to: &mut [u64])
-    requires { ⌜ (length (now from) ≡ 10) × (length (now to) ≡ 10) ⌝ }
-    ensures { λ _. ⌜ now (to .exit) ≡ now (from .entry) ⌝ }
+// For a flag. Of an accepted close every amount that is wanted is a number.
+fn flag_pair(eligible: bool, hit: bool, reward: Amount, penalty: Amount) -> Deltas
+    ensures { λ r. ⌜ Given (flagAnswer eligible hit reward penalty) r ⌝ }
 {
-    to[0] = from[0];
-    to[1] = from[1];
-    to[2] = from[2];
-    to[3] = from[3];
-    to[4] = from[4];
-    to[5] = from[5];
-    to[6] = from[6];
-    to[7] = from[7];
-    to[8] = from[8];
-    to[9] = from[9];
+    if !eligible {
+        return Deltas {
+            reward: 0,
+            penalty: 0,
+        };
+    }
+    if hit {
+        return Deltas {
+            reward: reward.value,
+            penalty: 0,
+        };
+    }
+    Deltas {
+        reward: 0,
+        penalty: penalty.value,
+    }
 }
 
-// The score first, which the inactivity penalty reads. Neither at the genesis epoch.
-fn entry_pay(s: Settings, p: Plan, carried: Memo, entry: &mut [u64]) -> Paid
+// For inactivity, where an eligible validator missed the target. A score of 0 costs no division.
+fn charge(
+    bias: u64,
+    quotient: u64,
+    product: Number,
+    eligible: bool,
+    hit: bool,
+    balance: u64,
+    most_score: u64,
+    score: u64,
+) -> u64
+    requires { ⌜ (0 < bias) × (0 < quotient) ⌝ }
+    requires { ⌜ Says (mul64 bias quotient) product ⌝ }
+    requires { ⌜ Most balance «most_score» ⌝ }
+    ensures { λ r. ⌜ Charges bias quotient eligible hit balance score r ⌝ }
+{
+    if !eligible {
+        return 0;
+    }
+    if hit {
+        return 0;
+    }
+    let Number::Value(denominator) = product else {
+        return 0;
+    };
+    if score == 0 {
+        return 0;
+    }
+    if most_score < score {
+        return 0;
+    }
+    let penalty = balance * score / denominator;
+    penalty
+}
+
+fn pairs_by(s: Settings, p: Plan, rates: Rates, score: u64, entry: &[u64]) -> Pairs
     requires { ⌜ Planned s p ⌝ }
     requires { ⌜ length (now entry) ≡ 10 ⌝ }
-    requires { ⌜ MemoFor s p carried ⌝ }
-    ensures { λ r. ⌜ Pays s p (now (entry .entry)) (now (entry .exit)) r ⌝ }
+    requires { ⌜ FitsRates s (p .shared) (p .source) (p .target) (p .head) rates ⌝ }
+    requires { ⌜ rates .«effective_balance» ≡ getD (now entry) 0 0 ⌝ }
+    ensures { λ r. ⌜ Gives s p score (decodeOne (now (entry .entry))) r ⌝ }
+{
+    let h = p.shared;
+    let eligible = entry_is_eligible(h.previous_epoch, entry);
+    let source_is = entry_is_participating(h.current_epoch, 0, h.previous_epoch, entry);
+    let target_is = entry_is_participating(h.current_epoch, 1, h.previous_epoch, entry);
+    let head_is = entry_is_participating(h.current_epoch, 2, h.previous_epoch, entry);
+    let source = flag_pair(
+        eligible,
+        source_is,
+        rates.source_reward,
+        rates.source_penalty,
+    );
+    let target = flag_pair(
+        eligible,
+        target_is,
+        rates.target_reward,
+        rates.target_penalty,
+    );
+    let head = flag_pair(eligible, head_is, rates.head_reward, rates.head_penalty);
+    let product = p.product;
+    let charged = charge(
+        s.inactivity_score_bias,
+        p.quotient,
+        product,
+        eligible,
+        target_is,
+        rates.effective_balance,
+        rates.most_score,
+        score,
+    );
+    let inactivity = Deltas {
+        reward: 0,
+        penalty: charged,
+    };
+    Pairs {
+        source: source,
+        target: target,
+        head: head,
+        inactivity: inactivity,
+    }
+}
+
+// A reward, then its penalty as far as there is balance.
+fn book(balance: u64, deltas: Deltas) -> Booking
+    requires { ⌜ balance + deltas .reward < 2 ^ 64 ⌝ }
+    ensures { λ r. ⌜ Books balance deltas r ⌝ }
+{
+    let raised = balance + deltas.reward;
+    let penalty = deltas.penalty;
+    if raised < penalty {
+        return Booking {
+            taken: raised,
+            left: 0,
+        };
+    }
+    Booking {
+        taken: penalty,
+        left: raised - penalty,
+    }
+}
+
+fn put_nine(
+    a: u64,
+    b: u64,
+    c: u64,
+    d: u64,
+    e: u64,
+    f: u64,
+    g: u64,
+    h: u64,
+    i: u64,
+    nine: &mut [u64],
+)
+    requires { ⌜ length (now nine) ≡ 9 ⌝ }
+    ensures { λ _. ⌜ now (nine .exit) ≡ a ∷ b ∷ c ∷ d ∷ e ∷ f ∷ g ∷ h ∷ i ∷ [] ⌝ }
+{
+    nine[0] = a;
+    nine[1] = b;
+    nine[2] = c;
+    nine[3] = d;
+    nine[4] = e;
+    nine[5] = f;
+    nine[6] = g;
+    nine[7] = h;
+    nine[8] = i;
+}
+
+// Pair by pair, and what slashing took down to the closing balance.
+pub fn put_amounts(r: Pairs, balance: u64, closing_balance: u64, nine: &mut [u64])
+    requires { ⌜ length (now nine) ≡ 9 ⌝ }
+    requires { ⌜ Fits balance (four r) × («closing_balance» ≤ left balance (four r)) ⌝ }
+    ensures { λ _. ⌜ now (nine .exit) ≡ booked balance (four r) ++ ((left balance (four r) - «closing_balance») ∷ []) ⌝ }
+{
+    let a = r.source;
+    let first = book(balance, a);
+    let b = r.target;
+    let second = book(first.left, b);
+    let c = r.head;
+    let third = book(second.left, c);
+    let d = r.inactivity;
+    let fourth = book(third.left, d);
+    put_nine(
+        a.reward,
+        first.taken,
+        b.reward,
+        second.taken,
+        c.reward,
+        third.taken,
+        d.reward,
+        fourth.taken,
+        fourth.left - closing_balance,
+        nine,
+    )
+}
+
+fn fill_entry(s: Settings, p: Plan, rates: Rates, from: &[u64], to: &[u64], nine: &mut [u64])
+    requires { ⌜ Planned s p ⌝ }
+    requires { ⌜ RatesFor s p (getD (now from) 0 0) rates ⌝ }
+    requires { ⌜ (length (now from) ≡ 10) × (length (now to) ≡ 10) × (length (now nine) ≡ 9) ⌝ }
+    requires { ⌜ Between s p (decodeOne (now from)) (decodeOne (now to)) ⌝ }
+    ensures { λ _. ⌜ now (nine .exit) ≡ nineBy s p (decodeOne (now (from .entry))) (decodeOne (now (to .entry))) ⌝ }
 {
     let h = p.shared;
     if h.current_epoch == 0 {
-        return Paid {
-            refusal: 0,
-            memo: carried,
-        };
+        put_nine(0, 0, 0, 0, 0, 0, 0, 0, from[6] - to[6], nine);
+        return;
     }
-    let scored = entry_update_score(s, h.current_epoch, h.previous_epoch, h.leaking, entry);
-    if scored != 0 {
-        return Paid {
-            refusal: scored,
-            memo: carried,
-        };
-    }
-    let balance = entry[0];
-    let memo = rates_for(s, h, p.source, p.target, p.head, carried, balance);
-    let rates = memo.last;
-    let product = p.product;
-    let refusal = entry_reward_by(
-        s,
-        h,
-        p.source,
-        p.target,
-        p.head,
-        rates,
-        p.quotient,
-        product,
-        entry,
-    );
-    Paid {
-        refusal: refusal,
-        memo: memo,
-    }
+    let pairs = pairs_by(s, p, rates, to[9], from);
+    put_amounts(pairs, from[6], to[6], nine)
 }
 
-// Eligibility, ejection and activation.
-fn entry_move(
-    s: Settings,
-    epoch: u64,
-    t: Course,
-    queue: ExitQueue,
-    left: u64,
-    entry: &mut [u64],
-) -> Moved
-    requires { ⌜ (length (now entry) ≡ 10) × (epoch < 2 ^ 48) × (queue .number < 18446744073709551615) ⌝ }
-    ensures { λ r. ⌜ Moves s epoch t queue left (now (entry .entry)) (now (entry .exit)) r ⌝ }
-{
-    let turn = update_entry(s, epoch, t.limit, queue, entry);
-    let refusal = turn.refusal;
-    if refusal != 0 {
-        return Moved {
-            refusal: refusal,
-            queue: queue,
-            left: left,
-        };
-    }
-    let next = turn.queue;
-    let rest = admit_entry(entry, t.finalized_epoch, t.bound, left, t.activation_epoch);
-    Moved {
-        refusal: 0,
-        queue: next,
-        left: rest,
-    }
-}
-
-// Slashings, effective balance and flags.
-fn entry_finish(s: Settings, p: Plan, entry: &mut [u64]) -> u64
-    requires { ⌜ Planned s p ⌝ }
-    requires { ⌜ length (now entry) ≡ 10 ⌝ }
-    ensures { λ r. ⌜ Runs (lastBy s p) (now (entry .entry)) (now (entry .exit)) r ⌝ }
-{
-    let h = p.shared;
-    let slashed = entry_slash(s, h.current_epoch, h.total, p.adjusted, entry);
-    if slashed != 0 {
-        return slashed;
-    }
-    let updated = entry_update(s, p.downward, p.upward, entry);
-    if updated != 0 {
-        return updated;
-    }
-    entry_rotate(entry);
-    0
-}
-
-fn write_entry(
+// Of the validator with the number i. A list that has no room for its nine numbers is left: a close without amounts lends an empty one.
+fn book_entry(
     s: Settings,
     p: Plan,
-    t: Course,
-    queue: ExitQueue,
-    left: u64,
-    carried: Memo,
+    rates: Rates,
+    i: usize,
     from: &[u64],
-    to: &mut [u64],
-) -> Written
+    to: &[u64],
+    amounts: &mut [u64],
+)
     requires { ⌜ Planned s p ⌝ }
-    requires { ⌜ MemoFor s p carried ⌝ }
-    requires { ⌜ (length (now from) ≡ 10) × (length (now to) ≡ 10) ⌝ }
-    requires { ⌜ (p .shared .«current_epoch» < 2 ^ 48) × (queue .number < 18446744073709551615) ⌝ }
-    ensures { λ r. ⌜ Writes s p t queue left (now (from .entry)) (now (to .exit)) r ⌝ }
+    requires { ⌜ RatesFor s p (getD (now from) 0 0) rates ⌝ }
+    requires { ⌜ (length (now from) ≡ 10) × (length (now to) ≡ 10) × (10 * i < 1152921504606846976) ⌝ }
+    requires { ⌜ Between s p (decodeOne (now from)) (decodeOne (now to)) ⌝ }
+    ensures { λ _. ⌜ PutAt i (nineBy s p (decodeOne (now (from .entry))) (decodeOne (now (to .entry)))) (now (amounts .entry)) (now (amounts .exit)) ⌝ }
 {
-    copy_entry(from, to);
-    let paid = entry_pay(s, p, carried, to);
-    let memo = paid.memo;
-    if paid.refusal != 0 {
-        return Written {
-            refusal: paid.refusal,
-            queue: queue,
-            left: left,
-            memo: memo,
-        };
+    let a = 9 * i;
+    let b = a + 9;
+    if amounts.len() < b {
+        return;
     }
-    let h = p.shared;
-    let moved = entry_move(s, h.current_epoch, t, queue, left, to);
-    let next = moved.queue;
-    if moved.refusal != 0 {
-        return Written {
-            refusal: moved.refusal,
-            queue: next,
-            left: moved.left,
-            memo: memo,
-        };
-    }
-    let refusal = entry_finish(s, p, to);
-    Written {
-        refusal: refusal,
-        queue: next,
-        left: moved.left,
-        memo: memo,
-    }
+    fill_entry(s, p, rates, from, to, &mut amounts[a..b])
 }
 
 // From the exit queue's pair and the cut's quota. It stops at the first refusal, and the caller puts the opening back.
@@ -229,11 +269,13 @@ pub fn write_all(
     quota: u64,
     opening: &[u64],
     closing: &mut [u64],
+    amounts: &mut [u64],
 ) -> u64
     requires { ⌜ Planned s p ⌝ }
     requires { ⌜ (length (now opening) ≡ 10 * (length (now opening) / 10)) × (length (now closing) ≡ length (now opening)) ⌝ }
     requires { ⌜ (p .shared .«current_epoch» < 2 ^ 48) × (first .number ≤ length (now opening)) ⌝ }
     ensures { λ r. ⌜ Ran (dropped (sweep (writtenWith s p t) (first, quota) (decode (now (opening .entry))))) (now (closing .exit)) r ⌝ }
+    ensures { λ r. ⌜ Fills s p (now (opening .entry)) (now (closing .exit)) (now (amounts .entry)) (now (amounts .exit)) r ⌝ }
 {
     let n = opening.len() / 10;
     let mut queue = first;
@@ -259,6 +301,8 @@ pub fn write_all(
         queue = written.queue;
         left = written.left;
         memo = written.memo;
+        let rates = memo.last;
+        book_entry(s, p, rates, i, &opening[a..b], &closing[a..b], amounts);
     }
     0
 }

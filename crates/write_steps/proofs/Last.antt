@@ -17,7 +17,7 @@ use Rattle.effective_balances.specs.Thresholds.{thresholdsOf}
 use Rattle.effective_balances.proofs.Step.{only-thresholds, updates-by}
 use Rattle.sweeps.specs.Runs.{both}
 use Rattle.sweeps.proofs.Pure.{only-map, map-value, refused-after, fused}
-use Rattle.write_pass.specs.Planned.{lastOf}
+use Rattle.write_turn.specs.Planned.{lastOf}
 use Rattle.write_steps.specs.RegistrySteps.{lastSteps}
 use Rattle.write_steps.proofs.Only.{only-slash, only-update}
 

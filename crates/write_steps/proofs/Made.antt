@@ -28,7 +28,7 @@ use Rattle.survey.specs.Sums.{balanceOf, PlainSums, raisedTo}
 use Rattle.survey.specs.Found.{PlainSum, Finds, allFit}
 use Rattle.survey.proofs.Raised.{raised-totals}
 use Rattle.survey.proofs.Found.{plain-sums}
-use Rattle.write_pass.specs.declared.Plan.{Plan}
+use Rattle.write_turn.specs.declared.Plan.{Plan}
 use Rattle.write_steps.specs.declared.PlanAnswer.the-variants.{Value, Refused}
 use Rattle.write_steps.specs.Numbers.{leakOf, Makes, PlanFor, Lacks, Plans, Found}
 

@@ -22,9 +22,9 @@ use Rattle.types.specs.declared.ExitQueue.{ExitQueue}
 use Rattle.exit_queue.specs.Queue.{exitBy}
 use Rattle.exit_queue.proofs.Exits.{only-nextEpoch}
 use Rattle.registry.specs.Updates.{turnBy}
-use Rattle.write_pass.specs.declared.Plan.{Plan}
-use Rattle.write_pass.specs.Planned.{lastBy}
-use Rattle.write_pass.specs.Written.{payOf, turnWith}
+use Rattle.write_turn.specs.declared.Plan.{Plan}
+use Rattle.write_turn.specs.Planned.{lastBy}
+use Rattle.write_turn.specs.Written.{payOf, turnWith}
 use Rattle.write_steps.specs.Numbers.{leakOf}
 
 -- scores and rewards

@@ -17,10 +17,10 @@ use Rattle.sweeps.specs.Sweep.{Moved, sweep, last, dropped}
 use Rattle.sweeps.proofs.Fused.{swept-first}
 use Rattle.sweeps.proofs.Follows.{followed}
 use Rattle.arithmetic.proofs.Operations.{only-value, only-bind}
-use Rattle.write_pass.specs.declared.Plan.{Plan}
-use Rattle.write_pass.specs.Planned.{lastBy}
-use Rattle.write_pass.specs.declared.Course.{Course}
-use Rattle.write_pass.specs.Written.{payOf, moveWith, writtenWith}
+use Rattle.write_turn.specs.declared.Plan.{Plan}
+use Rattle.write_turn.specs.Planned.{lastBy}
+use Rattle.write_turn.specs.declared.Course.{Course}
+use Rattle.write_turn.specs.Written.{payOf, moveWith, writtenWith}
 use Rattle.write_steps.proofs.Only.{only-pay, only-last}
 use Rattle.write_steps.proofs.Passes.{turns, admits, moved-last, only-move, turns-follow}
 use Rattle.write_steps.proofs.Kept.{kept-map}

@@ -23,10 +23,10 @@ use Rattle.registry.proofs.Turns.{turn-tracked, turn-keeps}
 use Rattle.sweeps.specs.Sweep.{Moved, sweep, after, last, dropped}
 use Rattle.sweeps.proofs.Fused.{swept-both, swept-first, swept-last, paired, keeping}
 use Rattle.sweeps.proofs.Follows.{Follows, followed}
-use Rattle.write_pass.specs.declared.Plan.{Plan}
-use Rattle.write_pass.specs.Planned.{lastBy}
-use Rattle.write_pass.specs.declared.Course.{Course}
-use Rattle.write_pass.specs.Written.{payOf, turnWith, admitWith, moveWith, writtenWith}
+use Rattle.write_turn.specs.declared.Plan.{Plan}
+use Rattle.write_turn.specs.Planned.{lastBy}
+use Rattle.write_turn.specs.declared.Course.{Course}
+use Rattle.write_turn.specs.Written.{payOf, turnWith, admitWith, moveWith, writtenWith}
 use Rattle.write_steps.proofs.Only.{only-pay, only-turn, only-last}
 
 module _ (s : Settings) (epoch limit : ℕ) where

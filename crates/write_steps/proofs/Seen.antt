@@ -21,8 +21,8 @@ use Rattle.types.specs.declared.ExitQueue.{ExitQueue}
 use Rattle.exit_queue.specs.Queue.{exitBy, nextEpoch}
 use Rattle.registry.specs.Updates.{turnBy}
 use Rattle.sweeps.specs.Sweep.{Moved, Turning, sweep}
-use Rattle.write_pass.specs.declared.Plan.{Plan}
-use Rattle.write_pass.specs.Written.{payOf, turnWith}
+use Rattle.write_turn.specs.declared.Plan.{Plan}
+use Rattle.write_turn.specs.Written.{payOf, turnWith}
 use Rattle.write_steps.proofs.Kept.{bare}
 use Rattle.write_steps.proofs.Tracked.{pay-bare}
 

@@ -31,10 +31,10 @@ use Rattle.effective_balances.specs.Thresholds.{thresholdsOf}
 use Rattle.survey.specs.declared.Sums.{Sums}
 use Rattle.survey.specs.Sums.{Totals}
 use Rattle.sweeps.specs.Sweep.{sweep, dropped}
-use Rattle.write_pass.specs.declared.Plan.{Plan}
-use Rattle.write_pass.specs.Planned.{paidBy, lastBy}
-use Rattle.write_pass.specs.declared.Course.{Course}
-use Rattle.write_pass.specs.Written.{payOf, writtenWith}
+use Rattle.write_turn.specs.declared.Plan.{Plan}
+use Rattle.write_turn.specs.Planned.{paidBy, lastBy}
+use Rattle.write_turn.specs.declared.Course.{Course}
+use Rattle.write_turn.specs.Written.{payOf, writtenWith}
 use Rattle.write_steps.specs.RegistrySteps.{registrySteps, lastSteps}
 use Rattle.write_steps.specs.Numbers.{planOf, PlanFor, Found}
 use Rattle.write_steps.proofs.Leak.{leak-some}

@@ -13,9 +13,9 @@ use Rattle.definitions.specs.Document.Phase0.Helpers.{exitEpochs, exitQueueChur
 use Rattle.laws.proofs.Checked.{bound, value-same}
 use Rattle.types.specs.declared.ExitQueue.{ExitQueue}
 use Rattle.exit_queue.specs.Queue.{Tracks}
-use Rattle.write_pass.specs.declared.Plan.{Plan}
-use Rattle.write_pass.specs.Planned.{scoredBy, rewardedBy, paidBy}
-use Rattle.write_pass.specs.Written.{payOf}
+use Rattle.write_turn.specs.declared.Plan.{Plan}
+use Rattle.write_turn.specs.Planned.{scoredBy, rewardedBy, paidBy}
+use Rattle.write_turn.specs.Written.{payOf}
 use Rattle.write_steps.proofs.Kept.{bare, Keeps, score-keeps, reward-keeps, kept-map}
 
 abbrev exit : Validator → ℕ

@@ -2,11 +2,12 @@
 use mathlib.Core.Path.{_≡_}
 use mathlib.Core.Bool.{Bool, false, cond}
 use mathlib.Core.List.{List}
-use Prim.Native.Nat.{ℕ, _/_}
+use Prim.Native.Nat.{ℕ, _*_, _/_}
 use lib.Dec.{eqb}
+use lib.ListN.{length}
 use Rattle.types.specs.declared.Settings.{Settings}
 use Rattle.types.specs.declared.Number.{Number}
-use Rattle.definitions.specs.Record.{Validator}
+use Rattle.definitions.specs.Record.{Validator, decode}
 use Rattle.definitions.specs.Checked.{Checked, value, refused, overflow}
 use Rattle.definitions.specs.Rust.Phase0.Helpers.{«get_current_epoch», «get_previous_epoch», «get_validator_churn_limit»}
 use Rattle.definitions.specs.Rust.Phase0.EpochProcessing.{«is_in_inactivity_leak»}
@@ -19,8 +20,9 @@ use Rattle.survey.specs.Sums.{Totals}
 use Rattle.slashings.specs.Adjusted.{adjustedBalance}
 use Rattle.effective_balances.specs.declared.Thresholds.{Thresholds}
 use Rattle.effective_balances.specs.Thresholds.{thresholdsOf}
-use Rattle.write_pass.specs.declared.Plan.{Plan}
-use Rattle.write_pass.specs.Planned.{Planned}
+use Rattle.write_turn.specs.declared.Plan.{Plan}
+use Rattle.write_turn.specs.Planned.{Planned}
+use Rattle.write_pass.specs.Filled.{Filled}
 use Rattle.write_steps.specs.declared.PlanAnswer.{PlanAnswer}
 use Rattle.write_steps.specs.declared.PlanAnswer.the-variants.{Value, Refused}
 
@@ -73,3 +75,15 @@ pub record Found (s : Settings) (slot finalizedEpoch : ℕ) (vs : List Validator
   pub churn : «get_validator_churn_limit» s slot vs ≡ limit
   pub queue : Tracks (leastExit s («get_current_epoch» s slot)) vs q
   pub cut : CutAt limit finalizedEpoch (eligibleNow s («get_current_epoch» s slot) vs) bound quota
+
+-- What is booked: by the plan that the opening's totals make
+pub record BookedBy (s : Settings) (slot finalizedEpoch : ℕ) (slashings opening closing xs : List ℕ) : Type 0 where
+  pub totals : Sums
+  pub plan : Plan
+  pub summed : Totals s («get_current_epoch» s slot) («get_previous_epoch» s slot) (decode opening) totals
+  pub planned : PlanFor s slot finalizedEpoch totals slashings plan
+  pub filled : Filled s plan opening closing xs
+
+-- a list of nine numbers a validator, where no step is refused
+pub record Books (s : Settings) (slot finalizedEpoch : ℕ) (slashings opening closing before after : List ℕ) (r : ℕ) : Type 0 where
+  pub booked : r ≡ 0 → length before ≡ 9 * (length opening / 10) → BookedBy s slot finalizedEpoch slashings opening closing after

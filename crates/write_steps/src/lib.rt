@@ -1,5 +1,5 @@
-// The steps over the registry from the opening to the closing one: the numbers that all validators share, each made once, and one pass
-// that writes.
+// The steps over the registry from the opening to the closing one, and the amounts where a list of them is lent: the numbers that all
+// validators share, each made once, and one pass that writes.
 ghost use mathlib.Core.Path.{_≡_};
 ghost use mathlib.Core.Bool.{true};
 ghost use Prim.Native.Nat.{_*_, _/_, _^_, _<_, _≤_};
@@ -11,7 +11,7 @@ ghost use Rattle.definitions.specs.Rust.Phase0.Helpers.{«get_current_epoch», 
 ghost use Rattle.loops.specs.Ran.{Ran};
 ghost use Rattle.survey.specs.Found.{Finds};
 ghost use Rattle.write_steps.specs.RegistrySteps.{registrySteps};
-ghost use Rattle.write_steps.specs.Numbers.{leakOf, Makes, Plans, Found};
+ghost use Rattle.write_steps.specs.Numbers.{leakOf, Makes, Plans, Found, Books};
 use arithmetic::mul64;
 use effective_balances::ThresholdsAnswer;
 use effective_balances::hysteresis;
@@ -32,9 +32,9 @@ use types::ExitQueue;
 use types::Number;
 use types::Settings;
 use types::Truth;
-use write_pass::Course;
-use write_pass::Plan;
 use write_pass::write_all;
+use write_turn::Course;
+use write_turn::Plan;
 
 // Neither scores nor rewards are moved at the genesis epoch, and no delay is evaluated.
 fn leak_of(s: Settings, current: u64, state_slot: u64, finalized_epoch: u64) -> Truth
@@ -81,13 +81,13 @@ fn make_plan(
     }
 }
 
-pub enum PlanAnswer {
+enum PlanAnswer {
     Value(Plan),
     Refused(u64),
 }
 
 // The numbers that all validators share, by the opening's totals.
-pub fn plan_for(
+fn plan_for(
     s: Settings,
     state_slot: u64,
     finalized_epoch: u64,
@@ -137,11 +137,13 @@ fn write_found(
     slashings: &[u64],
     opening: &[u64],
     closing: &mut [u64],
+    amounts: &mut [u64],
 ) -> u64
     requires { ⌜ (goodSettings s ≡ true) × («state_slot» < 2 ^ 48) ⌝ }
     requires { ⌜ (length (now opening) ≡ 10 * (length (now opening) / 10)) × (length (now closing) ≡ length (now opening)) ⌝ }
     requires { ⌜ Found s «state_slot» «finalized_epoch» (decode (now opening)) totals limit queue (cut .bound) (cut .quota) ⌝ }
     ensures { λ r. ⌜ Ran (registrySteps s «state_slot» «finalized_epoch» (now (slashings .entry)) (decode (now (opening .entry)))) (now (closing .exit)) r ⌝ }
+    ensures { λ r. ⌜ Books s «state_slot» «finalized_epoch» (now (slashings .entry)) (now (opening .entry)) (now (closing .exit)) (now (amounts .entry)) (now (amounts .exit)) r ⌝ }
 {
     let PlanAnswer::Value(p) = plan_for(s, state_slot, finalized_epoch, totals, slashings) else {
         return 5;
@@ -153,7 +155,7 @@ fn write_found(
         bound: cut.bound,
         activation_epoch: current + 1 + s.max_seed_lookahead,
     };
-    write_all(s, p, course, queue, cut.quota, opening, closing)
+    write_all(s, p, course, queue, cut.quota, opening, closing, amounts)
 }
 
 // By the survey of the opening. For callers that have tested the record, and put the opening back on refusal.
@@ -166,11 +168,13 @@ pub fn write_registry(
     slashings: &[u64],
     opening: &[u64],
     closing: &mut [u64],
+    amounts: &mut [u64],
 ) -> u64
     requires { ⌜ (goodSettings s ≡ true) × («state_slot» < 2 ^ 48) × («finalized_epoch» < 2 ^ 48) ⌝ }
     requires { ⌜ (length (now opening) ≡ 10 * (length (now opening) / 10)) × (length (now closing) ≡ length (now opening)) ⌝ }
     requires { ⌜ Finds s («get_current_epoch» s «state_slot») («get_previous_epoch» s «state_slot») (now opening) (now kept) found ⌝ }
     ensures { λ r. ⌜ Ran (registrySteps s «state_slot» «finalized_epoch» (now (slashings .entry)) (decode (now (opening .entry)))) (now (closing .exit)) r ⌝ }
+    ensures { λ r. ⌜ Books s «state_slot» «finalized_epoch» (now (slashings .entry)) (now (opening .entry)) (now (closing .exit)) (now (amounts .entry)) (now (amounts .exit)) r ⌝ }
 {
     if !all_fit(found.over) {
         return 5;
@@ -192,5 +196,6 @@ pub fn write_registry(
         slashings,
         opening,
         closing,
+        amounts,
     )
 }

@@ -49,10 +49,19 @@ returns c =
     let t = c .before in
     record { under = λ r u z. tests-refused (call r (t .before .before .before .before .before .before .before .before .before .before .before .before .before)) (tested r (t .before .before .before) z) (λ y. omega (arith, t .if1 .taken)) (c .none-raised .ensures) }
 
+sub-close-surveyed : tie.Need-sub-close-surveyed
+sub-close-surveyed c = search needs
+
+part-unbooked-start : tie.Need-part-unbooked-start
+part-unbooked-start c = search needs
+
+part-unbooked-end : tie.Need-part-unbooked-end
+part-unbooked-end c = search needs
+
 close-surveyed-requires : tie.Need-close-surveyed-requires
 close-surveyed-requires c κs =
-    let a = c .before .before .before .before .before .before .before .before .before .before .before .before .before .before .before .before in
-    (a .pre .0, (a .pre .1 .0, rw (← c .before .before .before .before .before .before .before .before .before .current-epoch .ensures, ← c .before .before .before .before .before .before .before .before .previous-epoch .ensures) (c .before .before .before .before .before .before .survey-registry .ensures)))
+    let a = c .before .before .before .before .before .before .before .before .before .before .before .before .before .before .before .before .before in
+    (a .pre .0, (a .pre .1 .0, rw (← c .before .before .before .before .before .before .before .before .before .before .current-epoch .ensures, ← c .before .before .before .before .before .before .before .before .before .previous-epoch .ensures) (c .before .before .before .before .before .before .before .survey-registry .ensures)))
 
 same-length-2 : tie.Need-same-length-2
 same-length-2 c = search needs
@@ -66,7 +75,7 @@ same-length-4 c = search needs
 returns-2 : tie.Need-returns-2
 returns-2 c =
     let k : tie.After-close-surveyed = search needs in
-    record { under = λ r u z. steps-closed (call r (k .before .before .before .before .before .before .before .before .before .before .before .before .before .before .before .before .before)) (tested r (k .before .before .before .before .before .before .before) z) (omega (arith, k .before .before .before .before .if1 .left)) u (k .close-surveyed .ensures) }
+    record { under = λ r u z. steps-closed (call r (k .before .before .before .before .before .before .before .before .before .before .before .before .before .before .before .before .before .before)) (tested r (k .before .before .before .before .before .before .before .before) z) (omega (arith, k .before .before .before .before .before .if1 .left)) u (k .close-surveyed .ensures .0) }
 
 pub close-tested-spec : {M : Type 1} → statement M
 close-tested-spec =
@@ -78,6 +87,9 @@ close-tested-spec =
     none-raised-requires
     same-length
     returns
+    sub-close-surveyed
+    part-unbooked-start
+    part-unbooked-end
     close-surveyed-requires
     same-length-2
     same-length-3

@@ -1,4 +1,4 @@
-use mathlib.Core.Path.{_≡_, refl, ap, _∙_}
+use mathlib.Core.Path.{_≡_, refl, sym, ap, _∙_}
 use native.Mathlib.Omega.{arith}
 use borrow.Author.Needs.{needs}
 use lib.ListN.{length}
@@ -8,13 +8,13 @@ use Rattle.definitions.specs.Rust.Phase0.EpochProcessing.{resetSlashings}
 use Rattle.definitions.specs.Rust.Altair.EpochProcessing.{«process_justification_and_finalization»}
 use Rattle.refusals.proofs.Laws.{small, good-finality}
 use Rattle.close.proofs.Justified.{totals-found}
-use Rattle.close.proofs.Worked.{slot-kept, finalized-small, worked-unjustified, worked-refused, worked-done}
+use Rattle.close.proofs.Worked.{answered, slot-kept, finalized-small, worked-unjustified, worked-refused, worked-done}
 use Rattle.close.proofs.run_steps.Statement.{statement}
 use Rattle.close.proofs.run_steps.Tie as tie
 
 -- what justification answered, by the survey's sums
 abbrev start : tie.After-justification-core → tie.Start
-start c = c .before .before .before .before .before .before .before .before .before .before .before .before
+start c = c .before .before .before .before .before .before .before .before .before .before .before .before .before
 
 justified : (c : tie.After-justification-core) → c .justification-core .result ≡ closeAnswerFor («process_justification_and_finalization» (start c .args .s) (start c .args .roots .now) (start c .args .finality) (decode (start c .args .registry .now))) (start c .args .finality) (raisedTotals (start c .args .s) (start c .args .finality .slot) (decode (start c .args .registry .now)))
 justified c =
@@ -35,17 +35,17 @@ total-of-requires-3 : tie.Need-total-of-requires-3
 total-of-requires-3 c κs = search needs
 
 justification-core-requires : tie.Need-justification-core-requires
-justification-core-requires c κs = c .before .before .before .before .before .before .before .before .before .before .before .pre .0 .weighs
+justification-core-requires c κs = c .before .before .before .before .before .before .before .before .before .before .before .before .pre .0 .weighs
 
 returns : tie.Need-returns
-returns c = worked-unjustified _ _ _ _ _ (justified (c .before .before)) (λ z. omega (arith, c .if1 .taken))
+returns c = (worked-unjustified _ _ _ _ _ (justified (c .before .before)) (λ z. omega (arith, c .if1 .taken)), record { booked = λ z. absurd (omega (arith, z, c .if1 .taken)) })
 
 write-registry-requires : tie.Need-write-registry-requires
 write-registry-requires c κs =
-    let j = c .before .before .before .before .before .before in
+    let j = c .before .before .before .before .before .before .before in
     let a = start j in
-    let slot = slot-kept _ _ _ (a .args .slashings .now) _ (justified j) (given (c .before .before .before .before)) in
-    let finalized = finalized-small _ _ _ (a .args .slashings .now) _ (justified j) (given (c .before .before .before .before)) (a .pre .0 .finality) in
+    let slot = slot-kept _ _ _ (a .args .slashings .now) _ (justified j) (given (c .before .before .before .before .before)) in
+    let finalized = finalized-small _ _ _ (a .args .slashings .now) _ (justified j) (given (c .before .before .before .before .before)) (a .pre .0 .finality) in
     let opening = good-finality (a .args .finality) (a .pre .0 .finality) in
     ((a .pre .0 .settings .good, rw slot (small _ (a .pre .0 .settings .small)), omega (arith, finalized, opening .finalized)), ((a .pre .0 .registry, a .pre .1 .0 .0), rw slot (a .pre .1 .1)))
 
@@ -55,35 +55,42 @@ answer-with-requires c κs = search needs
 same-length : tie.Need-same-length
 same-length c = search needs
 
+same-length-2 : tie.Need-same-length-2
+same-length-2 c = search needs
+
 returns-2 : tie.Need-returns-2
 returns-2 c =
     let t = c .before in
-    worked-refused _ _ _ _ _ (justified (t .before .before .before .before .before .before .before .before .before .before)) (given (t .before .before .before .before .before .before .before .before)) (t .before .before .before .write-registry .ensures) _ (λ z. omega (arith, t .if2 .taken)) (c .answer-with .ensures)
+    (worked-refused _ _ _ _ _ (justified (c .before .before .before .before .before .before .before .before .before .before .before .before .before .before)) (given (c .before .before .before .before .before .before .before .before .before .before .before .before)) (c .before .before .before .before .before .before .write-registry .ensures .0) _ (λ z. omega (arith, t .if2 .taken)) (c .answer-with .ensures), record { booked = λ z. absurd (t .if2 .taken (sym (answered _ _ _ (c .answer-with .ensures)) ∙ z)) })
 
 copy-requires : tie.Need-copy-requires
-copy-requires c κs = c .before .before .before .before .before .before .before .before .before .before .before .before .before .before .before .before .before .before .before .before .before .before .before .pre .1 .0 .1
+copy-requires c κs = c .before .before .before .before .before .before .before .before .before .before .before .before .before .before .before .before .before .before .before .before .before .before .before .before .before .before .before .pre .1 .0 .1
 
 slashings-reset-core-requires : tie.Need-slashings-reset-core-requires
 slashings-reset-core-requires c κs =
-    let j = c .before .before .before .before .before .before .before .before .before .before .before .before .before .before .before in
+    let j = c .before .before .before .before .before .before .before .before .before .before .before .before .before .before .before .before .before .before in
     let a = start j in
-    let slot = slot-kept _ _ _ (a .args .slashings .now) _ (justified j) (given (c .before .before .before .before .before .before .before .before .before .before .before .before .before)) in
+    let slot = slot-kept _ _ _ (a .args .slashings .now) _ (justified j) (given (c .before .before .before .before .before .before .before .before .before .before .before .before .before .before .before .before)) in
     (ap length (c .before .before .before .copy .ensures) ∙ a .pre .0 .slashings, rw slot (a .pre .0 .settings))
-
-same-length-2 : tie.Need-same-length-2
-same-length-2 c = search needs
 
 same-length-3 : tie.Need-same-length-3
 same-length-3 c = search needs
 
+same-length-4 : tie.Need-same-length-4
+same-length-4 c = search needs
+
+same-length-5 : tie.Need-same-length-5
+same-length-5 c = search needs
+
 returns-3 : tie.Need-returns-3
 returns-3 c =
-    let reset : tie.After-slashings-reset-core = search needs in
-    let done = reset .before .before .before .before .before .before in
-    let e = done .before .before .before .before .before .before .before .before in
-    worked-done _ _ _ _ _ (justified (e .before .before)) (given e) (done .before .before .before .write-registry .ensures) (omega (arith, done .if2 .left))
-    (reset .slashings-reset-core .ensures ∙ ap (resetSlashings _ _) (reset .before .before .before .before .copy .ensures))
-    (omega (arith, given e)) refl refl
+    let wrote = c .before .before .before .before .before .before .before .before .before .before .before .before .before .write-registry .ensures in
+    let none = (c .before .before .before .before .before .before .before .before .if2 .left) in (
+      worked-done _ _ _ _ _ (justified (c .before .before .before .before .before .before .before .before .before .before .before .before .before .before .before .before .before .before .before .before .before)) (given (c .before .before .before .before .before .before .before .before .before .before .before .before .before .before .before .before .before .before .before)) (wrote .0) none
+          (c .before .before .slashings-reset-core .ensures ∙ ap (resetSlashings _ _) (c .before .before .before .before .before .before .copy .ensures))
+          (omega (arith, given (c .before .before .before .before .before .before .before .before .before .before .before .before .before .before .before .before .before .before .before))) refl refl,
+      record { booked = λ z. wrote .1 .booked none },
+    )
 
 pub run-steps-spec : {M : Type 1} → statement M
 run-steps-spec =
@@ -97,9 +104,11 @@ run-steps-spec =
     write-registry-requires
     answer-with-requires
     same-length
+    same-length-2
     returns-2
     copy-requires
     slashings-reset-core-requires
-    same-length-2
     same-length-3
+    same-length-4
+    same-length-5
     returns-3)

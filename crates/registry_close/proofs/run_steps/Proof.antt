@@ -39,12 +39,21 @@ justification-core-requires c κs = c .before .before .before .before .before .b
 returns : tie.Need-returns
 returns c = worked-unjustified _ _ _ _ _ (justified (c .before .before)) (λ z. omega (arith, c .if1 .taken))
 
+sub-write-registry : tie.Need-sub-write-registry
+sub-write-registry c = search needs
+
+part-unbooked-start : tie.Need-part-unbooked-start
+part-unbooked-start c = search needs
+
+part-unbooked-end : tie.Need-part-unbooked-end
+part-unbooked-end c = search needs
+
 write-registry-requires : tie.Need-write-registry-requires
 write-registry-requires c κs =
-    let j = c .before .before .before .before .before .before in
+    let j = c .before .before .before .before .before .before .before in
     let a = start j in
-    let slot = slot-kept _ _ _ (a .args .slashings .now) _ (justified j) (given (c .before .before .before .before)) in
-    let finalized = finalized-small _ _ _ (a .args .slashings .now) _ (justified j) (given (c .before .before .before .before)) (a .pre .0 .finality) in
+    let slot = slot-kept _ _ _ (a .args .slashings .now) _ (justified j) (given (c .before .before .before .before .before)) in
+    let finalized = finalized-small _ _ _ (a .args .slashings .now) _ (justified j) (given (c .before .before .before .before .before)) (a .pre .0 .finality) in
     let opening = good-finality (a .args .finality) (a .pre .0 .finality) in
     ((a .pre .0 .settings .good, rw slot (small _ (a .pre .0 .settings .small)), omega (arith, finalized, opening .finalized)), ((a .pre .0 .registry, a .pre .1 .0), rw slot (a .pre .1 .1)))
 
@@ -55,18 +64,18 @@ same-length : tie.Need-same-length
 same-length c = search needs
 
 returns-2 : tie.Need-returns-2
-returns-2 c = worked-refused _ _ _ _ _ (justified (c .before .before .before .before .before .before .before .before .before .before .before)) (given (c .before .before .before .before .before .before .before .before .before)) (c .before .before .before .before .write-registry .ensures) _ (λ z. omega (arith, c .before .if2 .taken)) (c .answer-with .ensures)
+returns-2 c = worked-refused _ _ _ _ _ (justified (c .before .before .before .before .before .before .before .before .before .before .before .before .before)) (given (c .before .before .before .before .before .before .before .before .before .before .before)) (c .before .before .before .before .before .write-registry .ensures .0) _ (λ z. omega (arith, c .before .if2 .taken)) (c .answer-with .ensures)
 
 same-length-2 : tie.Need-same-length-2
 same-length-2 c = search needs
 
 returns-3 : tie.Need-returns-3
 returns-3 c =
-    let j = c .before .before .before .before .before .before .before .before .before .before in
+    let j = c .before .before .before .before .before .before .before .before .before .before .before .before in
     let a = start j in
-    let slot = slot-kept _ _ _ (a .args .slashings .now) _ (justified j) (given (c .before .before .before .before .before .before .before .before)) in
-    worked-done _ _ _ _ _ (justified j) (given (c .before .before .before .before .before .before .before .before)) (c .before .before .before .write-registry .ensures) (omega (arith, c .if2 .left))
-    (ap (λ (slot : ℕ). resetSlashings (a .args .s) slot (a .args .slashings .now)) (sym slot)) (omega (arith, given (c .before .before .before .before .before .before .before .before))) refl refl
+    let slot = slot-kept _ _ _ (a .args .slashings .now) _ (justified j) (given (c .before .before .before .before .before .before .before .before .before .before)) in
+    worked-done _ _ _ _ _ (justified j) (given (c .before .before .before .before .before .before .before .before .before .before)) (c .before .before .before .before .write-registry .ensures .0) (omega (arith, c .if2 .left))
+    (ap (λ (slot : ℕ). resetSlashings (a .args .s) slot (a .args .slashings .now)) (sym slot)) (omega (arith, given (c .before .before .before .before .before .before .before .before .before .before))) refl refl
 
 pub run-steps-spec : {M : Type 1} → statement M
 run-steps-spec =
@@ -77,6 +86,9 @@ run-steps-spec =
     total-of-requires-3
     justification-core-requires
     returns
+    sub-write-registry
+    part-unbooked-start
+    part-unbooked-end
     write-registry-requires
     answer-with-requires
     same-length

@@ -2,7 +2,7 @@ use Prim.Native.Nat.{_-_}
 use mathlib.Core.Path.{_∙_, ap₂}
 use mathlib.Core.Path.{refl}
 use lib.ListN.{getD}
-use Rattle.amounts.specs.Filled.{nineAt}
+use Rattle.write_pass.specs.Filled.{nineAt}
 use Rattle.slashings_amounts.specs.Taken.{balanceIn}
 use Rattle.slashings_amounts.proofs.Taken.{Putting, putting-none, putting-nine, putting-ninth, putting-more, taken-all, balance-is}
 use native.Mathlib.Omega.{arith}

@@ -20,7 +20,7 @@ abbrev Accepted-at : tie.Start → Type 0
 Accepted-at c = Accepted (c .args .s) (c .args .state-slot) (c .args .finalized-epoch) (c .args .slashings .now) (decode (c .args .opening .now))
 
 plan-for-requires : tie.Need-plan-for-requires
-plan-for-requires c κs = let a = c .before .before .before in (a .pre .0 .0, total-least _ _ (a .pre .1 .1 .totals .active))
+plan-for-requires c κs = let a = c .before .before .before .before in (a .pre .0 .0, total-least _ _ (a .pre .1 .1 .totals .active))
 
 enum-known-p : tie.Need-enum-known-p
 enum-known-p c = search needs
@@ -30,29 +30,29 @@ enum-told c = search needs
 
 returns : tie.Need-returns
 returns c =
-    let a = c .before .before .before .before .before .before in
+    let a = c .before .before .before .before .before .before .before in
     let lacks = c .before .before .plan-for .ensures .none _ (c .enum-told .given .1) in
-    ran-overflow (not-accepted _ _ _ (ep a) _ _ (λ (g : Accepted-at a). none-lacks g lacks))
+    (ran-overflow (not-accepted _ _ _ (ep a) _ _ (λ (g : Accepted-at a). none-lacks g lacks)), record { booked = λ z. absurd (omega (arith, z)) })
 
 current-epoch-requires : tie.Need-current-epoch-requires
-current-epoch-requires c κs = good-settings _ (c .before .before .before .before .before .before .before .pre .0 .0) .positive .«slots_per_epoch»
+current-epoch-requires c κs = good-settings _ (c .before .before .before .before .before .before .before .before .pre .0 .0) .positive .«slots_per_epoch»
 
 -- the present epoch is small
 abbrev start : tie.After-current-epoch → tie.Start
-start c = c .before .before .before .before .before .before .before .before
+start c = c .before .before .before .before .before .before .before .before .before
 
 current-small : (c : tie.After-current-epoch) → c .current-epoch .result < 2 ^ 48
 current-small c = rw (c .current-epoch .ensures) (ep (start c) .small)
 
-add-t15 : tie.Need-add-t15
-add-t15 c = omega (arith, current-small c)
-
 add-t16 : tie.Need-add-t16
-add-t16 c = let k = c .before in omega (arith, current-small k, good-settings _ (start k .pre .0 .0) .small .«max_seed_lookahead»)
+add-t16 c = omega (arith, current-small c)
+
+add-t17 : tie.Need-add-t17
+add-t17 c = let k = c .before in omega (arith, current-small k, good-settings _ (start k .pre .0 .0) .small .«max_seed_lookahead»)
 
 write-all-requires : tie.Need-write-all-requires
 write-all-requires c κs =
-    let k = c .before .before in
+    let k = c .before .before .before in
     let a = start k in
     let m = k .before .before .before .before .plan-for .ensures .given _ (k .before .before .p .given .1) .makes in
     (m .planned, (a .pre .1 .0, (rw (m .is) (ep a .small), queue-few (a .args .opening .now) (a .pre .1 .0 .0) (a .pre .1 .1 .queue))))
@@ -60,12 +60,16 @@ write-all-requires c κs =
 same-length : tie.Need-same-length
 same-length c = search needs
 
+same-length-2 : tie.Need-same-length-2
+same-length-2 c = search needs
+
 returns-2 : tie.Need-returns-2
 returns-2 c =
-    let k = c .before .before .before .before .before in
+    let k = c .before .before .before .before .before .before .before .before in
     let a = start k in
     let by = k .before .before .before .before .plan-for .ensures .given _ (k .before .before .p .given .1) in
-    steps-run (ep a) (a .args .slashings .now) _ (a .pre .1 .1) refl (rw (k .current-epoch .ensures) refl) by (c .before .before .write-all .ensures)
+    let wrote = c .before .before .before .before .write-all .ensures in
+    (steps-run (ep a) (a .args .slashings .now) _ (a .pre .1 .1) refl (rw (k .current-epoch .ensures) refl) by (wrote .0), record { booked = λ z long. record { totals = a .args .totals; plan = _; summed = a .pre .1 .1 .totals; planned = by; filled = wrote .1 .filled z long } })
 
 pub write-found-spec : {M : Type 1} → statement M
 write-found-spec =
@@ -76,8 +80,9 @@ write-found-spec =
     enum-told
     returns
     current-epoch-requires
-    add-t15
     add-t16
+    add-t17
     write-all-requires
     same-length
+    same-length-2
     returns-2)

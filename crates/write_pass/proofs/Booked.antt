@@ -1,0 +1,171 @@
+-- What the four pairs come to, for a validator whose scores and rewards were accepted.
+use mathlib.Core.Path.{_≡_, refl, sym, ap, _∙_}
+use mathlib.Core.Bool.{Bool, true, false, cond}
+use mathlib.Core.List.{List, [], _∷_, _++_}
+use Prim.Native.Nat.{ℕ, _+_, _-_, _^_, _≤_, _<_, min}
+use native.Mathlib.Omega.{arith}
+use borrow.Author.Tests.{eq-eqb, ne-eqb, ltb-true, ltb-false}
+use lib.Dec.{ltb, eqb}
+use lib.ListN.{replicate}
+use Rattle.types.specs.declared.Settings.{Settings}
+use Rattle.types.specs.declared.Deltas.{Deltas}
+use Rattle.definitions.specs.Record.{Validator}
+use Rattle.definitions.specs.Updates.{withScore, withBalance}
+use Rattle.definitions.specs.Checked.{Checked, value, refused, overflow, bind, settle, add64, foldChecked}
+use Rattle.definitions.specs.Rust.Phase0.EpochProcessing.{isEligible}
+use Rattle.definitions.specs.Rust.Altair.Helpers.{FlagTotals, isUnslashedParticipating, flagIndexDeltas, inactivityPenaltyDeltas}
+use Rattle.definitions.specs.Rust.Altair.EpochProcessing.{movedScore, recoveredScore, updateInactivityScore, rewardAndPenalize}
+use Rattle.definitions_amounts.specs.Amounts.{pairs, booked}
+use Rattle.arithmetic.proofs.Laws.{bind-value}
+use Rattle.laws.proofs.Checked.{not-value, value-same, bound, add64-value}
+use Rattle.reward_balances.specs.Balances.{appliedBalance, rewardedBalance}
+use Rattle.reward_balances.proofs.Rewarded.{rewarded, not-rewarded}
+use Rattle.rewards.specs.Shared.{totalsOf}
+use Rattle.write_turn.specs.declared.Plan.{Plan}
+use Rattle.write_turn.specs.Planned.{scoredBy, rewardedBy, paidBy}
+use Rattle.write_turn.specs.Written.{payOf}
+use Rattle.write_pass.specs.declared.Booking.{Booking}
+use Rattle.write_pass.specs.declared.Pairs.{Pairs}
+use Rattle.write_pass.specs.Filled.{Gives, Books, four, left, Fits, eightBy, nineBy, Between}
+
+-- From a balance on
+
+-- what the code puts, pair by pair
+pub nine-booked : {r : Pairs} {balance : ℕ} (closing : ℕ) {w x y z : Booking} → Books balance (r .source) w → Books (w .left) (r .target) x → Books (x .left) (r .head) y → Books (y .left) (r .inactivity) z → (r .source .reward ∷ w .taken ∷ r .target .reward ∷ x .taken ∷ r .head .reward ∷ y .taken ∷ r .inactivity .reward ∷ z .taken ∷ (z .left - closing) ∷ []) ≡ booked balance (four r) ++ ((left balance (four r) - closing) ∷ [])
+unfolding booked left
+nine-booked closing a b c d = rw (d .taken, d .left, c .taken, c .left, b .taken, b .left, a .taken, a .left)
+
+pub record Applied (balance : ℕ) (ds : List Deltas) (x : ℕ) : Type 0 where
+  pub fits : Fits balance ds
+  pub is : left balance ds ≡ x
+
+fits64 : (a b : ℕ) {x : ℕ} → add64 a b ≡ value x → a + b < 2 ^ 64
+unfolding add64
+fits64 a b {x} e = go (ltb (a + b) (2 ^ 64)) refl e
+  where
+    go : (t : Bool) → ltb (a + b) (2 ^ 64) ≡ t → cond t (value (a + b)) (refused overflow) ≡ value x → a + b < 2 ^ 64
+    go true q e = ltb-true _ _ q
+    go false q e = absurd (not-value e)
+
+lowered : (a b : ℕ) → cond (ltb a b) 0 (a - b) ≡ a - min a b
+lowered a b = go (ltb a b) refl
+  where
+    go : (t : Bool) → ltb a b ≡ t → cond t 0 (a - b) ≡ a - min a b
+    go true q = let l = ltb-true a b q in omega (arith, l)
+    go false q = let l = ltb-false a b q in omega (arith, l)
+
+pub applied : (balance : ℕ) (ds : List Deltas) {x : ℕ} → foldChecked appliedBalance balance ds ≡ value x → Applied balance ds x
+unfolding foldChecked appliedBalance Fits left
+applied balance [] e = record { fits = tt; is = value-same e }
+applied balance (d ∷ ds) {x} e =
+    let a = bound (bind (add64 balance (d .reward)) (λ raised. value (cond (ltb raised (d .penalty)) 0 (raised - d .penalty)))) (λ b. foldChecked appliedBalance b ds) e in
+    let b = bound (add64 balance (d .reward)) (λ raised. value (cond (ltb raised (d .penalty)) 0 (raised - d .penalty))) (a .gave) in
+    let raised = add64-value balance (d .reward) (b .gave) in
+    let next : a .first ≡ balance + d .reward - min (balance + d .reward) (d .penalty) = sym (value-same (b .then)) ∙ lowered (b .first) (d .penalty) ∙ ap (λ (k : ℕ). k - min k (d .penalty)) (sym raised) in
+    let rest = applied (balance + d .reward - min (balance + d .reward) (d .penalty)) ds (rw next at (a .then)) in
+    record { fits = (fits64 balance (d .reward) (b .gave), rest .fits); is = rest .is }
+
+-- Scores write the score alone, rewards the balance alone
+
+scored-is : (s : Settings) (current previous : ℕ) (leaking : Bool) (v : Validator) {x : Validator} → updateInactivityScore s current previous leaking v ≡ value x → x ≡ withScore (x .«inactivity_score») v
+unfolding updateInactivityScore
+scored-is s current previous leaking v {x} e = go (isEligible previous v) e
+  where
+    m : Checked ℕ
+    m = movedScore s (isUnslashedParticipating current 1 previous v) (v .«inactivity_score»)
+
+    alone : (k : ℕ) → withScore k v ≡ x → x ≡ withScore (x .«inactivity_score») v
+    alone k q = sym q ∙ ap (λ (y : Validator). withScore (y .«inactivity_score») v) q
+
+    go : (t : Bool) → cond t (bind m (λ score. value (withScore (recoveredScore s leaking score) v))) (value v) ≡ value x → x ≡ withScore (x .«inactivity_score») v
+    go true e = let b = bound m (λ score. value (withScore (recoveredScore s leaking score) v)) e in alone _ (value-same (b .then))
+    go false e = alone (v .«inactivity_score») (value-same e)
+
+record Rewarded (s : Settings) (quotient current previous : ℕ) (source target head : FlagTotals) (x paid : Validator) : Type 0 where
+  balance : rewardedBalance s quotient current previous source target head x ≡ value (paid .balance)
+  score : paid .«inactivity_score» ≡ x .«inactivity_score»
+
+rewarded-is : (s : Settings) (quotient current previous : ℕ) (source target head : FlagTotals) (x : Validator) {paid : Validator} → rewardAndPenalize s quotient current previous source target head x ≡ value paid → Rewarded s quotient current previous source target head x paid
+rewarded-is s quotient current previous source target head x {paid} e = go (rewardedBalance s quotient current previous source target head x) refl
+  where
+    go : (m : Checked ℕ) → rewardedBalance s quotient current previous source target head x ≡ m → Rewarded s quotient current previous source target head x paid
+    go (value y) h =
+        let is : withBalance y x ≡ paid = value-same (sym (rewarded s quotient current previous source target head x h) ∙ e) in
+        record { balance = h ∙ ap (λ (w : Validator). value (w .balance)) is; score = ap (λ (w : Validator). w .«inactivity_score») (sym is) }
+    go (refused p) h = absurd (not-value (sym (not-rewarded s quotient current previous source target head x h) ∙ e))
+
+-- One validator
+
+-- at the genesis epoch
+module _ {s : Settings} {p : Plan} {v w : Validator} (b : Between s p v w) (z : p .shared .«current_epoch» ≡ 0) where
+  pub genesis-less : w .balance ≤ v .balance
+  genesis-less =
+      let paid : v ≡ b .paid = value-same (sym (rw (eq-eqb _ _ z)) ∙ b .pays) in
+      rw paid (b .less)
+
+  pub genesis-nine : (0 ∷ 0 ∷ 0 ∷ 0 ∷ 0 ∷ 0 ∷ 0 ∷ 0 ∷ (v .balance - w .balance) ∷ []) ≡ nineBy s p v w
+  unfolding nineBy eightBy
+  genesis-nine = rw (eq-eqb _ _ z)
+
+-- later
+module _ {s : Settings} {p : Plan} {v w : Validator} (b : Between s p v w) (n : p .shared .«current_epoch» ≡ 0 → ⊥) where
+  -- as scores left it
+  abbrev scored : Validator
+  scored = withScore (w .«inactivity_score») v
+
+  abbrev current : ℕ
+  current = p .shared .«current_epoch»
+
+  abbrev previous : ℕ
+  previous = p .shared .«previous_epoch»
+
+  abbrev source : FlagTotals
+  source = totalsOf (p .shared) (p .source)
+
+  abbrev target : FlagTotals
+  target = totalsOf (p .shared) (p .target)
+
+  abbrev head : FlagTotals
+  head = totalsOf (p .shared) (p .head)
+
+  record Known : Type 0 where
+    scores : scoredBy s p v ≡ value scored
+    rewards : rewardedBalance s (p .quotient) current previous source target head scored ≡ value (b .paid .balance)
+
+  known : Known
+  known =
+      let e : paidBy s p v ≡ value (b .paid) = sym (rw (ne-eqb _ _ n)) ∙ b .pays in
+      let m = bound (scoredBy s p v) (rewardedBy s p) e in
+      let k = rewarded-is s (p .quotient) current previous source target head (m .first) (m .then) in
+      let same : m .first ≡ scored = scored-is s current previous (p .shared .leaking) v (m .gave) ∙ ap (λ (k : ℕ). withScore k v) (sym (b .score ∙ k .score)) in
+      record { scores = m .gave ∙ ap value same; rewards = ap (rewardedBalance s (p .quotient) current previous source target head) (sym same) ∙ k .balance }
+
+  -- by the pairs that the code has
+  module _ {r : Pairs} (g : Gives s p (w .«inactivity_score») v r) where
+    record Four : Type 0 where
+      given : pairs s (p .quotient) current previous source target head scored ≡ value (four r)
+      applies : foldChecked appliedBalance (v .balance) (four r) ≡ value (b .paid .balance)
+
+    four-given : Four
+    unfolding rewardedBalance pairs
+    four-given =
+        let h = bound (flagIndexDeltas s current previous 0 source scored) _ (known .rewards) in
+        let i = bound (flagIndexDeltas s current previous 1 target scored) _ (h .then) in
+        let j = bound (flagIndexDeltas s current previous 2 head scored) _ (i .then) in
+        let k = bound (inactivityPenaltyDeltas s (p .quotient) current previous scored) _ (j .then) in
+        let same : four r ≡ h .first ∷ i .first ∷ j .first ∷ k .first ∷ [] = rw (g .source _ (h .gave), g .target _ (i .gave), g .head _ (j .gave), g .inactivity _ (k .gave)) in
+        record { given = bind-value _ (h .gave) ∙ bind-value _ (i .gave) ∙ bind-value _ (j .gave) ∙ bind-value _ (k .gave) ∙ ap value (sym same); applies = rw same (k .then) }
+
+    pub paid-fits : Fits (v .balance) (four r)
+    paid-fits = applied (v .balance) (four r) (four-given .applies) .fits
+
+    pub paid-left : w .balance ≤ left (v .balance) (four r)
+    paid-left = rw (applied (v .balance) (four r) (four-given .applies) .is) (b .less)
+
+    eight-is : eightBy s p v ≡ value (booked (v .balance) (four r))
+    unfolding eightBy bind
+    eight-is = rw (ne-eqb _ _ n, known .scores, four-given .given)
+
+    pub paid-nine : booked (v .balance) (four r) ++ ((left (v .balance) (four r) - w .balance) ∷ []) ≡ nineBy s p v w
+    unfolding nineBy
+    paid-nine = rw (eight-is, b .pays, applied (v .balance) (four r) (four-given .applies) .is)

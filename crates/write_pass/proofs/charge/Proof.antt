@@ -1,0 +1,61 @@
+use Rattle.arithmetic.proofs.Laws.{says-value, says-overflow}
+use Rattle.arithmetic.proofs.Operations.{only-mul64}
+use Rattle.rewards.proofs.Penalties.{product-divides}
+use Rattle.rates.proofs.Charged.{not-eligible, target-hit, no-product, too-much, by-division, none-charged}
+use Rattle.write_pass.proofs.Scored.{charged, not-charged}
+use native.Mathlib.Omega.{arith}
+use borrow.Author.Needs.{needs}
+use Rattle.write_pass.proofs.charge.Statement.{statement}
+use Rattle.write_pass.proofs.charge.Tie as tie
+
+returns : tie.Need-returns
+returns c = charged (not-eligible _ _ _ _ _ _ (c .if1 .taken))
+
+returns-2 : tie.Need-returns-2
+returns-2 c = charged (target-hit _ _ _ _ _ _ (c .before .if1 .left) (c .if2 .taken))
+
+enum-known-product : tie.Need-enum-known-product
+enum-known-product c = search needs
+
+enum-told : tie.Need-enum-told
+enum-told c = search needs
+
+returns-3 : tie.Need-returns-3
+returns-3 c = not-charged (no-product _ _ _ _ _ _ (c .before .before .before .if1 .left) (c .before .before .if2 .left) (says-overflow (c .before .before .before .before .pre .1 .0) (only-mul64 _ _) (c .enum-told .given .1) .0))
+
+returns-4 : tie.Need-returns-4
+returns-4 c =
+    let a = c .before .before .before .before .before .before .pre in
+    charged (none-charged _ _ _ _ _ _ (c .before .before .before .before .before .if1 .left) (c .before .before .before .before .if2 .left) (says-value (a .1 .0) (c .before .before .product .given .1)) (product-divides (a .0 .0) (a .0 .1) (a .1 .0) (c .before .before .product .given .1)) (c .if3 .taken))
+
+returns-5 : tie.Need-returns-5
+returns-5 c = not-charged (too-much _ _ _ _ _ _ (c .before .before .before .before .before .before .if1 .left) (c .before .before .before .before .before .if2 .left) (c .before .before .before .before .before .before .before .pre .1 .1 .over _ (omega arith) (c .if4 .taken)))
+
+mul-penalty : tie.Need-mul-penalty
+mul-penalty c = record { fits = c .before .before .before .before .before .before .before .pre .1 .1 .fits _ (c .if4 .left) }
+
+div-penalty : tie.Need-div-penalty
+div-penalty c =
+    let a = c .before .before .before .before .before .before .before .pre in
+    let p = product-divides (a .0 .0) (a .0 .1) (a .1 .0) (c .before .before .before .product .given .1) in
+    omega (arith, p)
+
+returns-6 : tie.Need-returns-6
+returns-6 c =
+    let a = c .before .before .before .before .before .before .before .pre in
+    charged (by-division _ _ _ _ _ _ (c .before .before .before .before .before .before .if1 .left) (c .before .before .before .before .before .if2 .left) (says-value (a .1 .0) (c .before .before .before .product .given .1)) (a .1 .1 .fits _ (c .if4 .left)))
+
+pub charge-spec : {M : Type 1} → statement M
+charge-spec =
+    tie.close
+    (tie.spec
+    returns
+    returns-2
+    enum-known-product
+    enum-told
+    returns-3
+    returns-4
+    returns-5
+    mul-penalty
+    div-penalty
+    returns-6)

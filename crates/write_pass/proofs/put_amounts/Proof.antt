@@ -1,0 +1,49 @@
+use mathlib.Core.Path.{_∙_}
+use Rattle.write_pass.specs.Filled.{left, Fits}
+use Rattle.write_pass.proofs.Booked.{nine-booked}
+use native.Mathlib.Omega.{arith}
+use borrow.Author.Needs.{needs}
+use Rattle.write_pass.proofs.put_amounts.Statement.{statement}
+use Rattle.write_pass.proofs.put_amounts.Tie as tie
+
+book-requires : tie.Need-book-requires
+unfolding Fits
+book-requires c κs = c .before .before .pre .1 .0 .0
+
+book-requires-2 : tie.Need-book-requires-2
+unfolding Fits
+book-requires-2 c κs = rw (c .before .book .ensures .left) (c .before .before .before .before .pre .1 .0 .1 .0)
+
+book-requires-3 : tie.Need-book-requires-3
+unfolding Fits
+book-requires-3 c κs = rw (c .before .book2 .ensures .left, c .before .before .before .book .ensures .left) (c .before .before .before .before .before .before .pre .1 .0 .1 .1 .0)
+
+book-requires-4 : tie.Need-book-requires-4
+unfolding Fits
+book-requires-4 c κs = rw (c .before .book3 .ensures .left, c .before .before .before .book2 .ensures .left, c .before .before .before .before .before .book .ensures .left) (c .before .before .before .before .before .before .before .before .pre .1 .0 .1 .1 .1 .0)
+
+sub-put-nine : tie.Need-sub-put-nine
+unfolding left
+sub-put-nine c = rw (c .before .book4 .ensures .left, c .before .before .before .book3 .ensures .left, c .before .before .before .before .before .book2 .ensures .left, c .before .before .before .before .before .before .before .book .ensures .left) (c .before .before .before .before .before .before .before .before .before .before .pre .1 .1)
+
+put-nine-requires : tie.Need-put-nine-requires
+put-nine-requires c κs = search needs
+
+same-length : tie.Need-same-length
+same-length c = search needs
+
+returns : tie.Need-returns
+returns c = c .before .before .put-nine .ensures ∙ nine-booked _ (c .before .before .before .before .before .before .before .before .before .before .before .book .ensures) (c .before .before .before .before .before .before .before .before .before .book2 .ensures) (c .before .before .before .before .before .before .before .book3 .ensures) (c .before .before .before .before .before .book4 .ensures)
+
+pub put-amounts-spec : {M : Type 1} → statement M
+put-amounts-spec =
+    tie.close
+    (tie.spec
+    book-requires
+    book-requires-2
+    book-requires-3
+    book-requires-4
+    sub-put-nine
+    put-nine-requires
+    same-length
+    returns)

@@ -1,0 +1,92 @@
+-- What the code's ways through one entry give.
+use mathlib.Core.Path.{_≡_, refl, sym, ap, _∙_}
+use mathlib.Core.Bool.{Bool, true, false, cond}
+use mathlib.Core.List.{List}
+use Prim.Native.Nat.{ℕ, _+_, _-_, _≤_}
+use native.Mathlib.Omega.{arith}
+use borrow.Author.Tests.{eq-eqb, ne-eqb}
+use lib.Dec.{eqb, ltb}
+use lib.ListN.{length, getD}
+use Rattle.types.specs.declared.Settings.{Settings}
+use Rattle.definitions.specs.Record.{Validator, «FAR_FUTURE_EPOCH», decodeOne, encodeOne}
+use Rattle.definitions.specs.Checked.{Checked, value, refused, bind, codeOf, settle}
+use Rattle.definitions.specs.Updates.{withScore}
+use Rattle.definitions.specs.Rust.Phase0.EpochProcessing.{isEligible}
+use Rattle.definitions.specs.Rust.Altair.Helpers.{isUnslashedParticipating}
+use Rattle.definitions.specs.Rust.Altair.EpochProcessing.{movedScore, recoveredScore, updateInactivityScore}
+use Rattle.laws.proofs.Checked.{value-same}
+use Rattle.laws.proofs.Encode.{ten}
+use Rattle.loops.specs.Ran.{Settles}
+use Rattle.loops.proofs.Ran.{code-value}
+use Rattle.queue.specs.Cut.{queuedAt, admitOne}
+use Rattle.types.specs.declared.ExitQueue.{ExitQueue}
+use Rattle.exit_queue.specs.declared.Turn.{Turn}
+use Rattle.exit_queue.specs.Queue.{moved, lastAfter, numberAfter}
+use Rattle.exit_queue.specs.Turns.{Turns}
+use Rattle.registry.specs.Updates.{turnBy}
+use Rattle.rates.specs.declared.Rates.{Rates}
+use Rattle.sweeps.specs.Runs.{Runs}
+use Rattle.sweeps.proofs.Runs.{plain-runs}
+use Rattle.sweeps.specs.Steps.{Steps}
+use Rattle.sweeps.proofs.Steps.{steps-value, steps-refused}
+use Rattle.write_turn.specs.declared.Plan.{Plan}
+use Rattle.write_turn.specs.Planned.{paidBy}
+use Rattle.write_turn.specs.Written.{RatesFor, payOf, turnWith, admitWith}
+
+-- at the genesis epoch, and later
+module _ (s : Settings) (p : Plan) {before : List ℕ} where
+  pub pays-none : length before ≡ 10 → p .shared .«current_epoch» ≡ 0 → Runs (payOf s p) before before 0
+  pays-none l z =
+      let e : payOf s p (decodeOne before) ≡ value (decodeOne before) = rw (eq-eqb _ _ z) in
+      record { code = ap codeOf (sym e); held = λ v q. ten before l ∙ ap encodeOne (value-same (sym e ∙ q)) }
+
+  pub pays-some : {after : List ℕ} {r : ℕ} → (p .shared .«current_epoch» ≡ 0 → ⊥) → Runs (paidBy s p) before after r → Runs (payOf s p) before after r
+  pays-some n h =
+      let e : payOf s p (decodeOne before) ≡ paidBy s p (decodeOne before) = rw (ne-eqb _ _ n) in
+      record { code = h .code ∙ ap codeOf (sym e); held = λ v q. h .held v (sym e ∙ q) }
+
+pub rates-none : (s : Settings) (p : Plan) {balance : ℕ} {rates : Rates} → p .shared .«current_epoch» ≡ 0 → RatesFor s p balance rates
+rates-none s p z = record { fits = λ n. absurd (n z); same = λ n. absurd (n z) }
+
+-- a score's turn leaves the effective balance
+pub balance-scored : (s : Settings) (current previous : ℕ) (leaking : Bool) {before after : List ℕ} {r : ℕ} → Settles (updateInactivityScore s current previous leaking) before after r → getD after 0 0 ≡ getD before 0 0
+unfolding updateInactivityScore bind
+balance-scored s current previous leaking {before} h = ap (λ (e : List ℕ). getD e 0 0) (h .held) ∙ go (isEligible previous v) (movedScore s (isUnslashedParticipating current 1 previous v) (v .«inactivity_score»))
+  where
+    v : Validator
+    v = decodeOne before
+
+    go : (t : Bool) (m : Checked ℕ) → settle (cond t (bind m (λ score. value (withScore (recoveredScore s leaking score) v))) (value v)) v .«effective_balance» ≡ v .«effective_balance»
+    go true (value k) = refl
+    go true (refused p) = refl
+    go false m = refl
+
+-- one more leaves at most
+pub moved-number : (q : ExitQueue) (v w : Validator) → moved q v w .number ≤ q .number + 1
+unfolding moved numberAfter
+moved-number q v w = go (eqb (v .«exit_epoch») «FAR_FUTURE_EPOCH») (eqb (w .«exit_epoch») «FAR_FUTURE_EPOCH») (ltb (q .«last_epoch») (w .«exit_epoch»)) (eqb (w .«exit_epoch») (q .«last_epoch»))
+  where
+    go : (a b c d : Bool) → cond a (record { «last_epoch» = lastAfter (q .«last_epoch») (w .«exit_epoch»); number = cond b (q .number) (cond c 1 (cond d (q .number + 1) (q .number))) }) q .number ≤ q .number + 1
+    go true true c d = omega arith
+    go true false true d = omega arith
+    go true false false true = omega arith
+    go true false false false = omega arith
+    go false b c d = omega arith
+
+module _ (s : Settings) (epoch limit : ℕ) {q : ExitQueue} {before after : List ℕ} {r : Turn} (h : Turns (turnBy s epoch limit q) q before after r) where
+  pub turn-steps : Steps (turnWith s epoch limit) q before after (r .refusal) (r .queue)
+  unfolding bind
+  turn-steps = go (turnBy s epoch limit q (decodeOne before)) refl
+    where
+      go : (m : Checked Validator) → turnBy s epoch limit q (decodeOne before) ≡ m → Steps (turnWith s epoch limit) q before after (r .refusal) (r .queue)
+      go (value w) e = steps-value (turnWith s epoch limit) (ap (λ (m : Checked Validator). bind m (λ w. value (record { carry = moved q (decodeOne before) w; held = w }))) e) (h .code ∙ ap codeOf e) (h .held w e) (h .queue w e)
+      go (refused p) e = steps-refused (turnWith s epoch limit) (ap (λ (m : Checked Validator). bind m (λ w. value (record { carry = moved q (decodeOne before) w; held = w }))) e) (h .code ∙ ap codeOf e)
+
+  pub turn-few : r .refusal ≡ 0 → r .queue .number ≤ q .number + 1
+  turn-few z =
+      let v = decodeOne before in
+      let e = code-value (turnBy s epoch limit q v) v (sym (h .code) ∙ z) in
+      rw (h .queue _ e) (moved-number q v _)
+
+pub admit-steps : (epoch finalizedEpoch bound left : ℕ) {before after : List ℕ} {d : ℕ} → after ≡ encodeOne (admitOne epoch finalizedEpoch bound left (decodeOne before)) → d ≡ left - cond (queuedAt finalizedEpoch bound (decodeOne before)) 1 0 → Steps (admitWith epoch finalizedEpoch bound) left before after 0 d
+admit-steps epoch finalizedEpoch bound left h k = steps-value (admitWith epoch finalizedEpoch bound) refl refl h k

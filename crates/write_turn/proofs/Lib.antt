@@ -1,0 +1,3 @@
+-- The functions on one entry.
+mod Copied
+mod Entry

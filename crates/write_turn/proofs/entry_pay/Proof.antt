@@ -1,0 +1,66 @@
+use mathlib.Core.Path.{_∙_}
+use native.Mathlib.Omega.{arith}
+use Rattle.write_turn.proofs.Entry.{pays-none, pays-some, rates-none, balance-scored}
+use Rattle.sweeps.proofs.Runs.{settles-runs, runs-then, runs-stop}
+use borrow.Author.Needs.{needs}
+use Rattle.write_turn.proofs.entry_pay.Statement.{statement}
+use Rattle.write_turn.proofs.entry_pay.Tie as tie
+
+returns : tie.Need-returns
+returns c =
+    let a = c .before .before .before .before in
+    record { runs = pays-none (a .args .s) (a .args .p) (a .pre .1 .0) (omega (arith, c .if1 .taken)); memo = a .pre .1 .1; rates = λ z. rates-none (a .args .s) (a .args .p) (omega (arith, c .if1 .taken)) }
+
+entry-update-score-requires : tie.Need-entry-update-score-requires
+entry-update-score-requires c κs = search needs
+
+same-length : tie.Need-same-length
+same-length c = search needs
+
+returns-2 : tie.Need-returns-2
+returns-2 c =
+    let a = c .before .before .before .before .before .before .before .before .before in
+    record {
+      runs = pays-some (a .args .s) (a .args .p) (λ z. omega (arith, c .before .before .before .before .before .if1 .left)) (runs-stop _ (settles-runs (c .before .before .before .entry-update-score .ensures)) (λ z. omega (arith, c .if2 .taken)));
+      memo = a .pre .1 .1;
+      rates = λ z. absurd (omega (arith, z, c .if2 .taken));
+    }
+
+slice-read-balance : tie.Need-slice-read-balance
+slice-read-balance c = search needs
+
+rates-for-requires : tie.Need-rates-for-requires
+rates-for-requires c κs = search needs
+
+entry-reward-by-requires : tie.Need-entry-reward-by-requires
+entry-reward-by-requires c κs =
+    let a = c .before .before .before .before .before .before .before .before .before .before .before .before .before .pre in
+    let score = c .before .before .before .before .before .before .before in
+    let rates = c .before .before .rates-for .ensures in
+    (a .0 .shared, ((a .0 .bias, a .0 .quotient), (a .0 .product, (score .entry-update-score .kept .1 .1 .1 .1 .0 ∙ a .1 .0, (rates .1 .0, rates .1 .1)))))
+
+same-length-2 : tie.Need-same-length-2
+same-length-2 c = search needs
+
+returns-3 : tie.Need-returns-3
+returns-3 c =
+    let a = c .before .before .before .before .before .before .before .before .before .before .before .before .before .before .before .before in
+    record {
+      runs = pays-some (a .args .s) (a .args .p) (λ z. omega (arith, c .before .before .before .before .before .before .before .before .before .before .before .before .if1 .left)) (runs-then _ (settles-runs (c .before .before .before .before .before .before .before .before .before .before .entry-update-score .ensures)) (omega (arith, c .before .before .before .before .before .before .before .if2 .left)) (settles-runs (c .before .before .entry-reward-by .ensures)));
+      memo = c .before .before .before .before .before .rates-for .ensures .0;
+      rates = λ z. (let told = c .before .before .before .before .before .rates-for .ensures .1 in record { fits = λ n. told .0; same = λ n. told .1 ∙ balance-scored _ _ _ _ (c .before .before .before .before .before .before .before .before .before .before .entry-update-score .ensures) });
+    }
+
+pub entry-pay-spec : {M : Type 1} → statement M
+entry-pay-spec =
+    tie.close
+    (tie.spec
+    returns
+    entry-update-score-requires
+    same-length
+    returns-2
+    slice-read-balance
+    rates-for-requires
+    entry-reward-by-requires
+    same-length-2
+    returns-3)

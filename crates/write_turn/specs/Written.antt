@@ -1,0 +1,70 @@
+-- What the pass does to one validator, by the state that it carries.
+use mathlib.Core.Path.{_≡_}
+use mathlib.Core.Bool.{cond}
+use mathlib.Core.List.{List}
+use Prim.Native.Nat.{ℕ, _+_, _-_, _≤_}
+use lib.Dec.{eqb}
+use lib.ListN.{getD}
+use Rattle.types.specs.declared.Settings.{Settings}
+use Rattle.definitions.specs.Record.{Validator}
+use Rattle.definitions.specs.Checked.{Checked, value, bind}
+use Rattle.queue.specs.Cut.{queuedAt, admitOne}
+use Rattle.types.specs.declared.ExitQueue.{ExitQueue}
+use Rattle.exit_queue.specs.Queue.{moved}
+use Rattle.registry.specs.Updates.{turnBy}
+use Rattle.rates.specs.declared.Memo.{Memo}
+use Rattle.rates.specs.declared.Rates.{Rates}
+use Rattle.rates.specs.Rated.{MemoOf, Fits}
+use Rattle.sweeps.specs.Runs.{Runs}
+use Rattle.sweeps.specs.Sweep.{Turning, after, first, last}
+use Rattle.sweeps.specs.Steps.{Steps}
+use Rattle.write_turn.specs.declared.Plan.{Plan}
+use Rattle.write_turn.specs.Planned.{paidBy, lastBy}
+use Rattle.write_turn.specs.declared.Course.{Course}
+use Rattle.write_turn.specs.declared.Paid.{Paid}
+use Rattle.write_turn.specs.declared.Moved.{Moved}
+use Rattle.write_turn.specs.declared.Written.{Written}
+
+abbrev pub MemoFor : Settings → Plan → Memo → Type 0
+MemoFor s p m = MemoOf s (p .shared) (p .source) (p .target) (p .head) m
+
+-- those of this effective balance, by which rewards are worked out but at the genesis epoch
+pub record RatesFor (s : Settings) (p : Plan) (balance : ℕ) (rates : Rates) : Type 0 where
+  pub fits : (p .shared .«current_epoch» ≡ 0 → ⊥) → Fits s (p .shared) (p .source) (p .target) (p .head) rates
+  pub same : (p .shared .«current_epoch» ≡ 0 → ⊥) → rates .«effective_balance» ≡ balance
+
+-- scores and rewards, but at the genesis epoch
+abbrev pub payOf : Settings → Plan → Validator → Checked Validator
+payOf s p v = cond (eqb (p .shared .«current_epoch») 0) (value v) (paidBy s p v)
+
+-- eligibility and ejection, by the exit queue's pair
+abbrev pub turnWith : Settings → ℕ → ℕ → Turning ExitQueue Validator
+turnWith s epoch limit q v = bind (turnBy s epoch limit q v) (λ w. value (record { carry = moved q v w; held = w }))
+
+-- activation, by what is left of the cut's quota
+abbrev pub admitWith : ℕ → ℕ → ℕ → Turning ℕ Validator
+admitWith epoch finalizedEpoch bound left v =
+    value (record { carry = left - cond (queuedAt finalizedEpoch bound v) 1 0; held = admitOne epoch finalizedEpoch bound left v })
+
+abbrev pub moveWith : Settings → ℕ → Course → Turning (ExitQueue × ℕ) Validator
+moveWith s epoch t = after (turnWith s epoch (t .limit)) (admitWith (t .«activation_epoch») (t .«finalized_epoch») (t .bound))
+
+abbrev pub writtenWith : Settings → Plan → Course → Turning (ExitQueue × ℕ) Validator
+writtenWith s p t = first (payOf s p) (last (moveWith s (p .shared .«current_epoch») t) (lastBy s p))
+
+-- What the functions on one entry promise
+
+pub record Pays (s : Settings) (p : Plan) (before after : List ℕ) (r : Paid) : Type 0 where
+  pub runs : Runs (payOf s p) before after (r .refusal)
+  pub memo : MemoFor s p (r .memo)
+  pub rates : r .refusal ≡ 0 → RatesFor s p (getD before 0 0) (r .memo .last)
+
+pub record Moves (s : Settings) (epoch : ℕ) (t : Course) (q : ExitQueue) (left : ℕ) (before after : List ℕ) (r : Moved) : Type 0 where
+  pub steps : Steps (moveWith s epoch t) (q, left) before after (r .refusal) (r .queue, r .left)
+  pub few : r .queue .number ≤ q .number + 1
+
+pub record Writes (s : Settings) (p : Plan) (t : Course) (q : ExitQueue) (left : ℕ) (before after : List ℕ) (r : Written) : Type 0 where
+  pub steps : Steps (writtenWith s p t) (q, left) before after (r .refusal) (r .queue, r .left)
+  pub few : r .queue .number ≤ q .number + 1
+  pub memo : MemoFor s p (r .memo)
+  pub rates : r .refusal ≡ 0 → RatesFor s p (getD before 0 0) (r .memo .last)
