@@ -1,3 +1,4 @@
 -- Laws of one file's close on a shelf.
 pub mod Tests
 pub mod Parts
+pub mod ReadAgain
