@@ -19,7 +19,8 @@ use Rattle.refusals.proofs.Laws.{in-order, registry-shaped}
 use Rattle.leaf_refusals.proofs.Order.{and-true, and-false}
 use Rattle.rules.specs.Refusal.{rulesRefusal}
 use Rattle.rules.proofs.Tests.{rules-refused}
-use Rattle.close.specs.Worked.{settingsTests, recordTests, Tested}
+use Rattle.registry_close.specs.Worked.{Tested}
+use Rattle.close.specs.Worked.{settingsTests, recordTests}
 
 pub record Lent (c : Call) : Type 0 where
   pub opening : Tested (settingsUnder (c .rules)) (c .finality) (c .registry) (c .slashings) (c .roots)

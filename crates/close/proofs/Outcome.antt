@@ -18,7 +18,7 @@ use Rattle.definitions.specs.Close.{Call, Outcome, stateOf, closeTests, closed,
 use Rattle.refusals.proofs.Answers.{passed}
 use Rattle.close.specs.Called.{outcome}
 use Rattle.close.specs.Worked.{StepsClosed}
-use Rattle.close.proofs.Worked.{code-refused}
+use Rattle.registry_close.proofs.Worked.{code-refused}
 
 same-outcome : {o p : Outcome} → o .refusal ≡ p .refusal → o .finality ≡ p .finality → o .raised ≡ p .raised → o .closingRegistry ≡ p .closingRegistry → o .closingSlashings ≡ p .closingSlashings → o ≡ p
 same-outcome a b n c d = λ i. record { refusal = a i; finality = b i; raised = n i; closingRegistry = c i; closingSlashings = d i }

@@ -12,30 +12,27 @@ ghost use Rattle.selection.specs.Keep.{Blank};
 ghost use Rattle.survey.specs.Found.{Finds};
 ghost use Rattle.write_steps.specs.Numbers.{Books};
 ghost use Rattle.close.specs.Called.{called, outcome};
-ghost use Rattle.close.specs.Worked.{settingsTests, recordTests, totalOf, stateNow, Tested, Worked, StepsClosed, ClosedUnder};
+ghost use Rattle.registry_close.specs.Worked.{stateNow, Tested};
+ghost use Rattle.close.specs.Worked.{settingsTests, recordTests, StepsClosed, ClosedUnder};
 use buffers::copy;
-use justification::justification_core;
 use leaf_refusals::current_epoch;
 use leaf_refusals::previous_epoch;
-use raised::answer_with;
 use raised::none_raised;
 use refusals::good_finality;
 use refusals::good_settings;
 use refusals::registry_shaped;
 use refusals::settings_shaped;
+use registry_close::run_steps;
 use rules::altair_rules;
 use rules::rules_refusal;
 use rules::settings_under;
 use slashings::slashings_reset_core;
 use survey::Findings;
 use survey::survey_registry;
-use totals::total_from;
 use types::CloseAnswer;
 use types::Finality;
 use types::Rules;
 use types::Settings;
-use types::TotalAnswer;
-use write_steps::write_registry;
 
 // Test 1 of everything lent but the fork.
 fn close_shaped(
@@ -122,73 +119,8 @@ pub fn record_tests(
     rules_refusal(rules, by_settings)
 }
 
-// A total of the survey, refused where the sum has left 64 bits.
-fn total_of(sum: u64, over: u64, increment: u64) -> TotalAnswer
-    ensures { λ r. ⌜ r ≡ totalOf increment sum over ⌝ }
-{
-    if over != 0 {
-        return TotalAnswer::Refused(5);
-    }
-    TotalAnswer::Value(total_from(sum, increment))
-}
-
-// The eight steps from the survey: justification, the steps over the registry, the slashings' reset, which is never refused. The amounts are
-// booked where a list of nine numbers a validator is lent.
-fn run_steps(
-    s: Settings,
-    finality: Finality,
-    found: Findings,
-    kept: &[u64],
-    registry: &[u64],
-    slashings: &[u64],
-    roots: &[u8],
-    closing_registry: &mut [u64],
-    closing_slashings: &mut [u64],
-    amounts: &mut [u64],
-) -> CloseAnswer
-    requires { ⌜ Tested s finality (now registry) (now slashings) (now roots) ⌝ }
-    requires { ⌜ (length (now «closing_registry») ≡ length (now registry)) × (length (now «closing_slashings») ≡ length (now slashings)) ⌝ }
-    requires { ⌜ Finds s («get_current_epoch» s (finality .slot)) («get_previous_epoch» s (finality .slot)) (now registry) (now kept) found ⌝ }
-    ensures { λ r. ⌜ Worked s (stateNow finality (now (registry .entry)) (now (slashings .entry)) (now (roots .entry))) (now («closing_registry» .exit)) (now («closing_slashings» .exit)) r ⌝ }
-    ensures { λ r. ⌜ Books s (r .finality .slot) (r .finality .«finalized_checkpoint» .epoch) (now (slashings .entry)) (now (registry .entry)) (now («closing_registry» .exit)) (now (amounts .entry)) (now (amounts .exit)) (r .refusal) ⌝ }
-{
-    let increment = s.effective_balance_increment;
-    let sums = found.sums;
-    let over = found.over;
-    let active = total_of(sums.active, over.active, increment);
-    let target = total_of(sums.target, over.target, increment);
-    let current_target = total_of(sums.current_target, over.current_target, increment);
-    let justified = justification_core(s, roots, finality, active, target, current_target);
-    if justified.refusal != 0 {
-        return justified;
-    }
-    let weighed = justified.finality;
-    let raised = justified.raised;
-    let finalized = weighed.finalized_checkpoint;
-    let refusal = write_registry(
-        s,
-        weighed.slot,
-        finalized.epoch,
-        found,
-        kept,
-        slashings,
-        registry,
-        closing_registry,
-        amounts,
-    );
-    if refusal != 0 {
-        return answer_with(refusal, finality, raised);
-    }
-    copy(slashings, closing_slashings);
-    slashings_reset_core(s, weighed.slot, closing_slashings);
-    CloseAnswer {
-        refusal: 0,
-        finality: weighed,
-        raised,
-    }
-}
-
-// From a survey that found every entry good. Where a step is refused, the opening is put back.
+// The eight steps from a survey that found every entry good; the slashings' reset is never refused. Where a step is refused, the opening is put
+// back. The amounts are booked where a list of nine numbers a validator is lent.
 pub fn close_surveyed(
     s: Settings,
     finality: Finality,
@@ -216,14 +148,14 @@ pub fn close_surveyed(
         slashings,
         roots,
         closing_registry,
-        closing_slashings,
         amounts,
     );
+    copy(slashings, closing_slashings);
     if answer.refusal == 0 {
+        slashings_reset_core(s, finality.slot, closing_slashings);
         return answer;
     }
     copy(registry, closing_registry);
-    copy(slashings, closing_slashings);
     answer
 }
 

@@ -10,7 +10,7 @@ use Rattle.definitions.specs.Checked.{value}
 use Rattle.definitions.specs.Record.{decode}
 use Rattle.definitions.specs.ExitQueue.{queueOf}
 use Rattle.definitions.specs.Refusals.{justificationTests}
-use Rattle.close.specs.Worked.{Tested}
+use Rattle.registry_close.specs.Worked.{Tested}
 
 -- of a record with its roots, and lists of its lengths
 pub record Ready (s : Settings) (f : Finality) (q : ExitQueue) (registry slashings roots otherRegistry otherSlashings lent : List ℕ) : Type 0 where

@@ -9,7 +9,7 @@ use Rattle.definitions.specs.Close.{«process_epoch»}
 use Rattle.laws.proofs.Checked.{not-value, value-same, bound}
 use Rattle.history.proofs.Justification.{justification-moves}
 use Rattle.write_steps.specs.RegistrySteps.{registrySteps}
-use Rattle.close.proofs.Steps.{justification-refused, eight-steps}
+use Rattle.registry_close.proofs.Steps.{justification-refused, eight-steps}
 
 pub record Accepted (s : Settings) (st after : BeaconState) : Type 0 where
   pub justified : «process_justification_and_finalization» s (st .«block_roots») (st .finality) (st .validators) ≡ value (after .finality)

@@ -18,7 +18,7 @@ use Rattle.definitions_amounts.specs.FinalizingTest.{lastTest, finalizingTest}
 use Rattle.definitions_close.specs.FullClose.{FullCall, FullOutcome, fullTests, fullyClosed, closingQueue, fullClose}
 use Rattle.laws.proofs.Rules.{by-fork}
 use Rattle.refusals.proofs.Answers.{passed}
-use Rattle.close.proofs.Worked.{code-refused}
+use Rattle.registry_close.proofs.Worked.{code-refused}
 use Rattle.close.proofs.Outcome.{raised-under}
 use Rattle.full_close.specs.Called.{fullOutcome, unclosed}
 use Rattle.full_close.specs.Worked.{FullWorked}

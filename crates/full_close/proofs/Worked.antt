@@ -26,7 +26,7 @@ use Rattle.booking.specs.StepAmounts.{stepAmounts}
 use Rattle.booking.proofs.Booked.{steps-booked}
 use Rattle.booking.proofs.Amounts.{amounts-are}
 use Rattle.close.specs.Worked.{StepsClosed}
-use Rattle.close.proofs.Worked.{code-refused}
+use Rattle.registry_close.proofs.Worked.{code-refused}
 use Rattle.full_close.specs.Worked.{FullWorked}
 use Rattle.full_close.proofs.Accepted.{Accepted, accepted}
 

@@ -8,7 +8,7 @@ ghost use Rattle.definitions.specs.Rust.Phase0.Helpers.{«get_current_epoch», 
 ghost use Rattle.definitions_close.specs.FullClose.{fullClose};
 ghost use Rattle.selection.specs.Keep.{Blank};
 ghost use Rattle.survey.specs.Found.{Finds};
-ghost use Rattle.close.specs.Worked.{stateNow, Tested};
+ghost use Rattle.registry_close.specs.Worked.{stateNow, Tested};
 ghost use Rattle.full_close.specs.Called.{fullCalled, fullOutcome, unclosed as unclosedAnswer};
 ghost use Rattle.full_close.specs.Worked.{FullWorked, FullUnder};
 use booking::clear_amounts;

@@ -1,12 +1,13 @@
-// The close of a record that has passed its tests, but for the slashings' reset: the closing registry alone is written, so that a caller whose
-// closing registry and slashings stand in one list can lend a part of it. The reset is never refused, and is left to the caller.
+// The close of a record that has passed its tests, but for the slashings' reset: closing registry and amounts alone are written, so that a caller
+// whose closing registry and slashings stand in one list can lend a part of it. The reset is never refused, and is left to the caller.
 ghost use mathlib.Core.Path.{_≡_};
 ghost use lib.ListN.{length};
 ghost use Rattle.definitions.specs.Rust.Phase0.Helpers.{«get_current_epoch», «get_previous_epoch»};
 ghost use Rattle.definitions.specs.Rust.Phase0.EpochProcessing.{resetSlashings};
 ghost use Rattle.selection.specs.Keep.{Blank};
 ghost use Rattle.survey.specs.Found.{Finds};
-ghost use Rattle.close.specs.Worked.{totalOf, stateNow, Tested, Worked};
+ghost use Rattle.write_steps.specs.Numbers.{Books};
+ghost use Rattle.registry_close.specs.Worked.{totalOf, stateNow, Tested, Worked};
 use justification::justification_core;
 use leaf_refusals::current_epoch;
 use leaf_refusals::previous_epoch;
@@ -30,8 +31,8 @@ fn total_of(sum: u64, over: u64, increment: u64) -> TotalAnswer
     TotalAnswer::Value(total_from(sum, increment))
 }
 
-// From the survey: justification, and the steps over the registry.
-fn run_steps(
+// From the survey: justification, and the steps over the registry. The amounts are booked where a list of nine numbers a validator is lent.
+pub fn run_steps(
     s: Settings,
     finality: Finality,
     found: Findings,
@@ -40,11 +41,13 @@ fn run_steps(
     slashings: &[u64],
     roots: &[u8],
     closing_registry: &mut [u64],
+    amounts: &mut [u64],
 ) -> CloseAnswer
     requires { ⌜ Tested s finality (now registry) (now slashings) (now roots) ⌝ }
     requires { ⌜ length (now «closing_registry») ≡ length (now registry) ⌝ }
     requires { ⌜ Finds s («get_current_epoch» s (finality .slot)) («get_previous_epoch» s (finality .slot)) (now registry) (now kept) found ⌝ }
     ensures { λ r. ⌜ Worked s (stateNow finality (now (registry .entry)) (now (slashings .entry)) (now (roots .entry))) (now («closing_registry» .exit)) (resetSlashings s (finality .slot) (now (slashings .entry))) r ⌝ }
+    ensures { λ r. ⌜ Books s (r .finality .slot) (r .finality .«finalized_checkpoint» .epoch) (now (slashings .entry)) (now (registry .entry)) (now («closing_registry» .exit)) (now (amounts .entry)) (now (amounts .exit)) (r .refusal) ⌝ }
 {
     let increment = s.effective_balance_increment;
     let sums = found.sums;
@@ -59,7 +62,6 @@ fn run_steps(
     let weighed = justified.finality;
     let raised = justified.raised;
     let finalized = weighed.finalized_checkpoint;
-    let mut unbooked = [0u64; 1];
     let refusal = write_registry(
         s,
         weighed.slot,
@@ -69,7 +71,7 @@ fn run_steps(
         slashings,
         registry,
         closing_registry,
-        &mut unbooked[0..0],
+        amounts,
     );
     if refusal != 0 {
         return answer_with(refusal, finality, raised);
@@ -99,6 +101,7 @@ fn close_kept(
     let current = current_epoch(s, finality.slot);
     let previous = previous_epoch(s, finality.slot);
     let found = survey_registry(s, current, previous, registry, kept);
+    let mut unbooked = [0u64; 1];
     run_steps(
         s,
         finality,
@@ -108,6 +111,7 @@ fn close_kept(
         slashings,
         roots,
         closing_registry,
+        &mut unbooked[0..0],
     )
 }
 

@@ -28,11 +28,12 @@ use Rattle.round_trip.proofs.Numbers.{length-from-bytes}
 use Rattle.round_trip.proofs.Tests.{in-order, queue-passed}
 use Rattle.round_trip.proofs.Passed.{Passed, Accepted, accepted, length-registry}
 use Rattle.close.specs.Called.{called}
-use Rattle.close.specs.Worked.{recordTests, stateNow, Tested, Worked}
+use Rattle.registry_close.specs.Worked.{stateNow, Tested, Worked}
+use Rattle.close.specs.Worked.{recordTests}
 use Rattle.loops.proofs.Ran.{code-value}
 use Rattle.laws.proofs.Encode.{decode-encode}
 use Rattle.record_file.specs.Answers.{Sized, contentsWith}
-use Rattle.close.proofs.Worked.{code-refused}
+use Rattle.registry_close.proofs.Worked.{code-refused}
 use Rattle.close.proofs.Lent.{lent}
 use Rattle.shelf_file.specs.Parts.{FileClosed}
 

@@ -11,7 +11,7 @@ ghost use Rattle.definitions.specs.ExitQueue.{queueOf};
 ghost use Rattle.definitions_file.specs.File.{versionOf, contentsOf, goodHeader, fileOf};
 ghost use Rattle.definitions_shelf.specs.ClosedFile.{rulesIn, fileTests, answerFor, partFor};
 ghost use Rattle.record_file.specs.Answers.{Sized, contentsWith};
-ghost use Rattle.close.specs.Worked.{stateNow, Tested, Worked};
+ghost use Rattle.registry_close.specs.Worked.{stateNow, Tested, Worked};
 ghost use Rattle.shelf_file.specs.Parts.{Counts, Counted, numbersBehind, Opened, FileClosed};
 use exit_queue::queue_of;
 use fields::put_bytes;

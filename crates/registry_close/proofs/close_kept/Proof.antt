@@ -21,17 +21,11 @@ survey-registry-requires c κs =
 
 run-steps-requires : tie.Need-run-steps-requires
 run-steps-requires c κs =
-    let a = c .before .before .before .before .before .before .before .before .before .before .before .before .before in
-    (a .pre .0, (a .pre .1 .0, rw (← c .before .before .before .before .before .before .before .current-epoch .ensures, ← c .before .before .before .before .before .before .previous-epoch .ensures) (c .before .before .before .before .survey-registry .ensures)))
-
-same-length : tie.Need-same-length
-same-length c = search needs
-
-same-length-2 : tie.Need-same-length-2
-same-length-2 c = search needs
+    let a = c .before .before .before .before .before .before .before .before .before .before .before .before .before .before in
+    (a .pre .0, (a .pre .1 .0, rw (← c .before .before .before .before .before .before .before .before .current-epoch .ensures, ← c .before .before .before .before .before .before .before .previous-epoch .ensures) (c .before .before .before .before .before .survey-registry .ensures)))
 
 returns : tie.Need-returns
-returns c = c .before .before .run-steps .ensures
+returns c = c .before .before .before .run-steps .ensures .0
 
 pub close-kept-spec : {M : Type 1} → statement M
 close-kept-spec =
@@ -40,7 +34,10 @@ close-kept-spec =
     current-epoch-requires
     previous-epoch-requires
     survey-registry-requires
+    (λ c. search needs)
+    (λ c. search needs)
+    (λ c. search needs)
     run-steps-requires
-    same-length
-    same-length-2
+    (λ c. search needs)
+    (λ c. search needs)
     returns)

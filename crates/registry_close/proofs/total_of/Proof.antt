@@ -1,6 +1,6 @@
 use borrow.Author.Tests.{eq-eqb, ne-eqb}
 use borrow.Author.Needs.{needs}
-use Rattle.close.specs.Worked.{totalOf}
+use Rattle.registry_close.specs.Worked.{totalOf}
 use Rattle.registry_close.proofs.total_of.Statement.{statement}
 use Rattle.registry_close.proofs.total_of.Tie as tie
 

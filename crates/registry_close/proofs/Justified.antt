@@ -18,7 +18,7 @@ use Rattle.totals.proofs.WithRaised.{total-of-sum, total-over}
 use Rattle.raised.specs.Flags.{ThreeTotals}
 use Rattle.survey.specs.declared.Findings.{Findings}
 use Rattle.survey.specs.Found.{PlainSum, Finds}
-use Rattle.close.specs.Worked.{totalOf}
+use Rattle.registry_close.specs.Worked.{totalOf}
 
 total-says : (s : Settings) (p : Validator → Bool) (vs : List Validator) {sum over : ℕ} → PlainSum p vs sum over → SaysTotal (totalWithRaised s (filter p vs)) (totalOf (s .«effective_balance_increment») sum over)
 unfolding totalOf

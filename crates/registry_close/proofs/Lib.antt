@@ -1,0 +1,4 @@
+-- Laws of the steps over the registry.
+pub mod Steps
+mod Justified
+pub mod Worked

@@ -1,0 +1,44 @@
+-- Justification and the steps over the registry, as the code groups them, and what it promises of them.
+use mathlib.Core.Path.{_≡_}
+use mathlib.Core.Bool.{true, cond}
+use mathlib.Core.List.{List}
+use Prim.Native.Nat.{ℕ, _*_, _/_}
+use lib.Dec.{eqb}
+use lib.ListN.{length}
+use Rattle.types.specs.declared.Settings.{Settings}
+use Rattle.types.specs.declared.Finality.{Finality}
+use Rattle.types.specs.declared.TotalAnswer.{TotalAnswer}
+use Rattle.types.specs.declared.TotalAnswer.the-variants.{Value, Refused}
+use Rattle.types.specs.declared.CloseAnswer.{CloseAnswer}
+use Rattle.definitions.specs.Record.{BeaconState, encode, decode}
+use Rattle.definitions.specs.Checked.{value, codeOf, settle}
+use Rattle.definitions.specs.Raised.{raisedTotals, raisedUnlessRefused}
+use Rattle.definitions.specs.Refusals.{goodFinality}
+use Rattle.definitions.specs.LeafRefusals.{weighTests}
+use Rattle.definitions.specs.Close.{«process_epoch»}
+use Rattle.agreement.specs.Bounds.{Passed}
+use Rattle.totals.specs.Totals.{totalFrom}
+
+abbrev pub stateNow : Finality → List ℕ → List ℕ → List ℕ → BeaconState
+stateNow f registry slashings roots =
+    record { finality = f; validators = decode registry; slashings = slashings; «block_roots» = roots }
+
+-- a total, from the survey's sum and whether it has left 64 bits
+unfoldable pub totalOf : ℕ → ℕ → ℕ → TotalAnswer
+totalOf increment sum over = cond (eqb over 0) (Value (totalFrom increment sum)) (Refused 5)
+
+-- What the tests say of the opening, of registry xs, slashings ys and roots zs, and the steps rely on
+pub record Tested (s : Settings) (f : Finality) (xs ys zs : List ℕ) : Type 0 where
+  pub settings : Passed s (f .slot)
+  pub finality : goodFinality f ≡ true
+  pub weighs : codeOf (weighTests s zs f) ≡ 0
+  pub registry : length xs ≡ 10 * (length xs / 10)
+  pub slashings : length ys ≡ s .«epochs_per_slashings_vector»
+
+-- The eight steps on the state `before`: the answer, and what registry and slashings hold where they are not refused. The caller puts the
+-- opening back where they are.
+pub record Worked (s : Settings) (before : BeaconState) (registry slashings : List ℕ) (r : CloseAnswer) : Type 0 where
+  pub code : r .refusal ≡ codeOf («process_epoch» s before)
+  pub finality : r .finality ≡ settle («process_epoch» s before) before .finality
+  pub raised : r .raised ≡ raisedUnlessRefused («process_epoch» s before) (raisedTotals s (before .finality .slot) (before .validators))
+  pub held : (after : BeaconState) → «process_epoch» s before ≡ value after → (registry ≡ encode (after .validators)) × (slashings ≡ after .slashings)
