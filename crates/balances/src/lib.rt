@@ -36,7 +36,9 @@ pub fn entry_decrease_balance(entry: &mut [u64], delta: u64)
 }
 
 pub fn increase_balance(entry: &mut [u64], delta: u64) -> u64
-    ensures { λ r. ⌜ Closes encodeOne (entryTests (now (entry .entry))) («increase_balance» (decodeOne (now (entry .entry))) delta) (now (entry .entry)) (now (entry .entry)) (now (entry .exit)) r ⌝ }
+    ensures { λ r. ⌜
+        Closes encodeOne (entryTests (now (entry .entry))) («increase_balance» (decodeOne (now (entry .entry))) delta) (now (entry .entry))
+        (now (entry .entry)) (now (entry .exit)) r ⌝ }
 {
     let refusal = entry_tests(entry);
     if refusal != 0 {
@@ -46,7 +48,9 @@ pub fn increase_balance(entry: &mut [u64], delta: u64) -> u64
 }
 
 pub fn decrease_balance(entry: &mut [u64], delta: u64) -> u64
-    ensures { λ r. ⌜ Closes encodeOne (entryTests (now (entry .entry))) (value («decrease_balance» (decodeOne (now (entry .entry))) delta)) (now (entry .entry)) (now (entry .entry)) (now (entry .exit)) r ⌝ }
+    ensures { λ r. ⌜
+        Closes encodeOne (entryTests (now (entry .entry))) (value («decrease_balance» (decodeOne (now (entry .entry))) delta)) (now (entry .entry))
+        (now (entry .entry)) (now (entry .exit)) r ⌝ }
 {
     let refusal = entry_tests(entry);
     if refusal != 0 {

@@ -43,7 +43,14 @@ fn close_shaped(
     closing_registry: &[u64],
     closing_slashings: &[u64],
 ) -> bool
-    ensures { λ r. ⌜ r ≡ (settingsShaped s && registryShaped (now (registry .entry)) && rootsShaped s (now (roots .entry)) && slashingsShaped s (now (slashings .entry)) && sameLength (now (registry .entry)) (now («closing_registry» .entry)) && sameLength (now (slashings .entry)) (now («closing_slashings» .entry))) ⌝ }
+    ensures { λ r. ⌜
+        r
+        ≡ (settingsShaped s
+        && registryShaped (now (registry .entry))
+        && rootsShaped s (now (roots .entry))
+        && slashingsShaped s (now (slashings .entry))
+        && sameLength (now (registry .entry)) (now («closing_registry» .entry))
+        && sameLength (now (slashings .entry)) (now («closing_slashings» .entry))) ⌝ }
 {
     if !settings_shaped(s) {
         return false;
@@ -73,7 +80,11 @@ fn settings_tests(
     closing_registry: &[u64],
     closing_slashings: &[u64],
 ) -> u64
-    ensures { λ r. ⌜ r ≡ codeOf (settingsTests (called rules finality (now (registry .entry)) (now (slashings .entry)) (now (roots .entry)) (now («closing_registry» .entry)) (now («closing_slashings» .entry)))) ⌝ }
+    ensures { λ r. ⌜
+        r
+        ≡ codeOf
+        (settingsTests (called rules finality (now (registry .entry)) (now (slashings .entry)) (now (roots .entry)) (now («closing_registry» .entry))
+        (now («closing_slashings» .entry)))) ⌝ }
 {
     let s = rules.settings;
     if !close_shaped(
@@ -105,7 +116,10 @@ pub fn record_tests(
     closing_registry: &[u64],
     closing_slashings: &[u64],
 ) -> u64
-    ensures { λ r. ⌜ r ≡ codeOf (recordTests (called rules finality (now (registry .entry)) (now (slashings .entry)) (now (roots .entry)) (now («closing_registry» .entry)) (now («closing_slashings» .entry)))) ⌝ }
+    ensures { λ r. ⌜
+        r
+        ≡ codeOf (recordTests (called rules finality (now (registry .entry)) (now (slashings .entry)) (now (roots .entry)) (now («closing_registry» .entry))
+        (now («closing_slashings» .entry)))) ⌝ }
 {
     let by_settings = settings_tests(
         rules,
@@ -136,8 +150,12 @@ pub fn close_surveyed(
     requires { ⌜ Tested s finality (now registry) (now slashings) (now roots) ⌝ }
     requires { ⌜ (length (now «closing_registry») ≡ length (now registry)) × (length (now «closing_slashings») ≡ length (now slashings)) ⌝ }
     requires { ⌜ Finds s («get_current_epoch» s (finality .slot)) («get_previous_epoch» s (finality .slot)) (now registry) (now kept) found ⌝ }
-    ensures { λ r. ⌜ StepsClosed s (stateNow finality (now (registry .entry)) (now (slashings .entry)) (now (roots .entry))) (now (registry .entry)) (now («closing_registry» .entry)) (now («closing_slashings» .entry)) (now («closing_registry» .exit)) (now («closing_slashings» .exit)) r ⌝ }
-    ensures { λ r. ⌜ Books s (r .finality .slot) (r .finality .«finalized_checkpoint» .epoch) (now (slashings .entry)) (now (registry .entry)) (now («closing_registry» .exit)) (now (amounts .entry)) (now (amounts .exit)) (r .refusal) ⌝ }
+    ensures { λ r. ⌜
+        StepsClosed s (stateNow finality (now (registry .entry)) (now (slashings .entry)) (now (roots .entry))) (now (registry .entry))
+        (now («closing_registry» .entry)) (now («closing_slashings» .entry)) (now («closing_registry» .exit)) (now («closing_slashings» .exit)) r ⌝ }
+    ensures { λ r. ⌜
+        Books s (r .finality .slot) (r .finality .«finalized_checkpoint» .epoch) (now (slashings .entry)) (now (registry .entry))
+        (now («closing_registry» .exit)) (now (amounts .entry)) (now (amounts .exit)) (r .refusal) ⌝ }
 {
     let answer = run_steps(
         s,
@@ -174,7 +192,9 @@ fn close_tested(
     requires { ⌜ Tested s finality (now registry) (now slashings) (now roots) ⌝ }
     requires { ⌜ (length (now «closing_registry») ≡ length (now registry)) × (length (now «closing_slashings») ≡ length (now slashings)) ⌝ }
     requires { ⌜ (length (now kept) ≡ 64) × Blank (now kept) ⌝ }
-    ensures { λ r. ⌜ ClosedUnder s finality (now (registry .entry)) (now (slashings .entry)) (now (roots .entry)) (now («closing_registry» .entry)) (now («closing_slashings» .entry)) (outcome r (now («closing_registry» .exit)) (now («closing_slashings» .exit))) ⌝ }
+    ensures { λ r. ⌜
+        ClosedUnder s finality (now (registry .entry)) (now (slashings .entry)) (now (roots .entry)) (now («closing_registry» .entry))
+        (now («closing_slashings» .entry)) (outcome r (now («closing_registry» .exit)) (now («closing_slashings» .exit))) ⌝ }
 {
     let current = current_epoch(s, finality.slot);
     let previous = previous_epoch(s, finality.slot);
@@ -211,7 +231,10 @@ pub fn close(
     closing_registry: &mut [u64],
     closing_slashings: &mut [u64],
 ) -> CloseAnswer
-    ensures { λ r. ⌜ outcome r (now («closing_registry» .exit)) (now («closing_slashings» .exit)) ≡ closeOf (called rules finality (now (registry .entry)) (now (slashings .entry)) (now (roots .entry)) (now («closing_registry» .entry)) (now («closing_slashings» .entry))) ⌝ }
+    ensures { λ r. ⌜
+        outcome r (now («closing_registry» .exit)) (now («closing_slashings» .exit))
+        ≡ closeOf (called rules finality (now (registry .entry)) (now (slashings .entry)) (now (roots .entry)) (now («closing_registry» .entry))
+        (now («closing_slashings» .entry))) ⌝ }
 {
     let refusal = record_tests(
         rules,
@@ -253,7 +276,10 @@ pub fn close_as_altair(
     closing_registry: &mut [u64],
     closing_slashings: &mut [u64],
 ) -> CloseAnswer
-    ensures { λ r. ⌜ outcome r (now («closing_registry» .exit)) (now («closing_slashings» .exit)) ≡ closeOf (called (altairRules s) finality (now (registry .entry)) (now (slashings .entry)) (now (roots .entry)) (now («closing_registry» .entry)) (now («closing_slashings» .entry))) ⌝ }
+    ensures { λ r. ⌜
+        outcome r (now («closing_registry» .exit)) (now («closing_slashings» .exit))
+        ≡ closeOf (called (altairRules s) finality (now (registry .entry)) (now (slashings .entry)) (now (roots .entry)) (now («closing_registry» .entry))
+        (now («closing_slashings» .entry))) ⌝ }
 {
     let rules = altair_rules(s);
     close(

@@ -28,7 +28,10 @@ fn first_call(
     closing_slashings: &mut [u64],
     amounts: &mut [u64],
 ) -> RunningAnswer
-    ensures { λ r. ⌜ FirstCalled (fullCalled rules finality queue (now (registry .entry)) (now (slashings .entry)) (now (roots .entry)) (now («closing_registry» .entry)) (now («closing_slashings» .entry)) (now (amounts .entry))) (stepOutcome r (now («closing_registry» .exit)) (now («closing_slashings» .exit)) (now (amounts .exit))) ⌝ }
+    ensures { λ r. ⌜
+        FirstCalled (fullCalled rules finality queue (now (registry .entry)) (now (slashings .entry)) (now (roots .entry)) (now («closing_registry» .entry))
+        (now («closing_slashings» .entry)) (now (amounts .entry)))
+        (stepOutcome r (now («closing_registry» .exit)) (now («closing_slashings» .exit)) (now (amounts .exit))) ⌝ }
 {
     let refusal = whole_tests(
         rules,
@@ -72,7 +75,11 @@ fn later_call(
     amounts: &mut [u64],
 ) -> RunningAnswer
     requires { ⌜ (1 ≤ running .done) × (running .done ≤ 7) ⌝ }
-    ensures { λ r. ⌜ LaterCalled running (fullCalled rules finality queue (now (registry .entry)) (now (slashings .entry)) (now (roots .entry)) (now («closing_registry» .entry)) (now («closing_slashings» .entry)) (now (amounts .entry))) (stepOutcome r (now («closing_registry» .exit)) (now («closing_slashings» .exit)) (now (amounts .exit))) ⌝ }
+    ensures { λ r. ⌜
+        LaterCalled running
+        (fullCalled rules finality queue (now (registry .entry)) (now (slashings .entry)) (now (roots .entry)) (now («closing_registry» .entry))
+        (now («closing_slashings» .entry)) (now (amounts .entry)))
+        (stepOutcome r (now («closing_registry» .exit)) (now («closing_slashings» .exit)) (now (amounts .exit))) ⌝ }
 {
     let so_far = running.answer;
     let present = so_far.finality;
@@ -125,7 +132,11 @@ pub fn close_step(
     closing_slashings: &mut [u64],
     amounts: &mut [u64],
 ) -> RunningAnswer
-    ensures { λ r. ⌜ stepOutcome r (now («closing_registry» .exit)) (now («closing_slashings» .exit)) (now (amounts .exit)) ≡ closeStep (stepCalled number running (fullCalled rules finality queue (now (registry .entry)) (now (slashings .entry)) (now (roots .entry)) (now («closing_registry» .entry)) (now («closing_slashings» .entry)) (now (amounts .entry)))) ⌝ }
+    ensures { λ r. ⌜
+        stepOutcome r (now («closing_registry» .exit)) (now («closing_slashings» .exit)) (now (amounts .exit))
+        ≡ closeStep (stepCalled number running
+        (fullCalled rules finality queue (now (registry .entry)) (now (slashings .entry)) (now (roots .entry)) (now («closing_registry» .entry))
+        (now («closing_slashings» .entry)) (now (amounts .entry)))) ⌝ }
 {
     let done = running.done;
     if done == 9 {

@@ -38,7 +38,11 @@ pub fn whole_tests(
     closing_slashings: &[u64],
     amounts: &[u64],
 ) -> u64
-    ensures { λ r. ⌜ r ≡ codeOf (fullTests (fullCalled rules finality queue (now (registry .entry)) (now (slashings .entry)) (now (roots .entry)) (now («closing_registry» .entry)) (now («closing_slashings» .entry)) (now (amounts .entry)))) ⌝ }
+    ensures { λ r. ⌜
+        r
+        ≡ codeOf (fullTests
+        (fullCalled rules finality queue (now (registry .entry)) (now (slashings .entry)) (now (roots .entry)) (now («closing_registry» .entry))
+        (now («closing_slashings» .entry)) (now (amounts .entry)))) ⌝ }
 {
     if amounts.len() != 9 * (registry.len() / 10) {
         return 1;
@@ -98,7 +102,10 @@ pub fn first_tested(
     amounts: &mut [u64],
 ) -> RunningAnswer
     requires { ⌜ Ready s finality queue (now registry) (now slashings) (now roots) (now «closing_registry») (now «closing_slashings») (now amounts) ⌝ }
-    ensures { λ r. ⌜ stepOutcome r (now («closing_registry» .exit)) (now («closing_slashings» .exit)) (now (amounts .exit)) ≡ firstBy s finality queue (now (registry .entry)) (now (slashings .entry)) (now (amounts .entry)) («process_justification_and_finalization» s (now (roots .entry)) finality (decode (now (registry .entry)))) ⌝ }
+    ensures { λ r. ⌜
+        stepOutcome r (now («closing_registry» .exit)) (now («closing_slashings» .exit)) (now (amounts .exit))
+        ≡ firstBy s finality queue (now (registry .entry)) (now (slashings .entry)) (now (amounts .entry))
+        («process_justification_and_finalization» s (now (roots .entry)) finality (decode (now (registry .entry)))) ⌝ }
 {
     copy(registry, closing_registry);
     copy(slashings, closing_slashings);
@@ -144,8 +151,13 @@ pub fn later_tested(
     amounts: &mut [u64],
 ) -> RunningAnswer
     requires { ⌜ (1 ≤ done) × (done ≤ 7) ⌝ }
-    requires { ⌜ Ready s («so_far» .finality) («so_far» .queue) (now «closing_registry») (now «closing_slashings») (now roots) (now registry) (now slashings) (now amounts) ⌝ }
-    ensures { λ r. ⌜ stepOutcome r (now («closing_registry» .exit)) (now («closing_slashings» .exit)) (now (amounts .exit)) ≡ laterOf done s «so_far» orders finality queue (now (registry .entry)) (now (slashings .entry)) (now (roots .entry)) (now («closing_registry» .entry)) (now («closing_slashings» .entry)) (now (amounts .entry)) ⌝ }
+    requires { ⌜
+        Ready s («so_far» .finality) («so_far» .queue) (now «closing_registry») (now «closing_slashings») (now roots) (now registry) (now slashings)
+        (now amounts) ⌝ }
+    ensures { λ r. ⌜
+        stepOutcome r (now («closing_registry» .exit)) (now («closing_slashings» .exit)) (now (amounts .exit))
+        ≡ laterOf done s «so_far» orders finality queue (now (registry .entry)) (now (slashings .entry)) (now (roots .entry))
+        (now («closing_registry» .entry)) (now («closing_slashings» .entry)) (now (amounts .entry)) ⌝ }
 {
     let present = so_far.finality;
     let refusal = later_step(

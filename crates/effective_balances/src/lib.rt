@@ -119,7 +119,9 @@ fn effective_balance_tests(s: Settings, opening: &[u64], closing: &[u64]) -> u64
 }
 
 pub fn process_effective_balance_updates(s: Settings, opening: &[u64], closing: &mut [u64]) -> u64
-    ensures { λ r. ⌜ Closes encode (effectiveBalanceTests s (now (opening .entry)) (now (closing .entry))) («process_effective_balance_updates» s (decode (now (opening .entry)))) (now (opening .entry)) (now (closing .entry)) (now (closing .exit)) r ⌝ }
+    ensures { λ r. ⌜
+        Closes encode (effectiveBalanceTests s (now (opening .entry)) (now (closing .entry)))
+        («process_effective_balance_updates» s (decode (now (opening .entry)))) (now (opening .entry)) (now (closing .entry)) (now (closing .exit)) r ⌝ }
 {
     let refusal = effective_balance_tests(s, opening, closing);
     if refusal != 0 {

@@ -72,7 +72,9 @@ pub fn entry_is_eligible_for_activation_queue(s: Settings, entry: &[u64]) -> boo
 }
 
 pub fn is_eligible_for_activation_queue(s: Settings, entry: &[u64]) -> Truth
-    ensures { λ r. ⌜ r ≡ truthFor (afterTests (settingsEntryTests s (now (entry .entry))) (value («is_eligible_for_activation_queue» s (decodeOne (now (entry .entry)))))) ⌝ }
+    ensures { λ r. ⌜
+        r
+        ≡ truthFor (afterTests (settingsEntryTests s (now (entry .entry))) (value («is_eligible_for_activation_queue» s (decodeOne (now (entry .entry)))))) ⌝ }
 {
     let refusal = settings_entry_tests(s, entry);
     if refusal != 0 {
@@ -93,7 +95,10 @@ pub fn entry_is_eligible_for_activation(finalized_epoch: u64, entry: &[u64]) -> 
 }
 
 pub fn is_eligible_for_activation(finalized_epoch: u64, entry: &[u64]) -> Truth
-    ensures { λ r. ⌜ r ≡ truthFor (afterTests (finalizedEntryTests «finalized_epoch» (now (entry .entry))) (value («is_eligible_for_activation» «finalized_epoch» (decodeOne (now (entry .entry)))))) ⌝ }
+    ensures { λ r. ⌜
+        r
+        ≡ truthFor (afterTests (finalizedEntryTests «finalized_epoch» (now (entry .entry)))
+        (value («is_eligible_for_activation» «finalized_epoch» (decodeOne (now (entry .entry)))))) ⌝ }
 {
     let refusal = finalized_entry_tests(finalized_epoch, entry);
     if refusal != 0 {
@@ -122,7 +127,10 @@ pub fn entry_is_eligible(previous_epoch: u64, entry: &[u64]) -> bool
 }
 
 pub fn is_eligible(s: Settings, state_slot: u64, entry: &[u64]) -> Truth
-    ensures { λ r. ⌜ r ≡ truthFor (afterTests (slotEntryTests s «state_slot» (now (entry .entry))) (value (isEligible («get_previous_epoch» s «state_slot») (decodeOne (now (entry .entry)))))) ⌝ }
+    ensures { λ r. ⌜
+        r
+        ≡ truthFor (afterTests (slotEntryTests s «state_slot» (now (entry .entry)))
+        (value (isEligible («get_previous_epoch» s «state_slot») (decodeOne (now (entry .entry)))))) ⌝ }
 {
     let refusal = slot_entry_tests(s, state_slot, entry);
     if refusal != 0 {
@@ -211,7 +219,10 @@ pub fn is_unslashed_participating(
     epoch: u64,
     entry: &[u64],
 ) -> Truth
-    ensures { λ r. ⌜ r ≡ truthFor (afterTests (participationEntryTests s «state_slot» «flag_index» epoch (now (entry .entry))) (value (isUnslashedParticipating («get_current_epoch» s «state_slot») «flag_index» epoch (decodeOne (now (entry .entry)))))) ⌝ }
+    ensures { λ r. ⌜
+        r
+        ≡ truthFor (afterTests (participationEntryTests s «state_slot» «flag_index» epoch (now (entry .entry)))
+        (value (isUnslashedParticipating («get_current_epoch» s «state_slot») «flag_index» epoch (decodeOne (now (entry .entry)))))) ⌝ }
 {
     let refusal = participation_entry_tests(s, state_slot, flag_index, epoch, entry);
     if refusal != 0 {

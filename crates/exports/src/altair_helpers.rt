@@ -47,7 +47,10 @@ pub extern "C" fn altair_is_unslashed_participating(
     epoch: u64,
     entry: &[u64],
 ) -> PlainTruth
-    ensures { λ r. ⌜ r ≡ plainTruth (truthFor (afterTests (participationEntryTests s «state_slot» «flag_index» epoch (now (entry .entry))) (value (isUnslashedParticipating («get_current_epoch» s «state_slot») «flag_index» epoch (decodeOne (now (entry .entry))))))) ⌝ }
+    ensures { λ r. ⌜
+        r
+        ≡ plainTruth (truthFor (afterTests (participationEntryTests s «state_slot» «flag_index» epoch (now (entry .entry)))
+        (value (isUnslashedParticipating («get_current_epoch» s «state_slot») «flag_index» epoch (decodeOne (now (entry .entry))))))) ⌝ }
 {
     plain_truth(entries::is_unslashed_participating(s, state_slot, flag_index, epoch, entry))
 }
@@ -61,7 +64,10 @@ pub extern "C" fn altair_get_participating_balance(
     epoch: u64,
     registry: &[u64],
 ) -> PlainTotal
-    ensures { λ r. ⌜ r ≡ plainTotal (totalAnswerFor (afterTests (participationTests s «state_slot» «flag_index» epoch (now (registry .entry))) (totalWithRaised s («get_unslashed_participating_indices» s «state_slot» (decode (now (registry .entry))) «flag_index» epoch)))) ⌝ }
+    ensures { λ r. ⌜
+        r
+        ≡ plainTotal (totalAnswerFor (afterTests (participationTests s «state_slot» «flag_index» epoch (now (registry .entry)))
+        (totalWithRaised s («get_unslashed_participating_indices» s «state_slot» (decode (now (registry .entry))) «flag_index» epoch)))) ⌝ }
 {
     plain_total(totals::get_participating_balance(s, state_slot, flag_index, epoch, registry))
 }
@@ -77,7 +83,9 @@ pub extern "C" fn altair_get_base_reward_per_increment(s: Settings, total: u64) 
 
 #[no_mangle]
 pub extern "C" fn altair_get_base_reward(s: Settings, total: u64, entry: &[u64]) -> PlainNumber
-    ensures { λ r. ⌜ r ≡ plainNumber (numberFor (afterTests (totalEntryTests s total (now (entry .entry))) («get_base_reward» s total (decodeOne (now (entry .entry)))))) ⌝ }
+    ensures { λ r. ⌜
+        r
+        ≡ plainNumber (numberFor (afterTests (totalEntryTests s total (now (entry .entry))) («get_base_reward» s total (decodeOne (now (entry .entry)))))) ⌝ }
 {
     plain_number(base_rewards::get_base_reward(s, total, entry))
 }
@@ -93,7 +101,11 @@ pub extern "C" fn altair_get_flag_index_deltas(
     index: usize,
     registry: &[u64],
 ) -> PlainDeltas
-    ensures { λ r. ⌜ r ≡ plainDeltas (deltasAnswerFor (afterTests (flagDeltasTests s «state_slot» «finalized_epoch» «flag_index» index (now (registry .entry))) («get_flag_index_deltas» s «state_slot» «finalized_epoch» (decode (now (registry .entry))) «flag_index» (getD (decode (now (registry .entry))) index nobody)))) ⌝ }
+    ensures { λ r. ⌜
+        r
+        ≡ plainDeltas (deltasAnswerFor (afterTests (flagDeltasTests s «state_slot» «finalized_epoch» «flag_index» index (now (registry .entry)))
+        («get_flag_index_deltas» s «state_slot» «finalized_epoch» (decode (now (registry .entry))) «flag_index»
+        (getD (decode (now (registry .entry))) index nobody)))) ⌝ }
 {
     plain_deltas(flag_rewards::get_flag_index_deltas(
         s,
@@ -111,7 +123,11 @@ pub extern "C" fn altair_get_inactivity_penalty_deltas(
     state_slot: u64,
     entry: &[u64],
 ) -> PlainDeltas
-    ensures { λ r. ⌜ r ≡ plainDeltas (deltasAnswerFor (afterTests (inactivityPenaltyTests rules «state_slot» (now (entry .entry))) («get_inactivity_penalty_deltas» (settingsUnder rules) (settingsUnder rules .«inactivity_penalty_quotient_altair») «state_slot» (decodeOne (now (entry .entry)))))) ⌝ }
+    ensures { λ r. ⌜
+        r
+        ≡ plainDeltas (deltasAnswerFor (afterTests (inactivityPenaltyTests rules «state_slot» (now (entry .entry)))
+        («get_inactivity_penalty_deltas» (settingsUnder rules) (settingsUnder rules .«inactivity_penalty_quotient_altair») «state_slot»
+        (decodeOne (now (entry .entry)))))) ⌝ }
 {
     plain_deltas(rewards::get_inactivity_penalty_deltas(rules, state_slot, entry))
 }

@@ -19,7 +19,9 @@ pub extern "C" fn altair_get_finality_delay(
     state_slot: u64,
     finalized_epoch: u64,
 ) -> PlainNumber
-    ensures { λ r. ⌜ r ≡ plainNumber (numberFor (afterTests (finalizedTests s «state_slot» «finalized_epoch») («get_finality_delay» s «state_slot» «finalized_epoch»))) ⌝ }
+    ensures { λ r. ⌜
+        r
+        ≡ plainNumber (numberFor (afterTests (finalizedTests s «state_slot» «finalized_epoch») («get_finality_delay» s «state_slot» «finalized_epoch»))) ⌝ }
 {
     plain_number(finality::get_finality_delay(s, state_slot, finalized_epoch))
 }
@@ -30,7 +32,9 @@ pub extern "C" fn altair_is_in_inactivity_leak(
     state_slot: u64,
     finalized_epoch: u64,
 ) -> PlainTruth
-    ensures { λ r. ⌜ r ≡ plainTruth (truthFor (afterTests (finalizedTests s «state_slot» «finalized_epoch») («is_in_inactivity_leak» s «state_slot» «finalized_epoch»))) ⌝ }
+    ensures { λ r. ⌜
+        r
+        ≡ plainTruth (truthFor (afterTests (finalizedTests s «state_slot» «finalized_epoch») («is_in_inactivity_leak» s «state_slot» «finalized_epoch»))) ⌝ }
 {
     plain_truth(finality::is_in_inactivity_leak(s, state_slot, finalized_epoch))
 }
@@ -45,7 +49,10 @@ pub extern "C" fn altair_weigh_justification_and_finalization(
     previous: u64,
     current: u64,
 ) -> FinalityAnswer
-    ensures { λ r. ⌜ r ≡ finalityAnswerFor (afterTests (weighTests s (now (roots .entry)) finality) («weigh_justification_and_finalization» s (now (roots .entry)) finality total previous current)) finality ⌝ }
+    ensures { λ r. ⌜
+        r
+        ≡ finalityAnswerFor (afterTests (weighTests s (now (roots .entry)) finality)
+        («weigh_justification_and_finalization» s (now (roots .entry)) finality total previous current)) finality ⌝ }
 {
     weighing::weigh_justification_and_finalization(s, roots, finality, total, previous, current)
 }

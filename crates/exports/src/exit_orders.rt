@@ -29,7 +29,9 @@ pub extern "C" fn altair_close_step(
 ) -> RunningAnswer
     ensures { λ r. ⌜
         stepOutcome r (now («closing_registry» .exit)) (now («closing_slashings» .exit)) (now (amounts .exit))
-        ≡ storeStep (storeStepCalled number running (storeCalled (lent (now (store .entry)) count) finality queue (now (registry .entry)) (now (slashings .entry)) (now (roots .entry)) (now («closing_registry» .entry)) (now («closing_slashings» .entry)) (now (amounts .entry)))) ⌝ }
+        ≡ storeStep (storeStepCalled number running
+        (storeCalled (lent (now (store .entry)) count) finality queue (now (registry .entry)) (now (slashings .entry)) (now (roots .entry))
+        (now («closing_registry» .entry)) (now («closing_slashings» .entry)) (now (amounts .entry)))) ⌝ }
 {
     store_steps::store_step(
         number,
@@ -71,7 +73,9 @@ pub extern "C" fn altair_carry_out(
 ) -> RunningAnswer
     ensures { λ r. ⌜
         ninthOutcome r (now («closing_registry» .exit)) (now (answers .exit))
-        ≡ storeCarryOut (storeNinthCalled (lent (now (store .entry)) count) «shard_committee_period» running (now («closing_registry» .entry)) (now (orders .entry)) (now (answers .entry))) ⌝ }
+        ≡ storeCarryOut
+        (storeNinthCalled (lent (now (store .entry)) count) «shard_committee_period» running (now («closing_registry» .entry)) (now (orders .entry))
+        (now (answers .entry))) ⌝ }
 {
     store_steps::store_carry_out(
         store,

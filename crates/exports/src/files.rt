@@ -43,8 +43,13 @@ pub extern "C" fn altair_write_file(
     slashings: &[u64],
     file: &mut [u8],
 ) -> u64
-    ensures { λ r. ⌜ r ≡ codeOf (writeTests (contentsWith settings finality (now (registry .entry)) (now (roots .entry)) (now (slashings .entry))) queue (now (file .entry))) ⌝ }
-    ensures { λ _. ⌜ now (file .exit) ≡ written (contentsWith settings finality (now (registry .entry)) (now (roots .entry)) (now (slashings .entry))) queue (now (file .entry)) ⌝ }
+    ensures { λ r. ⌜
+        r
+        ≡ codeOf
+        (writeTests (contentsWith settings finality (now (registry .entry)) (now (roots .entry)) (now (slashings .entry))) queue (now (file .entry))) ⌝ }
+    ensures { λ _. ⌜
+        now (file .exit)
+        ≡ written (contentsWith settings finality (now (registry .entry)) (now (roots .entry)) (now (slashings .entry))) queue (now (file .entry)) ⌝ }
 {
     record_file::write_file(settings, finality, queue, registry, roots, slashings, file)
 }

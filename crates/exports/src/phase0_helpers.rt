@@ -73,14 +73,19 @@ pub extern "C" fn altair_get_previous_epoch(s: Settings, state_slot: u64) -> Pla
 
 #[no_mangle]
 pub extern "C" fn altair_is_active_validator(entry: &[u64], epoch: u64) -> PlainTruth
-    ensures { λ r. ⌜ r ≡ plainTruth (truthFor (afterTests (entryTests (now (entry .entry))) (value («is_active_validator» (decodeOne (now (entry .entry))) epoch)))) ⌝ }
+    ensures { λ r. ⌜
+        r
+        ≡ plainTruth (truthFor (afterTests (entryTests (now (entry .entry))) (value («is_active_validator» (decodeOne (now (entry .entry))) epoch)))) ⌝ }
 {
     plain_truth(entries::is_active_validator(entry, epoch))
 }
 
 #[no_mangle]
 pub extern "C" fn altair_is_eligible_for_activation_queue(s: Settings, entry: &[u64]) -> PlainTruth
-    ensures { λ r. ⌜ r ≡ plainTruth (truthFor (afterTests (settingsEntryTests s (now (entry .entry))) (value («is_eligible_for_activation_queue» s (decodeOne (now (entry .entry))))))) ⌝ }
+    ensures { λ r. ⌜
+        r
+        ≡ plainTruth (truthFor
+        (afterTests (settingsEntryTests s (now (entry .entry))) (value («is_eligible_for_activation_queue» s (decodeOne (now (entry .entry))))))) ⌝ }
 {
     plain_truth(entries::is_eligible_for_activation_queue(s, entry))
 }
@@ -90,7 +95,10 @@ pub extern "C" fn altair_is_eligible_for_activation(
     finalized_epoch: u64,
     entry: &[u64],
 ) -> PlainTruth
-    ensures { λ r. ⌜ r ≡ plainTruth (truthFor (afterTests (finalizedEntryTests «finalized_epoch» (now (entry .entry))) (value («is_eligible_for_activation» «finalized_epoch» (decodeOne (now (entry .entry))))))) ⌝ }
+    ensures { λ r. ⌜
+        r
+        ≡ plainTruth (truthFor (afterTests (finalizedEntryTests «finalized_epoch» (now (entry .entry)))
+        (value («is_eligible_for_activation» «finalized_epoch» (decodeOne (now (entry .entry))))))) ⌝ }
 {
     plain_truth(entries::is_eligible_for_activation(finalized_epoch, entry))
 }
@@ -98,21 +106,28 @@ pub extern "C" fn altair_is_eligible_for_activation(
 // For rewards and penalties: active in the previous epoch, or slashed and not yet withdrawable.
 #[no_mangle]
 pub extern "C" fn altair_is_eligible(s: Settings, state_slot: u64, entry: &[u64]) -> PlainTruth
-    ensures { λ r. ⌜ r ≡ plainTruth (truthFor (afterTests (slotEntryTests s «state_slot» (now (entry .entry))) (value (isEligible («get_previous_epoch» s «state_slot») (decodeOne (now (entry .entry))))))) ⌝ }
+    ensures { λ r. ⌜
+        r
+        ≡ plainTruth (truthFor (afterTests (slotEntryTests s «state_slot» (now (entry .entry)))
+        (value (isEligible («get_previous_epoch» s «state_slot») (decodeOne (now (entry .entry))))))) ⌝ }
 {
     plain_truth(entries::is_eligible(s, state_slot, entry))
 }
 
 #[no_mangle]
 pub extern "C" fn altair_increase_balance(entry: &mut [u64], delta: u64) -> u64
-    ensures { λ r. ⌜ Closes encodeOne (entryTests (now (entry .entry))) («increase_balance» (decodeOne (now (entry .entry))) delta) (now (entry .entry)) (now (entry .entry)) (now (entry .exit)) r ⌝ }
+    ensures { λ r. ⌜
+        Closes encodeOne (entryTests (now (entry .entry))) («increase_balance» (decodeOne (now (entry .entry))) delta) (now (entry .entry))
+        (now (entry .entry)) (now (entry .exit)) r ⌝ }
 {
     balances::increase_balance(entry, delta)
 }
 
 #[no_mangle]
 pub extern "C" fn altair_decrease_balance(entry: &mut [u64], delta: u64) -> u64
-    ensures { λ r. ⌜ Closes encodeOne (entryTests (now (entry .entry))) (value («decrease_balance» (decodeOne (now (entry .entry))) delta)) (now (entry .entry)) (now (entry .entry)) (now (entry .exit)) r ⌝ }
+    ensures { λ r. ⌜
+        Closes encodeOne (entryTests (now (entry .entry))) (value («decrease_balance» (decodeOne (now (entry .entry))) delta)) (now (entry .entry))
+        (now (entry .entry)) (now (entry .exit)) r ⌝ }
 {
     balances::decrease_balance(entry, delta)
 }
@@ -126,7 +141,9 @@ pub extern "C" fn altair_get_block_root_at_slot(
     state_slot: u64,
     slot: u64,
 ) -> PlainRoot
-    ensures { λ r. ⌜ r ≡ plainRoot (afterTests (rootTests s (now (roots .entry)) «state_slot») («get_block_root_at_slot» s (now (roots .entry)) «state_slot» slot)) ⌝ }
+    ensures { λ r. ⌜
+        r
+        ≡ plainRoot (afterTests (rootTests s (now (roots .entry)) «state_slot») («get_block_root_at_slot» s (now (roots .entry)) «state_slot» slot)) ⌝ }
 {
     let refusal = roots::get_block_root_at_slot_refusal(s, roots, state_slot, slot);
     plain_root(
@@ -156,7 +173,10 @@ pub extern "C" fn altair_get_total_active_balance(
     state_slot: u64,
     registry: &[u64],
 ) -> PlainTotal
-    ensures { λ r. ⌜ r ≡ plainTotal (totalAnswerFor (afterTests (slotRegistryTests s «state_slot» (now (registry .entry))) (totalWithRaised s («get_active_validator_indices» (decode (now (registry .entry))) («get_current_epoch» s «state_slot»))))) ⌝ }
+    ensures { λ r. ⌜
+        r
+        ≡ plainTotal (totalAnswerFor (afterTests (slotRegistryTests s «state_slot» (now (registry .entry)))
+        (totalWithRaised s («get_active_validator_indices» (decode (now (registry .entry))) («get_current_epoch» s «state_slot»))))) ⌝ }
 {
     plain_total(totals::get_total_active_balance(s, state_slot, registry))
 }
@@ -167,7 +187,10 @@ pub extern "C" fn altair_get_validator_churn_limit(
     state_slot: u64,
     registry: &[u64],
 ) -> PlainNumber
-    ensures { λ r. ⌜ r ≡ plainNumber (numberFor (afterTests (slotRegistryTests s «state_slot» (now (registry .entry))) (value («get_validator_churn_limit» s «state_slot» (decode (now (registry .entry))))))) ⌝ }
+    ensures { λ r. ⌜
+        r
+        ≡ plainNumber (numberFor (afterTests (slotRegistryTests s «state_slot» (now (registry .entry)))
+        (value («get_validator_churn_limit» s «state_slot» (decode (now (registry .entry))))))) ⌝ }
 {
     plain_number(totals::get_validator_churn_limit(s, state_slot, registry))
 }

@@ -15,9 +15,21 @@ pub extern "C" fn altair_close_shelf(
     fork: u64,
     bellatrix: Bellatrix,
 ) -> u64
-    ensures { λ r. ⌜ r ≡ shelfRefusal (shelfOf (now (files .entry)) (now (lengths .entry)) (now (closing .entry)) (now («opening_numbers» .entry)) (now («closing_numbers» .entry)) (now (answers .entry))) ⌝ }
-    ensures { λ _. ⌜ now (answers .exit) ≡ answersAfter fork bellatrix (shelfOf (now (files .entry)) (now (lengths .entry)) (now (closing .entry)) (now («opening_numbers» .entry)) (now («closing_numbers» .entry)) (now (answers .entry))) ⌝ }
-    ensures { λ _. ⌜ now (closing .exit) ≡ closingAfter fork bellatrix (shelfOf (now (files .entry)) (now (lengths .entry)) (now (closing .entry)) (now («opening_numbers» .entry)) (now («closing_numbers» .entry)) (now (answers .entry))) ⌝ }
+    ensures { λ r. ⌜
+        r
+        ≡ shelfRefusal
+        (shelfOf (now (files .entry)) (now (lengths .entry)) (now (closing .entry)) (now («opening_numbers» .entry)) (now («closing_numbers» .entry))
+        (now (answers .entry))) ⌝ }
+    ensures { λ _. ⌜
+        now (answers .exit)
+        ≡ answersAfter fork bellatrix
+        (shelfOf (now (files .entry)) (now (lengths .entry)) (now (closing .entry)) (now («opening_numbers» .entry)) (now («closing_numbers» .entry))
+        (now (answers .entry))) ⌝ }
+    ensures { λ _. ⌜
+        now (closing .exit)
+        ≡ closingAfter fork bellatrix
+        (shelfOf (now (files .entry)) (now (lengths .entry)) (now (closing .entry)) (now («opening_numbers» .entry)) (now («closing_numbers» .entry))
+        (now (answers .entry))) ⌝ }
     ensures { λ r. ⌜ Working r (now («opening_numbers» .entry)) (now («opening_numbers» .exit)) ⌝ }
     ensures { λ r. ⌜ Working r (now («closing_numbers» .entry)) (now («closing_numbers» .exit)) ⌝ }
 {

@@ -27,7 +27,11 @@ pub extern "C" fn altair_process_justification_and_finalization(
     finality: Finality,
     registry: &[u64],
 ) -> JustificationAnswer
-    ensures { λ r. ⌜ r ≡ justificationAnswerFor s (afterTests (justificationTests s (now (roots .entry)) finality (now (registry .entry))) («process_justification_and_finalization» s (now (roots .entry)) finality (decode (now (registry .entry))))) finality (raisedTotals s (finality .slot) (decode (now (registry .entry)))) ⌝ }
+    ensures { λ r. ⌜
+        r
+        ≡ justificationAnswerFor s (afterTests (justificationTests s (now (roots .entry)) finality (now (registry .entry)))
+        («process_justification_and_finalization» s (now (roots .entry)) finality (decode (now (registry .entry))))) finality
+        (raisedTotals s (finality .slot) (decode (now (registry .entry)))) ⌝ }
 {
     justification_step::process_justification_and_finalization(s, roots, finality, registry)
 }
@@ -40,7 +44,10 @@ pub extern "C" fn altair_process_inactivity_updates(
     opening: &[u64],
     closing: &mut [u64],
 ) -> u64
-    ensures { λ r. ⌜ Closes encode (registryTests s «state_slot» «finalized_epoch» (now (opening .entry)) (now (closing .entry))) («process_inactivity_updates» s «state_slot» «finalized_epoch» (decode (now (opening .entry)))) (now (opening .entry)) (now (closing .entry)) (now (closing .exit)) r ⌝ }
+    ensures { λ r. ⌜
+        Closes encode (registryTests s «state_slot» «finalized_epoch» (now (opening .entry)) (now (closing .entry)))
+        («process_inactivity_updates» s «state_slot» «finalized_epoch» (decode (now (opening .entry)))) (now (opening .entry)) (now (closing .entry))
+        (now (closing .exit)) r ⌝ }
 {
     inactivity::process_inactivity_updates(s, state_slot, finalized_epoch, opening, closing)
 }
@@ -53,7 +60,10 @@ pub extern "C" fn altair_process_rewards_and_penalties(
     opening: &[u64],
     closing: &mut [u64],
 ) -> u64
-    ensures { λ r. ⌜ Closes encode (rewardsTests rules «state_slot» «finalized_epoch» (now (opening .entry)) (now (closing .entry))) («process_rewards_and_penalties» (settingsUnder rules) (settingsUnder rules .«inactivity_penalty_quotient_altair») «state_slot» «finalized_epoch» (decode (now (opening .entry)))) (now (opening .entry)) (now (closing .entry)) (now (closing .exit)) r ⌝ }
+    ensures { λ r. ⌜
+        Closes encode (rewardsTests rules «state_slot» «finalized_epoch» (now (opening .entry)) (now (closing .entry)))
+        («process_rewards_and_penalties» (settingsUnder rules) (settingsUnder rules .«inactivity_penalty_quotient_altair») «state_slot» «finalized_epoch»
+        (decode (now (opening .entry)))) (now (opening .entry)) (now (closing .entry)) (now (closing .exit)) r ⌝ }
 {
     rewards_step::process_rewards_and_penalties(
         rules,
@@ -117,7 +127,10 @@ pub extern "C" fn altair_process_slashings(
     opening: &[u64],
     closing: &mut [u64],
 ) -> u64
-    ensures { λ r. ⌜ Closes encode (slashingsTests rules «state_slot» (now (slashings .entry)) (now (opening .entry)) (now (closing .entry))) («process_slashings» (settingsUnder rules) (settingsUnder rules .«proportional_slashing_multiplier_altair») «state_slot» (now (slashings .entry)) (decode (now (opening .entry)))) (now (opening .entry)) (now (closing .entry)) (now (closing .exit)) r ⌝ }
+    ensures { λ r. ⌜
+        Closes encode (slashingsTests rules «state_slot» (now (slashings .entry)) (now (opening .entry)) (now (closing .entry)))
+        («process_slashings» (settingsUnder rules) (settingsUnder rules .«proportional_slashing_multiplier_altair») «state_slot» (now (slashings .entry))
+        (decode (now (opening .entry)))) (now (opening .entry)) (now (closing .entry)) (now (closing .exit)) r ⌝ }
 {
     slashings::process_slashings(rules, state_slot, slashings, opening, closing)
 }
@@ -128,7 +141,9 @@ pub extern "C" fn altair_process_effective_balance_updates(
     opening: &[u64],
     closing: &mut [u64],
 ) -> u64
-    ensures { λ r. ⌜ Closes encode (effectiveBalanceTests s (now (opening .entry)) (now (closing .entry))) («process_effective_balance_updates» s (decode (now (opening .entry)))) (now (opening .entry)) (now (closing .entry)) (now (closing .exit)) r ⌝ }
+    ensures { λ r. ⌜
+        Closes encode (effectiveBalanceTests s (now (opening .entry)) (now (closing .entry)))
+        («process_effective_balance_updates» s (decode (now (opening .entry)))) (now (opening .entry)) (now (closing .entry)) (now (closing .exit)) r ⌝ }
 {
     effective_balances::process_effective_balance_updates(s, opening, closing)
 }
@@ -140,7 +155,9 @@ pub extern "C" fn altair_process_slashings_reset(
     opening: &[u64],
     closing: &mut [u64],
 ) -> u64
-    ensures { λ r. ⌜ Closes (λ (xs : List ℕ). xs) (slashingsResetTests s «state_slot» (now (opening .entry)) (now (closing .entry))) (value (resetSlashings s «state_slot» (now (opening .entry)))) (now (opening .entry)) (now (closing .entry)) (now (closing .exit)) r ⌝ }
+    ensures { λ r. ⌜
+        Closes (λ (xs : List ℕ). xs) (slashingsResetTests s «state_slot» (now (opening .entry)) (now (closing .entry)))
+        (value (resetSlashings s «state_slot» (now (opening .entry)))) (now (opening .entry)) (now (closing .entry)) (now (closing .exit)) r ⌝ }
 {
     slashings::process_slashings_reset(s, state_slot, opening, closing)
 }
@@ -150,7 +167,10 @@ pub extern "C" fn altair_process_participation_flag_updates(
     opening: &[u64],
     closing: &mut [u64],
 ) -> u64
-    ensures { λ r. ⌜ Closes encode (rotationTests (now (opening .entry)) (now (closing .entry))) (value («process_participation_flag_updates» (decode (now (opening .entry))))) (now (opening .entry)) (now (closing .entry)) (now (closing .exit)) r ⌝ }
+    ensures { λ r. ⌜
+        Closes encode (rotationTests (now (opening .entry)) (now (closing .entry)))
+        (value («process_participation_flag_updates» (decode (now (opening .entry))))) (now (opening .entry)) (now (closing .entry))
+        (now (closing .exit)) r ⌝ }
 {
     participation_flags::process_participation_flag_updates(opening, closing)
 }

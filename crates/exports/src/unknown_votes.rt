@@ -15,7 +15,10 @@ pub extern "C" fn altair_unknown_votes(
     registry: &[u64],
     marks: &[u64],
 ) -> VotesAnswer
-    ensures { λ r. ⌜ r ≡ votesAnswerFor (afterTests (votesTests s (now (roots .entry)) finality (now (registry .entry)) (now (marks .entry))) (votesOf (ballotOf s (now (roots .entry)) finality (now (registry .entry)) (now (marks .entry))))) ⌝ }
+    ensures { λ r. ⌜
+        r
+        ≡ votesAnswerFor (afterTests (votesTests s (now (roots .entry)) finality (now (registry .entry)) (now (marks .entry)))
+        (votesOf (ballotOf s (now (roots .entry)) finality (now (registry .entry)) (now (marks .entry))))) ⌝ }
 {
     votes::unknown_votes(s, roots, finality, registry, marks)
 }

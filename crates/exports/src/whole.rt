@@ -34,7 +34,8 @@ pub extern "C" fn altair_close(
 ) -> FullAnswer
     ensures { λ r. ⌜
         fullOutcome r (now («closing_registry» .exit)) (now («closing_slashings» .exit)) (now (amounts .exit))
-        ≡ storeClose (storeCalled (lent (now (store .entry)) count) finality queue (now (registry .entry)) (now (slashings .entry)) (now (roots .entry)) (now («closing_registry» .entry)) (now («closing_slashings» .entry)) (now (amounts .entry))) ⌝ }
+        ≡ storeClose (storeCalled (lent (now (store .entry)) count) finality queue (now (registry .entry)) (now (slashings .entry)) (now (roots .entry))
+        (now («closing_registry» .entry)) (now («closing_slashings» .entry)) (now (amounts .entry))) ⌝ }
 {
     store_close::store_close(
         store,
@@ -52,7 +53,10 @@ pub extern "C" fn altair_close(
 
 #[no_mangle]
 pub extern "C" fn altair_charged(s: Settings, state_slot: u64, registry: &[u64]) -> PlainNumber
-    ensures { λ r. ⌜ r ≡ plainNumber (numberFor (afterTests (slotRegistryTests s «state_slot» (now (registry .entry))) (value (charged s «state_slot» (decode (now (registry .entry))))))) ⌝ }
+    ensures { λ r. ⌜
+        r
+        ≡ plainNumber (numberFor
+        (afterTests (slotRegistryTests s «state_slot» (now (registry .entry))) (value (charged s «state_slot» (decode (now (registry .entry))))))) ⌝ }
 {
     plain_number(totals::charged(s, state_slot, registry))
 }

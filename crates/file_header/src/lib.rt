@@ -113,7 +113,11 @@ pub struct Counts {
 
 pub fn read_counts(bytes: &[u8]) -> Counts
     requires { ⌜ 80 ≤ length (now bytes) ⌝ }
-    ensures { λ r. ⌜ (r .validators ≡ countOf (now (bytes .entry))) × (r .roots ≡ rootCountOf (now (bytes .entry))) × (r .slashings ≡ slashingCountOf (now (bytes .entry))) × (r .version ≡ versionOf (now (bytes .entry))) ⌝ }
+    ensures { λ r. ⌜
+        (r .validators ≡ countOf (now (bytes .entry)))
+        × (r .roots ≡ rootCountOf (now (bytes .entry)))
+        × (r .slashings ≡ slashingCountOf (now (bytes .entry)))
+        × (r .version ≡ versionOf (now (bytes .entry))) ⌝ }
 {
     let validators = reader::read_number(bytes, 16);
     let roots = reader::read_number(bytes, validators.position);

@@ -219,7 +219,10 @@ pub fn write_tests(
     slashings: &[u64],
     file: &[u8],
 ) -> u64
-    ensures { λ r. ⌜ r ≡ codeOf (writeTests (contentsWith settings finality (now (registry .entry)) (now (roots .entry)) (now (slashings .entry))) queue (now (file .entry))) ⌝ }
+    ensures { λ r. ⌜
+        r
+        ≡ codeOf
+        (writeTests (contentsWith settings finality (now (registry .entry)) (now (roots .entry)) (now (slashings .entry))) queue (now (file .entry))) ⌝ }
 {
     if !write_shaped(settings, registry, roots, slashings, file) {
         return 1;

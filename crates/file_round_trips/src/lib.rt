@@ -19,7 +19,11 @@ fn write_then_read(
     registry_read: &mut [u64],
     slashings_read: &mut [u64],
 ) -> ReadAnswer
-    ensures { λ r. ⌜ (Passes (contentsWith settings finality (now (registry .entry)) (now (roots .entry)) (now (slashings .entry))) queue (now (file .entry)) (now («registry_read» .entry)) (now («slashings_read» .entry)) → SameRecord (contentsWith settings finality (now (registry .entry)) (now (roots .entry)) (now (slashings .entry))) queue (now (file .entry)) r (now («registry_read» .exit)) (now («slashings_read» .exit))) ⌝ }
+    ensures { λ r. ⌜
+        (Passes (contentsWith settings finality (now (registry .entry)) (now (roots .entry)) (now (slashings .entry))) queue (now (file .entry))
+        (now («registry_read» .entry)) (now («slashings_read» .entry))
+        → SameRecord (contentsWith settings finality (now (registry .entry)) (now (roots .entry)) (now (slashings .entry))) queue (now (file .entry)) r
+        (now («registry_read» .exit)) (now («slashings_read» .exit))) ⌝ }
 {
     record_file::write_file(settings, finality, queue, registry, roots, slashings, file);
     record_file::read_file(&file[..], registry_read, slashings_read)
@@ -37,7 +41,11 @@ fn write_then_roots<'a>(
     registry_read: &[u64],
     slashings_read: &[u64],
 ) -> &'a [u8]
-    ensures { λ r. ⌜ (Passes (contentsWith settings finality (now (registry .entry)) (now (roots .entry)) (now (slashings .entry))) queue (now (file .entry)) (now («registry_read» .entry)) (now («slashings_read» .entry)) → now r ≡ now (roots .entry)) ⌝ }
+    ensures { λ r. ⌜
+        (Passes (contentsWith settings finality (now (registry .entry)) (now (roots .entry)) (now (slashings .entry))) queue (now (file .entry))
+        (now («registry_read» .entry)) (now («slashings_read» .entry))
+        → now r
+        ≡ now (roots .entry)) ⌝ }
 {
     record_file::write_file(settings, finality, queue, registry, roots, slashings, file);
     let bytes = &file[..];
@@ -51,7 +59,9 @@ fn read_then_write(
     slashings: &mut [u64],
     file: &mut [u8],
 ) -> u64
-    ensures { λ r. ⌜ (Accepted (now (bytes .entry)) (now (registry .entry)) (now (slashings .entry)) (now (file .entry)) → SameBytes (now (bytes .entry)) r (now (file .exit))) ⌝ }
+    ensures { λ r. ⌜
+        (Accepted (now (bytes .entry)) (now (registry .entry)) (now (slashings .entry)) (now (file .entry))
+        → SameBytes (now (bytes .entry)) r (now (file .exit))) ⌝ }
 {
     let roots = record_file::file_roots(bytes, &registry[..], &slashings[..]);
     let read = record_file::read_file(bytes, registry, slashings);

@@ -15,7 +15,10 @@ pub fn finalized_registry_tests(
     finalized_epoch: u64,
     registry: &[u64],
 ) -> u64
-    ensures { λ r. ⌜ r ≡ codeOf (inOrder (settingsShaped s && registryShaped (now (registry .entry))) (goodSettings s) (isSmall «state_slot» && isSmall «finalized_epoch» && goodRegistry (now (registry .entry)))) ⌝ }
+    ensures { λ r. ⌜
+        r
+        ≡ codeOf (inOrder (settingsShaped s && registryShaped (now (registry .entry))) (goodSettings s)
+        (isSmall «state_slot» && isSmall «finalized_epoch» && goodRegistry (now (registry .entry)))) ⌝ }
 {
     let refusal = settings_registry_tests(s, registry);
     if refusal != 0 {

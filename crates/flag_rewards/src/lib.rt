@@ -38,7 +38,10 @@ fn entry_flag_deltas(
     requires { ⌜ s .«effective_balance_increment» ≤ total ⌝ }
     requires { ⌜ «flag_index» ≤ 2 ⌝ }
     requires { ⌜ length (now entry) ≡ 10 ⌝ }
-    ensures { λ r. ⌜ SaysDeltas (flagIndexDeltas s «current_epoch» «previous_epoch» «flag_index» (flagTotalsOf s participating total leaking) (decodeOne (now (entry .entry)))) r ⌝ }
+    ensures { λ r. ⌜
+        SaysDeltas
+        (flagIndexDeltas s «current_epoch» «previous_epoch» «flag_index» (flagTotalsOf s participating total leaking) (decodeOne (now (entry .entry))))
+        r ⌝ }
 {
     let shared = shared_numbers(s, current_epoch, previous_epoch, total, leaking);
     let per_increment = shared.per_increment;
@@ -74,7 +77,10 @@ pub fn get_flag_index_deltas(
     index: usize,
     registry: &[u64],
 ) -> DeltasAnswer
-    ensures { λ r. ⌜ SaysDeltas (afterTests (flagDeltasTests s «state_slot» «finalized_epoch» «flag_index» index (now (registry .entry))) («get_flag_index_deltas» s «state_slot» «finalized_epoch» (decode (now (registry .entry))) «flag_index» (getD (decode (now (registry .entry))) index nobody))) r ⌝ }
+    ensures { λ r. ⌜
+        SaysDeltas (afterTests (flagDeltasTests s «state_slot» «finalized_epoch» «flag_index» index (now (registry .entry)))
+        («get_flag_index_deltas» s «state_slot» «finalized_epoch» (decode (now (registry .entry))) «flag_index»
+        (getD (decode (now (registry .entry))) index nobody))) r ⌝ }
 {
     let refusal = flag_deltas_tests(s, state_slot, finalized_epoch, flag_index, index, registry);
     if refusal != 0 {

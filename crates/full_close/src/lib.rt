@@ -11,7 +11,6 @@ ghost use Rattle.survey.specs.Found.{Finds};
 ghost use Rattle.registry_close.specs.Worked.{stateNow, Tested};
 ghost use Rattle.full_close.specs.Called.{fullCalled, fullOutcome, unclosed as unclosedAnswer};
 ghost use Rattle.full_close.specs.Worked.{FullWorked, FullUnder};
-use booking::clear_amounts;
 use close::close_surveyed;
 use close::record_tests;
 use exit_queue::queue_of;
@@ -21,6 +20,7 @@ use leaf_refusals::previous_epoch;
 use queue_tests::queue_refusal;
 use raised::none_raised;
 use rules::settings_under;
+use step_amounts::clear;
 use survey::Findings;
 use survey::survey_registry;
 use types::ExitQueue;
@@ -67,9 +67,15 @@ fn full_surveyed(
     amounts: &mut [u64],
 ) -> FullAnswer
     requires { ⌜ Tested s finality (now registry) (now slashings) (now roots) ⌝ }
-    requires { ⌜ (length (now «closing_registry») ≡ length (now registry)) × (length (now «closing_slashings») ≡ length (now slashings)) × (length (now amounts) ≡ 9 * (length (now registry) / 10)) ⌝ }
+    requires { ⌜
+        (length (now «closing_registry») ≡ length (now registry))
+        × (length (now «closing_slashings») ≡ length (now slashings))
+        × (length (now amounts) ≡ 9 * (length (now registry) / 10)) ⌝ }
     requires { ⌜ Finds s («get_current_epoch» s (finality .slot)) («get_previous_epoch» s (finality .slot)) (now registry) (now kept) found ⌝ }
-    ensures { λ r. ⌜ FullWorked s (stateNow finality (now (registry .entry)) (now (slashings .entry)) (now (roots .entry))) queue (now (registry .entry)) (now («closing_registry» .entry)) (now («closing_slashings» .entry)) (now (amounts .entry)) (now («closing_registry» .exit)) (now («closing_slashings» .exit)) (now (amounts .exit)) r ⌝ }
+    ensures { λ r. ⌜
+        FullWorked s (stateNow finality (now (registry .entry)) (now (slashings .entry)) (now (roots .entry))) queue (now (registry .entry))
+        (now («closing_registry» .entry)) (now («closing_slashings» .entry)) (now (amounts .entry)) (now («closing_registry» .exit))
+        (now («closing_slashings» .exit)) (now (amounts .exit)) r ⌝ }
 {
     let answer = close_surveyed(
         s,
@@ -86,7 +92,7 @@ fn full_surveyed(
     let closed = answer.finality;
     let raised = answer.raised;
     if answer.refusal != 0 {
-        clear_amounts(amounts);
+        clear(amounts);
         return FullAnswer {
             refusal: answer.refusal,
             finality: closed,
@@ -120,9 +126,15 @@ fn full_tested(
     kept: &mut [u64],
 ) -> FullAnswer
     requires { ⌜ Tested s finality (now registry) (now slashings) (now roots) ⌝ }
-    requires { ⌜ (length (now «closing_registry») ≡ length (now registry)) × (length (now «closing_slashings») ≡ length (now slashings)) × (length (now amounts) ≡ 9 * (length (now registry) / 10)) ⌝ }
+    requires { ⌜
+        (length (now «closing_registry») ≡ length (now registry))
+        × (length (now «closing_slashings») ≡ length (now slashings))
+        × (length (now amounts) ≡ 9 * (length (now registry) / 10)) ⌝ }
     requires { ⌜ (length (now kept) ≡ 64) × Blank (now kept) ⌝ }
-    ensures { λ r. ⌜ FullUnder s finality queue (now (registry .entry)) (now (slashings .entry)) (now (roots .entry)) (now («closing_registry» .entry)) (now («closing_slashings» .entry)) (now (amounts .entry)) (fullOutcome r (now («closing_registry» .exit)) (now («closing_slashings» .exit)) (now (amounts .exit))) ⌝ }
+    ensures { λ r. ⌜
+        FullUnder s finality queue (now (registry .entry)) (now (slashings .entry)) (now (roots .entry)) (now («closing_registry» .entry))
+        (now («closing_slashings» .entry)) (now (amounts .entry))
+        (fullOutcome r (now («closing_registry» .exit)) (now («closing_slashings» .exit)) (now (amounts .exit))) ⌝ }
 {
     let current = current_epoch(s, finality.slot);
     let previous = previous_epoch(s, finality.slot);
@@ -159,7 +171,10 @@ pub fn full_close(
     closing_slashings: &mut [u64],
     amounts: &mut [u64],
 ) -> FullAnswer
-    ensures { λ r. ⌜ fullOutcome r (now («closing_registry» .exit)) (now («closing_slashings» .exit)) (now (amounts .exit)) ≡ fullClose (fullCalled rules finality queue (now (registry .entry)) (now (slashings .entry)) (now (roots .entry)) (now («closing_registry» .entry)) (now («closing_slashings» .entry)) (now (amounts .entry))) ⌝ }
+    ensures { λ r. ⌜
+        fullOutcome r (now («closing_registry» .exit)) (now («closing_slashings» .exit)) (now (amounts .exit))
+        ≡ fullClose (fullCalled rules finality queue (now (registry .entry)) (now (slashings .entry)) (now (roots .entry)) (now («closing_registry» .entry))
+        (now («closing_slashings» .entry)) (now (amounts .entry))) ⌝ }
 {
     if amounts.len() != 9 * (registry.len() / 10) {
         return unclosed(1, finality, queue);

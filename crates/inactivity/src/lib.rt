@@ -84,7 +84,8 @@ fn update_scores(
     registry: &mut [u64],
 ) -> u64
     requires { ⌜ length (now registry) ≡ 10 * (length (now registry) / 10) ⌝ }
-    ensures { λ r. ⌜ Ran (mapChecked (updateInactivityScore s «current_epoch» «previous_epoch» leaking) (decode (now (registry .entry)))) (now (registry .exit)) r ⌝ }
+    ensures { λ r. ⌜
+        Ran (mapChecked (updateInactivityScore s «current_epoch» «previous_epoch» leaking) (decode (now (registry .entry)))) (now (registry .exit)) r ⌝ }
 {
     let n = registry.len() / 10;
     for i in 0..n {
@@ -133,7 +134,10 @@ pub fn process_inactivity_updates(
     opening: &[u64],
     closing: &mut [u64],
 ) -> u64
-    ensures { λ r. ⌜ Closes encode (registryTests s «state_slot» «finalized_epoch» (now (opening .entry)) (now (closing .entry))) («process_inactivity_updates» s «state_slot» «finalized_epoch» (decode (now (opening .entry)))) (now (opening .entry)) (now (closing .entry)) (now (closing .exit)) r ⌝ }
+    ensures { λ r. ⌜
+        Closes encode (registryTests s «state_slot» «finalized_epoch» (now (opening .entry)) (now (closing .entry)))
+        («process_inactivity_updates» s «state_slot» «finalized_epoch» (decode (now (opening .entry)))) (now (opening .entry)) (now (closing .entry))
+        (now (closing .exit)) r ⌝ }
 {
     let refusal = registry_tests(s, state_slot, finalized_epoch, opening, closing);
     if refusal != 0 {

@@ -123,7 +123,11 @@ pub fn process_justification_and_finalization(
     finality: Finality,
     registry: &[u64],
 ) -> CloseAnswer
-    ensures { λ r. ⌜ r ≡ closeAnswerFor (afterTests (justificationTests s (now (roots .entry)) finality (now (registry .entry))) («process_justification_and_finalization» s (now (roots .entry)) finality (decode (now (registry .entry))))) finality (raisedTotals s (finality .slot) (decode (now (registry .entry)))) ⌝ }
+    ensures { λ r. ⌜
+        r
+        ≡ closeAnswerFor (afterTests (justificationTests s (now (roots .entry)) finality (now (registry .entry)))
+        («process_justification_and_finalization» s (now (roots .entry)) finality (decode (now (registry .entry))))) finality
+        (raisedTotals s (finality .slot) (decode (now (registry .entry)))) ⌝ }
 {
     let refusal = justification_refusal(s, roots, finality, registry);
     if refusal != 0 {

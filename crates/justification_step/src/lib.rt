@@ -16,7 +16,11 @@ pub fn process_justification_and_finalization(
     finality: Finality,
     registry: &[u64],
 ) -> JustificationAnswer
-    ensures { λ r. ⌜ r ≡ justificationAnswerFor s (afterTests (justificationTests s (now (roots .entry)) finality (now (registry .entry))) («process_justification_and_finalization» s (now (roots .entry)) finality (decode (now (registry .entry))))) finality (raisedTotals s (finality .slot) (decode (now (registry .entry)))) ⌝ }
+    ensures { λ r. ⌜
+        r
+        ≡ justificationAnswerFor s (afterTests (justificationTests s (now (roots .entry)) finality (now (registry .entry)))
+        («process_justification_and_finalization» s (now (roots .entry)) finality (decode (now (registry .entry))))) finality
+        (raisedTotals s (finality .slot) (decode (now (registry .entry)))) ⌝ }
 {
     let answer = justification::process_justification_and_finalization(
         s,

@@ -104,8 +104,13 @@ pub fn later_step(
 ) -> u64
     requires { ⌜ (1 ≤ done) × (done ≤ 7) × (goodSettings s ≡ true) ⌝ }
     requires { ⌜ (Passed s (finality .slot)) × (finality .slot < 2 ^ 48) × (finality .«finalized_checkpoint» .epoch < 2 ^ 48) ⌝ }
-    requires { ⌜ (length (now registry) ≡ 10 * (length (now registry) / 10)) × (length (now amounts) ≡ 9 * (length (now registry) / 10)) × (length (now slashings) ≡ s .«epochs_per_slashings_vector») ⌝ }
-    ensures { λ r. ⌜ LaterRan done s (soFarState finality (now (registry .entry)) (now (slashings .entry)) (now (roots .entry))) (now (amounts .entry)) (now (registry .exit)) (now (slashings .exit)) (now (amounts .exit)) r ⌝ }
+    requires { ⌜
+        (length (now registry) ≡ 10 * (length (now registry) / 10))
+        × (length (now amounts) ≡ 9 * (length (now registry) / 10))
+        × (length (now slashings) ≡ s .«epochs_per_slashings_vector») ⌝ }
+    ensures { λ r. ⌜
+        LaterRan done s (soFarState finality (now (registry .entry)) (now (slashings .entry)) (now (roots .entry))) (now (amounts .entry))
+        (now (registry .exit)) (now (slashings .exit)) (now (amounts .exit)) r ⌝ }
 {
     let slot = finality.slot;
     let finalized = finality.finalized_checkpoint;

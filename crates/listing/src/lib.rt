@@ -20,7 +20,11 @@ fn list_record(
     text: &mut [u8],
 ) -> usize
     requires { ⌜ 207 + 127 * (length (now registry) / 10) ≤ length (now text) ⌝ }
-    ensures { λ r. ⌜ Listed (now (bytes .entry)) (buffers (now (registry .entry)) (now (slashings .entry)) (now («closing_registry» .entry)) (now («closing_slashings» .entry)) (now (text .entry))) (buffers (now (registry .exit)) (now (slashings .exit)) (now («closing_registry» .exit)) (now («closing_slashings» .exit)) (now (text .exit))) r ⌝ }
+    ensures { λ r. ⌜
+        Listed (now (bytes .entry))
+        (buffers (now (registry .entry)) (now (slashings .entry)) (now («closing_registry» .entry)) (now («closing_slashings» .entry))
+        (now (text .entry)))
+        (buffers (now (registry .exit)) (now (slashings .exit)) (now («closing_registry» .exit)) (now («closing_slashings» .exit)) (now (text .exit))) r ⌝ }
 {
     let opened = read_file(bytes, registry, slashings);
     if opened.refusal != 0 {
@@ -64,7 +68,10 @@ fn fits(
     closing_slashings: &[u64],
     text: &[u8],
 ) -> bool
-    ensures { λ r. ⌜ r ≡ fitsIn h (buffers (now (registry .entry)) (now (slashings .entry)) (now («closing_registry» .entry)) (now («closing_slashings» .entry)) (now (text .entry))) ⌝ }
+    ensures { λ r. ⌜
+        r
+        ≡ fitsIn h (buffers (now (registry .entry)) (now (slashings .entry)) (now («closing_registry» .entry)) (now («closing_slashings» .entry))
+        (now (text .entry))) ⌝ }
 {
     let validators = h.validators;
     let sums = h.slashings;
@@ -98,8 +105,16 @@ pub fn listing(
     closing_slashings: &mut [u64],
     text: &mut [u8],
 ) -> usize
-    ensures { λ r. ⌜ r ≡ listedLength (now (bytes .entry)) (buffers (now (registry .entry)) (now (slashings .entry)) (now («closing_registry» .entry)) (now («closing_slashings» .entry)) (now (text .entry))) ⌝ }
-    ensures { λ _. ⌜ buffers (now (registry .exit)) (now (slashings .exit)) (now («closing_registry» .exit)) (now («closing_slashings» .exit)) (now (text .exit)) ≡ listed (now (bytes .entry)) (buffers (now (registry .entry)) (now (slashings .entry)) (now («closing_registry» .entry)) (now («closing_slashings» .entry)) (now (text .entry))) ⌝ }
+    ensures { λ r. ⌜
+        r
+        ≡ listedLength (now (bytes .entry))
+        (buffers (now (registry .entry)) (now (slashings .entry)) (now («closing_registry» .entry)) (now («closing_slashings» .entry))
+        (now (text .entry))) ⌝ }
+    ensures { λ _. ⌜
+        buffers (now (registry .exit)) (now (slashings .exit)) (now («closing_registry» .exit)) (now («closing_slashings» .exit)) (now (text .exit))
+        ≡ listed (now (bytes .entry))
+        (buffers (now (registry .entry)) (now (slashings .entry)) (now («closing_registry» .entry)) (now («closing_slashings» .entry))
+        (now (text .entry))) ⌝ }
 {
     let h = sizes(bytes);
     if !fits(

@@ -37,7 +37,12 @@ fn put_close(
     requires { ⌜ 0 < s .«slots_per_epoch» ⌝ }
     requires { ⌜ (registryShaped (now registry) ≡ true) × (length (now «closing_registry») ≡ length (now registry)) ⌝ }
     requires { ⌜ 207 + 127 * (length (now registry) / 10) ≤ length (now text) ⌝ }
-    ensures { λ r. ⌜ Put (now (text .entry)) 0 (orRefused (codeOf (changeTests (decode (now (registry .entry))) (decode (now («closing_registry» .entry))))) (headLine («get_current_epoch» s «state_slot») («closing_finality» .«current_justified_checkpoint» .epoch) («closing_finality» .«finalized_checkpoint» .epoch) («closing_finality» .«justification_bits») (charged s «state_slot» (decode (now (registry .entry)))) (raisedTotals s «state_slot» (decode (now (registry .entry)))) ++ lines 0 (decode (now (registry .entry))) (decode (now («closing_registry» .entry))))) (now (text .exit)) r ⌝ }
+    ensures { λ r. ⌜
+        Put (now (text .entry)) 0 (orRefused (codeOf (changeTests (decode (now (registry .entry))) (decode (now («closing_registry» .entry)))))
+        (headLine («get_current_epoch» s «state_slot») («closing_finality» .«current_justified_checkpoint» .epoch)
+        («closing_finality» .«finalized_checkpoint» .epoch) («closing_finality» .«justification_bits»)
+        (charged s «state_slot» (decode (now (registry .entry)))) (raisedTotals s «state_slot» (decode (now (registry .entry)))) ++ lines 0
+        (decode (now (registry .entry))) (decode (now («closing_registry» .entry))))) (now (text .exit)) r ⌝ }
     ensures { λ r. ⌜ r ≤ length (now (text .entry)) ⌝ }
 {
     let refusal = changes(registry, closing_registry);
@@ -61,7 +66,10 @@ pub fn list_close(
     text: &mut [u8],
 ) -> usize
     requires { ⌜ 207 + 127 * (length (now registry) / 10) ≤ length (now text) ⌝ }
-    ensures { λ r. ⌜ ListedClose (called (altairRules s) finality (now (registry .entry)) (now (slashings .entry)) (now (roots .entry)) (now («closing_registry» .entry)) (now («closing_slashings» .entry))) (now («closing_registry» .exit)) (now («closing_slashings» .exit)) (now (text .entry)) (now (text .exit)) r ⌝ }
+    ensures { λ r. ⌜
+        ListedClose (called (altairRules s) finality (now (registry .entry)) (now (slashings .entry)) (now (roots .entry)) (now («closing_registry» .entry))
+        (now («closing_slashings» .entry))) (now («closing_registry» .exit)) (now («closing_slashings» .exit)) (now (text .entry))
+        (now (text .exit)) r ⌝ }
 {
     let closed = close_as_altair(
         s,

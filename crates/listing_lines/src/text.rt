@@ -37,8 +37,10 @@ fn put_row(
     o: u64,
 ) -> usize
     requires { ⌜ at + (length (now a) + length (now b) + length (now c) + length (now d) + length (now e)) + 100 ≤ length (now text) ⌝ }
-    ensures { λ r. ⌜ Put (now (text .entry)) at (row (now (a .entry)) k (now (b .entry)) l (now (c .entry)) m (now (d .entry)) n (now (e .entry)) o) (now (text .exit)) r ⌝ }
-    ensures { λ r. ⌜ r ≤ at + (length (now (a .entry)) + length (now (b .entry)) + length (now (c .entry)) + length (now (d .entry)) + length (now (e .entry))) + 100 ⌝ }
+    ensures { λ r. ⌜
+        Put (now (text .entry)) at (row (now (a .entry)) k (now (b .entry)) l (now (c .entry)) m (now (d .entry)) n (now (e .entry)) o) (now (text .exit)) r ⌝ }
+    ensures { λ r. ⌜
+        r ≤ at + (length (now (a .entry)) + length (now (b .entry)) + length (now (c .entry)) + length (now (d .entry)) + length (now (e .entry))) + 100 ⌝ }
 {
     let first = put_labelled(text, at, a, k);
     let second = put_labelled(text, first, b, l);
@@ -60,7 +62,9 @@ fn put_raised(text: &mut [u8], at: usize, raised: Raised) -> usize
 
 pub fn put_head(text: &mut [u8], at: usize, h: Head) -> usize
     requires { ⌜ at + 207 ≤ length (now text) ⌝ }
-    ensures { λ r. ⌜ Put (now (text .entry)) at (headLine (h .epoch) (h .«justified_epoch») (h .«finalized_epoch») (h .«justification_bits») (h .charged) (h .raised)) (now (text .exit)) r ⌝ }
+    ensures { λ r. ⌜
+        Put (now (text .entry)) at (headLine (h .epoch) (h .«justified_epoch») (h .«finalized_epoch») (h .«justification_bits») (h .charged) (h .raised))
+        (now (text .exit)) r ⌝ }
     ensures { λ r. ⌜ r ≤ at + 207 ⌝ }
 {
     let row = put_row(

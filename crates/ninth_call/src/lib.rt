@@ -38,7 +38,10 @@ pub fn lists_shaped(count: u64, orders: &[u64], answers: &[u64]) -> bool
 
 // Tests 1 and 2 by the settings.
 fn settings_tests(s: Settings, count: u64, registry: &[u64], orders: &[u64], answers: &[u64]) -> u64
-    ensures { λ r. ⌜ r ≡ codeOf (inOrder (settingsShaped s && (registryShaped (now (registry .entry)) && listsShaped count (now (orders .entry)) (now (answers .entry)))) (goodSettings s) true) ⌝ }
+    ensures { λ r. ⌜
+        r
+        ≡ codeOf (inOrder (settingsShaped s && (registryShaped (now (registry .entry)) && listsShaped count (now (orders .entry)) (now (answers .entry))))
+        (goodSettings s) true) ⌝ }
 {
     if !settings_shaped(s) {
         return 1;
@@ -126,7 +129,9 @@ fn carry_tested(
     answers: &mut [u64],
 ) -> RunningAnswer
     requires { ⌜ Ready s running (now registry) (now orders) (now answers) ⌝ }
-    ensures { λ r. ⌜ ninthOutcome r (now (registry .exit)) (now (answers .exit)) ≡ carriedUnder s period running (now (registry .entry)) (now (orders .entry)) (now (answers .entry)) ⌝ }
+    ensures { λ r. ⌜
+        ninthOutcome r (now (registry .exit)) (now (answers .exit))
+        ≡ carriedUnder s period running (now (registry .entry)) (now (orders .entry)) (now (answers .entry)) ⌝ }
 {
     let so_far = running.answer;
     let finality = so_far.finality;
@@ -177,7 +182,9 @@ pub fn carry_out(
     orders: &[u64],
     answers: &mut [u64],
 ) -> RunningAnswer
-    ensures { λ r. ⌜ ninthOutcome r (now («closing_registry» .exit)) (now (answers .exit)) ≡ carryOut (ninthCalled rules «shard_committee_period» running (now («closing_registry» .entry)) (now (orders .entry)) (now (answers .entry))) ⌝ }
+    ensures { λ r. ⌜
+        ninthOutcome r (now («closing_registry» .exit)) (now (answers .exit))
+        ≡ carryOut (ninthCalled rules «shard_committee_period» running (now («closing_registry» .entry)) (now (orders .entry)) (now (answers .entry))) ⌝ }
 {
     let done = running.done;
     if done == 9 {

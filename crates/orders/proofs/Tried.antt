@@ -171,9 +171,9 @@ trying-more {f} {n} {xs₀} {orders} {lent} {count} {i} {xs} {answers} {q} g {ys
     record {
       below = omega arith;
       long = same ∙ g .long;
-      held = h .registry ∙ ap (λ (us : List Validator). encode (settle (f us o) us)) now ∙ ap encode (sym (carried-more f vs (ordersIn i orders) o)) ∙ ap (λ (os : List Order). encode (carriedBy f vs os)) (sym next);
+      held = h .registry ∙ ap (λ (us : List Validator). encode (settle (f us o) us)) so-far ∙ ap encode (sym (carried-more f vs (ordersIn i orders) o)) ∙ ap (λ (os : List Order). encode (carriedBy f vs os)) (sym next);
       answered =
-          ap₂ (λ (given : List ℕ) (y : ℕ). set given i y) (g .answered) (h .refusal ∙ ap (λ (us : List Validator). codeOf (f us o)) now)
+          ap₂ (λ (given : List ℕ) (y : ℕ). set given i y) (g .answered) (h .refusal ∙ ap (λ (us : List Validator). codeOf (f us o)) so-far)
           ∙ set-behind (answersBy f vs (ordersIn i orders)) (drop i lent) i _ size (omega (arith, size, length-drop i lent, l, fits))
           ∙ ap₂ _++_ (sym (answers-more f vs (ordersIn i orders) o) ∙ ap (answersBy f vs) (sym next)) (drop-more i lent ∙ ap (λ (k : ℕ). drop k lent) (sym (add-one i)));
       room = length-set answers i (t .refusal) ∙ g .room;
@@ -186,8 +186,8 @@ trying-more {f} {n} {xs₀} {orders} {lent} {count} {i} {xs} {answers} {q} g {ys
     o : Order
     o = order (getD orders (2 * i) 0) (getD orders (2 * i + 1) 0)
 
-    now : decode xs ≡ carriedBy f vs (ordersIn i orders)
-    now = ap decode (g .held) ∙ decode-encode (carriedBy f vs (ordersIn i orders))
+    so-far : decode xs ≡ carriedBy f vs (ordersIn i orders)
+    so-far = ap decode (g .held) ∙ decode-encode (carriedBy f vs (ordersIn i orders))
 
     size : length (answersBy f vs (ordersIn i orders)) ≡ i
     size = answers-long f vs (ordersIn i orders) ∙ orders-long i orders

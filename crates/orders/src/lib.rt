@@ -132,7 +132,9 @@ fn try_order(
 ) -> Turn
     requires { ⌜ (length (now registry) ≡ 10 * n) × (least < 18446744073709551615) ⌝ }
     requires { ⌜ queue ≡ queueOf (decode (now registry)) ⌝ }
-    ensures { λ r. ⌜ Tries (orderBy epoch period least limit delay (decode (now (registry .entry))) (order validator start)) (now (registry .entry)) (now (registry .exit)) r ⌝ }
+    ensures { λ r. ⌜
+        Tries (orderBy epoch period least limit delay (decode (now (registry .entry))) (order validator start)) (now (registry .entry))
+        (now (registry .exit)) r ⌝ }
 {
     let index = validator as usize;
     if n <= index {
@@ -176,7 +178,9 @@ pub fn try_all(
     requires { ⌜ (length (now registry) ≡ 10 * n) × (least < 18446744073709551615) ⌝ }
     requires { ⌜ first ≡ queueOf (decode (now registry)) ⌝ }
     requires { ⌜ (count ≤ room (now orders)) × (count ≤ length (now answers)) ⌝ }
-    ensures { λ r. ⌜ AllTried (orderBy epoch period least limit delay) (now (registry .entry)) (now (orders .entry)) (now (answers .entry)) count (now (registry .exit)) (now (answers .exit)) r ⌝ }
+    ensures { λ r. ⌜
+        AllTried (orderBy epoch period least limit delay) (now (registry .entry)) (now (orders .entry)) (now (answers .entry)) count (now (registry .exit))
+        (now (answers .exit)) r ⌝ }
 {
     let mut queue = first;
     for i in 0..count {

@@ -60,7 +60,11 @@ fn put_run(
     requires { ⌜ Room epochs (now registry) (now slashings) (now «closing_registry») (now «closing_slashings») (now text) 0 ⌝ }
     requires { ⌜ (registryShaped (now opening) ≡ true) × (now opening ≡ now registry) ⌝ }
     requires { ⌜ 210 * epochs + 29 + 127 * (length (now opening) / 10) ≤ length (now text) ⌝ }
-    ensures { λ r. ⌜ Printed (runText (contentsWith s finality (now (opening .entry)) (now (roots .entry)) (now (slashings .entry))) (run (planOf (now (root .entry)) (now (absences .entry))) epochs (contentsWith s finality (now (opening .entry)) (now (roots .entry)) (now (slashings .entry))))) (now (text .entry)) (now (text .exit)) r ⌝ }
+    ensures { λ r. ⌜
+        Printed (runText (contentsWith s finality (now (opening .entry)) (now (roots .entry)) (now (slashings .entry)))
+        (run (planOf (now (root .entry)) (now (absences .entry))) epochs
+        (contentsWith s finality (now (opening .entry)) (now (roots .entry)) (now (slashings .entry))))) (now (text .entry)) (now (text .exit))
+        r ⌝ }
 {
     let ran = run_epochs(
         s,
@@ -107,7 +111,9 @@ fn put_read(
     closing_slashings: &mut [u64],
     text: &mut [u8],
 ) -> usize
-    requires { ⌜ Exact (now file) (now opening) (now absences) (now registry) (now slashings) (now roots) (now «closing_registry») (now «closing_slashings») (now text) ⌝ }
+    requires { ⌜
+        Exact (now file) (now opening) (now absences) (now registry) (now slashings) (now roots) (now «closing_registry») (now «closing_slashings»)
+        (now text) ⌝ }
     requires { ⌜ Opened (now file) s finality (now registry) (now slashings) ⌝ }
     requires { ⌜ goodTail (countOf (now file)) (now tail) ≡ true ⌝ }
     ensures { λ r. ⌜ Printed (textOf (now (file .entry)) (now (tail .entry))) (now (text .entry)) (now (text .exit)) r ⌝ }
@@ -146,7 +152,9 @@ fn put_file(
     closing_slashings: &mut [u64],
     text: &mut [u8],
 ) -> usize
-    requires { ⌜ Exact (now file) (now opening) (now absences) (now registry) (now slashings) (now roots) (now «closing_registry») (now «closing_slashings») (now text) ⌝ }
+    requires { ⌜
+        Exact (now file) (now opening) (now absences) (now registry) (now slashings) (now roots) (now «closing_registry») (now «closing_slashings»)
+        (now text) ⌝ }
     ensures { λ r. ⌜ Printed (textOf (now (file .entry)) (now (tail .entry))) (now (text .entry)) (now (text .exit)) r ⌝ }
 {
     let read = read_file(file, registry, slashings);
@@ -187,7 +195,9 @@ pub fn put_text(
     closing_slashings: &mut [u64],
     text: &mut [u8],
 ) -> usize
-    requires { ⌜ Enough (now file) (now opening) (now absences) (now registry) (now slashings) (now roots) (now «closing_registry») (now «closing_slashings») (now text) ⌝ }
+    requires { ⌜
+        Enough (now file) (now opening) (now absences) (now registry) (now slashings) (now roots) (now «closing_registry») (now «closing_slashings»)
+        (now text) ⌝ }
     ensures { λ r. ⌜ Printed (textOf (now (file .entry)) (now (tail .entry))) (now (text .entry)) (now (text .exit)) r ⌝ }
 {
     let h = read_header(file);

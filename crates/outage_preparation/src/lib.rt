@@ -48,7 +48,9 @@ fn flags_at(epoch: u64, first: u64, last: u64) -> u64
 
 fn entry_flags(entry: &mut [u64], flags: u64)
     requires { ⌜ length (now entry) ≡ 10 ⌝ }
-    ensures { λ _. ⌜ now (entry .exit) ≡ encodeOne (withParticipation (decodeOne (now (entry .entry)) .«previous_epoch_participation») flags (decodeOne (now (entry .entry)))) ⌝ }
+    ensures { λ _. ⌜
+        now (entry .exit)
+        ≡ encodeOne (withParticipation (decodeOne (now (entry .entry)) .«previous_epoch_participation») flags (decodeOne (now (entry .entry)))) ⌝ }
 {
     entry[8] = flags;
 }
@@ -94,7 +96,9 @@ pub fn prepare(
     roots: &mut [u8],
 ) -> Finality
     requires { ⌜ Ready s (finality .slot) (length (now registry) / 10) (now registry) (now roots) (now root) (now absences) ⌝ }
-    ensures { λ r. ⌜ Prepares s (planOf (now (root .entry)) (now (absences .entry))) finality (now (registry .entry)) (now (roots .entry)) r (now (registry .exit)) (now (roots .exit)) ⌝ }
+    ensures { λ r. ⌜
+        Prepares s (planOf (now (root .entry)) (now (absences .entry))) finality (now (registry .entry)) (now (roots .entry)) r (now (registry .exit))
+        (now (roots .exit)) ⌝ }
 {
     let old = finality.slot;
     let new = last_slot_of_next(s, old);

@@ -37,7 +37,9 @@ fn close_once(
     at: usize,
 ) -> Closed
     requires { ⌜ Room 1 (now registry) (now slashings) (now «closing_registry») (now «closing_slashings») (now text) at ⌝ }
-    ensures { λ r. ⌜ Went (closeOnce (contentsWith s finality (now (registry .entry)) (now (roots .entry)) (now (slashings .entry)))) 1 (now (text .entry)) at (now (text .exit)) (r .refusal) (contentsWith s (r .finality) (now (registry .exit)) (now (roots .entry)) (now (slashings .exit))) (r .last) ⌝ }
+    ensures { λ r. ⌜
+        Went (closeOnce (contentsWith s finality (now (registry .entry)) (now (roots .entry)) (now (slashings .entry)))) 1 (now (text .entry)) at
+        (now (text .exit)) (r .refusal) (contentsWith s (r .finality) (now (registry .exit)) (now (roots .entry)) (now (slashings .exit))) (r .last) ⌝ }
 {
     let closed = close_as_altair(
         s,
@@ -83,7 +85,10 @@ fn try_epoch(
 ) -> Closed
     requires { ⌜ Ready s (finality .slot) (length (now registry) / 10) (now registry) (now roots) (now root) (now absences) ⌝ }
     requires { ⌜ Room 1 (now registry) (now slashings) (now «closing_registry») (now «closing_slashings») (now text) at ⌝ }
-    ensures { λ r. ⌜ Went (closeOnce (prepared (planOf (now (root .entry)) (now (absences .entry))) (contentsWith s finality (now (registry .entry)) (now (roots .entry)) (now (slashings .entry))))) 1 (now (text .entry)) at (now (text .exit)) (r .refusal) (contentsWith s (r .finality) (now (registry .exit)) (now (roots .exit)) (now (slashings .exit))) (r .last) ⌝ }
+    ensures { λ r. ⌜
+        Went (closeOnce (prepared (planOf (now (root .entry)) (now (absences .entry)))
+        (contentsWith s finality (now (registry .entry)) (now (roots .entry)) (now (slashings .entry))))) 1 (now (text .entry)) at
+        (now (text .exit)) (r .refusal) (contentsWith s (r .finality) (now (registry .exit)) (now (roots .exit)) (now (slashings .exit))) (r .last) ⌝ }
 {
     let moved = prepare(s, finality, root, absences, registry, roots);
     close_once(
@@ -115,7 +120,10 @@ pub fn run_epochs(
 ) -> Closed
     requires { ⌜ Ready s (finality .slot) (length (now registry) / 10) (now registry) (now roots) (now root) (now absences) ⌝ }
     requires { ⌜ Room epochs (now registry) (now slashings) (now «closing_registry») (now «closing_slashings») (now text) 0 ⌝ }
-    ensures { λ r. ⌜ Went (run (planOf (now (root .entry)) (now (absences .entry))) epochs (contentsWith s finality (now (registry .entry)) (now (roots .entry)) (now (slashings .entry)))) epochs (now (text .entry)) 0 (now (text .exit)) (r .refusal) (contentsWith s (r .finality) (now (registry .exit)) (now (roots .exit)) (now (slashings .exit))) (r .last) ⌝ }
+    ensures { λ r. ⌜
+        Went (run (planOf (now (root .entry)) (now (absences .entry))) epochs
+        (contentsWith s finality (now (registry .entry)) (now (roots .entry)) (now (slashings .entry)))) epochs (now (text .entry)) 0
+        (now (text .exit)) (r .refusal) (contentsWith s (r .finality) (now (registry .exit)) (now (roots .exit)) (now (slashings .exit))) (r .last) ⌝ }
 {
     let mut standing = finality;
     let mut end = 0;

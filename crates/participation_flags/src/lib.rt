@@ -49,7 +49,10 @@ fn rotation_tests(opening: &[u64], closing: &[u64]) -> u64
 }
 
 pub fn process_participation_flag_updates(opening: &[u64], closing: &mut [u64]) -> u64
-    ensures { λ r. ⌜ Closes encode (rotationTests (now (opening .entry)) (now (closing .entry))) (value («process_participation_flag_updates» (decode (now (opening .entry))))) (now (opening .entry)) (now (closing .entry)) (now (closing .exit)) r ⌝ }
+    ensures { λ r. ⌜
+        Closes encode (rotationTests (now (opening .entry)) (now (closing .entry)))
+        (value («process_participation_flag_updates» (decode (now (opening .entry))))) (now (opening .entry)) (now (closing .entry))
+        (now (closing .exit)) r ⌝ }
 {
     let refusal = rotation_tests(opening, closing);
     if refusal != 0 {

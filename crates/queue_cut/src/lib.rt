@@ -53,7 +53,9 @@ fn bisect(
     number: u64,
 ) -> Cut
     requires { ⌜ (length (now registry) ≡ 10 * n) × (epoch < 18446744073709551615) ⌝ }
-    requires { ⌜ («finalized_epoch» < 18446744073709551615) × Bracket limit «finalized_epoch» (eligibleNow s epoch (decode (now registry))) first «finalized_epoch» number ⌝ }
+    requires { ⌜
+        («finalized_epoch» < 18446744073709551615)
+        × Bracket limit «finalized_epoch» (eligibleNow s epoch (decode (now registry))) first «finalized_epoch» number ⌝ }
     ensures { λ r. ⌜ CutAt limit «finalized_epoch» (eligibleNow s epoch (decode (now (registry .entry)))) (r .bound) (r .quota) ⌝ }
 {
     let mut low = first;

@@ -282,7 +282,9 @@ fn balance_by(
     requires { ⌜ length (now entry) ≡ 10 ⌝ }
     requires { ⌜ Fits s h source target head rates ⌝ }
     requires { ⌜ rates .«effective_balance» ≡ getD (now entry) 0 0 ⌝ }
-    ensures { λ r. ⌜ Says (rewardedBalance s quotient (h .«current_epoch») (h .«previous_epoch») (totalsOf h source) (totalsOf h target) (totalsOf h head) (decodeOne (now (entry .entry)))) r ⌝ }
+    ensures { λ r. ⌜
+        Says (rewardedBalance s quotient (h .«current_epoch») (h .«previous_epoch») (totalsOf h source) (totalsOf h target) (totalsOf h head)
+        (decodeOne (now (entry .entry)))) r ⌝ }
 {
     let eligible = entry_is_eligible(h.previous_epoch, entry);
     let source_is = entry_is_participating(h.current_epoch, 0, h.previous_epoch, entry);
@@ -340,7 +342,9 @@ pub fn entry_reward_by(
     requires { ⌜ length (now entry) ≡ 10 ⌝ }
     requires { ⌜ Fits s h source target head rates ⌝ }
     requires { ⌜ rates .«effective_balance» ≡ getD (now entry) 0 0 ⌝ }
-    ensures { λ r. ⌜ Settles (rewardAndPenalize s quotient (h .«current_epoch») (h .«previous_epoch») (totalsOf h source) (totalsOf h target) (totalsOf h head)) (now (entry .entry)) (now (entry .exit)) r ⌝ }
+    ensures { λ r. ⌜
+        Settles (rewardAndPenalize s quotient (h .«current_epoch») (h .«previous_epoch») (totalsOf h source) (totalsOf h target) (totalsOf h head))
+        (now (entry .entry)) (now (entry .exit)) r ⌝ }
 {
     let Number::Value(balance) = balance_by(
         s,

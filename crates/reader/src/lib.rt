@@ -56,7 +56,10 @@ impl<'a> Reader<'a> {
     // The number at its position. Afterwards it stands behind that number.
     pub fn next_number(&mut self) -> u64
         requires { ⌜ now self .position + 8 ≤ length (now (now self .bytes)) ⌝ }
-        ensures { λ r. ⌜ (r ≡ numberAt (now (self .entry) .position) (now (now (self .entry) .bytes))) × (now (self .exit) .bytes ≡ now (self .entry) .bytes) × (now (self .exit) .position ≡ now (self .entry) .position + 8) ⌝ }
+        ensures { λ r. ⌜
+            (r ≡ numberAt (now (self .entry) .position) (now (now (self .entry) .bytes)))
+            × (now (self .exit) .bytes ≡ now (self .entry) .bytes)
+            × (now (self .exit) .position ≡ now (self .entry) .position + 8) ⌝ }
     {
         let next = next_at(self.bytes, self.position);
         self.position = next.position;

@@ -201,8 +201,13 @@ pub fn write_file(
     slashings: &[u64],
     file: &mut [u8],
 ) -> u64
-    ensures { λ r. ⌜ r ≡ codeOf (writeTests (contentsWith settings finality (now (registry .entry)) (now (roots .entry)) (now (slashings .entry))) queue (now (file .entry))) ⌝ }
-    ensures { λ _. ⌜ now (file .exit) ≡ written (contentsWith settings finality (now (registry .entry)) (now (roots .entry)) (now (slashings .entry))) queue (now (file .entry)) ⌝ }
+    ensures { λ r. ⌜
+        r
+        ≡ codeOf
+        (writeTests (contentsWith settings finality (now (registry .entry)) (now (roots .entry)) (now (slashings .entry))) queue (now (file .entry))) ⌝ }
+    ensures { λ _. ⌜
+        now (file .exit)
+        ≡ written (contentsWith settings finality (now (registry .entry)) (now (roots .entry)) (now (slashings .entry))) queue (now (file .entry)) ⌝ }
 {
     let refusal = file_refusals::write_tests(
         settings,

@@ -46,8 +46,12 @@ pub fn run_steps(
     requires { ⌜ Tested s finality (now registry) (now slashings) (now roots) ⌝ }
     requires { ⌜ length (now «closing_registry») ≡ length (now registry) ⌝ }
     requires { ⌜ Finds s («get_current_epoch» s (finality .slot)) («get_previous_epoch» s (finality .slot)) (now registry) (now kept) found ⌝ }
-    ensures { λ r. ⌜ Worked s (stateNow finality (now (registry .entry)) (now (slashings .entry)) (now (roots .entry))) (now («closing_registry» .exit)) (resetSlashings s (finality .slot) (now (slashings .entry))) r ⌝ }
-    ensures { λ r. ⌜ Books s (r .finality .slot) (r .finality .«finalized_checkpoint» .epoch) (now (slashings .entry)) (now (registry .entry)) (now («closing_registry» .exit)) (now (amounts .entry)) (now (amounts .exit)) (r .refusal) ⌝ }
+    ensures { λ r. ⌜
+        Worked s (stateNow finality (now (registry .entry)) (now (slashings .entry)) (now (roots .entry))) (now («closing_registry» .exit))
+        (resetSlashings s (finality .slot) (now (slashings .entry))) r ⌝ }
+    ensures { λ r. ⌜
+        Books s (r .finality .slot) (r .finality .«finalized_checkpoint» .epoch) (now (slashings .entry)) (now (registry .entry))
+        (now («closing_registry» .exit)) (now (amounts .entry)) (now (amounts .exit)) (r .refusal) ⌝ }
 {
     let increment = s.effective_balance_increment;
     let sums = found.sums;
@@ -96,7 +100,9 @@ fn close_kept(
     requires { ⌜ Tested s finality (now registry) (now slashings) (now roots) ⌝ }
     requires { ⌜ length (now «closing_registry») ≡ length (now registry) ⌝ }
     requires { ⌜ (length (now kept) ≡ 64) × Blank (now kept) ⌝ }
-    ensures { λ r. ⌜ Worked s (stateNow finality (now (registry .entry)) (now (slashings .entry)) (now (roots .entry))) (now («closing_registry» .exit)) (resetSlashings s (finality .slot) (now (slashings .entry))) r ⌝ }
+    ensures { λ r. ⌜
+        Worked s (stateNow finality (now (registry .entry)) (now (slashings .entry)) (now (roots .entry))) (now («closing_registry» .exit))
+        (resetSlashings s (finality .slot) (now (slashings .entry))) r ⌝ }
 {
     let current = current_epoch(s, finality.slot);
     let previous = previous_epoch(s, finality.slot);
@@ -125,7 +131,9 @@ pub fn close_registry(
 ) -> CloseAnswer
     requires { ⌜ Tested s finality (now registry) (now slashings) (now roots) ⌝ }
     requires { ⌜ length (now «closing_registry») ≡ length (now registry) ⌝ }
-    ensures { λ r. ⌜ Worked s (stateNow finality (now (registry .entry)) (now (slashings .entry)) (now (roots .entry))) (now («closing_registry» .exit)) (resetSlashings s (finality .slot) (now (slashings .entry))) r ⌝ }
+    ensures { λ r. ⌜
+        Worked s (stateNow finality (now (registry .entry)) (now (slashings .entry)) (now (roots .entry))) (now («closing_registry» .exit))
+        (resetSlashings s (finality .slot) (now (slashings .entry))) r ⌝ }
 {
     let mut kept = [18446744073709551615u64; 64];
     close_kept(

@@ -14,7 +14,9 @@ use types::Settings;
 
 // What all of them test, each beside its own.
 pub fn settings_registry_tests(s: Settings, registry: &[u64]) -> u64
-    ensures { λ r. ⌜ r ≡ codeOf (inOrder (settingsShaped s && registryShaped (now (registry .entry))) (goodSettings s) (goodRegistry (now (registry .entry)))) ⌝ }
+    ensures { λ r. ⌜
+        r
+        ≡ codeOf (inOrder (settingsShaped s && registryShaped (now (registry .entry))) (goodSettings s) (goodRegistry (now (registry .entry)))) ⌝ }
 {
     if !settings_shaped(s) {
         return 1;

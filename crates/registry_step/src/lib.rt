@@ -152,7 +152,9 @@ fn run_step(
     requires { ⌜ stop ≤ length (now opening) / 10 ⌝ }
     requires { ⌜ queue ≡ queueOf (decode (now opening)) ⌝ }
     requires { ⌜ Finds s («get_current_epoch» s «state_slot») («get_previous_epoch» s «state_slot») (now opening) (now kept) found ⌝ }
-    ensures { λ r. ⌜ QueueCloses (value tt) (registryUpdatesTo stop s «state_slot» «finalized_epoch» (decode (now (opening .entry)))) queue (now (opening .entry)) (now (closing .entry)) (now (closing .exit)) r ⌝ }
+    ensures { λ r. ⌜
+        QueueCloses (value tt) (registryUpdatesTo stop s «state_slot» «finalized_epoch» (decode (now (opening .entry)))) queue (now (opening .entry))
+        (now (closing .entry)) (now (closing .exit)) r ⌝ }
 {
     copy(opening, closing);
     let done = update_registry(
@@ -190,9 +192,11 @@ fn step_tests(
     closing: &[u64],
 ) -> u64
     ensures { λ r. ⌜
-        r ≡ codeOf
-        (inOrder (settingsShaped s && registryShaped (now (opening .entry)) && sameLength (now (opening .entry)) (now (closing .entry)) && leb stop (length (now (opening .entry)) / 10))
-        (goodSettings s) (isSmall «state_slot» && isSmall «finalized_epoch»)) ⌝ }
+        r
+        ≡ codeOf (inOrder (settingsShaped s
+        && registryShaped (now (opening .entry))
+        && sameLength (now (opening .entry)) (now (closing .entry))
+        && leb stop (length (now (opening .entry)) / 10)) (goodSettings s) (isSmall «state_slot» && isSmall «finalized_epoch»)) ⌝ }
 {
     if !settings_shaped(s) {
         return 1;

@@ -76,7 +76,9 @@ fn new_balance(
     requires { ⌜ (0 < s .«inactivity_score_bias») × (0 < quotient) ⌝ }
     requires { ⌜ Says (mul64 (s .«inactivity_score_bias») quotient) product ⌝ }
     requires { ⌜ length (now entry) ≡ 10 ⌝ }
-    ensures { λ r. ⌜ Says (rewardedBalance s quotient (h .«current_epoch») (h .«previous_epoch») (totalsOf h source) (totalsOf h target) (totalsOf h head) (decodeOne (now (entry .entry)))) r ⌝ }
+    ensures { λ r. ⌜
+        Says (rewardedBalance s quotient (h .«current_epoch») (h .«previous_epoch») (totalsOf h source) (totalsOf h target) (totalsOf h head)
+        (decodeOne (now (entry .entry)))) r ⌝ }
 {
     let per_increment = h.per_increment;
     let base = entry_base_reward(s, h.total, per_increment, entry);
@@ -116,7 +118,9 @@ pub fn entry_reward(
     requires { ⌜ (0 < s .«inactivity_score_bias») × (0 < quotient) ⌝ }
     requires { ⌜ Says (mul64 (s .«inactivity_score_bias») quotient) product ⌝ }
     requires { ⌜ length (now entry) ≡ 10 ⌝ }
-    ensures { λ r. ⌜ Settles (rewardAndPenalize s quotient (h .«current_epoch») (h .«previous_epoch») (totalsOf h source) (totalsOf h target) (totalsOf h head)) (now (entry .entry)) (now (entry .exit)) r ⌝ }
+    ensures { λ r. ⌜
+        Settles (rewardAndPenalize s quotient (h .«current_epoch») (h .«previous_epoch») (totalsOf h source) (totalsOf h target) (totalsOf h head))
+        (now (entry .entry)) (now (entry .exit)) r ⌝ }
 {
     let Number::Value(balance) = new_balance(s, h, source, target, head, quotient, product, entry)
     else {

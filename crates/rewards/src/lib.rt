@@ -133,7 +133,8 @@ pub fn flag_deltas(
     requires { ⌜ «flag_index» ≤ 2 ⌝ }
     requires { ⌜ length (now entry) ≡ 10 ⌝ }
     requires { ⌜ Says («get_base_reward» s (h .total) (decodeOne (now entry))) base ⌝ }
-    ensures { λ r. ⌜ SaysDeltas (flagIndexDeltas s (h .«current_epoch») (h .«previous_epoch») «flag_index» (totalsOf h increments) (decodeOne (now (entry .entry)))) r ⌝ }
+    ensures { λ r. ⌜
+        SaysDeltas (flagIndexDeltas s (h .«current_epoch») (h .«previous_epoch») «flag_index» (totalsOf h increments) (decodeOne (now (entry .entry)))) r ⌝ }
 {
     if !entry_is_eligible(h.previous_epoch, entry) {
         let none = Deltas {
@@ -203,7 +204,10 @@ fn penalty_tests(rules: Rules, state_slot: u64, entry: &[u64]) -> u64
 }
 
 pub fn get_inactivity_penalty_deltas(rules: Rules, state_slot: u64, entry: &[u64]) -> DeltasAnswer
-    ensures { λ r. ⌜ SaysDeltas (afterTests (inactivityPenaltyTests rules «state_slot» (now (entry .entry))) («get_inactivity_penalty_deltas» (settingsUnder rules) (settingsUnder rules .«inactivity_penalty_quotient_altair») «state_slot» (decodeOne (now (entry .entry))))) r ⌝ }
+    ensures { λ r. ⌜
+        SaysDeltas (afterTests (inactivityPenaltyTests rules «state_slot» (now (entry .entry)))
+        («get_inactivity_penalty_deltas» (settingsUnder rules) (settingsUnder rules .«inactivity_penalty_quotient_altair») «state_slot»
+        (decodeOne (now (entry .entry))))) r ⌝ }
 {
     let refusal = penalty_tests(rules, state_slot, entry);
     if refusal != 0 {

@@ -45,7 +45,9 @@ fn reward_all(
     requires { ⌜ (0 < s .«inactivity_score_bias») × (0 < quotient) ⌝ }
     requires { ⌜ Says (mul64 (s .«inactivity_score_bias») quotient) product ⌝ }
     requires { ⌜ length (now registry) ≡ 10 * (length (now registry) / 10) ⌝ }
-    ensures { λ r. ⌜ Ran (mapChecked (rewardAndPenalize s quotient (h .«current_epoch») (h .«previous_epoch») (totalsOf h source) (totalsOf h target) (totalsOf h head)) (decode (now (registry .entry)))) (now (registry .exit)) r ⌝ }
+    ensures { λ r. ⌜
+        Ran (mapChecked (rewardAndPenalize s quotient (h .«current_epoch») (h .«previous_epoch») (totalsOf h source) (totalsOf h target) (totalsOf h head))
+        (decode (now (registry .entry)))) (now (registry .exit)) r ⌝ }
 {
     let n = registry.len() / 10;
     for i in 0..n {
@@ -84,7 +86,10 @@ fn reward_registry(
     requires { ⌜ (0 < s .«effective_balance_increment») × (s .«effective_balance_increment» ≤ total) ⌝ }
     requires { ⌜ (0 < s .«inactivity_score_bias») × (0 < quotient) ⌝ }
     requires { ⌜ length (now registry) ≡ 10 * (length (now registry) / 10) ⌝ }
-    ensures { λ r. ⌜ Ran (mapChecked (rewardAndPenalize s quotient «current_epoch» «previous_epoch» (flagTotalsOf s source total leaking) (flagTotalsOf s target total leaking) (flagTotalsOf s head total leaking)) (decode (now (registry .entry)))) (now (registry .exit)) r ⌝ }
+    ensures { λ r. ⌜
+        Ran (mapChecked
+        (rewardAndPenalize s quotient «current_epoch» «previous_epoch» (flagTotalsOf s source total leaking) (flagTotalsOf s target total leaking)
+        (flagTotalsOf s head total leaking)) (decode (now (registry .entry)))) (now (registry .exit)) r ⌝ }
 {
     let increment = s.effective_balance_increment;
     let shared = shared_numbers(s, current_epoch, previous_epoch, total, leaking);
@@ -112,7 +117,8 @@ pub fn rewards_core(
     requires { ⌜ goodSettings s ≡ true ⌝ }
     requires { ⌜ 0 < quotient ⌝ }
     requires { ⌜ length (now registry) ≡ 10 * (length (now registry) / 10) ⌝ }
-    ensures { λ r. ⌜ Ran («process_rewards_and_penalties» s quotient «state_slot» «finalized_epoch» (decode (now (registry .entry)))) (now (registry .exit)) r ⌝ }
+    ensures { λ r. ⌜
+        Ran («process_rewards_and_penalties» s quotient «state_slot» «finalized_epoch» (decode (now (registry .entry)))) (now (registry .exit)) r ⌝ }
 {
     let current = current_epoch(s, state_slot);
     if current == 0 {
@@ -172,7 +178,10 @@ pub fn process_rewards_and_penalties(
     opening: &[u64],
     closing: &mut [u64],
 ) -> u64
-    ensures { λ r. ⌜ Closes encode (rewardsTests rules «state_slot» «finalized_epoch» (now (opening .entry)) (now (closing .entry))) («process_rewards_and_penalties» (settingsUnder rules) (settingsUnder rules .«inactivity_penalty_quotient_altair») «state_slot» «finalized_epoch» (decode (now (opening .entry)))) (now (opening .entry)) (now (closing .entry)) (now (closing .exit)) r ⌝ }
+    ensures { λ r. ⌜
+        Closes encode (rewardsTests rules «state_slot» «finalized_epoch» (now (opening .entry)) (now (closing .entry)))
+        («process_rewards_and_penalties» (settingsUnder rules) (settingsUnder rules .«inactivity_penalty_quotient_altair») «state_slot» «finalized_epoch»
+        (decode (now (opening .entry)))) (now (opening .entry)) (now (closing .entry)) (now (closing .exit)) r ⌝ }
 {
     let refusal = rewards_tests(rules, state_slot, finalized_epoch, opening, closing);
     if refusal != 0 {

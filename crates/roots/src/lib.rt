@@ -89,7 +89,9 @@ pub fn epoch_root(s: Settings, roots: &[u8], epoch: u64) -> &[u8]
 // The leaves.
 
 pub fn get_block_root_at_slot_refusal(s: Settings, roots: &[u8], state_slot: u64, slot: u64) -> u64
-    ensures { λ r. ⌜ r ≡ codeOf (afterTests (rootTests s (now (roots .entry)) «state_slot») («get_block_root_at_slot» s (now (roots .entry)) «state_slot» slot)) ⌝ }
+    ensures { λ r. ⌜
+        r
+        ≡ codeOf (afterTests (rootTests s (now (roots .entry)) «state_slot») («get_block_root_at_slot» s (now (roots .entry)) «state_slot» slot)) ⌝ }
 {
     let refusal = root_refusal(s, roots, state_slot);
     if refusal != 0 {
@@ -99,7 +101,9 @@ pub fn get_block_root_at_slot_refusal(s: Settings, roots: &[u8], state_slot: u64
 }
 
 pub fn get_block_root_at_slot(s: Settings, roots: &[u8], state_slot: u64, slot: u64) -> &[u8]
-    ensures { λ r. ⌜ now r ≡ bytesOf (afterTests (rootTests s (now (roots .entry)) «state_slot») («get_block_root_at_slot» s (now (roots .entry)) «state_slot» slot)) ⌝ }
+    ensures { λ r. ⌜
+        now r
+        ≡ bytesOf (afterTests (rootTests s (now (roots .entry)) «state_slot») («get_block_root_at_slot» s (now (roots .entry)) «state_slot» slot)) ⌝ }
 {
     if get_block_root_at_slot_refusal(s, roots, state_slot, slot) != 0 {
         return &roots[0..0];
@@ -118,7 +122,9 @@ pub fn get_block_root_refusal(s: Settings, roots: &[u8], state_slot: u64, epoch:
 }
 
 pub fn get_block_root(s: Settings, roots: &[u8], state_slot: u64, epoch: u64) -> &[u8]
-    ensures { λ r. ⌜ now r ≡ bytesOf (afterTests (rootTests s (now (roots .entry)) «state_slot») («get_block_root» s (now (roots .entry)) «state_slot» epoch)) ⌝ }
+    ensures { λ r. ⌜
+        now r
+        ≡ bytesOf (afterTests (rootTests s (now (roots .entry)) «state_slot») («get_block_root» s (now (roots .entry)) «state_slot» epoch)) ⌝ }
 {
     if get_block_root_refusal(s, roots, state_slot, epoch) != 0 {
         return &roots[0..0];

@@ -46,7 +46,11 @@ fn shelf_shaped(
     closing_numbers: &[u64],
     answers: &[u64],
 ) -> bool
-    ensures { λ r. ⌜ r ≡ shelfShaped (shelfOf (now (files .entry)) (now (lengths .entry)) (now (closing .entry)) (now («opening_numbers» .entry)) (now («closing_numbers» .entry)) (now (answers .entry))) ⌝ }
+    ensures { λ r. ⌜
+        r
+        ≡ shelfShaped
+        (shelfOf (now (files .entry)) (now (lengths .entry)) (now (closing .entry)) (now («opening_numbers» .entry)) (now («closing_numbers» .entry))
+        (now (answers .entry))) ⌝ }
 {
     if !sums_to(lengths, files.len() as u64) {
         return false;
@@ -112,9 +116,21 @@ pub fn close_shelf(
     fork: u64,
     bellatrix: Bellatrix,
 ) -> u64
-    ensures { λ r. ⌜ r ≡ shelfRefusal (shelfOf (now (files .entry)) (now (lengths .entry)) (now (closing .entry)) (now («opening_numbers» .entry)) (now («closing_numbers» .entry)) (now (answers .entry))) ⌝ }
-    ensures { λ _. ⌜ now (answers .exit) ≡ answersAfter fork bellatrix (shelfOf (now (files .entry)) (now (lengths .entry)) (now (closing .entry)) (now («opening_numbers» .entry)) (now («closing_numbers» .entry)) (now (answers .entry))) ⌝ }
-    ensures { λ _. ⌜ now (closing .exit) ≡ closingAfter fork bellatrix (shelfOf (now (files .entry)) (now (lengths .entry)) (now (closing .entry)) (now («opening_numbers» .entry)) (now («closing_numbers» .entry)) (now (answers .entry))) ⌝ }
+    ensures { λ r. ⌜
+        r
+        ≡ shelfRefusal
+        (shelfOf (now (files .entry)) (now (lengths .entry)) (now (closing .entry)) (now («opening_numbers» .entry)) (now («closing_numbers» .entry))
+        (now (answers .entry))) ⌝ }
+    ensures { λ _. ⌜
+        now (answers .exit)
+        ≡ answersAfter fork bellatrix
+        (shelfOf (now (files .entry)) (now (lengths .entry)) (now (closing .entry)) (now («opening_numbers» .entry)) (now («closing_numbers» .entry))
+        (now (answers .entry))) ⌝ }
+    ensures { λ _. ⌜
+        now (closing .exit)
+        ≡ closingAfter fork bellatrix
+        (shelfOf (now (files .entry)) (now (lengths .entry)) (now (closing .entry)) (now («opening_numbers» .entry)) (now («closing_numbers» .entry))
+        (now (answers .entry))) ⌝ }
     ensures { λ r. ⌜ Working r (now («opening_numbers» .entry)) (now («opening_numbers» .exit)) ⌝ }
     ensures { λ r. ⌜ Working r (now («closing_numbers» .entry)) (now («closing_numbers» .exit)) ⌝ }
 {

@@ -83,7 +83,9 @@ fn close_opening(
 ) -> CloseAnswer
     requires { ⌜ (a ≤ b) × (b ≤ length (now numbers)) × (length (now closing) ≡ a) ⌝ }
     requires { ⌜ Tested s finality (take a (now numbers)) (numbersBehind a b (now numbers)) (now roots) ⌝ }
-    ensures { λ r. ⌜ Worked s (stateNow finality (take a (now (numbers .entry))) (numbersBehind a b (now (numbers .entry))) (now (roots .entry))) (now (closing .exit)) (resetSlashings s (finality .slot) (numbersBehind a b (now (numbers .entry)))) r ⌝ }
+    ensures { λ r. ⌜
+        Worked s (stateNow finality (take a (now (numbers .entry))) (numbersBehind a b (now (numbers .entry))) (now (roots .entry))) (now (closing .exit))
+        (resetSlashings s (finality .slot) (numbersBehind a b (now (numbers .entry)))) r ⌝ }
 {
     close_registry(s, finality, &numbers[..a], &numbers[a..b], roots, closing)
 }
@@ -100,7 +102,10 @@ fn put_closed(
 )
     requires { ⌜ (a ≤ b) × (b ≤ length (now numbers)) ⌝ }
     requires { ⌜ Sized (contentsWith settings finality (now closing) (now roots) (numbersBehind a b (now numbers))) (now part) ⌝ }
-    ensures { λ _. ⌜ now (part .exit) ≡ fileOf (contentsWith settings finality (now (closing .entry)) (now (roots .entry)) (numbersBehind a b (now (numbers .entry)))) (queueOf (decode (now (closing .entry)))) ⌝ }
+    ensures { λ _. ⌜
+        now (part .exit)
+        ≡ fileOf (contentsWith settings finality (now (closing .entry)) (now (roots .entry)) (numbersBehind a b (now (numbers .entry))))
+        (queueOf (decode (now (closing .entry)))) ⌝ }
 {
     let queue = queue_of(closing);
     put_record(

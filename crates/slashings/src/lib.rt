@@ -151,7 +151,10 @@ pub fn process_slashings(
     opening: &[u64],
     closing: &mut [u64],
 ) -> u64
-    ensures { λ r. ⌜ Closes encode (slashingsTests rules «state_slot» (now (slashings .entry)) (now (opening .entry)) (now (closing .entry))) («process_slashings» (settingsUnder rules) (settingsUnder rules .«proportional_slashing_multiplier_altair») «state_slot» (now (slashings .entry)) (decode (now (opening .entry)))) (now (opening .entry)) (now (closing .entry)) (now (closing .exit)) r ⌝ }
+    ensures { λ r. ⌜
+        Closes encode (slashingsTests rules «state_slot» (now (slashings .entry)) (now (opening .entry)) (now (closing .entry)))
+        («process_slashings» (settingsUnder rules) (settingsUnder rules .«proportional_slashing_multiplier_altair») «state_slot» (now (slashings .entry))
+        (decode (now (opening .entry)))) (now (opening .entry)) (now (closing .entry)) (now (closing .exit)) r ⌝ }
 {
     let refusal = slashings_tests(rules, state_slot, slashings, opening, closing);
     if refusal != 0 {
@@ -204,7 +207,9 @@ pub fn process_slashings_reset(
     opening: &[u64],
     closing: &mut [u64],
 ) -> u64
-    ensures { λ r. ⌜ Closes (λ (xs : List ℕ). xs) (slashingsResetTests s «state_slot» (now (opening .entry)) (now (closing .entry))) (value (resetSlashings s «state_slot» (now (opening .entry)))) (now (opening .entry)) (now (closing .entry)) (now (closing .exit)) r ⌝ }
+    ensures { λ r. ⌜
+        Closes (λ (xs : List ℕ). xs) (slashingsResetTests s «state_slot» (now (opening .entry)) (now (closing .entry)))
+        (value (resetSlashings s «state_slot» (now (opening .entry)))) (now (opening .entry)) (now (closing .entry)) (now (closing .exit)) r ⌝ }
 {
     let refusal = slashings_reset_tests(s, state_slot, opening, closing);
     if refusal != 0 {

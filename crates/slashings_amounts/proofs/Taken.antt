@@ -168,8 +168,8 @@ module _ (s : Settings) (multiplier stateSlot : ℕ) (slashings before lent : Li
       sl : Slashed s multiplier stateSlot slashings vs (w .0)
       sl = slashed s multiplier stateSlot slashings vs (w .1 .0)
 
-      now : decode after ≡ w .0
-      now = ap decode (w .1 .1) ∙ decode-encode (w .0)
+      taken-from : decode after ≡ w .0
+      taken-from = ap decode (w .1 .1) ∙ decode-encode (w .0)
 
       tens : length after / 10 ≡ n
       tens = omega (arith, ap length (w .1 .1), length-encode (w .0), sl .same, many)
@@ -180,7 +180,7 @@ module _ (s : Settings) (multiplier stateSlot : ℕ) (slashings before lent : Li
           let put = p .nine i l in
           let taken = t .nine i (omega (arith, l, tens)) in
           let eight : length (take 8 (nineAt lent i)) ≡ 8 = simp (length-take, length-drop) (omega (arith, nine, l)) in
-          let b : balanceIn before i ≡ balanceIn after i + getD (sl .ninths) i 0 = sl .equal i (omega (arith, l, many)) ∙ ap (λ (us : List Validator). getD us i nobody .balance + getD (sl .ninths) i 0) (sym now) in
+          let b : balanceIn before i ≡ balanceIn after i + getD (sl .ninths) i 0 = sl .equal i (omega (arith, l, many)) ∙ ap (λ (us : List Validator). getD us i nobody .balance + getD (sl .ninths) i 0) (sym taken-from) in
           let less : balanceIn before i - balanceIn after i ≡ getD (sl .ninths) i 0 = omega (arith, b) in
           let ninth : getD (nineAt kept i) 8 0 ≡ balanceIn before i = ap (λ (e : List ℕ). getD e 8 0) put ∙ ap (λ (k : ℕ). getD (take 8 (nineAt lent i) ++ (balanceIn before i ∷ [])) k 0) (sym eight) ∙ last (take 8 (nineAt lent i)) (balanceIn before i) in
           let front : take 8 (nineAt kept i) ≡ take 8 (nineAt lent i) = ap (take 8) put ∙ first-eight (take 8 (nineAt lent i)) (balanceIn before i) eight in

@@ -67,7 +67,9 @@ pub fn slashings_booked(
 ) -> u64
     requires { ⌜ goodSettings s ≡ true ⌝ }
     requires { ⌜ (length (now registry) ≡ 10 * (length (now registry) / 10)) × (length (now amounts) ≡ 9 * (length (now registry) / 10)) ⌝ }
-    ensures { λ r. ⌜ SlashingsBooked s multiplier «state_slot» (now (slashings .entry)) (now (registry .entry)) (now (registry .exit)) (now (amounts .entry)) (now (amounts .exit)) r ⌝ }
+    ensures { λ r. ⌜
+        SlashingsBooked s multiplier «state_slot» (now (slashings .entry)) (now (registry .entry)) (now (registry .exit)) (now (amounts .entry))
+        (now (amounts .exit)) r ⌝ }
 {
     keep_balances(&registry[..], amounts);
     let refusal = slashings_core(s, multiplier, state_slot, slashings, registry);

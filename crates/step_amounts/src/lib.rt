@@ -39,8 +39,8 @@ pub enum PairsAnswer {
 pub fn clear(list: &mut [u64])
     ensures { λ _. ⌜ now (list .exit) ≡ replicate (length (now (list .entry))) 0 ⌝ }
 {
-    let n = list.len();
-    for i in 0..n {
+    let long = list.len();
+    for i in 0..long {
         list[i] = 0;
     }
 }
@@ -60,7 +60,9 @@ fn four_pairs(
     requires { ⌜ (0 < s .«inactivity_score_bias») × (0 < quotient) ⌝ }
     requires { ⌜ Says (mul64 (s .«inactivity_score_bias») quotient) product ⌝ }
     requires { ⌜ length (now entry) ≡ 10 ⌝ }
-    ensures { λ r. ⌜ SaysPairs (fourOf s quotient (h .«current_epoch») (h .«previous_epoch») (totalsOf h source) (totalsOf h target) (totalsOf h head) (decodeOne (now (entry .entry)))) r ⌝ }
+    ensures { λ r. ⌜
+        SaysPairs (fourOf s quotient (h .«current_epoch») (h .«previous_epoch») (totalsOf h source) (totalsOf h target) (totalsOf h head)
+        (decodeOne (now (entry .entry)))) r ⌝ }
 {
     let per_increment = h.per_increment;
     let base = entry_base_reward(s, h.total, per_increment, entry);
@@ -199,9 +201,10 @@ fn reward_registry_booked(
     requires { ⌜ (0 < s .«inactivity_score_bias») × (0 < quotient) ⌝ }
     requires { ⌜ (length (now registry) ≡ 10 * (length (now registry) / 10)) × (length (now amounts) ≡ 9 * (length (now registry) / 10)) ⌝ }
     ensures { λ r. ⌜
-        BooksAll (rewardAndPenalize s quotient «current_epoch» «previous_epoch» (flagTotalsOf s source total leaking) (flagTotalsOf s target total leaking) (flagTotalsOf s head total leaking))
-        (eightOf s quotient «current_epoch» «previous_epoch» (flagTotalsOf s source total leaking) (flagTotalsOf s target total leaking) (flagTotalsOf s head total leaking))
-        (now (registry .entry)) (now (registry .exit)) (now (amounts .exit)) r ⌝ }
+        BooksAll (rewardAndPenalize s quotient «current_epoch» «previous_epoch» (flagTotalsOf s source total leaking) (flagTotalsOf s target total leaking)
+        (flagTotalsOf s head total leaking))
+        (eightOf s quotient «current_epoch» «previous_epoch» (flagTotalsOf s source total leaking) (flagTotalsOf s target total leaking)
+        (flagTotalsOf s head total leaking)) (now (registry .entry)) (now (registry .exit)) (now (amounts .exit)) r ⌝ }
 {
     let increment = s.effective_balance_increment;
     let shared = shared_numbers(s, current_epoch, previous_epoch, total, leaking);

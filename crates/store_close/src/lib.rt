@@ -23,7 +23,10 @@ pub fn store_close(
     closing_slashings: &mut [u64],
     amounts: &mut [u64],
 ) -> FullAnswer
-    ensures { λ r. ⌜ fullOutcome r (now («closing_registry» .exit)) (now («closing_slashings» .exit)) (now (amounts .exit)) ≡ storeClose (storeCalled (lent (now (store .entry)) count) finality queue (now (registry .entry)) (now (slashings .entry)) (now (roots .entry)) (now («closing_registry» .entry)) (now («closing_slashings» .entry)) (now (amounts .entry))) ⌝ }
+    ensures { λ r. ⌜
+        fullOutcome r (now («closing_registry» .exit)) (now («closing_slashings» .exit)) (now (amounts .exit))
+        ≡ storeClose (storeCalled (lent (now (store .entry)) count) finality queue (now (registry .entry)) (now (slashings .entry)) (now (roots .entry))
+        (now («closing_registry» .entry)) (now («closing_slashings» .entry)) (now (amounts .entry))) ⌝ }
 {
     let found = rules_for(
         store,

@@ -26,7 +26,12 @@ fn lent_shaped(
     closing_slashings: &[u64],
     amounts: &[u64],
 ) -> bool
-    ensures { λ r. ⌜ r ≡ (registryShaped (now (registry .entry)) && sameLength (now (registry .entry)) (now («closing_registry» .entry)) && sameLength (now (slashings .entry)) (now («closing_slashings» .entry)) && amountsShaped (now (registry .entry)) (now (amounts .entry))) ⌝ }
+    ensures { λ r. ⌜
+        r
+        ≡ (registryShaped (now (registry .entry))
+        && sameLength (now (registry .entry)) (now («closing_registry» .entry))
+        && sameLength (now (slashings .entry)) (now («closing_slashings» .entry))
+        && amountsShaped (now (registry .entry)) (now (amounts .entry))) ⌝ }
 {
     if !registry_shaped(registry) {
         return false;
@@ -57,7 +62,10 @@ fn fits_settings(s: Settings, slashings: &[u64], roots: &[u8]) -> bool
 // By those of the last of the first n entries; there may be none to ask.
 fn fits_last(store: &[u64], n: usize, slashings: &[u64], roots: &[u8]) -> bool
     requires { ⌜ 23 * n ≤ length (now store) ⌝ }
-    ensures { λ r. ⌜ r ≡ ofLast (λ e. rootsShaped (e .rules .settings) (now (roots .entry)) && slashingsShaped (e .rules .settings) (now (slashings .entry))) (lastOf (entriesFrom n (now (store .entry)))) ⌝ }
+    ensures { λ r. ⌜
+        r
+        ≡ ofLast (λ e. rootsShaped (e .rules .settings) (now (roots .entry)) && slashingsShaped (e .rules .settings) (now (slashings .entry)))
+        (lastOf (entriesFrom n (now (store .entry)))) ⌝ }
 {
     if n == 0 {
         return true;
@@ -79,7 +87,10 @@ fn call_shaped(
     closing_slashings: &[u64],
     amounts: &[u64],
 ) -> bool
-    ensures { λ r. ⌜ r ≡ shapedWith (lent (now (store .entry)) count) (now (registry .entry)) (now (slashings .entry)) (now (roots .entry)) (now («closing_registry» .entry)) (now («closing_slashings» .entry)) (now (amounts .entry)) ⌝ }
+    ensures { λ r. ⌜
+        r
+        ≡ shapedWith (lent (now (store .entry)) count) (now (registry .entry)) (now (slashings .entry)) (now (roots .entry))
+        (now («closing_registry» .entry)) (now («closing_slashings» .entry)) (now (amounts .entry)) ⌝ }
 {
     if !store_shaped(store, count) {
         return false;
@@ -122,7 +133,10 @@ pub fn rules_for(
     closing_slashings: &[u64],
     amounts: &[u64],
 ) -> RulesAnswer
-    ensures { λ r. ⌜ r ≡ rulesAnswerFor (rulesWith (lent (now (store .entry)) count) slot (now (registry .entry)) (now (slashings .entry)) (now (roots .entry)) (now («closing_registry» .entry)) (now («closing_slashings» .entry)) (now (amounts .entry))) ⌝ }
+    ensures { λ r. ⌜
+        r
+        ≡ rulesAnswerFor (rulesWith (lent (now (store .entry)) count) slot (now (registry .entry)) (now (slashings .entry)) (now (roots .entry))
+        (now («closing_registry» .entry)) (now («closing_slashings» .entry)) (now (amounts .entry))) ⌝ }
 {
     if !call_shaped(
         store,

@@ -45,7 +45,9 @@ fn first_step(
     requires { ⌜ running .done ≡ 0 ⌝ }
     ensures { λ r. ⌜
         stepOutcome r (now («closing_registry» .exit)) (now («closing_slashings» .exit)) (now (amounts .exit))
-        ≡ firstStep (storeStepCalled number running (storeCalled (lent (now (store .entry)) count) finality queue (now (registry .entry)) (now (slashings .entry)) (now (roots .entry)) (now («closing_registry» .entry)) (now («closing_slashings» .entry)) (now (amounts .entry)))) ⌝ }
+        ≡ firstStep (storeStepCalled number running
+        (storeCalled (lent (now (store .entry)) count) finality queue (now (registry .entry)) (now (slashings .entry)) (now (roots .entry))
+        (now («closing_registry» .entry)) (now («closing_slashings» .entry)) (now (amounts .entry)))) ⌝ }
 {
     let found = rules_for(
         store,
@@ -95,7 +97,9 @@ fn later_step(
     requires { ⌜ 1 ≤ «so_far» .done ⌝ }
     ensures { λ r. ⌜
         stepOutcome r (now («closing_registry» .exit)) (now («closing_slashings» .exit)) (now (amounts .exit))
-        ≡ laterStep (storeStepCalled number «so_far» (storeCalled (lent (now (store .entry)) count) finality queue (now (registry .entry)) (now (slashings .entry)) (now (roots .entry)) (now («closing_registry» .entry)) (now («closing_slashings» .entry)) (now (amounts .entry)))) ⌝ }
+        ≡ laterStep (storeStepCalled number «so_far»
+        (storeCalled (lent (now (store .entry)) count) finality queue (now (registry .entry)) (now (slashings .entry)) (now (roots .entry))
+        (now («closing_registry» .entry)) (now («closing_slashings» .entry)) (now (amounts .entry)))) ⌝ }
 {
     let answer = so_far.answer;
     let present = answer.finality;
@@ -159,7 +163,9 @@ pub fn store_step(
 ) -> RunningAnswer
     ensures { λ r. ⌜
         stepOutcome r (now («closing_registry» .exit)) (now («closing_slashings» .exit)) (now (amounts .exit))
-        ≡ storeStep (storeStepCalled number running (storeCalled (lent (now (store .entry)) count) finality queue (now (registry .entry)) (now (slashings .entry)) (now (roots .entry)) (now («closing_registry» .entry)) (now («closing_slashings» .entry)) (now (amounts .entry)))) ⌝ }
+        ≡ storeStep (storeStepCalled number running
+        (storeCalled (lent (now (store .entry)) count) finality queue (now (registry .entry)) (now (slashings .entry)) (now (roots .entry))
+        (now («closing_registry» .entry)) (now («closing_slashings» .entry)) (now (amounts .entry)))) ⌝ }
 {
     let done = running.done;
     if done == 9 {
@@ -219,7 +225,10 @@ fn ninth_rules(
     orders: &[u64],
     answers: &[u64],
 ) -> RulesAnswer
-    ensures { λ r. ⌜ r ≡ rulesAnswerFor (ninthRulesWith (lent (now (store .entry)) count) period slot taken (now (registry .entry)) (now (orders .entry)) (now (answers .entry))) ⌝ }
+    ensures { λ r. ⌜
+        r
+        ≡ rulesAnswerFor
+        (ninthRulesWith (lent (now (store .entry)) count) period slot taken (now (registry .entry)) (now (orders .entry)) (now (answers .entry))) ⌝ }
 {
     if !store_shaped(store, count) {
         return turned_away(1);
@@ -251,7 +260,9 @@ pub fn store_carry_out(
 ) -> RunningAnswer
     ensures { λ r. ⌜
         ninthOutcome r (now («closing_registry» .exit)) (now (answers .exit))
-        ≡ storeCarryOut (storeNinthCalled (lent (now (store .entry)) count) «shard_committee_period» running (now («closing_registry» .entry)) (now (orders .entry)) (now (answers .entry))) ⌝ }
+        ≡ storeCarryOut
+        (storeNinthCalled (lent (now (store .entry)) count) «shard_committee_period» running (now («closing_registry» .entry)) (now (orders .entry))
+        (now (answers .entry))) ⌝ }
 {
     let done = running.done;
     if done == 9 {

@@ -210,7 +210,9 @@ pub fn total_participating(
 }
 
 pub fn get_total_active_balance(s: Settings, state_slot: u64, registry: &[u64]) -> TotalAnswer
-    ensures { λ r. ⌜ SaysTotal (afterTests (slotRegistryTests s «state_slot» (now (registry .entry))) (totalWithRaised s («get_active_validator_indices» (decode (now (registry .entry))) («get_current_epoch» s «state_slot»)))) r ⌝ }
+    ensures { λ r. ⌜
+        SaysTotal (afterTests (slotRegistryTests s «state_slot» (now (registry .entry)))
+        (totalWithRaised s («get_active_validator_indices» (decode (now (registry .entry))) («get_current_epoch» s «state_slot»)))) r ⌝ }
 {
     let refusal = slot_registry_tests(s, state_slot, registry);
     if refusal != 0 {
@@ -228,7 +230,9 @@ pub fn get_participating_balance(
     epoch: u64,
     registry: &[u64],
 ) -> TotalAnswer
-    ensures { λ r. ⌜ SaysTotal (afterTests (participationTests s «state_slot» «flag_index» epoch (now (registry .entry))) (totalWithRaised s («get_unslashed_participating_indices» s «state_slot» (decode (now (registry .entry))) «flag_index» epoch))) r ⌝ }
+    ensures { λ r. ⌜
+        SaysTotal (afterTests (participationTests s «state_slot» «flag_index» epoch (now (registry .entry)))
+        (totalWithRaised s («get_unslashed_participating_indices» s «state_slot» (decode (now (registry .entry))) «flag_index» epoch))) r ⌝ }
 {
     let refusal = participation_tests(s, state_slot, flag_index, epoch, registry);
     if refusal != 0 {
@@ -258,7 +262,9 @@ pub fn churn_limit(s: Settings, state_slot: u64, registry: &[u64]) -> u64
 }
 
 pub fn get_validator_churn_limit(s: Settings, state_slot: u64, registry: &[u64]) -> Number
-    ensures { λ r. ⌜ Says (afterTests (slotRegistryTests s «state_slot» (now (registry .entry))) (value («get_validator_churn_limit» s «state_slot» (decode (now (registry .entry)))))) r ⌝ }
+    ensures { λ r. ⌜
+        Says (afterTests (slotRegistryTests s «state_slot» (now (registry .entry)))
+        (value («get_validator_churn_limit» s «state_slot» (decode (now (registry .entry)))))) r ⌝ }
 {
     let refusal = slot_registry_tests(s, state_slot, registry);
     if refusal != 0 {
@@ -286,7 +292,8 @@ pub fn charged_count(s: Settings, state_slot: u64, registry: &[u64]) -> u64
 }
 
 pub fn charged(s: Settings, state_slot: u64, registry: &[u64]) -> Number
-    ensures { λ r. ⌜ Says (afterTests (slotRegistryTests s «state_slot» (now (registry .entry))) (value (charged s «state_slot» (decode (now (registry .entry)))))) r ⌝ }
+    ensures { λ r. ⌜
+        Says (afterTests (slotRegistryTests s «state_slot» (now (registry .entry))) (value (charged s «state_slot» (decode (now (registry .entry)))))) r ⌝ }
 {
     let refusal = slot_registry_tests(s, state_slot, registry);
     if refusal != 0 {

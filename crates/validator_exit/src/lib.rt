@@ -81,7 +81,10 @@ pub fn see_registry(registry: &[u64], epoch: u64) -> Seen
 
 // Tests 1 and 2, and 3 of the slot.
 fn shape_tests(s: Settings, state_slot: u64, index: u64, registry: &[u64]) -> u64
-    ensures { λ r. ⌜ r ≡ codeOf (inOrder (settingsShaped s && registryShaped (now (registry .entry)) && isIndex index (now (registry .entry))) (goodSettings s) (isSmall «state_slot»)) ⌝ }
+    ensures { λ r. ⌜
+        r
+        ≡ codeOf (inOrder (settingsShaped s && registryShaped (now (registry .entry)) && isIndex index (now (registry .entry))) (goodSettings s)
+        (isSmall «state_slot»)) ⌝ }
 {
     if !settings_shaped(s) {
         return 1;

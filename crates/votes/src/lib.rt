@@ -111,7 +111,10 @@ pub fn unknown_votes(
     registry: &[u64],
     marks: &[u64],
 ) -> VotesAnswer
-    ensures { λ r. ⌜ r ≡ votesAnswerFor (afterTests (votesTests s (now (roots .entry)) finality (now (registry .entry)) (now (marks .entry))) (votes (ballotOf s (now (roots .entry)) finality (now (registry .entry)) (now (marks .entry))))) ⌝ }
+    ensures { λ r. ⌜
+        r
+        ≡ votesAnswerFor (afterTests (votesTests s (now (roots .entry)) finality (now (registry .entry)) (now (marks .entry)))
+        (votes (ballotOf s (now (roots .entry)) finality (now (registry .entry)) (now (marks .entry))))) ⌝ }
 {
     let refusal = votes_refusal(s, roots, finality, registry, marks);
     if refusal != 0 {

@@ -157,7 +157,10 @@ pub fn weigh_justification_and_finalization(
     previous: u64,
     current: u64,
 ) -> FinalityAnswer
-    ensures { λ r. ⌜ r ≡ finalityAnswerFor (afterTests (weighTests s (now (roots .entry)) finality) («weigh_justification_and_finalization» s (now (roots .entry)) finality total previous current)) finality ⌝ }
+    ensures { λ r. ⌜
+        r
+        ≡ finalityAnswerFor (afterTests (weighTests s (now (roots .entry)) finality)
+        («weigh_justification_and_finalization» s (now (roots .entry)) finality total previous current)) finality ⌝ }
 {
     let refusal = weigh_refusal(s, roots, finality);
     if refusal != 0 {

@@ -143,7 +143,9 @@ fn write_found(
     requires { ⌜ (length (now opening) ≡ 10 * (length (now opening) / 10)) × (length (now closing) ≡ length (now opening)) ⌝ }
     requires { ⌜ Found s «state_slot» «finalized_epoch» (decode (now opening)) totals limit queue (cut .bound) (cut .quota) ⌝ }
     ensures { λ r. ⌜ Ran (registrySteps s «state_slot» «finalized_epoch» (now (slashings .entry)) (decode (now (opening .entry)))) (now (closing .exit)) r ⌝ }
-    ensures { λ r. ⌜ Books s «state_slot» «finalized_epoch» (now (slashings .entry)) (now (opening .entry)) (now (closing .exit)) (now (amounts .entry)) (now (amounts .exit)) r ⌝ }
+    ensures { λ r. ⌜
+        Books s «state_slot» «finalized_epoch» (now (slashings .entry)) (now (opening .entry)) (now (closing .exit)) (now (amounts .entry))
+        (now (amounts .exit)) r ⌝ }
 {
     let PlanAnswer::Value(p) = plan_for(s, state_slot, finalized_epoch, totals, slashings) else {
         return 5;
@@ -174,7 +176,9 @@ pub fn write_registry(
     requires { ⌜ (length (now opening) ≡ 10 * (length (now opening) / 10)) × (length (now closing) ≡ length (now opening)) ⌝ }
     requires { ⌜ Finds s («get_current_epoch» s «state_slot») («get_previous_epoch» s «state_slot») (now opening) (now kept) found ⌝ }
     ensures { λ r. ⌜ Ran (registrySteps s «state_slot» «finalized_epoch» (now (slashings .entry)) (decode (now (opening .entry)))) (now (closing .exit)) r ⌝ }
-    ensures { λ r. ⌜ Books s «state_slot» «finalized_epoch» (now (slashings .entry)) (now (opening .entry)) (now (closing .exit)) (now (amounts .entry)) (now (amounts .exit)) r ⌝ }
+    ensures { λ r. ⌜
+        Books s «state_slot» «finalized_epoch» (now (slashings .entry)) (now (opening .entry)) (now (closing .exit)) (now (amounts .entry))
+        (now (amounts .exit)) r ⌝ }
 {
     if !all_fit(found.over) {
         return 5;

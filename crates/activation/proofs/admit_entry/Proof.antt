@@ -10,24 +10,12 @@ use borrow.Author.Needs.{needs}
 use Rattle.activation.proofs.admit_entry.Statement.{statement}
 use Rattle.activation.proofs.admit_entry.Tie as tie
 
-entry-is-eligible-for-activation-requires : tie.Need-entry-is-eligible-for-activation-requires
-entry-is-eligible-for-activation-requires c κs = search needs
-
-same-length : tie.Need-same-length
-same-length c = search needs
-
 returns : tie.Need-returns
 unfolding admitOne queuedBefore queuedAt
 returns c =
     let s = c .before .before .before .before in
     let t = fails (c .before .entry-is-eligible-for-activation .ensures) (c .if1 .taken) in
     (rw t (ten (s .args .entry .now) (s .pre)), rw t (omega arith))
-
-slice-read-since : tie.Need-slice-read-since
-slice-read-since c = search needs
-
-same-length-2 : tie.Need-same-length-2
-same-length-2 c = search needs
 
 returns-2 : tie.Need-returns-2
 unfolding admitOne queuedBefore queuedAt
@@ -41,12 +29,6 @@ returns-2 c =
     let n = ne-eqb x bound (λ e. omega arith) in
     (rw (t, le-ltb x bound (omega arith), n) (ten (s .args .entry .now) (s .pre)), rw (t, n) (omega arith))
 
-slice-write-entry : tie.Need-slice-write-entry
-slice-write-entry c = search needs
-
-same-length-3 : tie.Need-same-length-3
-same-length-3 c = search needs
-
 returns-3 : tie.Need-returns-3
 unfolding admitOne queuedBefore queuedAt
 returns-3 c =
@@ -57,9 +39,6 @@ returns-3 c =
     let t = passes (k .before .entry-is-eligible-for-activation .ensures) (k .if1 .left) in
     let h : x < bound = c .if3 .taken in
     (rw (t, lt-ltb x bound h, ten (s .args .entry .now) (s .pre)), rw (t, ne-eqb x bound (λ e. omega arith)) (omega arith))
-
-same-length-4 : tie.Need-same-length-4
-same-length-4 c = search needs
 
 returns-4 : tie.Need-returns-4
 unfolding admitOne queuedBefore queuedAt
@@ -72,15 +51,6 @@ returns-4 c =
     let h : x ≡ bound = omega (arith, c .before .if3 .left, c .before .before .if2 .left) in
     let q = eq-eqb x bound h in
     (rw (t, le-ltb x bound (omega arith), q, c .if4 .taken) (ten (s .args .entry .now) (s .pre)), rw (t, q) (omega arith))
-
-slice-write-entry-2 : tie.Need-slice-write-entry-2
-slice-write-entry-2 c = search needs
-
-sub-result : tie.Need-sub-result
-sub-result c = search needs
-
-same-length-5 : tie.Need-same-length-5
-same-length-5 c = search needs
 
 returns-5 : tie.Need-returns-5
 unfolding admitOne queuedBefore queuedAt
@@ -98,18 +68,18 @@ pub admit-entry-spec : {M : Type 1} → statement M
 admit-entry-spec =
     tie.close
     (tie.spec
-    entry-is-eligible-for-activation-requires
-    same-length
+    (λ c κs. search needs)
+    (λ c. search needs)
     returns
-    slice-read-since
-    same-length-2
+    (λ c. search needs)
+    (λ c. search needs)
     returns-2
-    slice-write-entry
-    same-length-3
+    (λ c. search needs)
+    (λ c. search needs)
     returns-3
-    same-length-4
+    (λ c. search needs)
     returns-4
-    slice-write-entry-2
-    sub-result
-    same-length-5
+    (λ c. search needs)
+    (λ c. search needs)
+    (λ c. search needs)
     returns-5)

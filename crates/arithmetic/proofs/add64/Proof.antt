@@ -5,17 +5,11 @@ use Rattle.arithmetic.proofs.Operations.{add64-given, add64-refused}
 use Rattle.arithmetic.proofs.add64.Statement.{statement}
 use Rattle.arithmetic.proofs.add64.Tie as tie
 
-sub-if1 : tie.Need-sub-if1
-sub-if1 c = search needs
-
 returns : tie.Need-returns
 returns c = said-overflow (add64-refused _ _ (omega arith))
-
-add-t3 : tie.Need-add-t3
-add-t3 c = search needs
 
 returns-2 : tie.Need-returns-2
 returns-2 c = said-value (add64-given _ _ (omega arith))
 
 pub add64-spec : {M : Type 1} → statement M
-add64-spec = tie.close (tie.spec sub-if1 returns add-t3 returns-2)
+add64-spec = tie.close (tie.spec (λ c. search needs) returns (λ c. search needs) returns-2)

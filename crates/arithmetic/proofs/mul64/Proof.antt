@@ -6,9 +6,6 @@ use Rattle.arithmetic.proofs.Operations.{mul64-given, mul64-refused, pr
 use Rattle.arithmetic.proofs.mul64.Statement.{statement}
 use Rattle.arithmetic.proofs.mul64.Tie as tie
 
-both-small-requires : tie.Need-both-small-requires
-both-small-requires c κs = search needs
-
 mul-t4 : tie.Need-mul-t4
 mul-t4 c = record { fits = small-fits _ _ (c .before .both-small .ensures) (c .if1 .taken) }
 
@@ -18,9 +15,6 @@ returns c = said-value (mul64-given _ _ (small-fits _ _ (c .before .both-small .
 returns-2 : tie.Need-returns-2
 unfolding mul64
 returns-2 c = record { is = rw (c .if2 .taken, zero-mul) }
-
-div-if3 : tie.Need-div-if3
-div-if3 c = search needs
 
 returns-3 : tie.Need-returns-3
 returns-3 c = said-overflow (mul64-refused _ _ (product-over _ _ (c .before .if2 .left) (c .if3 .taken)))
@@ -32,4 +26,4 @@ returns-4 : tie.Need-returns-4
 returns-4 c = said-value (mul64-given _ _ (product-fits _ _ (c .before .if2 .left) (c .if3 .left)))
 
 pub mul64-spec : {M : Type 1} → statement M
-mul64-spec = tie.close (tie.spec both-small-requires mul-t4 returns returns-2 div-if3 returns-3 mul-t6 returns-4)
+mul64-spec = tie.close (tie.spec (λ c κs. search needs) mul-t4 returns returns-2 (λ c. search needs) returns-3 mul-t6 returns-4)

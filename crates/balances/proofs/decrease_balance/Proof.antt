@@ -5,20 +5,11 @@ use Rattle.buffers.proofs.Closes.{closes-refused, closes-plain}
 use Rattle.balances.proofs.decrease_balance.Statement.{statement}
 use Rattle.balances.proofs.decrease_balance.Tie as tie
 
-entry-tests-requires : tie.Need-entry-tests-requires
-entry-tests-requires c κs = search needs
-
-same-length : tie.Need-same-length
-same-length c = search needs
-
 returns : tie.Need-returns
 returns c = closes-refused encodeOne _ (c .before .entry-tests .ensures) _ (c .if1 .taken)
 
 entry-decrease-balance-requires : tie.Need-entry-decrease-balance-requires
 entry-decrease-balance-requires c κs = entry-passed _ (c .before .before .entry-tests .ensures) (c .before .if1 .left) .long
-
-same-length-2 : tie.Need-same-length-2
-same-length-2 c = search needs
 
 returns-2 : tie.Need-returns-2
 returns-2 c = closes-plain encodeOne _ (c .before .before .before .before .before .entry-tests .ensures) _ (c .before .before .before .before .if1 .left) (c .before .before .entry-decrease-balance .ensures)
@@ -27,9 +18,9 @@ pub decrease-balance-spec : {M : Type 1} → statement M
 decrease-balance-spec =
     tie.close
     (tie.spec
-    entry-tests-requires
-    same-length
+    (λ c κs. search needs)
+    (λ c. search needs)
     returns
     entry-decrease-balance-requires
-    same-length-2
+    (λ c. search needs)
     returns-2)

@@ -7,27 +7,9 @@ use Rattle.loops.proofs.Checking.{settles-value, settles-refused}
 use Rattle.balances.proofs.entry_increase_balance.Statement.{statement}
 use Rattle.balances.proofs.entry_increase_balance.Tie as tie
 
-slice-read-add64 : tie.Need-slice-read-add64
-slice-read-add64 c = search needs
-
-add64-requires : tie.Need-add64-requires
-add64-requires c κs = search needs
-
-enum-known-balance : tie.Need-enum-known-balance
-enum-known-balance c = search needs
-
-enum-told : tie.Need-enum-told
-enum-told c = search needs
-
 returns : tie.Need-returns
 unfolding «increase_balance»
 returns c = settles-refused _ (c .before .before .before .before .before .pre) (bind-refused _ (says-overflow (c .before .before .add64 .ensures) (only-add64 _ _) (c .enum-told .given .1) .0))
-
-slice-write-entry : tie.Need-slice-write-entry
-slice-write-entry c = search needs
-
-same-length : tie.Need-same-length
-same-length c = search needs
 
 returns-2 : tie.Need-returns-2
 unfolding «increase_balance»
@@ -37,11 +19,11 @@ pub entry-increase-balance-spec : {M : Type 1} → statement M
 entry-increase-balance-spec =
     tie.close
     (tie.spec
-    slice-read-add64
-    add64-requires
-    enum-known-balance
-    enum-told
+    (λ c. search needs)
+    (λ c κs. search needs)
+    (λ c. search needs)
+    (λ c. search needs)
     returns
-    slice-write-entry
-    same-length
+    (λ c. search needs)
+    (λ c. search needs)
     returns-2)

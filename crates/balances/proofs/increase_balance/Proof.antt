@@ -5,20 +5,11 @@ use Rattle.buffers.proofs.Closes.{closes-refused, entry-closes}
 use Rattle.balances.proofs.increase_balance.Statement.{statement}
 use Rattle.balances.proofs.increase_balance.Tie as tie
 
-entry-tests-requires : tie.Need-entry-tests-requires
-entry-tests-requires c κs = search needs
-
-same-length : tie.Need-same-length
-same-length c = search needs
-
 returns : tie.Need-returns
 returns c = closes-refused encodeOne _ (c .before .entry-tests .ensures) _ (c .if1 .taken)
 
 entry-increase-balance-requires : tie.Need-entry-increase-balance-requires
 entry-increase-balance-requires c κs = entry-passed _ (c .before .before .entry-tests .ensures) (c .before .if1 .left) .long
-
-same-length-2 : tie.Need-same-length-2
-same-length-2 c = search needs
 
 returns-2 : tie.Need-returns-2
 returns-2 c = entry-closes _ _ (c .before .before .before .before .before .entry-tests .ensures) (c .before .before .before .before .if1 .left) (entry-passed _ (c .before .before .before .before .before .entry-tests .ensures) (c .before .before .before .before .if1 .left) .long) (c .before .before .entry-increase-balance .ensures)
@@ -27,9 +18,9 @@ pub increase-balance-spec : {M : Type 1} → statement M
 increase-balance-spec =
     tie.close
     (tie.spec
-    entry-tests-requires
-    same-length
+    (λ c κs. search needs)
+    (λ c. search needs)
     returns
     entry-increase-balance-requires
-    same-length-2
+    (λ c. search needs)
     returns-2)

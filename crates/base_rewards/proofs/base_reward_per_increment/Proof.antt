@@ -6,21 +6,9 @@ use borrow.Author.Needs.{needs}
 use Rattle.base_rewards.proofs.base_reward_per_increment.Statement.{statement}
 use Rattle.base_rewards.proofs.base_reward_per_increment.Tie as tie
 
-mul64-requires : tie.Need-mul64-requires
-mul64-requires c κs = search needs
-
-enum-known-product : tie.Need-enum-known-product
-enum-known-product c = search needs
-
-enum-told : tie.Need-enum-told
-enum-told c = search needs
-
 returns : tie.Need-returns
 unfolding «get_base_reward_per_increment»
 returns c = search (needs, chain)
-
-integer-sqrt-requires : tie.Need-integer-sqrt-requires
-integer-sqrt-requires c κs = search needs
 
 div-reward : tie.Need-div-reward
 div-reward c = let p = root-positive _ (c .before .before .before .before .before .pre) in omega (arith, c .integer-sqrt .ensures)
@@ -33,10 +21,10 @@ pub base-reward-per-increment-spec : {M : Type 1} → statement M
 base-reward-per-increment-spec =
     tie.close
     (tie.spec
-    mul64-requires
-    enum-known-product
-    enum-told
+    (λ c κs. search needs)
+    (λ c. search needs)
+    (λ c. search needs)
     returns
-    integer-sqrt-requires
+    (λ c κs. search needs)
     div-reward
     returns-2)

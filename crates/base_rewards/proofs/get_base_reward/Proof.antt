@@ -5,9 +5,6 @@ use borrow.Author.Needs.{needs}
 use Rattle.base_rewards.proofs.get_base_reward.Statement.{statement}
 use Rattle.base_rewards.proofs.get_base_reward.Tie as tie
 
-total-entry-tests-requires : tie.Need-total-entry-tests-requires
-total-entry-tests-requires c κs = search needs
-
 returns : tie.Need-returns
 returns c = tests-refused _ _ (c .before .total-entry-tests .ensures) tells-number (c .if1 .taken)
 
@@ -26,7 +23,7 @@ pub get-base-reward-spec : {M : Type 1} → statement M
 get-base-reward-spec =
     tie.close
     (tie.spec
-    total-entry-tests-requires
+    (λ c κs. search needs)
     returns
     base-reward-per-increment-requires
     entry-base-reward-requires

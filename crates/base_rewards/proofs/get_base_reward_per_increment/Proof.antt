@@ -5,9 +5,6 @@ use borrow.Author.Needs.{needs}
 use Rattle.base_rewards.proofs.get_base_reward_per_increment.Statement.{statement}
 use Rattle.base_rewards.proofs.get_base_reward_per_increment.Tie as tie
 
-total-tests-requires : tie.Need-total-tests-requires
-total-tests-requires c κs = search needs
-
 returns : tie.Need-returns
 returns c = tests-refused _ _ (c .before .total-tests .ensures) tells-number (c .if1 .taken)
 
@@ -19,4 +16,4 @@ returns-2 c = tests-passed _ _ (c .before .before .total-tests .ensures) (c .bef
 
 pub get-base-reward-per-increment-spec : {M : Type 1} → statement M
 get-base-reward-per-increment-spec =
-    tie.close (tie.spec total-tests-requires returns base-reward-per-increment-requires returns-2)
+    tie.close (tie.spec (λ c κs. search needs) returns base-reward-per-increment-requires returns-2)

@@ -6,11 +6,8 @@ use Rattle.base_rewards.proofs.total_entry_tests.Tie as tie
 returns : tie.Need-returns
 returns c = entry-total-zero _ _ _ (c .if1 .taken)
 
-settings-entry-tests-requires : tie.Need-settings-entry-tests-requires
-settings-entry-tests-requires c κs = search needs
-
 returns-2 : tie.Need-returns-2
 returns-2 c = entry-total _ _ _ (c .before .if1 .left) (c .settings-entry-tests .ensures)
 
 pub total-entry-tests-spec : {M : Type 1} → statement M
-total-entry-tests-spec = tie.close (tie.spec returns settings-entry-tests-requires returns-2)
+total-entry-tests-spec = tie.close (tie.spec returns (λ c κs. search needs) returns-2)

@@ -7,14 +7,8 @@ use Rattle.base_rewards.proofs.total_tests.Tie as tie
 returns : tie.Need-returns
 returns c = total-zero _ _ (c .if1 .taken)
 
-settings-shaped-requires : tie.Need-settings-shaped-requires
-settings-shaped-requires c κs = search needs
-
 returns-2 : tie.Need-returns-2
 returns-2 c = total-shape _ _ (c .before .before .if1 .left) (fails (c .before .settings-shaped .ensures) (c .if2 .taken))
-
-good-settings-requires : tie.Need-good-settings-requires
-good-settings-requires c κs = search needs
 
 returns-3 : tie.Need-returns-3
 returns-3 c = total-settings _ _ (c .before .before .before .before .if1 .left) (passes (c .before .before .before .settings-shaped .ensures) (c .before .before .if2 .left)) (fails (c .before .good-settings .ensures) (c .if3 .taken))
@@ -27,8 +21,8 @@ total-tests-spec =
     tie.close
     (tie.spec
     returns
-    settings-shaped-requires
+    (λ c κs. search needs)
     returns-2
-    good-settings-requires
+    (λ c κs. search needs)
     returns-3
     returns-4)

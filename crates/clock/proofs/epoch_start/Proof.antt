@@ -6,20 +6,8 @@ use Rattle.clock.proofs.Steps.{mul-fits, goes-on, stops, times}
 use Rattle.clock.proofs.epoch_start.Statement.{statement}
 use Rattle.clock.proofs.epoch_start.Tie as tie
 
-mul64-requires : tie.Need-mul64-requires
-mul64-requires c κs = search needs
-
-enum-known-slot : tie.Need-enum-known-slot
-enum-known-slot c = search needs
-
-enum-told : tie.Need-enum-told
-enum-told c = search needs
-
 returns : tie.Need-returns
 returns c = let a = c .before .before .before .args in stops _ _ (mul-fits _ _ (c .before .before .mul64 .ensures)) (c .enum-told .given .1) (omega (arith, times (firstSlotOf (a .c) (a .epoch)) (a .c .«seconds_per_slot») (c .before .before .before .pre)))
-
-slot-start-requires : tie.Need-slot-start-requires
-slot-start-requires c κs = search needs
 
 returns-2 : tie.Need-returns-2
 returns-2 c = goes-on _ (mul-fits _ _ (c .before .before .before .before .mul64 .ensures)) (c .before .before .slot .given .1) (λ e. rw e) (c .slot-start .ensures)
@@ -27,4 +15,4 @@ returns-2 c = goes-on _ (mul-fits _ _ (c .before .before .before .before .mul64 
 pub epoch-start-spec : {M : Type 1} → statement M
 epoch-start-spec =
     tie.close
-    (tie.spec mul64-requires enum-known-slot enum-told returns slot-start-requires returns-2)
+    (tie.spec (λ c κs. search needs) (λ c. search needs) (λ c. search needs) returns (λ c κs. search needs) returns-2)

@@ -5,9 +5,6 @@ use Rattle.clock.proofs.Passed.{clock-went}
 use Rattle.clock.proofs.first_second_of_epoch.Statement.{statement}
 use Rattle.clock.proofs.first_second_of_epoch.Tie as tie
 
-clock-refusal-requires : tie.Need-clock-refusal-requires
-clock-refusal-requires c κs = search needs
-
 returns : tie.Need-returns
 unfolding «first_second_of_epoch»
 returns c = refused-says _ (c .before .clock-refusal .ensures) _ (c .if1 .taken)
@@ -21,4 +18,4 @@ returns-2 c = then-answers _ (c .before .before .clock-refusal .ensures) (c .bef
 
 pub first-second-of-epoch-spec : {M : Type 1} → statement M
 first-second-of-epoch-spec =
-    tie.close (tie.spec clock-refusal-requires returns epoch-start-requires returns-2)
+    tie.close (tie.spec (λ c κs. search needs) returns epoch-start-requires returns-2)

@@ -4,15 +4,9 @@ use Rattle.definitions_clock.specs.Calls.{«first_second_of_slot»}
 use Rattle.clock.proofs.first_second_of_slot.Statement.{statement}
 use Rattle.clock.proofs.first_second_of_slot.Tie as tie
 
-clock-refusal-requires : tie.Need-clock-refusal-requires
-clock-refusal-requires c κs = search needs
-
 returns : tie.Need-returns
 unfolding «first_second_of_slot»
 returns c = refused-says _ (c .before .clock-refusal .ensures) _ (c .if1 .taken)
-
-slot-start-requires : tie.Need-slot-start-requires
-slot-start-requires c κs = search needs
 
 returns-2 : tie.Need-returns-2
 unfolding «first_second_of_slot»
@@ -20,4 +14,4 @@ returns-2 c = then-answers _ (c .before .before .clock-refusal .ensures) (c .bef
 
 pub first-second-of-slot-spec : {M : Type 1} → statement M
 first-second-of-slot-spec =
-    tie.close (tie.spec clock-refusal-requires returns slot-start-requires returns-2)
+    tie.close (tie.spec (λ c κs. search needs) returns (λ c κs. search needs) returns-2)

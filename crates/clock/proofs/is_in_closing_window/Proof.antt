@@ -9,9 +9,6 @@ use Rattle.clock.proofs.is_in_closing_window.Tie as tie
 passed : (c : tie.Else1) → SecondPassed (c .before .before .args .c) (c .before .before .args .second)
 passed c = second-went _ _ (c .before .second-refusal .ensures) (c .if1 .left)
 
-second-refusal-requires : tie.Need-second-refusal-requires
-second-refusal-requires c κs = search needs
-
 returns : tie.Need-returns
 unfolding «is_in_closing_window»
 returns c = record { is = truth-refused _ _ (c .before .second-refusal .ensures) (c .if1 .taken) }
@@ -34,4 +31,4 @@ returns-2 c = record { is = truth-passed _ (c .before .before .before .before .b
 
 pub is-in-closing-window-spec : {M : Type 1} → statement M
 is-in-closing-window-spec =
-    tie.close (tie.spec second-refusal-requires returns sub-slot div-slot rem-t6 sub-t7 returns-2)
+    tie.close (tie.spec (λ c κs. search needs) returns sub-slot div-slot rem-t6 sub-t7 returns-2)

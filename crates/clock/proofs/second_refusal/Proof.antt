@@ -7,9 +7,6 @@ use Rattle.definitions_clock.specs.Calls.{clockTests, notBeforeGenesis, secondT
 use Rattle.clock.proofs.second_refusal.Statement.{statement}
 use Rattle.clock.proofs.second_refusal.Tie as tie
 
-clock-refusal-requires : tie.Need-clock-refusal-requires
-clock-refusal-requires c κs = search needs
-
 returns : tie.Need-returns
 unfolding secondTests
 returns c = let r = after-refused _ (notBeforeGenesis _ _) (c .before .clock-refusal .ensures) (c .if1 .taken) in r .number ∙ ap codeOf (sym (r .is))
@@ -23,4 +20,4 @@ unfolding secondTests notBeforeGenesis
 returns-3 c = rw (after-passed (clockTests _) (notBeforeGenesis _ _) (c .before .before .before .clock-refusal .ensures) (c .before .before .if1 .left), le-ltb _ _ (c .if2 .left))
 
 pub second-refusal-spec : {M : Type 1} → statement M
-second-refusal-spec = tie.close (tie.spec clock-refusal-requires returns returns-2 returns-3)
+second-refusal-spec = tie.close (tie.spec (λ c κs. search needs) returns returns-2 returns-3)

@@ -10,9 +10,6 @@ use Rattle.clock.proofs.slot_at_time.Tie as tie
 passed : (c : tie.Else1) → SecondPassed (c .before .before .args .c) (c .before .before .args .second)
 passed c = second-went _ _ (c .before .second-refusal .ensures) (c .if1 .left)
 
-second-refusal-requires : tie.Need-second-refusal-requires
-second-refusal-requires c κs = search needs
-
 returns : tie.Need-returns
 unfolding «slot_at_time»
 returns c = refused-says _ (c .before .second-refusal .ensures) _ (c .if1 .taken)
@@ -28,4 +25,4 @@ unfolding «slot_at_time»
 returns-2 c = then-says _ (c .before .before .before .second-refusal .ensures) (c .before .before .if1 .left) refl
 
 pub slot-at-time-spec : {M : Type 1} → statement M
-slot-at-time-spec = tie.close (tie.spec second-refusal-requires returns sub-t5 div-t6 returns-2)
+slot-at-time-spec = tie.close (tie.spec (λ c κs. search needs) returns sub-t5 div-t6 returns-2)

@@ -2,18 +2,6 @@ use borrow.Author.Needs.{needs}
 use Rattle.close.proofs.close_as_altair.Statement.{statement}
 use Rattle.close.proofs.close_as_altair.Tie as tie
 
-altair-rules-requires : tie.Need-altair-rules-requires
-altair-rules-requires c κs = search needs
-
-close-requires : tie.Need-close-requires
-close-requires c κs = search needs
-
-same-length : tie.Need-same-length
-same-length c = search needs
-
-same-length-2 : tie.Need-same-length-2
-same-length-2 c = search needs
-
 returns : tie.Need-returns
 returns c =
     let made : tie.After-altair-rules = search needs in
@@ -21,4 +9,4 @@ returns c =
     rw (made .altair-rules .ensures) at (done .close .ensures)
 
 pub close-as-altair-spec : {M : Type 1} → statement M
-close-as-altair-spec = tie.close (tie.spec altair-rules-requires close-requires same-length same-length-2 returns)
+close-as-altair-spec = tie.close (tie.spec (λ c κs. search needs) (λ c κs. search needs) (λ c. search needs) (λ c. search needs) returns)

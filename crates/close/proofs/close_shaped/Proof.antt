@@ -6,14 +6,8 @@ use Rattle.refusals.proofs.Laws.{settings-shaped}
 use Rattle.close.proofs.close_shaped.Statement.{statement}
 use Rattle.close.proofs.close_shaped.Tie as tie
 
-settings-shaped-requires : tie.Need-settings-shaped-requires
-settings-shaped-requires c κs = search needs
-
 returns : tie.Need-returns
 returns c = rw (fails (c .before .settings-shaped .ensures) (c .if1 .taken))
-
-registry-shaped-requires : tie.Need-registry-shaped-requires
-registry-shaped-requires c κs = search needs
 
 returns-2 : tie.Need-returns-2
 returns-2 c =
@@ -56,9 +50,9 @@ pub close-shaped-spec : {M : Type 1} → statement M
 close-shaped-spec =
     tie.close
     (tie.spec
-    settings-shaped-requires
+    (λ c κs. search needs)
     returns
-    registry-shaped-requires
+    (λ c κs. search needs)
     returns-2
     mul-if3
     returns-3

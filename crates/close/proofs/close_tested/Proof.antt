@@ -38,39 +38,15 @@ survey-registry-requires c κs =
     let a = c .before .before .before .before .before .before .before .before .before in
     (a .pre .0 .registry, (omega (arith, c .before .before .current-epoch .ensures, ep a .small), a .pre .1 .1))
 
-none-raised-requires : tie.Need-none-raised-requires
-none-raised-requires c κs = search needs
-
-same-length : tie.Need-same-length
-same-length c = search needs
-
 returns : tie.Need-returns
 returns c =
     let t = c .before in
     record { under = λ r u z. tests-refused (call r (t .before .before .before .before .before .before .before .before .before .before .before .before .before)) (tested r (t .before .before .before) z) (λ y. omega (arith, t .if1 .taken)) (c .none-raised .ensures) }
 
-sub-close-surveyed : tie.Need-sub-close-surveyed
-sub-close-surveyed c = search needs
-
-part-unbooked-start : tie.Need-part-unbooked-start
-part-unbooked-start c = search needs
-
-part-unbooked-end : tie.Need-part-unbooked-end
-part-unbooked-end c = search needs
-
 close-surveyed-requires : tie.Need-close-surveyed-requires
 close-surveyed-requires c κs =
     let a = c .before .before .before .before .before .before .before .before .before .before .before .before .before .before .before .before .before in
     (a .pre .0, (a .pre .1 .0, rw (← c .before .before .before .before .before .before .before .before .before .before .current-epoch .ensures, ← c .before .before .before .before .before .before .before .before .before .previous-epoch .ensures) (c .before .before .before .before .before .before .before .survey-registry .ensures)))
-
-same-length-2 : tie.Need-same-length-2
-same-length-2 c = search needs
-
-same-length-3 : tie.Need-same-length-3
-same-length-3 c = search needs
-
-same-length-4 : tie.Need-same-length-4
-same-length-4 c = search needs
 
 returns-2 : tie.Need-returns-2
 returns-2 c =
@@ -84,14 +60,14 @@ close-tested-spec =
     current-epoch-requires
     previous-epoch-requires
     survey-registry-requires
-    none-raised-requires
-    same-length
+    (λ c κs. search needs)
+    (λ c. search needs)
     returns
-    sub-close-surveyed
-    part-unbooked-start
-    part-unbooked-end
+    (λ c. search needs)
+    (λ c. search needs)
+    (λ c. search needs)
     close-surveyed-requires
-    same-length-2
-    same-length-3
-    same-length-4
+    (λ c. search needs)
+    (λ c. search needs)
+    (λ c. search needs)
     returns-2)

@@ -5,24 +5,15 @@ use Rattle.close.specs.Worked.{settingsTests}
 use Rattle.close.proofs.settings_tests.Statement.{statement}
 use Rattle.close.proofs.settings_tests.Tie as tie
 
-close-shaped-requires : tie.Need-close-shaped-requires
-close-shaped-requires c κs = search needs
-
 returns : tie.Need-returns
 unfolding settingsTests inOrder
 returns c = rw (fails (c .before .close-shaped .ensures) (c .if1 .taken))
-
-good-settings-requires : tie.Need-good-settings-requires
-good-settings-requires c κs = search needs
 
 returns-2 : tie.Need-returns-2
 unfolding settingsTests inOrder
 returns-2 c =
     let a = passes (c .before .before .before .close-shaped .ensures) (c .before .before .if1 .left) in
     rw (a, fails (c .before .good-settings .ensures) (c .if2 .taken))
-
-good-finality-requires : tie.Need-good-finality-requires
-good-finality-requires c κs = search needs
 
 returns-3 : tie.Need-returns-3
 unfolding settingsTests inOrder
@@ -44,10 +35,10 @@ pub settings-tests-spec : {M : Type 1} → statement M
 settings-tests-spec =
     tie.close
     (tie.spec
-    close-shaped-requires
+    (λ c κs. search needs)
     returns
-    good-settings-requires
+    (λ c κs. search needs)
     returns-2
-    good-finality-requires
+    (λ c κs. search needs)
     returns-3
     returns-4)

@@ -17,40 +17,13 @@ returns-2 : tie.Need-returns-2
 returns-2 c =
     let a = c .before .before .before .before .before .before .before .before .args in too-late (stepCalled (a .number) (a .running) (fullCalled (a .rules) (a .finality) (a .queue) (a .registry .now) (a .slashings .now) (a .roots .now) (a .closing-registry .now) (a .closing-slashings .now) (a .amounts .now))) (c .before .if1 .left) (c .if2 .taken)
 
-add-if3 : tie.Need-add-if3
-add-if3 c = search needs
-
 returns-3 : tie.Need-returns-3
 returns-3 c =
     let a = c .before .before .before .before .before .before .before .before .before .args in another (stepCalled (a .number) (a .running) (fullCalled (a .rules) (a .finality) (a .queue) (a .registry .now) (a .slashings .now) (a .roots .now) (a .closing-registry .now) (a .closing-slashings .now) (a .amounts .now))) (c .before .before .if1 .left) (c .if3 .taken)
 
-first-call-requires : tie.Need-first-call-requires
-first-call-requires c κs = search needs
-
-same-length : tie.Need-same-length
-same-length c = search needs
-
-same-length-2 : tie.Need-same-length-2
-same-length-2 c = search needs
-
-same-length-3 : tie.Need-same-length-3
-same-length-3 c = search needs
-
 returns-4 : tie.Need-returns-4
 returns-4 c =
     let a = c .before .before .before .before .before .before .before .before .before .before .before .before .before .before .before .before .before .before .before .before .args in c .before .before .before .before .before .before .first-call .ensures .is (a .number) (a .running) (c .before .before .before .before .before .before .before .before .before .before .if4 .taken) ∙ in-turn (stepCalled (a .number) (a .running) (fullCalled (a .rules) (a .finality) (a .queue) (a .registry .now) (a .slashings .now) (a .roots .now) (a .closing-registry .now) (a .closing-slashings .now) (a .amounts .now))) (c .before .before .before .before .before .before .before .before .before .before .before .before .before .if1 .left) (c .before .before .before .before .before .before .before .before .before .before .before .before .if2 .left) (c .before .before .before .before .before .before .before .before .before .before .before .if3 .left)
-
-later-call-requires : tie.Need-later-call-requires
-later-call-requires c κs = search needs
-
-same-length-4 : tie.Need-same-length-4
-same-length-4 c = search needs
-
-same-length-5 : tie.Need-same-length-5
-same-length-5 c = search needs
-
-same-length-6 : tie.Need-same-length-6
-same-length-6 c = search needs
 
 returns-5 : tie.Need-returns-5
 returns-5 c =
@@ -62,15 +35,15 @@ close-step-spec =
     (tie.spec
     returns
     returns-2
-    add-if3
+    (λ c. search needs)
     returns-3
-    first-call-requires
-    same-length
-    same-length-2
-    same-length-3
+    (λ c κs. search needs)
+    (λ c. search needs)
+    (λ c. search needs)
+    (λ c. search needs)
     returns-4
-    later-call-requires
-    same-length-4
-    same-length-5
-    same-length-6
+    (λ c κs. search needs)
+    (λ c. search needs)
+    (λ c. search needs)
+    (λ c. search needs)
     returns-5)

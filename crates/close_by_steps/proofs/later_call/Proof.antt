@@ -6,37 +6,13 @@ use borrow.Author.Needs.{needs}
 use Rattle.close_by_steps.proofs.later_call.Statement.{statement}
 use Rattle.close_by_steps.proofs.later_call.Tie as tie
 
-whole-tests-requires : tie.Need-whole-tests-requires
-whole-tests-requires c κs = search needs
-
-same-length : tie.Need-same-length
-same-length c = search needs
-
-same-length-2 : tie.Need-same-length-2
-same-length-2 c = search needs
-
-same-length-3 : tie.Need-same-length-3
-same-length-3 c = search needs
-
 returns : tie.Need-returns
 returns c =
     let a = c .before .before .before .before .before .before .before .before .before .before .before .before .before .before .args in later-away (fullCalled (a .rules) (a .finality) (a .queue) (a .registry .now) (a .slashings .now) (a .roots .now) (a .closing-registry .now) (a .closing-slashings .now) (a .amounts .now)) (a .running) (λ e. omega (arith, e, c .before .before .before .before .before .before .before .before .before .before .before .before .before .before .pre .0)) (c .before .whole-tests .ensures) (c .if1 .taken)
 
-settings-under-requires : tie.Need-settings-under-requires
-settings-under-requires c κs = search needs
-
 later-tested-requires : tie.Need-later-tested-requires
 later-tested-requires c κs =
     let a = c .before .before .before .before .before .before .before .before .before .before .before .before .before .before .before .before .before .before .args in (c .before .before .before .before .before .before .before .before .before .before .before .before .before .before .before .before .before .before .pre, rw (c .before .before .before .settings-under .ensures) (ready (soFar (a .running) (fullCalled (a .rules) (a .finality) (a .queue) (a .registry .now) (a .slashings .now) (a .roots .now) (a .closing-registry .now) (a .closing-slashings .now) (a .amounts .now))) (c .before .before .before .before .before .whole-tests .ensures) (c .before .before .before .before .if1 .left)))
-
-same-length-4 : tie.Need-same-length-4
-same-length-4 c = search needs
-
-same-length-5 : tie.Need-same-length-5
-same-length-5 c = search needs
-
-same-length-6 : tie.Need-same-length-6
-same-length-6 c = search needs
 
 returns-2 : tie.Need-returns-2
 returns-2 c =
@@ -46,14 +22,14 @@ pub later-call-spec : {M : Type 1} → statement M
 later-call-spec =
     tie.close
     (tie.spec
-    whole-tests-requires
-    same-length
-    same-length-2
-    same-length-3
+    (λ c κs. search needs)
+    (λ c. search needs)
+    (λ c. search needs)
+    (λ c. search needs)
     returns
-    settings-under-requires
+    (λ c κs. search needs)
     later-tested-requires
-    same-length-4
-    same-length-5
-    same-length-6
+    (λ c. search needs)
+    (λ c. search needs)
+    (λ c. search needs)
     returns-2)

@@ -7,15 +7,9 @@ use borrow.Author.Needs.{needs}
 use Rattle.close_steps.proofs.whole_tests.Statement.{statement}
 use Rattle.close_steps.proofs.whole_tests.Tie as tie
 
-mul-if1 : tie.Need-mul-if1
-mul-if1 c = search needs
-
 returns : tie.Need-returns
 returns c =
     amounts-refused (fullCalled _ _ _ _ _ _ _ _ _) (c .if1 .taken)
-
-record-tests-requires : tie.Need-record-tests-requires
-record-tests-requires c κs = search needs
 
 returns-2 : tie.Need-returns-2
 returns-2 c =
@@ -29,9 +23,6 @@ returns-3 : tie.Need-returns-3
 returns-3 c =
     close-refused (fullCalled _ _ _ _ _ _ _ _ _) (c .before .before .before .before .if1 .left) (entries-tested _ (c .before .before .before .record-tests .ensures) (c .before .before .if2 .left) (c .before .see-registry .ensures .tested)) (c .if3 .taken)
 
-queue-refusal-requires : tie.Need-queue-refusal-requires
-queue-refusal-requires c κs = search needs
-
 returns-4 : tie.Need-returns-4
 returns-4 c =
     queue-tested (fullCalled _ _ _ _ _ _ _ _ _) (c .before .before .before .before .before .before .if1 .left) (entries-tested _ (c .before .before .before .before .before .record-tests .ensures) (c .before .before .before .before .if2 .left) (c .before .before .before .see-registry .ensures .tested)) (c .before .before .before .see-registry .ensures .queue (c .before .before .if3 .left)) (c .queue-refusal .ensures) (rw (eq-eqb _ _ (c .before .before .if3 .left)))
@@ -40,11 +31,11 @@ pub whole-tests-spec : {M : Type 1} → statement M
 whole-tests-spec =
     tie.close
     (tie.spec
-    mul-if1
+    (λ c. search needs)
     returns
-    record-tests-requires
+    (λ c κs. search needs)
     returns-2
     see-registry-requires
     returns-3
-    queue-refusal-requires
+    (λ c κs. search needs)
     returns-4)

@@ -9,13 +9,10 @@ returns : tie.Need-returns
 unfolding effectiveBalanceTests inOrder
 returns c = rw (ne-eqb _ _ (c .if1 .taken)) (simp and-false)
 
-settings-registry-tests-requires : tie.Need-settings-registry-tests-requires
-settings-registry-tests-requires c κs = search needs
-
 returns-2 : tie.Need-returns-2
 unfolding effectiveBalanceTests
 returns-2 c = rw (eq-eqb _ _ (c .before .if1 .left)) (simp and-true (c .settings-registry-tests .ensures))
 
 pub effective-balance-tests-spec : {M : Type 1} → statement M
 effective-balance-tests-spec =
-    tie.close (tie.spec returns settings-registry-tests-requires returns-2)
+    tie.close (tie.spec returns (λ c κs. search needs) returns-2)

@@ -7,12 +7,6 @@ use Rattle.effective_balances.proofs.effective_balances_core.Tie as tie
 hysteresis-requires : tie.Need-hysteresis-requires
 hysteresis-requires c κs = good-settings (c .before .args .s) (c .before .pre .1) .positive .«hysteresis_quotient»
 
-enum-known-thresholds : tie.Need-enum-known-thresholds
-enum-known-thresholds c = search needs
-
-enum-told : tie.Need-enum-told
-enum-told c = search needs
-
 returns : tie.Need-returns
 returns c = not-updated _ _ (c .before .before .hysteresis .ensures) (c .enum-told .given .1)
 
@@ -20,9 +14,6 @@ update-all-requires : tie.Need-update-all-requires
 update-all-requires c κs =
     let a = c .before .before .before .before .before .before in
     (a .pre .0, good-settings (a .args .s) (a .pre .1) .positive .«effective_balance_increment»)
-
-same-length : tie.Need-same-length
-same-length c = search needs
 
 returns-2 : tie.Need-returns-2
 returns-2 c =
@@ -34,9 +25,9 @@ effective-balances-core-spec =
     tie.close
     (tie.spec
     hysteresis-requires
-    enum-known-thresholds
-    enum-told
+    (λ c. search needs)
+    (λ c. search needs)
     returns
     update-all-requires
-    same-length
+    (λ c. search needs)
     returns-2)

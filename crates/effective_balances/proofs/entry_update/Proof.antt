@@ -8,32 +8,8 @@ use Rattle.effective_balances.proofs.Update.{low-refused, low-moved, hi
 use Rattle.effective_balances.proofs.entry_update.Statement.{statement}
 use Rattle.effective_balances.proofs.entry_update.Tie as tie
 
-slice-read-effective : tie.Need-slice-read-effective
-slice-read-effective c = search needs
-
-slice-read-balance : tie.Need-slice-read-balance
-slice-read-balance c = search needs
-
-add64-requires : tie.Need-add64-requires
-add64-requires c κs = search needs
-
-enum-known-low : tie.Need-enum-known-low
-enum-known-low c = search needs
-
-enum-told : tie.Need-enum-told
-enum-told c = search needs
-
 returns : tie.Need-returns
 returns c = settles-refused _ (c .before .before .before .before .before .before .pre .0) (low-refused _ _ _ _ (says-overflow (c .before .before .add64 .ensures) (only-add64 _ _) (c .enum-told .given .1) .0))
-
-rounded-requires : tie.Need-rounded-requires
-rounded-requires c κs = search needs
-
-slice-write-entry : tie.Need-slice-write-entry
-slice-write-entry c = search needs
-
-same-length : tie.Need-same-length
-same-length c = search needs
 
 returns-2 : tie.Need-returns-2
 unfolding roundedBalance
@@ -43,15 +19,6 @@ returns-2 c =
     let a = g .before .before .before .before in
     settles-value _ (low-moved _ _ _ _ (says-value (g .add64 .ensures) (m .low .given .1)) (c .before .if1 .taken)) (rw (c .rounded .ensures, ten (a .args .entry .now) (a .pre .0)))
 
-add64-requires-2 : tie.Need-add64-requires-2
-add64-requires-2 c κs = search needs
-
-enum-known-high : tie.Need-enum-known-high
-enum-known-high c = search needs
-
-enum-told-2 : tie.Need-enum-told-2
-enum-told-2 c = search needs
-
 returns-3 : tie.Need-returns-3
 returns-3 c =
     let m = c .before .before in
@@ -59,15 +26,6 @@ returns-3 c =
     let k = l .before .before in
     let g = k .before .before in
     settles-refused _ (g .before .before .before .before .pre .0) (high-refused _ _ _ _ (says-value (g .add64 .ensures) (k .low .given .1)) (l .if1 .left) (says-overflow (m .add642 .ensures) (only-add64 _ _) (c .enum-told2 .given .1) .0))
-
-rounded-requires-2 : tie.Need-rounded-requires-2
-rounded-requires-2 c κs = search needs
-
-slice-write-entry-2 : tie.Need-slice-write-entry-2
-slice-write-entry-2 c = search needs
-
-same-length-2 : tie.Need-same-length-2
-same-length-2 c = search needs
 
 returns-4 : tie.Need-returns-4
 unfolding roundedBalance
@@ -93,22 +51,22 @@ pub entry-update-spec : {M : Type 1} → statement M
 entry-update-spec =
     tie.close
     (tie.spec
-    slice-read-effective
-    slice-read-balance
-    add64-requires
-    enum-known-low
-    enum-told
+    (λ c. search needs)
+    (λ c. search needs)
+    (λ c κs. search needs)
+    (λ c. search needs)
+    (λ c. search needs)
     returns
-    rounded-requires
-    slice-write-entry
-    same-length
+    (λ c κs. search needs)
+    (λ c. search needs)
+    (λ c. search needs)
     returns-2
-    add64-requires-2
-    enum-known-high
-    enum-told-2
+    (λ c κs. search needs)
+    (λ c. search needs)
+    (λ c. search needs)
     returns-3
-    rounded-requires-2
-    slice-write-entry-2
-    same-length-2
+    (λ c κs. search needs)
+    (λ c. search needs)
+    (λ c. search needs)
     returns-4
     returns-5)

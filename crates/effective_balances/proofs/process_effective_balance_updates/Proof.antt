@@ -7,12 +7,6 @@ use Rattle.effective_balances.proofs.Passed.{effective-balance-passed}
 use Rattle.effective_balances.proofs.process_effective_balance_updates.Statement.{statement}
 use Rattle.effective_balances.proofs.process_effective_balance_updates.Tie as tie
 
-effective-balance-tests-requires : tie.Need-effective-balance-tests-requires
-effective-balance-tests-requires c κs = search needs
-
-same-length : tie.Need-same-length
-same-length c = search needs
-
 returns : tie.Need-returns
 returns c = closes-refused encode _ (c .before .effective-balance-tests .ensures) _ (c .if1 .taken)
 
@@ -29,14 +23,8 @@ copy-requires-2 c κs =
     let p = effective-balance-passed _ _ _ (c .before .before .before .before .before .before .before .before .before .before .before .effective-balance-tests .ensures) (c .before .before .before .before .before .before .before .before .before .before .if1 .left) in
     omega (arith, p .same)
 
-same-length-2 : tie.Need-same-length-2
-same-length-2 c = search needs
-
 returns-2 : tie.Need-returns-2
 returns-2 c = step-restored («process_effective_balance_updates» (c .before .before .before .before .before .before .before .before .before .before .before .before .before .before .before .before .before .before .args .s)) _ (c .before .before .before .before .before .before .before .before .before .before .before .before .before .before .effective-balance-tests .ensures) (c .before .before .before .before .before .before .before .before .before .before .before .before .before .if1 .left) (c .before .before .before .before .before .before .before .before .before .before .before .copy .ensures) (c .before .before .before .before .before .before .before .effective-balances-core .ensures) (c .before .before .before .before .if2 .taken) (c .before .before .copy2 .ensures)
-
-same-length-3 : tie.Need-same-length-3
-same-length-3 c = search needs
 
 returns-3 : tie.Need-returns-3
 returns-3 c = step-done («process_effective_balance_updates» (c .before .before .before .before .before .before .before .before .before .before .before .before .before .before .args .s)) _ (c .before .before .before .before .before .before .before .before .before .before .effective-balance-tests .ensures) (c .before .before .before .before .before .before .before .before .before .if1 .left) (c .before .before .before .before .before .before .before .copy .ensures) (c .before .before .before .effective-balances-core .ensures) (c .if2 .left)
@@ -45,13 +33,13 @@ pub process-effective-balance-updates-spec : {M : Type 1} → statement M
 process-effective-balance-updates-spec =
     tie.close
     (tie.spec
-    effective-balance-tests-requires
-    same-length
+    (λ c κs. search needs)
+    (λ c. search needs)
     returns
     copy-requires
     effective-balances-core-requires
     copy-requires-2
-    same-length-2
+    (λ c. search needs)
     returns-2
-    same-length-3
+    (λ c. search needs)
     returns-3)

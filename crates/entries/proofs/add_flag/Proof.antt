@@ -14,15 +14,9 @@ returns : tie.Need-returns
 unfolding afterTests bind flagTests inOrder
 returns c = rw (lt-leb _ _ (c .if1 .taken))
 
-flag-is-set-requires : tie.Need-flag-is-set-requires
-flag-is-set-requires c κs = search needs
-
 returns-2 : tie.Need-returns-2
 unfolding afterTests bind flagTests inOrder «has_flag» «add_flag»
 returns-2 c = rw (le-leb _ _ (c .before .before .if1 .left), sym (c .before .flag-is-set .ensures) ∙ c .if2 .taken)
-
-shl-flag : tie.Need-shl-flag
-shl-flag c = search needs
 
 add-after : tie.Need-add-after
 add-after c =
@@ -37,4 +31,4 @@ returns-3 c =
 
 pub add-flag-spec : {M : Type 1} → statement M
 add-flag-spec =
-    tie.close (tie.spec returns flag-is-set-requires returns-2 shl-flag add-after returns-3)
+    tie.close (tie.spec returns (λ c κs. search needs) returns-2 (λ c. search needs) add-after returns-3)

@@ -6,34 +6,19 @@ use Rattle.entries.proofs.Numbers.{none-before, before-last}
 use Rattle.entries.proofs.entry_is_eligible.Statement.{statement}
 use Rattle.entries.proofs.entry_is_eligible.Tie as tie
 
-entry-is-active-requires : tie.Need-entry-is-active-requires
-entry-is-active-requires c κs = search needs
-
 returns : tie.Need-returns
 unfolding isEligible
 returns c = rw (sym (c .before .entry-is-active .ensures) ∙ c .if1 .taken)
 
-shared-slice-read-if2 : tie.Need-shared-slice-read-if2
-shared-slice-read-if2 c = search needs
-
 returns-2 : tie.Need-returns-2
 unfolding isEligible
 returns-2 c = rw (sym (c .before .before .before .entry-is-active .ensures) ∙ c .before .before .if1 .left, ne-eqb _ _ (c .if2 .taken))
-
-shared-slice-read-if3 : tie.Need-shared-slice-read-if3
-shared-slice-read-if3 c = search needs
 
 returns-3 : tie.Need-returns-3
 unfolding isEligible
 returns-3 c =
     let d = c .before .before in
     rw (sym (d .before .before .before .entry-is-active .ensures) ∙ d .before .before .if1 .left, eq-eqb _ _ (d .if2 .left), none-before _ _ (c .if3 .taken))
-
-shared-slice-read-result : tie.Need-shared-slice-read-result
-shared-slice-read-result c = search needs
-
-sub-result : tie.Need-sub-result
-sub-result c = search needs
 
 returns-4 : tie.Need-returns-4
 unfolding isEligible
@@ -46,12 +31,12 @@ pub entry-is-eligible-spec : {M : Type 1} → statement M
 entry-is-eligible-spec =
     tie.close
     (tie.spec
-    entry-is-active-requires
+    (λ c κs. search needs)
     returns
-    shared-slice-read-if2
+    (λ c. search needs)
     returns-2
-    shared-slice-read-if3
+    (λ c. search needs)
     returns-3
-    shared-slice-read-result
-    sub-result
+    (λ c. search needs)
+    (λ c. search needs)
     returns-4)

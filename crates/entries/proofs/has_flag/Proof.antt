@@ -12,12 +12,9 @@ returns : tie.Need-returns
 unfolding afterTests bind flagTests inOrder
 returns c = rw (lt-leb _ _ (c .if1 .taken))
 
-flag-is-set-requires : tie.Need-flag-is-set-requires
-flag-is-set-requires c κs = search needs
-
 returns-2 : tie.Need-returns-2
 unfolding afterTests bind flagTests inOrder
 returns-2 c = rw (le-leb _ _ (c .before .if1 .left)) (ap Value (c .flag-is-set .ensures))
 
 pub has-flag-spec : {M : Type 1} → statement M
-has-flag-spec = tie.close (tie.spec returns flag-is-set-requires returns-2)
+has-flag-spec = tie.close (tie.spec returns (λ c κs. search needs) returns-2)

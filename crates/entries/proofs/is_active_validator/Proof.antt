@@ -4,9 +4,6 @@ use Rattle.leaf_refusals.proofs.Passed.{entry-passed}
 use Rattle.entries.proofs.is_active_validator.Statement.{statement}
 use Rattle.entries.proofs.is_active_validator.Tie as tie
 
-entry-tests-requires : tie.Need-entry-tests-requires
-entry-tests-requires c κs = search needs
-
 returns : tie.Need-returns
 returns c = truth-refused _ _ (c .before .entry-tests .ensures) (c .if1 .taken)
 
@@ -18,4 +15,4 @@ returns-2 c = truth-passed _ (c .before .before .entry-tests .ensures) (c .befor
 
 pub is-active-validator-spec : {M : Type 1} → statement M
 is-active-validator-spec =
-    tie.close (tie.spec entry-tests-requires returns entry-is-active-requires returns-2)
+    tie.close (tie.spec (λ c κs. search needs) returns entry-is-active-requires returns-2)

@@ -4,9 +4,6 @@ use Rattle.leaf_refusals.proofs.Passed.{slot-entry-passed}
 use Rattle.entries.proofs.is_eligible.Statement.{statement}
 use Rattle.entries.proofs.is_eligible.Tie as tie
 
-slot-entry-tests-requires : tie.Need-slot-entry-tests-requires
-slot-entry-tests-requires c κs = search needs
-
 returns : tie.Need-returns
 returns c = truth-refused _ _ (c .before .slot-entry-tests .ensures) (c .if1 .taken)
 
@@ -23,7 +20,7 @@ pub is-eligible-spec : {M : Type 1} → statement M
 is-eligible-spec =
     tie.close
     (tie.spec
-    slot-entry-tests-requires
+    (λ c κs. search needs)
     returns
     previous-epoch-requires
     entry-is-eligible-requires

@@ -4,9 +4,6 @@ use Rattle.leaf_refusals.proofs.Passed.{finalized-entry-passed}
 use Rattle.entries.proofs.is_eligible_for_activation.Statement.{statement}
 use Rattle.entries.proofs.is_eligible_for_activation.Tie as tie
 
-finalized-entry-tests-requires : tie.Need-finalized-entry-tests-requires
-finalized-entry-tests-requires c κs = search needs
-
 returns : tie.Need-returns
 returns c = truth-refused _ _ (c .before .finalized-entry-tests .ensures) (c .if1 .taken)
 
@@ -20,7 +17,7 @@ pub is-eligible-for-activation-spec : {M : Type 1} → statement M
 is-eligible-for-activation-spec =
     tie.close
     (tie.spec
-    finalized-entry-tests-requires
+    (λ c κs. search needs)
     returns
     entry-is-eligible-for-activation-requires
     returns-2)

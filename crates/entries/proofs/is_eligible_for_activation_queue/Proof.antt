@@ -4,9 +4,6 @@ use Rattle.leaf_refusals.proofs.Passed.{settings-entry-passed}
 use Rattle.entries.proofs.is_eligible_for_activation_queue.Statement.{statement}
 use Rattle.entries.proofs.is_eligible_for_activation_queue.Tie as tie
 
-settings-entry-tests-requires : tie.Need-settings-entry-tests-requires
-settings-entry-tests-requires c κs = search needs
-
 returns : tie.Need-returns
 returns c = truth-refused _ _ (c .before .settings-entry-tests .ensures) (c .if1 .taken)
 
@@ -20,7 +17,7 @@ pub is-eligible-for-activation-queue-spec : {M : Type 1} → statement M
 is-eligible-for-activation-queue-spec =
     tie.close
     (tie.spec
-    settings-entry-tests-requires
+    (λ c κs. search needs)
     returns
     entry-is-eligible-for-activation-queue-requires
     returns-2)

@@ -5,9 +5,6 @@ use Rattle.leaf_refusals.proofs.Passed.{participation-entry-passed}
 use Rattle.entries.proofs.is_unslashed_participating.Statement.{statement}
 use Rattle.entries.proofs.is_unslashed_participating.Tie as tie
 
-participation-entry-tests-requires : tie.Need-participation-entry-tests-requires
-participation-entry-tests-requires c κs = search needs
-
 returns : tie.Need-returns
 returns c = truth-refused _ _ (c .before .participation-entry-tests .ensures) (c .if1 .taken)
 
@@ -26,7 +23,7 @@ pub is-unslashed-participating-spec : {M : Type 1} → statement M
 is-unslashed-participating-spec =
     tie.close
     (tie.spec
-    participation-entry-tests-requires
+    (λ c κs. search needs)
     returns
     current-epoch-requires
     entry-is-participating-requires

@@ -5,9 +5,6 @@ use borrow.Author.Needs.{needs}
 use Rattle.epochs.proofs.compute_epoch_at_slot.Statement.{statement}
 use Rattle.epochs.proofs.compute_epoch_at_slot.Tie as tie
 
-settings-refusal-requires : tie.Need-settings-refusal-requires
-settings-refusal-requires c κs = search needs
-
 returns : tie.Need-returns
 returns c = refused-says _ (c .before .settings-refusal .ensures) _ (c .if1 .taken)
 
@@ -20,4 +17,4 @@ returns-2 c = then-says _ (c .before .before .settings-refusal .ensures) (c .bef
 
 pub compute-epoch-at-slot-spec : {M : Type 1} → statement M
 compute-epoch-at-slot-spec =
-    tie.close (tie.spec settings-refusal-requires returns current-epoch-requires returns-2)
+    tie.close (tie.spec (λ c κs. search needs) returns current-epoch-requires returns-2)

@@ -4,14 +4,8 @@ use borrow.Author.Needs.{needs}
 use Rattle.epochs.proofs.compute_start_slot_at_epoch.Statement.{statement}
 use Rattle.epochs.proofs.compute_start_slot_at_epoch.Tie as tie
 
-settings-refusal-requires : tie.Need-settings-refusal-requires
-settings-refusal-requires c κs = search needs
-
 returns : tie.Need-returns
 returns c = refused-says _ (c .before .settings-refusal .ensures) _ (c .if1 .taken)
-
-mul64-requires : tie.Need-mul64-requires
-mul64-requires c κs = search needs
 
 returns-2 : tie.Need-returns-2
 unfolding «compute_start_slot_at_epoch»
@@ -19,4 +13,4 @@ returns-2 c = then-answers _ (c .before .before .settings-refusal .ensures) (c .
 
 pub compute-start-slot-at-epoch-spec : {M : Type 1} → statement M
 compute-start-slot-at-epoch-spec =
-    tie.close (tie.spec settings-refusal-requires returns mul64-requires returns-2)
+    tie.close (tie.spec (λ c κs. search needs) returns (λ c κs. search needs) returns-2)

@@ -4,9 +4,6 @@ use borrow.Author.Needs.{needs}
 use Rattle.epochs.proofs.get_previous_epoch.Statement.{statement}
 use Rattle.epochs.proofs.get_previous_epoch.Tie as tie
 
-slot-refusal-requires : tie.Need-slot-refusal-requires
-slot-refusal-requires c κs = search needs
-
 returns : tie.Need-returns
 returns c = refused-says _ (c .before .slot-refusal .ensures) _ (c .if1 .taken)
 
@@ -18,4 +15,4 @@ returns-2 c = then-says _ (c .before .before .slot-refusal .ensures) (c .before 
 
 pub get-previous-epoch-spec : {M : Type 1} → statement M
 get-previous-epoch-spec =
-    tie.close (tie.spec slot-refusal-requires returns previous-epoch-requires returns-2)
+    tie.close (tie.spec (λ c κs. search needs) returns previous-epoch-requires returns-2)

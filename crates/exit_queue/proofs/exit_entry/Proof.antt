@@ -6,48 +6,18 @@ use Rattle.exit_queue.proofs.Turns.{exit-known, exit-full, exit-over, e
 use Rattle.exit_queue.proofs.exit_entry.Statement.{statement}
 use Rattle.exit_queue.proofs.exit_entry.Tie as tie
 
-slice-read-if1 : tie.Need-slice-read-if1
-slice-read-if1 c = search needs
-
 returns : tie.Need-returns
 returns c = exit-known _ _ _ _ (c .before .before .before .pre .0) (c .if1 .taken)
-
-next-epoch-requires : tie.Need-next-epoch-requires
-next-epoch-requires c κs = search needs
-
-enum-known-exit : tie.Need-enum-known-exit
-enum-known-exit c = search needs
-
-enum-told : tie.Need-enum-told
-enum-told c = search needs
 
 returns-2 : tie.Need-returns-2
 returns-2 c =
     exit-full _ _ _ _ (c .before .before .before .before .before .before .pre .0) (c .before .before .before .if1 .left) (says-overflow (c .before .before .next-epoch .ensures) (only-nextEpoch _ _) (c .enum-told .given .1) .0)
-
-add64-requires : tie.Need-add64-requires
-add64-requires c κs = search needs
-
-enum-known-withdrawable : tie.Need-enum-known-withdrawable
-enum-known-withdrawable c = search needs
-
-enum-told-2 : tie.Need-enum-told-2
-enum-told-2 c = search needs
 
 returns-3 : tie.Need-returns-3
 returns-3 c =
     let q = c .before .before .before .before .before .before in
     let exit = says-value (q .next-epoch .ensures) (c .before .before .before .before .exit .given .1) in
     exit-over _ _ _ _ (q .before .before .before .before .pre .0) (q .before .if1 .left) exit (says-overflow (c .before .before .add64 .ensures) (only-add64 _ _) (c .enum-told2 .given .1) .0)
-
-write-exit-requires : tie.Need-write-exit-requires
-write-exit-requires c κs = search needs
-
-exited-requires : tie.Need-exited-requires
-exited-requires c κs = search needs
-
-same-length : tie.Need-same-length
-same-length c = search needs
 
 returns-4 : tie.Need-returns-4
 returns-4 c =
@@ -61,17 +31,17 @@ pub exit-entry-spec : {M : Type 1} → statement M
 exit-entry-spec =
     tie.close
     (tie.spec
-    slice-read-if1
+    (λ c. search needs)
     returns
-    next-epoch-requires
-    enum-known-exit
-    enum-told
+    (λ c κs. search needs)
+    (λ c. search needs)
+    (λ c. search needs)
     returns-2
-    add64-requires
-    enum-known-withdrawable
-    enum-told-2
+    (λ c κs. search needs)
+    (λ c. search needs)
+    (λ c. search needs)
     returns-3
-    write-exit-requires
-    exited-requires
-    same-length
+    (λ c κs. search needs)
+    (λ c κs. search needs)
+    (λ c. search needs)
     returns-4)

@@ -9,12 +9,9 @@ returns : tie.Need-returns
 unfolding nextEpoch
 returns c = said-value (rw (lt-leb _ _ (c .if1 .taken)))
 
-add64-requires : tie.Need-add64-requires
-add64-requires c κs = search needs
-
 returns-2 : tie.Need-returns-2
 unfolding nextEpoch
 returns-2 c = rw (le-leb _ _ (c .before .if1 .left)) (c .add64 .ensures)
 
 pub next-epoch-spec : {M : Type 1} → statement M
-next-epoch-spec = tie.close (tie.spec returns add64-requires returns-2)
+next-epoch-spec = tie.close (tie.spec returns (λ c κs. search needs) returns-2)

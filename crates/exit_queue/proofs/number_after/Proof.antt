@@ -12,9 +12,6 @@ returns-2 : tie.Need-returns-2
 unfolding numberAfter
 returns-2 c = rw (ne-eqb _ _ (c .before .if1 .left), lt-ltb _ _ (c .if2 .taken))
 
-add-result : tie.Need-add-result
-add-result c = search needs
-
 returns-3 : tie.Need-returns-3
 unfolding numberAfter
 returns-3 c = rw (ne-eqb _ _ (c .before .before .if1 .left), le-ltb _ _ (c .before .if2 .left), eq-eqb _ _ (c .if3 .taken))
@@ -24,4 +21,4 @@ unfolding numberAfter
 returns-4 c = rw (ne-eqb _ _ (c .before .before .if1 .left), le-ltb _ _ (c .before .if2 .left), ne-eqb _ _ (c .if3 .left))
 
 pub number-after-spec : {M : Type 1} → statement M
-number-after-spec = tie.close (tie.spec returns returns-2 add-result returns-3 returns-4)
+number-after-spec = tie.close (tie.spec returns returns-2 (λ c. search needs) returns-3 returns-4)

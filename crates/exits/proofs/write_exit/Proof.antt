@@ -5,9 +5,6 @@ use Rattle.laws.proofs.Encode.{ten}
 use Rattle.exits.proofs.write_exit.Statement.{statement}
 use Rattle.exits.proofs.write_exit.Tie as tie
 
-slice-write-entry : tie.Need-slice-write-entry
-slice-write-entry c = search needs
-
 slice-write-entry-2 : tie.Need-slice-write-entry-2
 slice-write-entry-2 c = simp length-set (omega arith)
 
@@ -18,4 +15,4 @@ returns : tie.Need-returns
 returns c = rw (ten (c .args .entry .now) (c .pre))
 
 pub write-exit-spec : {M : Type 1} → statement M
-write-exit-spec = tie.close (tie.spec slice-write-entry slice-write-entry-2 same-length returns)
+write-exit-spec = tie.close (tie.spec (λ c. search needs) slice-write-entry-2 same-length returns)

@@ -6,26 +6,11 @@ use Rattle.fields.proofs.Stores.{sets-part}
 use Rattle.fields.proofs.checkpoint_at.Statement.{statement}
 use Rattle.fields.proofs.checkpoint_at.Tie as tie
 
-read-number-requires : tie.Need-read-number-requires
-read-number-requires c κs = search needs
-
 add-to : tie.Need-add-to
 add-to c = omega arith
 
-slice-aggregate-put-bytes : tie.Need-slice-aggregate-put-bytes
-slice-aggregate-put-bytes c = search needs
-
-sub-put-bytes : tie.Need-sub-put-bytes
-sub-put-bytes c = search needs
-
-part-put-bytes-start : tie.Need-part-put-bytes-start
-part-put-bytes-start c = search needs
-
 part-put-bytes-end : tie.Need-part-put-bytes-end
 part-put-bytes-end c = omega arith
-
-put-bytes-requires : tie.Need-put-bytes-requires
-put-bytes-requires c κs = search needs
 
 returns : tie.Need-returns
 returns c =
@@ -39,11 +24,11 @@ pub checkpoint-at-spec : {M : Type 1} → statement M
 checkpoint-at-spec =
     tie.close
     (tie.spec
-    read-number-requires
+    (λ c κs. search needs)
     add-to
-    slice-aggregate-put-bytes
-    sub-put-bytes
-    part-put-bytes-start
+    (λ c. search needs)
+    (λ c. search needs)
+    (λ c. search needs)
     part-put-bytes-end
-    put-bytes-requires
+    (λ c κs. search needs)
     returns)

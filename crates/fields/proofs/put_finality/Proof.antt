@@ -17,36 +17,6 @@ current-root c = search needs
 finalized-root : (c : tie.Start) → length (c .args .f .«finalized_checkpoint» .root) ≡ 32
 finalized-root c = search needs
 
-put-number-requires : tie.Need-put-number-requires
-put-number-requires c κs = search needs
-
-add-put-number : tie.Need-add-put-number
-add-put-number c = search needs
-
-put-number-requires-2 : tie.Need-put-number-requires-2
-put-number-requires-2 c κs = search needs
-
-add-put-checkpoint : tie.Need-add-put-checkpoint
-add-put-checkpoint c = search needs
-
-put-checkpoint-requires : tie.Need-put-checkpoint-requires
-put-checkpoint-requires c κs = search needs
-
-add-put-checkpoint-2 : tie.Need-add-put-checkpoint-2
-add-put-checkpoint-2 c = search needs
-
-put-checkpoint-requires-2 : tie.Need-put-checkpoint-requires-2
-put-checkpoint-requires-2 c κs = search needs
-
-add-put-checkpoint-3 : tie.Need-add-put-checkpoint-3
-add-put-checkpoint-3 c = search needs
-
-put-checkpoint-requires-3 : tie.Need-put-checkpoint-requires-3
-put-checkpoint-requires-3 c κs = search needs
-
-same-length : tie.Need-same-length
-same-length c = search needs
-
 returns : tie.Need-returns
 returns c =
     let start = c .before .before .before .before .before .before .before .before .before .before .before .before .before .before .before .before .before .before .before .before .before .before .before .before in
@@ -62,14 +32,14 @@ pub put-finality-spec : {M : Type 1} → statement M
 put-finality-spec =
     tie.close
     (tie.spec
-    put-number-requires
-    add-put-number
-    put-number-requires-2
-    add-put-checkpoint
-    put-checkpoint-requires
-    add-put-checkpoint-2
-    put-checkpoint-requires-2
-    add-put-checkpoint-3
-    put-checkpoint-requires-3
-    same-length
+    (λ c κs. search needs)
+    (λ c. search needs)
+    (λ c κs. search needs)
+    (λ c. search needs)
+    (λ c κs. search needs)
+    (λ c. search needs)
+    (λ c κs. search needs)
+    (λ c. search needs)
+    (λ c κs. search needs)
+    (λ c. search needs)
     returns)

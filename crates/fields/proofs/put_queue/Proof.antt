@@ -6,18 +6,6 @@ use Rattle.fields.proofs.Stores.{stored-first, stored-more}
 use Rattle.fields.proofs.put_queue.Statement.{statement}
 use Rattle.fields.proofs.put_queue.Tie as tie
 
-put-number-requires : tie.Need-put-number-requires
-put-number-requires c κs = search needs
-
-add-put-number : tie.Need-add-put-number
-add-put-number c = search needs
-
-put-number-requires-2 : tie.Need-put-number-requires-2
-put-number-requires-2 c κs = search needs
-
-same-length : tie.Need-same-length
-same-length c = search needs
-
 returns : tie.Need-returns
 returns c =
     let a = c .before .before .before .before .before .before .before .before .before .args in
@@ -28,4 +16,4 @@ returns c =
 pub put-queue-spec : {M : Type 1} → statement M
 put-queue-spec =
     tie.close
-    (tie.spec put-number-requires add-put-number put-number-requires-2 same-length returns)
+    (tie.spec (λ c κs. search needs) (λ c. search needs) (λ c κs. search needs) (λ c. search needs) returns)

@@ -6,35 +6,17 @@ use Rattle.definitions_file.specs.File.{fileLength}
 use Rattle.file_header.proofs.as_long.Statement.{statement}
 use Rattle.file_header.proofs.as_long.Tie as tie
 
-validators-at-requires : tie.Need-validators-at-requires
-validators-at-requires c κs = search needs
-
 returns : tie.Need-returns
 returns c = let a = c .before .before .args in sym (ne-eqb (a .length) (fileLength (a .version) (a .validators) (a .roots) (a .slashings)) (λ e. omega arith))
 
 returns-2 : tie.Need-returns-2
 returns-2 c = let a = c .before .before .before .args in sym (ne-eqb (a .length) (fileLength (a .version) (a .validators) (a .roots) (a .slashings)) (λ e. omega arith))
 
-mul-from-roots : tie.Need-mul-from-roots
-mul-from-roots c = search needs
-
-sub-from-roots : tie.Need-sub-from-roots
-sub-from-roots c = search needs
-
 returns-3 : tie.Need-returns-3
 returns-3 c = let a = c .before .before .before .before .args in sym (ne-eqb (a .length) (fileLength (a .version) (a .validators) (a .roots) (a .slashings)) (λ e. omega arith))
 
-mul-from-slashings : tie.Need-mul-from-slashings
-mul-from-slashings c = search needs
-
-sub-from-slashings : tie.Need-sub-from-slashings
-sub-from-slashings c = search needs
-
 returns-4 : tie.Need-returns-4
 returns-4 c = let a = c .before .before .before .before .before .args in sym (ne-eqb (a .length) (fileLength (a .version) (a .validators) (a .roots) (a .slashings)) (λ e. omega arith))
-
-mul-if5 : tie.Need-mul-if5
-mul-if5 c = search needs
 
 returns-5 : tie.Need-returns-5
 returns-5 c = let a = c .before .before .before .before .before .before .args in sym (ne-eqb (a .length) (fileLength (a .version) (a .validators) (a .roots) (a .slashings)) (λ e. omega arith))
@@ -46,15 +28,15 @@ pub as-long-spec : {M : Type 1} → statement M
 as-long-spec =
     tie.close
     (tie.spec
-    validators-at-requires
+    (λ c κs. search needs)
     returns
     returns-2
-    mul-from-roots
-    sub-from-roots
+    (λ c. search needs)
+    (λ c. search needs)
     returns-3
-    mul-from-slashings
-    sub-from-slashings
+    (λ c. search needs)
+    (λ c. search needs)
     returns-4
-    mul-if5
+    (λ c. search needs)
     returns-5
     returns-6)

@@ -13,32 +13,11 @@ use Rattle.file_header.proofs.good_header.Tie as tie
 returns : tie.Need-returns
 returns c = header-short _ (c .if1 .taken)
 
-slice-aggregate-read-numbers : tie.Need-slice-aggregate-read-numbers
-slice-aggregate-read-numbers c = search needs
-
-read-numbers-requires : tie.Need-read-numbers-requires
-read-numbers-requires c κs = search needs
-
-array-read-version : tie.Need-array-read-version
-array-read-version c = search needs
-
-array-read-validators : tie.Need-array-read-validators
-array-read-validators c = search needs
-
-array-read-roots : tie.Need-array-read-roots
-array-read-roots c = search needs
-
-array-read-slashings : tie.Need-array-read-slashings
-array-read-slashings c = search needs
-
 returns-2 : tie.Need-returns-2
 returns-2 c = header-no-version (c .before .before .before .before .before .before .args .bytes .now) _ (c .before .before .read-numbers .ensures) (c .if2 .taken)
 
 returns-3 : tie.Need-returns-3
 returns-3 c = header-later-version (c .before .before .before .before .before .before .before .args .bytes .now) _ (c .before .before .before .read-numbers .ensures) (c .if3 .taken)
-
-as-long-requires : tie.Need-as-long-requires
-as-long-requires c κs = search needs
 
 returns-4 : tie.Need-returns-4
 returns-4 c = header-wrong-length (c .before .before .before .before .before .before .before .before .before .args .bytes .now) _ (c .before .before .before .before .before .read-numbers .ensures) (fails (c .before .as-long .ensures) (c .if4 .taken))
@@ -48,15 +27,6 @@ header-of-requires c κs =
     let found = c .before .before .before .before .before .read-numbers .last .1 .1 .0 in
     let e : length (c .before .before .before .before .before .before .before .before .before .args .bytes .now) ≡ fileLength (getD found 0 0) (getD found 2 0) (getD found 3 0) (getD found 4 0) = eqb-true _ _ (passes (c .before .as-long .ensures) (c .if4 .left)) in
     (omega arith, omega arith, omega arith)
-
-slice-aggregate-same-numbers : tie.Need-slice-aggregate-same-numbers
-slice-aggregate-same-numbers c = search needs
-
-slice-aggregate-same-numbers-2 : tie.Need-slice-aggregate-same-numbers-2
-slice-aggregate-same-numbers-2 c = search needs
-
-same-numbers-requires : tie.Need-same-numbers-requires
-same-numbers-requires c κs = search needs
 
 returns-5 : tie.Need-returns-5
 returns-5 c =
@@ -74,19 +44,19 @@ good-header-spec =
     tie.close
     (tie.spec
     returns
-    slice-aggregate-read-numbers
-    read-numbers-requires
-    array-read-version
-    array-read-validators
-    array-read-roots
-    array-read-slashings
+    (λ c. search needs)
+    (λ c κs. search needs)
+    (λ c. search needs)
+    (λ c. search needs)
+    (λ c. search needs)
+    (λ c. search needs)
     returns-2
     returns-3
-    as-long-requires
+    (λ c κs. search needs)
     returns-4
     header-of-requires
-    slice-aggregate-same-numbers
-    slice-aggregate-same-numbers-2
-    same-numbers-requires
+    (λ c. search needs)
+    (λ c. search needs)
+    (λ c κs. search needs)
     returns-5
     returns-6)

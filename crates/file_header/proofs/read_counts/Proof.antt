@@ -6,18 +6,6 @@ use Rattle.definitions_file.specs.File.{numberAt}
 use Rattle.file_header.proofs.read_counts.Statement.{statement}
 use Rattle.file_header.proofs.read_counts.Tie as tie
 
-read-number-requires : tie.Need-read-number-requires
-read-number-requires c κs = search needs
-
-read-number-requires-2 : tie.Need-read-number-requires-2
-read-number-requires-2 c κs = search needs
-
-read-number-requires-3 : tie.Need-read-number-requires-3
-read-number-requires-3 c κs = search needs
-
-read-number-requires-4 : tie.Need-read-number-requires-4
-read-number-requires-4 c κs = search needs
-
 returns : tie.Need-returns
 returns c =
     let bytes = c .before .before .before .before .before .args .bytes .now in
@@ -30,8 +18,8 @@ pub read-counts-spec : {M : Type 1} → statement M
 read-counts-spec =
     tie.close
     (tie.spec
-    read-number-requires
-    read-number-requires-2
-    read-number-requires-3
-    read-number-requires-4
+    (λ c κs. search needs)
+    (λ c κs. search needs)
+    (λ c κs. search needs)
+    (λ c κs. search needs)
     returns)

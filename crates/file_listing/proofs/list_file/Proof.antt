@@ -11,36 +11,6 @@ returns c =
     let p = too-short (a .bytes .now) (a .text .now) (c .if1 .taken) in
     (p .count, (p .text, (p .inside, p .front)))
 
-room-requires : tie.Need-room-requires
-room-requires c κs = search needs
-
-room-requires-2 : tie.Need-room-requires-2
-room-requires-2 c κs = search needs
-
-room-requires-3 : tie.Need-room-requires-3
-room-requires-3 c κs = search needs
-
-room-requires-4 : tie.Need-room-requires-4
-room-requires-4 c κs = search needs
-
-slice-aggregate-listing : tie.Need-slice-aggregate-listing
-slice-aggregate-listing c = search needs
-
-slice-aggregate-listing-2 : tie.Need-slice-aggregate-listing-2
-slice-aggregate-listing-2 c = search needs
-
-slice-aggregate-listing-3 : tie.Need-slice-aggregate-listing-3
-slice-aggregate-listing-3 c = search needs
-
-slice-aggregate-listing-4 : tie.Need-slice-aggregate-listing-4
-slice-aggregate-listing-4 c = search needs
-
-listing-requires : tie.Need-listing-requires
-listing-requires c κs = search needs
-
-same-length : tie.Need-same-length
-same-length c = search needs
-
 returns-2 : tie.Need-returns-2
 returns-2 c =
     let k = c .before .before .before .before .before .before in
@@ -57,14 +27,14 @@ list-file-spec =
     tie.close
     (tie.spec
     returns
-    room-requires
-    room-requires-2
-    room-requires-3
-    room-requires-4
-    slice-aggregate-listing
-    slice-aggregate-listing-2
-    slice-aggregate-listing-3
-    slice-aggregate-listing-4
-    listing-requires
-    same-length
+    (λ c κs. search needs)
+    (λ c κs. search needs)
+    (λ c κs. search needs)
+    (λ c κs. search needs)
+    (λ c. search needs)
+    (λ c. search needs)
+    (λ c. search needs)
+    (λ c. search needs)
+    (λ c κs. search needs)
+    (λ c. search needs)
     returns-2)

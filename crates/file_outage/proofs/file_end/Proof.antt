@@ -4,9 +4,6 @@ use borrow.Author.Needs.{needs}
 use Rattle.file_outage.proofs.file_end.Statement.{statement}
 use Rattle.file_outage.proofs.file_end.Tie as tie
 
-read-number-requires : tie.Need-read-number-requires
-read-number-requires c κs = search needs
-
 returns : tie.Need-returns
 returns c = (omega arith, ends-early (c .before .before .before .before .args .input .now) (c .before .before .read-number .ensures .0) (c .if1 .taken))
 
@@ -14,4 +11,4 @@ returns-2 : tie.Need-returns-2
 returns-2 c = (c .if1 .left, ends-there (c .before .before .before .before .args .input .now) (c .before .before .read-number .ensures .0))
 
 pub file-end-spec : {M : Type 1} → statement M
-file-end-spec = tie.close (tie.spec read-number-requires returns returns-2)
+file-end-spec = tie.close (tie.spec (λ c κs. search needs) returns returns-2)

@@ -12,13 +12,10 @@ returns c =
 put-input-requires : tie.Need-put-input-requires
 put-input-requires c κs = c .before .if1 .left
 
-same-length : tie.Need-same-length
-same-length c = search needs
-
 returns-2 : tie.Need-returns-2
 returns-2 c =
     let p = long-enough (c .before .before .before .before .before .before .before .args .input .now) (c .before .before .before .before .if1 .left) (c .before .before .put-input .ensures) in
     (p .count, (p .text, (p .inside, p .front)))
 
 pub try-outage-spec : {M : Type 1} → statement M
-try-outage-spec = tie.close (tie.spec returns put-input-requires same-length returns-2)
+try-outage-spec = tie.close (tie.spec returns put-input-requires (λ c. search needs) returns-2)

@@ -26,12 +26,6 @@ slash c = rw (c .before .before .before .before .before .before .before .before 
 vectors : (c : tie.Else4) → settingsShaped (settingsIn (bytes (c .before .before .before .before .before .before .before .before))) ≡ true
 vectors c = passes (rw (c .before .before .before .before .before .before .before .before .before .before .read-settings .ensures) at (c .before .settings-shaped .ensures)) (c .if4 .left)
 
-read-counts-requires : tie.Need-read-counts-requires
-read-counts-requires c κs = search needs
-
-read-settings-requires : tie.Need-read-settings-requires
-read-settings-requires c κs = search needs
-
 returns : tie.Need-returns
 returns c = too-many _ _ _ (rw (c .before .before .before .read-counts .ensures .0) at (c .if1 .taken))
 
@@ -41,14 +35,8 @@ returns-2 c = unlike-roots _ _ _ (rw (c .before .before .before .before .before 
 returns-3 : tie.Need-returns-3
 returns-3 c = unlike-slashings _ _ _ (rw (c .before .before .before .before .before .before .before .before .before .read-counts .ensures .2, c .before .before .before .before .before .before .before .before .read-settings .ensures) at (c .if3 .taken))
 
-settings-shaped-requires : tie.Need-settings-shaped-requires
-settings-shaped-requires c κs = search needs
-
 returns-4 : tie.Need-returns-4
 returns-4 c = not-vectors _ _ _ (roots (c .before .before .before .before .before)) (slash (c .before .before)) (fails (rw (c .before .before .before .before .before .before .before .before .before .before .read-settings .ensures) at (c .before .settings-shaped .ensures)) (c .if4 .taken))
-
-mul-if5 : tie.Need-mul-if5
-mul-if5 c = search needs
 
 returns-5 : tie.Need-returns-5
 returns-5 c = other-registry _ _ _ (rw (c .before .before .before .before .before .before .before .before .before .before .before .before .before .read-counts .ensures .0) at (c .if5 .taken))
@@ -65,14 +53,14 @@ pub file-shaped-spec : {M : Type 1} → statement M
 file-shaped-spec =
     tie.close
     (tie.spec
-    read-counts-requires
-    read-settings-requires
+    (λ c κs. search needs)
+    (λ c κs. search needs)
     returns
     returns-2
     returns-3
-    settings-shaped-requires
+    (λ c κs. search needs)
     returns-4
-    mul-if5
+    (λ c. search needs)
     returns-5
     returns-6
     returns-7)

@@ -30,9 +30,6 @@ loop-holds c = (omega arith, omega arith, λ j l. absurd (omega arith))
 read-number-requires : tie.Need-read-number-requires Inv-loop μ-loop Inv-validators μ-validators
 read-number-requires c κs = omega arith
 
-limit-requires : tie.Need-limit-requires Inv-loop μ-loop Inv-validators μ-validators
-limit-requires c κs = search needs
-
 add-k : tie.Need-add-k Inv-loop μ-loop Inv-validators μ-validators
 add-k c = omega arith
 
@@ -86,7 +83,7 @@ first-bad-spec =
     validators-holds
     loop-holds
     read-number-requires
-    limit-requires
+    (λ c κs. search needs)
     add-k
     loop-less
     loop-again

@@ -18,20 +18,8 @@ own c =
 second : (c : tie.Else1) → versionOf (c .before .before .before .args .bytes .now) ≡ 2
 second c = omega (arith, c .before .before .before .pre, c .if1 .left)
 
-queue-at-requires : tie.Need-queue-at-requires
-queue-at-requires c κs = search needs
-
 returns : tie.Need-returns
 returns c = queue-worked-out _ (λ z. omega (arith, c .before .before .before .pre .0 .0)) (own (c .before))
-
-read-queue-requires : tie.Need-read-queue-requires
-read-queue-requires c κs = search needs
-
-same-queue-requires : tie.Need-same-queue-requires
-same-queue-requires c κs = search needs
-
-refused-requires : tie.Need-refused-requires
-refused-requires c κs = search needs
 
 returns-2 : tie.Need-returns-2
 returns-2 c = rw (c .refused .ensures) (queue-wrong (c .before .before .before .before .before .before .before .args .bytes .now) (second (c .before .before .before .before)) (c .before .before .before .read-queue .ensures) (own (c .before .before .before .before .before)) (fails (c .before .before .same-queue .ensures) (c .before .if2 .taken)))
@@ -43,10 +31,10 @@ pub queue-tests-spec : {M : Type 1} → statement M
 queue-tests-spec =
     tie.close
     (tie.spec
-    queue-at-requires
+    (λ c κs. search needs)
     returns
-    read-queue-requires
-    same-queue-requires
-    refused-requires
+    (λ c κs. search needs)
+    (λ c κs. search needs)
+    (λ c κs. search needs)
     returns-2
     returns-3)

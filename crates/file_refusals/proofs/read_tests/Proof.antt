@@ -60,17 +60,8 @@ stopped c = rw (from (c .before), count (c .before .before)) at (c .first-bad .e
 end : (c : tie.After-first-bad) → c .before .validators-at .result + 80 * c .before .before .read-counts .result .validators ≡ validatorsAt (versionOf (bytes (c .before .before .before .before .before .before .before .before .before .before .before))) + 80 * countOf (bytes (c .before .before .before .before .before .before .before .before .before .before .before))
 end c = omega (arith, from (c .before), count (c .before .before))
 
-refused-requires : tie.Need-refused-requires
-refused-requires c κs = search needs
-
 returns : tie.Need-returns
 returns c = rw (c .refused .ensures) (answered-short _ _ _ (c .before .if1 .taken))
-
-good-header-requires : tie.Need-good-header-requires
-good-header-requires c κs = search needs
-
-refused-requires-2 : tie.Need-refused-requires-2
-refused-requires-2 c κs = search needs
 
 returns-2 : tie.Need-returns-2
 returns-2 c = rw (c .refused2 .ensures) (answered-header _ _ _ (c .before .before .before .if1 .left) (fails (c .before .before .good-header .ensures) (c .before .if2 .taken)))
@@ -78,20 +69,11 @@ returns-2 c = rw (c .refused2 .ensures) (answered-header _ _ _ (c .before .befor
 file-shaped-requires : tie.Need-file-shaped-requires
 file-shaped-requires c κs = omega (arith, head c .long)
 
-refused-requires-3 : tie.Need-refused-requires-3
-refused-requires-3 c κs = search needs
-
 returns-3 : tie.Need-returns-3
 returns-3 c = let p = c .before .before .before in rw (c .refused3 .ensures) (answered-shape _ _ _ (enough p) (header p) (fails (c .before .before .file-shaped .ensures) (c .before .if3 .taken)))
 
 read-settings-requires : tie.Need-read-settings-requires
 read-settings-requires c κs = omega (arith, head (c .before .before) .long)
-
-good-settings-requires : tie.Need-good-settings-requires
-good-settings-requires c κs = search needs
-
-refused-requires-4 : tie.Need-refused-requires-4
-refused-requires-4 c κs = search needs
 
 returns-4 : tie.Need-returns-4
 unfolding contentsOf
@@ -101,12 +83,6 @@ returns-4 c =
 
 read-finality-requires : tie.Need-read-finality-requires
 read-finality-requires c κs = omega (arith, head (c .before .before .before .before .before) .long)
-
-good-finality-requires : tie.Need-good-finality-requires
-good-finality-requires c κs = search needs
-
-refused-requires-5 : tie.Need-refused-requires-5
-refused-requires-5 c κs = search needs
 
 returns-5 : tie.Need-returns-5
 unfolding contentsOf
@@ -128,9 +104,6 @@ mul-if6 c = let p = c .before .before .before .before .before .before .before .b
 
 add-if6 : tie.Need-add-if6
 add-if6 c = let p = c .before .before .before .before .before .before .before .before .before .before .before in omega (arith, count (c .before .before), from (c .before), head p .long, start p .good)
-
-refused-requires-6 : tie.Need-refused-requires-6
-refused-requires-6 c κs = search needs
 
 returns-6 : tie.Need-returns-6
 unfolding contentsOf
@@ -158,28 +131,28 @@ pub read-tests-spec : {M : Type 1} → statement M
 read-tests-spec =
     tie.close
     (tie.spec
-    refused-requires
+    (λ c κs. search needs)
     returns
-    good-header-requires
-    refused-requires-2
+    (λ c κs. search needs)
+    (λ c κs. search needs)
     returns-2
     file-shaped-requires
-    refused-requires-3
+    (λ c κs. search needs)
     returns-3
     read-settings-requires
-    good-settings-requires
-    refused-requires-4
+    (λ c κs. search needs)
+    (λ c κs. search needs)
     returns-4
     read-finality-requires
-    good-finality-requires
-    refused-requires-5
+    (λ c κs. search needs)
+    (λ c κs. search needs)
     returns-5
     read-counts-requires
     validators-at-requires
     first-bad-requires
     mul-if6
     add-if6
-    refused-requires-6
+    (λ c κs. search needs)
     returns-6
     queue-tests-requires
     returns-7)

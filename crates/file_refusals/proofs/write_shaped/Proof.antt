@@ -8,15 +8,9 @@ use Rattle.file_refusals.specs.Tests.{writeShaped}
 use Rattle.file_refusals.proofs.write_shaped.Statement.{statement}
 use Rattle.file_refusals.proofs.write_shaped.Tie as tie
 
-settings-shaped-requires : tie.Need-settings-shaped-requires
-settings-shaped-requires c κs = search needs
-
 returns : tie.Need-returns
 unfolding writeShaped
 returns c = rw (fails (c .before .settings-shaped .ensures) (c .if1 .taken))
-
-registry-shaped-requires : tie.Need-registry-shaped-requires
-registry-shaped-requires c κs = search needs
 
 returns-2 : tie.Need-returns-2
 unfolding writeShaped
@@ -33,9 +27,6 @@ returns-4 : tie.Need-returns-4
 unfolding writeShaped
 returns-4 c = rw (ne-eqb _ _ (c .if4 .taken), and-false)
 
-as-long-requires : tie.Need-as-long-requires
-as-long-requires c κs = search needs
-
 returns-5 : tie.Need-returns-5
 unfolding writeShaped
 returns-5 c =
@@ -51,12 +42,12 @@ pub write-shaped-spec : {M : Type 1} → statement M
 write-shaped-spec =
     tie.close
     (tie.spec
-    settings-shaped-requires
+    (λ c κs. search needs)
     returns
-    registry-shaped-requires
+    (λ c κs. search needs)
     returns-2
     mul-if3
     returns-3
     returns-4
-    as-long-requires
+    (λ c κs. search needs)
     returns-5)

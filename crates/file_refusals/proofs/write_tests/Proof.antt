@@ -27,35 +27,20 @@ finality c = passes (c .before .good-finality .ensures) (c .if3 .left)
 registry : (c : tie.Else4) → goodRegistry (start (c .before .before .before .before .before .before) .args .registry .now) ≡ true
 registry c = passes (c .before .good-registry .ensures) (c .if4 .left)
 
-write-shaped-requires : tie.Need-write-shaped-requires
-write-shaped-requires c κs = search needs
-
 returns : tie.Need-returns
 returns c = write-shape _ _ _ _ _ _ _ (fails (c .before .write-shaped .ensures) (c .if1 .taken))
-
-good-settings-requires : tie.Need-good-settings-requires
-good-settings-requires c κs = search needs
 
 returns-2 : tie.Need-returns-2
 returns-2 c = write-settings _ _ _ _ _ _ _ (shape (c .before .before)) (fails (c .before .good-settings .ensures) (c .if2 .taken))
 
-good-finality-requires : tie.Need-good-finality-requires
-good-finality-requires c κs = search needs
-
 returns-3 : tie.Need-returns-3
 returns-3 c = write-finality _ _ _ _ _ _ _ (shape (c .before .before .before .before)) (settings (c .before .before)) (fails (c .before .good-finality .ensures) (c .if3 .taken))
-
-good-registry-requires : tie.Need-good-registry-requires
-good-registry-requires c κs = search needs
 
 returns-4 : tie.Need-returns-4
 returns-4 c = write-registry _ _ _ _ _ _ _ (shape (c .before .before .before .before .before .before)) (settings (c .before .before .before .before)) (finality (c .before .before)) (fails (c .before .good-registry .ensures) (c .if4 .taken))
 
 queue-of-requires : tie.Need-queue-of-requires
 queue-of-requires c κs = let a = start (c .before .before .before .before .before .before) .args in write-tens (a .settings) (a .finality) (a .queue) (a .registry .now) (a .roots .now) (a .slashings .now) (a .file .now) (shape (c .before .before .before .before .before .before))
-
-same-queue-requires : tie.Need-same-queue-requires
-same-queue-requires c κs = search needs
 
 returns-5 : tie.Need-returns-5
 returns-5 c = write-queue _ _ _ _ _ _ _ (shape (c .before .before .before .before .before .before .before .before .before)) (settings (c .before .before .before .before .before .before .before)) (finality (c .before .before .before .before .before)) (registry (c .before .before .before)) (c .before .before .queue-of .ensures) (fails (c .before .same-queue .ensures) (c .if5 .taken))
@@ -67,15 +52,15 @@ pub write-tests-spec : {M : Type 1} → statement M
 write-tests-spec =
     tie.close
     (tie.spec
-    write-shaped-requires
+    (λ c κs. search needs)
     returns
-    good-settings-requires
+    (λ c κs. search needs)
     returns-2
-    good-finality-requires
+    (λ c κs. search needs)
     returns-3
-    good-registry-requires
+    (λ c κs. search needs)
     returns-4
     queue-of-requires
-    same-queue-requires
+    (λ c κs. search needs)
     returns-5
     returns-6)

@@ -7,24 +7,6 @@ use Rattle.file_round_trips.proofs.RoundTrips.{same-bytes}
 use Rattle.file_round_trips.proofs.read_then_write.Statement.{statement}
 use Rattle.file_round_trips.proofs.read_then_write.Tie as tie
 
-file-roots-requires : tie.Need-file-roots-requires
-file-roots-requires c κs = search needs
-
-read-file-requires : tie.Need-read-file-requires
-read-file-requires c κs = search needs
-
-write-file-requires : tie.Need-write-file-requires
-write-file-requires c κs = search needs
-
-same-length : tie.Need-same-length
-same-length c = search needs
-
-same-length-2 : tie.Need-same-length-2
-same-length-2 c = search needs
-
-same-length-3 : tie.Need-same-length-3
-same-length-3 c = search needs
-
 returns : tie.Need-returns
 returns c p =
     let a = c .before .before .before .before .before .before .before .before .before .before .before .before .before .before .before .before .before .before .before .before .before .before .before .args in
@@ -40,10 +22,10 @@ pub read-then-write-spec : {M : Type 1} → statement M
 read-then-write-spec =
     tie.close
     (tie.spec
-    file-roots-requires
-    read-file-requires
-    write-file-requires
-    same-length
-    same-length-2
-    same-length-3
+    (λ c κs. search needs)
+    (λ c κs. search needs)
+    (λ c κs. search needs)
+    (λ c. search needs)
+    (λ c. search needs)
+    (λ c. search needs)
     returns)

@@ -15,21 +15,6 @@ contents c = contentsWith (c .args .settings) (c .args .finality) (c .args .regi
 pair : (c : tie.Start) → TypedQueue (c .args .queue)
 pair c = record { last = omega (arith, c .good); number = omega (arith, c .good) }
 
-write-file-requires : tie.Need-write-file-requires
-write-file-requires c κs = search needs
-
-read-file-requires : tie.Need-read-file-requires
-read-file-requires c κs = search needs
-
-same-length : tie.Need-same-length
-same-length c = search needs
-
-same-length-2 : tie.Need-same-length-2
-same-length-2 c = search needs
-
-same-length-3 : tie.Need-same-length-3
-same-length-3 c = search needs
-
 returns : tie.Need-returns
 returns c p =
     let start = c .before .before .before .before .before .before .before .before .before .before .before .before .before .before .before .before .before .before in
@@ -51,9 +36,9 @@ pub write-then-read-spec : {M : Type 1} → statement M
 write-then-read-spec =
     tie.close
     (tie.spec
-    write-file-requires
-    read-file-requires
-    same-length
-    same-length-2
-    same-length-3
+    (λ c κs. search needs)
+    (λ c κs. search needs)
+    (λ c. search needs)
+    (λ c. search needs)
+    (λ c. search needs)
     returns)

@@ -15,12 +15,6 @@ contents c = contentsWith (c .args .settings) (c .args .finality) (c .args .regi
 pair : (c : tie.Start) → TypedQueue (c .args .queue)
 pair c = record { last = omega (arith, c .good); number = omega (arith, c .good) }
 
-write-file-requires : tie.Need-write-file-requires
-write-file-requires c κs = search needs
-
-file-roots-requires : tie.Need-file-roots-requires
-file-roots-requires c κs = search needs
-
 returns : tie.Need-returns
 returns c p =
     let start = c .before .before .before .before .before .before .before .before .before .before .before .before in
@@ -30,4 +24,4 @@ returns c p =
     c .file-roots .ensures ∙ ap (λ (o : ReadOutcome). o .contents .roots) same
 
 pub write-then-roots-spec : {M : Type 1} → statement M
-write-then-roots-spec = tie.close (tie.spec write-file-requires file-roots-requires returns)
+write-then-roots-spec = tie.close (tie.spec (λ c κs. search needs) (λ c κs. search needs) returns)

@@ -3,15 +3,9 @@ use borrow.Author.Needs.{needs}
 use Rattle.finality.proofs.finality_delay.Statement.{statement}
 use Rattle.finality.proofs.finality_delay.Tie as tie
 
-previous-epoch-requires : tie.Need-previous-epoch-requires
-previous-epoch-requires c κs = search needs
-
-sub64-requires : tie.Need-sub64-requires
-sub64-requires c κs = search needs
-
 returns : tie.Need-returns
 unfolding «get_finality_delay»
 returns c = rw (← c .before .previous-epoch .ensures) (c .sub64 .ensures)
 
 pub finality-delay-spec : {M : Type 1} → statement M
-finality-delay-spec = tie.close (tie.spec previous-epoch-requires sub64-requires returns)
+finality-delay-spec = tie.close (tie.spec (λ c κs. search needs) (λ c κs. search needs) returns)

@@ -4,9 +4,6 @@ use borrow.Author.Needs.{needs}
 use Rattle.finality.proofs.get_finality_delay.Statement.{statement}
 use Rattle.finality.proofs.get_finality_delay.Tie as tie
 
-finalized-refusal-requires : tie.Need-finalized-refusal-requires
-finalized-refusal-requires c κs = search needs
-
 returns : tie.Need-returns
 returns c = refused-says _ (c .before .finalized-refusal .ensures) _ (c .if1 .taken)
 
@@ -18,4 +15,4 @@ returns-2 c = then-answers _ (c .before .before .finalized-refusal .ensures) (c 
 
 pub get-finality-delay-spec : {M : Type 1} → statement M
 get-finality-delay-spec =
-    tie.close (tie.spec finalized-refusal-requires returns finality-delay-requires returns-2)
+    tie.close (tie.spec (λ c κs. search needs) returns finality-delay-requires returns-2)

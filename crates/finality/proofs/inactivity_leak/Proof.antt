@@ -6,15 +6,6 @@ use borrow.Author.Needs.{needs}
 use Rattle.finality.proofs.inactivity_leak.Statement.{statement}
 use Rattle.finality.proofs.inactivity_leak.Tie as tie
 
-finality-delay-requires : tie.Need-finality-delay-requires
-finality-delay-requires c κs = search needs
-
-enum-known-delay : tie.Need-enum-known-delay
-enum-known-delay c = search needs
-
-enum-told : tie.Need-enum-told
-enum-told c = search needs
-
 returns : tie.Need-returns
 unfolding «is_in_inactivity_leak»
 returns c = stop _ (only-delay _ _ _) (c .before .before .finality-delay .ensures) (c .enum-told .given .1) refl
@@ -25,4 +16,4 @@ returns-2 c = next _ (c .before .before .before .before .finality-delay .ensures
 
 pub inactivity-leak-spec : {M : Type 1} → statement M
 inactivity-leak-spec =
-    tie.close (tie.spec finality-delay-requires enum-known-delay enum-told returns returns-2)
+    tie.close (tie.spec (λ c κs. search needs) (λ c. search needs) (λ c. search needs) returns returns-2)

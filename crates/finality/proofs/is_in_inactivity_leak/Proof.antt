@@ -5,9 +5,6 @@ use borrow.Author.Needs.{needs}
 use Rattle.finality.proofs.is_in_inactivity_leak.Statement.{statement}
 use Rattle.finality.proofs.is_in_inactivity_leak.Tie as tie
 
-finalized-refusal-requires : tie.Need-finalized-refusal-requires
-finalized-refusal-requires c κs = search needs
-
 returns : tie.Need-returns
 returns c = record { is = truth-refused _ _ (c .before .finalized-refusal .ensures) (c .if1 .taken) }
 
@@ -19,4 +16,4 @@ returns-2 c = then-answers _ (c .before .before .finalized-refusal .ensures) (c 
 
 pub is-in-inactivity-leak-spec : {M : Type 1} → statement M
 is-in-inactivity-leak-spec =
-    tie.close (tie.spec finalized-refusal-requires returns inactivity-leak-requires returns-2)
+    tie.close (tie.spec (λ c κs. search needs) returns inactivity-leak-requires returns-2)

@@ -2,14 +2,8 @@ use borrow.Author.Needs.{needs}
 use Rattle.finality.proofs.is_linked.Statement.{statement}
 use Rattle.finality.proofs.is_linked.Tie as tie
 
-add-result : tie.Need-add-result
-add-result c = search needs
-
 returns : tie.Need-returns
 returns c = rw (c .if1 .taken)
 
-returns-2 : tie.Need-returns-2
-returns-2 c = search needs
-
 pub is-linked-spec : {M : Type 1} → statement M
-is-linked-spec = tie.close (tie.spec add-result returns returns-2)
+is-linked-spec = tie.close (tie.spec (λ c. search needs) returns (λ c. search needs))

@@ -3,12 +3,6 @@ use borrow.Author.Needs.{needs}
 use Rattle.finality.proofs.weighed.Statement.{statement}
 use Rattle.finality.proofs.weighed.Tie as tie
 
-justified-bits-requires : tie.Need-justified-bits-requires
-justified-bits-requires c κs = search needs
-
-finalized-by-requires : tie.Need-finalized-by-requires
-finalized-by-requires c κs = search needs
-
 returns : tie.Need-returns
 unfolding weighed
 returns c = rw (c .before .finalized-by .ensures, c .before .before .before .justified-bits .ensures, c .if1 .taken)
@@ -23,4 +17,4 @@ returns-3 c = rw (c .before .before .finalized-by .ensures, c .before .before .b
 
 pub weighed-spec : {M : Type 1} → statement M
 weighed-spec =
-    tie.close (tie.spec justified-bits-requires finalized-by-requires returns returns-2 returns-3)
+    tie.close (tie.spec (λ c κs. search needs) (λ c κs. search needs) returns returns-2 returns-3)

@@ -4,14 +4,8 @@ use borrow.Author.Needs.{needs}
 use Rattle.finality.proofs.with_bit.Statement.{statement}
 use Rattle.finality.proofs.with_bit.Tie as tie
 
-div-if2 : tie.Need-div-if2
-div-if2 c = search needs
-
 returns : tie.Need-returns
 returns c = (rw (c .before .if1 .taken, eq-eqb _ _ (c .if2 .taken)), omega arith)
-
-add-result : tie.Need-add-result
-add-result c = search needs
 
 returns-2 : tie.Need-returns-2
 returns-2 c = (rw (c .before .if1 .taken, ne-eqb _ _ (c .if2 .left)), omega arith)
@@ -20,4 +14,4 @@ returns-3 : tie.Need-returns-3
 returns-3 c = (rw (c .if1 .left), omega arith)
 
 pub with-bit-spec : {M : Type 1} → statement M
-with-bit-spec = tie.close (tie.spec div-if2 returns add-result returns-2 returns-3)
+with-bit-spec = tie.close (tie.spec (λ c. search needs) returns (λ c. search needs) returns-2 returns-3)

@@ -6,25 +6,16 @@ use Rattle.leaf_refusals.proofs.Order.{refused-before, last-failed, last-passed
 use Rattle.finalized.proofs.finalized_registry_tests.Statement.{statement}
 use Rattle.finalized.proofs.finalized_registry_tests.Tie as tie
 
-settings-registry-tests-requires : tie.Need-settings-registry-tests-requires
-settings-registry-tests-requires c κs = search needs
-
 returns : tie.Need-returns
 returns c =
     let a = c .before .before .before .args in
     refused-before _ _ (isSmall (a .state-slot) && isSmall (a .finalized-epoch)) _ (c .before .settings-registry-tests .ensures) (c .if1 .taken)
-
-is-small-requires : tie.Need-is-small-requires
-is-small-requires c κs = search needs
 
 returns-2 : tie.Need-returns-2
 returns-2 c =
     let t = c .before .before in
     let a = t .before .before .before .args in
     last-failed _ _ (isSmall (a .state-slot) && isSmall (a .finalized-epoch)) _ (t .before .settings-registry-tests .ensures) (t .if1 .left) (rw (fails (c .before .is-small .ensures) (c .if2 .taken)))
-
-is-small-requires-2 : tie.Need-is-small-requires-2
-is-small-requires-2 c κs = search needs
 
 returns-3 : tie.Need-returns-3
 returns-3 c =
@@ -44,10 +35,10 @@ pub finalized-registry-tests-spec : {M : Type 1} → statement M
 finalized-registry-tests-spec =
     tie.close
     (tie.spec
-    settings-registry-tests-requires
+    (λ c κs. search needs)
     returns
-    is-small-requires
+    (λ c κs. search needs)
     returns-2
-    is-small-requires-2
+    (λ c κs. search needs)
     returns-3
     returns-4)

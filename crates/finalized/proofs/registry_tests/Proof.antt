@@ -6,11 +6,8 @@ use Rattle.finalized.proofs.registry_tests.Tie as tie
 returns : tie.Need-returns
 returns c = other-length _ _ _ _ _ (c .if1 .taken)
 
-finalized-registry-tests-requires : tie.Need-finalized-registry-tests-requires
-finalized-registry-tests-requires c κs = search needs
-
 returns-2 : tie.Need-returns-2
 returns-2 c = same-length _ _ _ _ _ (c .before .if1 .left) (c .finalized-registry-tests .ensures)
 
 pub registry-tests-spec : {M : Type 1} → statement M
-registry-tests-spec = tie.close (tie.spec returns finalized-registry-tests-requires returns-2)
+registry-tests-spec = tie.close (tie.spec returns (λ c κs. search needs) returns-2)

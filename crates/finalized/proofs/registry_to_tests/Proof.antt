@@ -9,11 +9,8 @@ use Rattle.finalized.proofs.registry_to_tests.Tie as tie
 returns : tie.Need-returns
 returns c = above _ _ _ _ _ _ (c .if1 .taken)
 
-registry-tests-requires : tie.Need-registry-tests-requires
-registry-tests-requires c κs = search needs
-
 returns-2 : tie.Need-returns-2
 returns-2 c = c .registry-tests .ensures ∙ ap codeOf (sym (within _ _ _ _ _ _ (omega (arith, c .before .if1 .left))))
 
 pub registry-to-tests-spec : {M : Type 1} → statement M
-registry-to-tests-spec = tie.close (tie.spec returns registry-tests-requires returns-2)
+registry-to-tests-spec = tie.close (tie.spec returns (λ c κs. search needs) returns-2)

@@ -6,9 +6,6 @@ use Rattle.refusals.proofs.Laws.{good-finality}
 use Rattle.finalizing.proofs.finalizing_test.Statement.{statement}
 use Rattle.finalizing.proofs.finalizing_test.Tie as tie
 
-current-epoch-requires : tie.Need-current-epoch-requires
-current-epoch-requires c κs = search needs
-
 returns : tie.Need-returns
 unfolding finalizingTest
 returns c = rw (← c .before .current-epoch .ensures, le-leb _ _ (c .if1 .taken))
@@ -21,4 +18,4 @@ unfolding finalizingTest
 returns-2 c = rw (← c .before .before .current-epoch .ensures, lt-leb _ _ (c .before .if1 .left)) (c .last-test .ensures)
 
 pub finalizing-test-spec : {M : Type 1} → statement M
-finalizing-test-spec = tie.close (tie.spec current-epoch-requires returns last-test-requires returns-2)
+finalizing-test-spec = tie.close (tie.spec (λ c κs. search needs) returns last-test-requires returns-2)

@@ -4,26 +4,14 @@ use borrow.Author.Needs.{needs}
 use Rattle.finalizing.proofs.last_test.Statement.{statement}
 use Rattle.finalizing.proofs.last_test.Tie as tie
 
-is-linked-requires : tie.Need-is-linked-requires
-is-linked-requires c κs = search needs
-
 returns : tie.Need-returns
 returns c = rw (last-test-by-runs, sym (c .before .is-linked .ensures) ∙ c .if1 .taken)
-
-is-linked-requires-2 : tie.Need-is-linked-requires-2
-is-linked-requires-2 c κs = search needs
 
 returns-2 : tie.Need-returns-2
 returns-2 c = rw (last-test-by-runs, sym (c .before .before .before .is-linked .ensures) ∙ c .before .before .if1 .left, sym (c .before .is-linked2 .ensures) ∙ c .if2 .taken)
 
-is-linked-requires-3 : tie.Need-is-linked-requires-3
-is-linked-requires-3 c κs = search needs
-
 returns-3 : tie.Need-returns-3
 returns-3 c = rw (last-test-by-runs, sym (c .before .before .before .before .before .is-linked .ensures) ∙ c .before .before .before .before .if1 .left, sym (c .before .before .before .is-linked2 .ensures) ∙ c .before .before .if2 .left, sym (c .before .is-linked3 .ensures) ∙ c .if3 .taken)
-
-is-linked-requires-4 : tie.Need-is-linked-requires-4
-is-linked-requires-4 c κs = search needs
 
 returns-4 : tie.Need-returns-4
 returns-4 c = rw (last-test-by-runs, sym (c .before .before .before .before .before .before .before .is-linked .ensures) ∙ c .before .before .before .before .before .before .if1 .left, sym (c .before .before .before .before .before .is-linked2 .ensures) ∙ c .before .before .before .before .if2 .left, sym (c .before .before .before .is-linked3 .ensures) ∙ c .before .before .if3 .left, sym (c .before .is-linked4 .ensures) ∙ c .if4 .taken)
@@ -35,12 +23,12 @@ pub last-test-spec : {M : Type 1} → statement M
 last-test-spec =
     tie.close
     (tie.spec
-    is-linked-requires
+    (λ c κs. search needs)
     returns
-    is-linked-requires-2
+    (λ c κs. search needs)
     returns-2
-    is-linked-requires-3
+    (λ c κs. search needs)
     returns-3
-    is-linked-requires-4
+    (λ c κs. search needs)
     returns-4
     returns-5)

@@ -4,17 +4,11 @@ use Rattle.rewards.specs.declared.Shared.{Shared}
 use Rattle.flag_rewards.proofs.entry_flag_deltas.Statement.{statement}
 use Rattle.flag_rewards.proofs.entry_flag_deltas.Tie as tie
 
-shared-numbers-requires : tie.Need-shared-numbers-requires
-shared-numbers-requires c κs = search needs
-
 entry-base-reward-requires : tie.Need-entry-base-reward-requires
 entry-base-reward-requires c κs =
     let a = c .before .before .pre in
     let e = c .shared-numbers .ensures in
     (a .0, (a .1 .1 .1, rw (e .is) at (e .by .perIncrement)))
-
-div-increments : tie.Need-div-increments
-div-increments c = search needs
 
 flag-deltas-requires : tie.Need-flag-deltas-requires
 flag-deltas-requires c κs =
@@ -29,8 +23,8 @@ pub entry-flag-deltas-spec : {M : Type 1} → statement M
 entry-flag-deltas-spec =
     tie.close
     (tie.spec
-    shared-numbers-requires
+    (λ c κs. search needs)
     entry-base-reward-requires
-    div-increments
+    (λ c. search needs)
     flag-deltas-requires
     returns)

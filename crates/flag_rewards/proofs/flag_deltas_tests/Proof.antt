@@ -9,12 +9,9 @@ returns c = no-flag _ _ _ _ _ _ (c .if1 .taken)
 returns-2 : tie.Need-returns-2
 returns-2 c = no-validator _ _ _ _ _ _ (c .if2 .taken)
 
-finalized-registry-tests-requires : tie.Need-finalized-registry-tests-requires
-finalized-registry-tests-requires c κs = search needs
-
 returns-3 : tie.Need-returns-3
 returns-3 c = flag-tested _ _ _ _ _ _ (c .before .before .if1 .left) (c .before .if2 .left) (c .finalized-registry-tests .ensures)
 
 pub flag-deltas-tests-spec : {M : Type 1} → statement M
 flag-deltas-tests-spec =
-    tie.close (tie.spec returns returns-2 finalized-registry-tests-requires returns-3)
+    tie.close (tie.spec returns returns-2 (λ c κs. search needs) returns-3)

@@ -14,9 +14,6 @@ use borrow.Author.Needs.{needs}
 use Rattle.flag_rewards.proofs.get_flag_index_deltas.Statement.{statement}
 use Rattle.flag_rewards.proofs.get_flag_index_deltas.Tie as tie
 
-flag-deltas-tests-requires : tie.Need-flag-deltas-tests-requires
-flag-deltas-tests-requires c κs = search needs
-
 returns : tie.Need-returns
 returns c = tests-refused _ _ (c .before .flag-deltas-tests .ensures) tells-deltas (c .if1 .taken)
 
@@ -29,23 +26,11 @@ previous-epoch-requires c κs = good-settings _ (flag-passed _ _ _ _ _ _ (c .bef
 total-participating-requires : tie.Need-total-participating-requires
 total-participating-requires c κs = let p = flag-passed _ _ _ _ _ _ (c .before .before .before .flag-deltas-tests .ensures) (c .before .before .if1 .left) in (p .opened .shape .long, omega (arith, p .flag))
 
-enum-known-participating : tie.Need-enum-known-participating
-enum-known-participating c = search needs
-
-enum-told : tie.Need-enum-told
-enum-told c = search needs
-
 returns-2 : tie.Need-returns-2
 returns-2 c = tests-passed _ _ (c .before .before .before .before .before .before .flag-deltas-tests .ensures) (c .before .before .before .before .before .if1 .left) (flag-index _ _ _ _ _ (c .before .before .before .before .current-epoch .ensures) (c .before .before .before .previous-epoch .ensures) _ (stop _ (only-total _ _) (c .before .before .total-participating .ensures) (c .enum-told .given .1) refl))
 
 total-active-requires : tie.Need-total-active-requires
 total-active-requires c κs = flag-passed _ _ _ _ _ _ (c .before .before .before .before .before .before .before .flag-deltas-tests .ensures) (c .before .before .before .before .before .before .if1 .left) .opened .shape .long
-
-enum-known-total : tie.Need-enum-known-total
-enum-known-total c = search needs
-
-enum-told-2 : tie.Need-enum-told-2
-enum-told-2 c = search needs
 
 returns-3 : tie.Need-returns-3
 returns-3 c =
@@ -54,12 +39,6 @@ returns-3 c =
 
 inactivity-leak-requires : tie.Need-inactivity-leak-requires
 inactivity-leak-requires c κs = good-settings _ (flag-passed _ _ _ _ _ _ (c .before .before .before .before .before .before .before .before .before .before .before .flag-deltas-tests .ensures) (c .before .before .before .before .before .before .before .before .before .before .if1 .left) .opened .settings .good) .positive .«slots_per_epoch»
-
-enum-known-leaking : tie.Need-enum-known-leaking
-enum-known-leaking c = search needs
-
-enum-told-3 : tie.Need-enum-told-3
-enum-told-3 c = search needs
 
 returns-4 : tie.Need-returns-4
 returns-4 c =
@@ -105,21 +84,21 @@ pub get-flag-index-deltas-spec : {M : Type 1} → statement M
 get-flag-index-deltas-spec =
     tie.close
     (tie.spec
-    flag-deltas-tests-requires
+    (λ c κs. search needs)
     returns
     current-epoch-requires
     previous-epoch-requires
     total-participating-requires
-    enum-known-participating
-    enum-told
+    (λ c. search needs)
+    (λ c. search needs)
     returns-2
     total-active-requires
-    enum-known-total
-    enum-told-2
+    (λ c. search needs)
+    (λ c. search needs)
     returns-3
     inactivity-leak-requires
-    enum-known-leaking
-    enum-told-3
+    (λ c. search needs)
+    (λ c. search needs)
     returns-4
     mul-a
     add-b

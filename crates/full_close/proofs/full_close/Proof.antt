@@ -16,25 +16,10 @@ call c = fullCalled (c .args .rules) (c .args .finality) (c .args .queue) (c .ar
 mul-if1 : tie.Need-mul-if1
 mul-if1 c = omega arith
 
-unclosed-requires : tie.Need-unclosed-requires
-unclosed-requires c κs = search needs
-
 returns : tie.Need-returns
 returns c =
     let a = call (c .before .before .before .before .before .before .before .before) in
     full-tests-refused a (amounts-refused a (c .before .if1 .taken)) (λ z. omega arith) (c .unclosed .ensures)
-
-record-tests-requires : tie.Need-record-tests-requires
-record-tests-requires c κs = search needs
-
-unclosed-requires-2 : tie.Need-unclosed-requires-2
-unclosed-requires-2 c κs = search needs
-
-same-length : tie.Need-same-length
-same-length c = search needs
-
-same-length-2 : tie.Need-same-length-2
-same-length-2 c = search needs
 
 returns-2 : tie.Need-returns-2
 returns-2 c =
@@ -42,33 +27,12 @@ returns-2 c =
     let n = c .before .if2 .taken in
     full-tests-refused a (close-refused a (c .before .before .before .before .before .if1 .left) (record-refused (a .call) (c .before .before .record-tests .ensures) n) n) n (c .unclosed2 .ensures)
 
-settings-under-requires : tie.Need-settings-under-requires
-settings-under-requires c κs = search needs
-
-sub-full-tested : tie.Need-sub-full-tested
-sub-full-tested c = search needs
-
-part-kept-start : tie.Need-part-kept-start
-part-kept-start c = search needs
-
-part-kept-end : tie.Need-part-kept-end
-part-kept-end c = search needs
-
 full-tested-requires : tie.Need-full-tested-requires
 full-tested-requires c κs =
     let u = c .before .before .before .before in
     let e = u .before in
     let p = lent _ (e .before .record-tests .ensures) (e .if2 .left) in
     (rw (u .settings-under .ensures) (p .opening), ((p .closingRegistry, p .closingSlashings, e .before .before .before .before .if1 .left), (blank-length 64 64 (omega arith), blank-part 64 64 (omega arith) (omega arith))))
-
-same-length-3 : tie.Need-same-length-3
-same-length-3 c = search needs
-
-same-length-4 : tie.Need-same-length-4
-same-length-4 c = search needs
-
-same-length-5 : tie.Need-same-length-5
-same-length-5 c = search needs
 
 returns-3 : tie.Need-returns-3
 returns-3 c =
@@ -82,19 +46,19 @@ full-close-spec =
     tie.close
     (tie.spec
     mul-if1
-    unclosed-requires
+    (λ c κs. search needs)
     returns
-    record-tests-requires
-    unclosed-requires-2
-    same-length
-    same-length-2
+    (λ c κs. search needs)
+    (λ c κs. search needs)
+    (λ c. search needs)
+    (λ c. search needs)
     returns-2
-    settings-under-requires
-    sub-full-tested
-    part-kept-start
-    part-kept-end
+    (λ c κs. search needs)
+    (λ c. search needs)
+    (λ c. search needs)
+    (λ c. search needs)
     full-tested-requires
-    same-length-3
-    same-length-4
-    same-length-5
+    (λ c. search needs)
+    (λ c. search needs)
+    (λ c. search needs)
     returns-3)

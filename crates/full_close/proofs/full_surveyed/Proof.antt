@@ -22,23 +22,11 @@ given c = omega (arith, c .if1 .left)
 close-surveyed-requires : tie.Need-close-surveyed-requires
 close-surveyed-requires c κs = let a = c .before .before .before .before .before .before .before .before .before .before in (a .pre .0, ((a .pre .1 .0 .0, a .pre .1 .0 .1), a .pre .1 .1))
 
-clear-amounts-requires : tie.Need-clear-amounts-requires
-clear-amounts-requires c κs = search needs
-
-same-length : tie.Need-same-length
-same-length c = search needs
-
-same-length-2 : tie.Need-same-length-2
-same-length-2 c = search needs
-
-same-length-3 : tie.Need-same-length-3
-same-length-3 c = search needs
-
 returns : tie.Need-returns
 returns c =
     let e : tie.Then1 = search needs in
-    let cleared : tie.After-clear-amounts = search needs in
-    full-refused (e .before .before .before .before .before .before .before .before .before .before .close-surveyed .ensures .0) (e .if1 .taken) refl refl refl refl refl (cleared .clear-amounts .ensures ∙ ap (λ (n : ℕ). replicate n 0) (e .before .before .before .before .before .amounts .given))
+    let cleared : tie.After-clear = search needs in
+    full-refused (e .before .before .before .before .before .before .before .before .before .before .close-surveyed .ensures .0) (e .if1 .taken) refl refl refl refl refl (cleared .clear .ensures ∙ ap (λ (n : ℕ). replicate n 0) (e .before .before .before .before .before .amounts .given))
 
 queue-of-requires : tie.Need-queue-of-requires
 queue-of-requires c κs =
@@ -51,15 +39,6 @@ finalizing-test-requires c κs =
     let e : tie.Else1 = search needs in
     let a = start (e .before .before .before .before .before .before .before .before .before .before) in
     (good-settings _ (a .pre .0 .settings .good) .positive .«slots_per_epoch», a .pre .0 .finality)
-
-same-length-4 : tie.Need-same-length-4
-same-length-4 c = search needs
-
-same-length-5 : tie.Need-same-length-5
-same-length-5 c = search needs
-
-same-length-6 : tie.Need-same-length-6
-same-length-6 c = search needs
 
 returns-2 : tie.Need-returns-2
 returns-2 c =
@@ -77,14 +56,14 @@ full-surveyed-spec =
     tie.close
     (tie.spec
     close-surveyed-requires
-    clear-amounts-requires
-    same-length
-    same-length-2
-    same-length-3
+    (λ c κs. search needs)
+    (λ c. search needs)
+    (λ c. search needs)
+    (λ c. search needs)
     returns
     queue-of-requires
     finalizing-test-requires
-    same-length-4
-    same-length-5
-    same-length-6
+    (λ c. search needs)
+    (λ c. search needs)
+    (λ c. search needs)
     returns-2)

@@ -42,18 +42,6 @@ survey-registry-requires c κs =
     let a = c .before .before .before .before .before .before .before .before .before .before in
     (a .pre .0 .registry, (omega (arith, c .before .before .current-epoch .ensures, ep a .small), a .pre .1 .1))
 
-queue-refusal-requires : tie.Need-queue-refusal-requires
-queue-refusal-requires c κs = search needs
-
-first-refusal-requires : tie.Need-first-refusal-requires
-first-refusal-requires c κs = search needs
-
-unclosed-requires : tie.Need-unclosed-requires
-unclosed-requires c κs = search needs
-
-same-length : tie.Need-same-length
-same-length c = search needs
-
 returns : tie.Need-returns
 returns c =
     let k = c .before .before in
@@ -64,18 +52,6 @@ full-surveyed-requires c κs =
     let k = c .before .before .before .before .before in
     let a = start k in
     (a .pre .0, (a .pre .1 .0, rw (← k .before .before .before .before .before .before .before .before .current-epoch .ensures, ← k .before .before .before .before .before .before .before .previous-epoch .ensures) (k .before .before .before .before .before .survey-registry .ensures)))
-
-same-length-2 : tie.Need-same-length-2
-same-length-2 c = search needs
-
-same-length-3 : tie.Need-same-length-3
-same-length-3 c = search needs
-
-same-length-4 : tie.Need-same-length-4
-same-length-4 c = search needs
-
-same-length-5 : tie.Need-same-length-5
-same-length-5 c = search needs
 
 returns-2 : tie.Need-returns-2
 returns-2 c =
@@ -91,14 +67,14 @@ full-tested-spec =
     current-epoch-requires
     previous-epoch-requires
     survey-registry-requires
-    queue-refusal-requires
-    first-refusal-requires
-    unclosed-requires
-    same-length
+    (λ c κs. search needs)
+    (λ c κs. search needs)
+    (λ c κs. search needs)
+    (λ c. search needs)
     returns
     full-surveyed-requires
-    same-length-2
-    same-length-3
-    same-length-4
-    same-length-5
+    (λ c. search needs)
+    (λ c. search needs)
+    (λ c. search needs)
+    (λ c. search needs)
     returns-2)

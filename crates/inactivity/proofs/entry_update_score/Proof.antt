@@ -7,32 +7,8 @@ use borrow.Author.Needs.{needs}
 use Rattle.inactivity.proofs.entry_update_score.Statement.{statement}
 use Rattle.inactivity.proofs.entry_update_score.Tie as tie
 
-entry-is-eligible-requires : tie.Need-entry-is-eligible-requires
-entry-is-eligible-requires c κs = search needs
-
-same-length : tie.Need-same-length
-same-length c = search needs
-
 returns : tie.Need-returns
 returns c = settles-value _ (not-eligible _ _ _ _ _ (fails (c .before .entry-is-eligible .ensures) (c .if1 .taken))) (ten _ (c .before .before .before .before .pre))
-
-entry-is-participating-requires : tie.Need-entry-is-participating-requires
-entry-is-participating-requires c κs = search needs
-
-slice-read-new-score : tie.Need-slice-read-new-score
-slice-read-new-score c = search needs
-
-new-score-requires : tie.Need-new-score-requires
-new-score-requires c κs = search needs
-
-enum-known-score : tie.Need-enum-known-score
-enum-known-score c = search needs
-
-enum-told : tie.Need-enum-told
-enum-told c = search needs
-
-same-length-2 : tie.Need-same-length-2
-same-length-2 c = search needs
 
 returns-2 : tie.Need-returns-2
 returns-2 c =
@@ -42,12 +18,6 @@ returns-2 c =
     let eligible = passes (q .before .entry-is-eligible .ensures) (q .if1 .left) in
     let k = says-overflow (m .new-score .ensures) (only-new _ _ _ _) (c .enum-told .given .1) .0 in
     settles-refused _ (q .before .before .before .before .pre) (not-updated _ _ _ _ _ eligible (p .entry-is-participating .ensures) k)
-
-slice-write-entry : tie.Need-slice-write-entry
-slice-write-entry c = search needs
-
-same-length-3 : tie.Need-same-length-3
-same-length-3 c = search needs
 
 returns-3 : tie.Need-returns-3
 returns-3 c =
@@ -63,16 +33,16 @@ pub entry-update-score-spec : {M : Type 1} → statement M
 entry-update-score-spec =
     tie.close
     (tie.spec
-    entry-is-eligible-requires
-    same-length
+    (λ c κs. search needs)
+    (λ c. search needs)
     returns
-    entry-is-participating-requires
-    slice-read-new-score
-    new-score-requires
-    enum-known-score
-    enum-told
-    same-length-2
+    (λ c κs. search needs)
+    (λ c. search needs)
+    (λ c κs. search needs)
+    (λ c. search needs)
+    (λ c. search needs)
+    (λ c. search needs)
     returns-2
-    slice-write-entry
-    same-length-3
+    (λ c. search needs)
+    (λ c. search needs)
     returns-3)

@@ -22,12 +22,6 @@ returns c = rw (← c .before .current-epoch .ensures, c .if1 .taken) (ran-value
 inactivity-leak-requires : tie.Need-inactivity-leak-requires
 inactivity-leak-requires c κs = good-settings _ (c .before .before .before .pre .0) .positive .«slots_per_epoch»
 
-enum-known-leaking : tie.Need-enum-known-leaking
-enum-known-leaking c = search needs
-
-enum-told : tie.Need-enum-told
-enum-told c = search needs
-
 returns-2 : tie.Need-returns-2
 unfolding «process_inactivity_updates» bind
 returns-2 c =
@@ -37,12 +31,6 @@ returns-2 c =
 
 previous-epoch-requires : tie.Need-previous-epoch-requires
 previous-epoch-requires c κs = good-settings _ (c .before .before .before .before .before .before .before .pre .0) .positive .«slots_per_epoch»
-
-update-scores-requires : tie.Need-update-scores-requires
-update-scores-requires c κs = search needs
-
-same-length : tie.Need-same-length
-same-length c = search needs
 
 returns-3 : tie.Need-returns-3
 unfolding «process_inactivity_updates» bind
@@ -60,10 +48,10 @@ inactivity-core-spec =
     current-epoch-requires
     returns
     inactivity-leak-requires
-    enum-known-leaking
-    enum-told
+    (λ c. search needs)
+    (λ c. search needs)
     returns-2
     previous-epoch-requires
-    update-scores-requires
-    same-length
+    (λ c κs. search needs)
+    (λ c. search needs)
     returns-3)

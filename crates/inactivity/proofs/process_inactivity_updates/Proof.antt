@@ -9,12 +9,6 @@ use borrow.Author.Needs.{needs}
 use Rattle.inactivity.proofs.process_inactivity_updates.Statement.{statement}
 use Rattle.inactivity.proofs.process_inactivity_updates.Tie as tie
 
-registry-tests-requires : tie.Need-registry-tests-requires
-registry-tests-requires c κs = search needs
-
-same-length : tie.Need-same-length
-same-length c = search needs
-
 returns : tie.Need-returns
 returns c = closes-refused encode _ (c .before .registry-tests .ensures) _ (c .if1 .taken)
 
@@ -29,9 +23,6 @@ inactivity-core-requires c κs =
 copy-requires-2 : tie.Need-copy-requires-2
 copy-requires-2 c κs = let p = registry-passed _ _ _ _ _ (c .before .before .before .before .before .before .before .before .before .before .before .registry-tests .ensures) (c .before .before .before .before .before .before .before .before .before .before .if1 .left) in omega (arith, p .same)
 
-same-length-2 : tie.Need-same-length-2
-same-length-2 c = search needs
-
 returns-2 : tie.Need-returns-2
 returns-2 c =
     let k = c .before .before .before .before .before .before .before in
@@ -39,9 +30,6 @@ returns-2 c =
     let t = q .before .before in
     let a = t .before .before .before .before .before in
     step-restored («process_inactivity_updates» (a .args .s) (a .args .state-slot) (a .args .finalized-epoch)) _ (t .before .registry-tests .ensures) (t .if1 .left) (q .copy .ensures) (k .inactivity-core .ensures) (c .before .before .before .before .if2 .taken) (c .before .before .copy2 .ensures)
-
-same-length-3 : tie.Need-same-length-3
-same-length-3 c = search needs
 
 returns-3 : tie.Need-returns-3
 returns-3 c =
@@ -55,13 +43,13 @@ pub process-inactivity-updates-spec : {M : Type 1} → statement M
 process-inactivity-updates-spec =
     tie.close
     (tie.spec
-    registry-tests-requires
-    same-length
+    (λ c κs. search needs)
+    (λ c. search needs)
     returns
     copy-requires
     inactivity-core-requires
     copy-requires-2
-    same-length-2
+    (λ c. search needs)
     returns-2
-    same-length-3
+    (λ c. search needs)
     returns-3)

@@ -7,15 +7,9 @@ returns : tie.Need-returns
 unfolding recoveredScore
 returns c = rw (c .if1 .taken)
 
-min-requires : tie.Need-min-requires
-min-requires c κs = search needs
-
-sub-result : tie.Need-sub-result
-sub-result c = search needs
-
 returns-2 : tie.Need-returns-2
 unfolding recoveredScore
 returns-2 c = rw (c .before .if1 .left, c .min .ensures)
 
 pub recovered-score-spec : {M : Type 1} → statement M
-recovered-score-spec = tie.close (tie.spec returns min-requires sub-result returns-2)
+recovered-score-spec = tie.close (tie.spec returns (λ c κs. search needs) (λ c. search needs) returns-2)

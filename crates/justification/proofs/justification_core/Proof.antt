@@ -13,26 +13,8 @@ use Rattle.justification.proofs.justification_core.Tie as tie
 small : (c : tie.Start) → c .args .s .«effective_balance_increment» < 2 ^ 64
 small c = omega arith
 
-balance-of-requires : tie.Need-balance-of-requires
-balance-of-requires c κs = search needs
-
-balance-of-requires-2 : tie.Need-balance-of-requires-2
-balance-of-requires-2 c κs = search needs
-
-balance-of-requires-3 : tie.Need-balance-of-requires-3
-balance-of-requires-3 c κs = search needs
-
-weigh-totals-requires : tie.Need-weigh-totals-requires
-weigh-totals-requires c κs = search needs
-
 current-epoch-requires : tie.Need-current-epoch-requires
 current-epoch-requires c κs = weigh-passed _ _ _ (c .before .before .before .before .before .pre) .settings .good .positive .«slots_per_epoch»
-
-raised-of-requires : tie.Need-raised-of-requires
-raised-of-requires c κs = search needs
-
-answer-with-requires : tie.Need-answer-with-requires
-answer-with-requires c κs = search needs
 
 returns : tie.Need-returns
 returns c =
@@ -51,11 +33,11 @@ pub justification-core-spec : {M : Type 1} → statement M
 justification-core-spec =
     tie.close
     (tie.spec
-    balance-of-requires
-    balance-of-requires-2
-    balance-of-requires-3
-    weigh-totals-requires
+    (λ c κs. search needs)
+    (λ c κs. search needs)
+    (λ c κs. search needs)
+    (λ c κs. search needs)
     current-epoch-requires
-    raised-of-requires
-    answer-with-requires
+    (λ c κs. search needs)
+    (λ c κs. search needs)
     returns)

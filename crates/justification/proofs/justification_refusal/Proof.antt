@@ -4,15 +4,9 @@ use borrow.Author.Needs.{needs}
 use Rattle.justification.proofs.justification_refusal.Statement.{statement}
 use Rattle.justification.proofs.justification_refusal.Tie as tie
 
-roots-shaped-requires : tie.Need-roots-shaped-requires
-roots-shaped-requires c κs = search needs
-
 returns : tie.Need-returns
 unfolding justificationTests inOrder
 returns c = rw (fails (c .before .roots-shaped .ensures) (c .if1 .taken))
-
-registry-shaped-requires : tie.Need-registry-shaped-requires
-registry-shaped-requires c κs = search needs
 
 returns-2 : tie.Need-returns-2
 unfolding justificationTests inOrder
@@ -21,9 +15,6 @@ returns-2 c =
       passes (c .before .before .before .roots-shaped .ensures) (c .before .before .if1 .left),
       fails (c .before .registry-shaped .ensures) (c .if2 .taken),
     )
-
-good-settings-requires : tie.Need-good-settings-requires
-good-settings-requires c κs = search needs
 
 returns-3 : tie.Need-returns-3
 unfolding justificationTests inOrder
@@ -34,9 +25,6 @@ returns-3 c =
       fails (c .before .good-settings .ensures) (c .if3 .taken),
     )
 
-good-finality-requires : tie.Need-good-finality-requires
-good-finality-requires c κs = search needs
-
 returns-4 : tie.Need-returns-4
 unfolding justificationTests inOrder
 returns-4 c =
@@ -46,9 +34,6 @@ returns-4 c =
       passes (c .before .before .before .good-settings .ensures) (c .before .before .if3 .left),
       fails (c .before .good-finality .ensures) (c .if4 .taken),
     )
-
-good-registry-requires : tie.Need-good-registry-requires
-good-registry-requires c κs = search needs
 
 returns-5 : tie.Need-returns-5
 unfolding justificationTests inOrder
@@ -76,14 +61,14 @@ pub justification-refusal-spec : {M : Type 1} → statement M
 justification-refusal-spec =
     tie.close
     (tie.spec
-    roots-shaped-requires
+    (λ c κs. search needs)
     returns
-    registry-shaped-requires
+    (λ c κs. search needs)
     returns-2
-    good-settings-requires
+    (λ c κs. search needs)
     returns-3
-    good-finality-requires
+    (λ c κs. search needs)
     returns-4
-    good-registry-requires
+    (λ c κs. search needs)
     returns-5
     returns-6)

@@ -12,12 +12,6 @@ use Rattle.justification.proofs.process_justification_and_finalization.
 tested : (c : tie.Else1) → JustificationPassed (c .before .before .before .before .args .s) (c .before .before .before .before .args .roots .now) (c .before .before .before .before .args .finality) (c .before .before .before .before .args .registry .now)
 tested c = justification-passed _ _ _ _ (sym (c .before .justification-refusal .ensures) ∙ c .if1 .left)
 
-justification-refusal-requires : tie.Need-justification-refusal-requires
-justification-refusal-requires c κs = search needs
-
-none-raised-requires : tie.Need-none-raised-requires
-none-raised-requires c κs = search needs
-
 returns : tie.Need-returns
 returns c = close-refused-first _ _ _ _ (c .before .before .justification-refusal .ensures) (c .before .if1 .taken) (c .none-raised .ensures)
 
@@ -52,8 +46,8 @@ pub process-justification-and-finalization-spec : {M : Type 1} → statement M
 process-justification-and-finalization-spec =
     tie.close
     (tie.spec
-    justification-refusal-requires
-    none-raised-requires
+    (λ c κs. search needs)
+    (λ c κs. search needs)
     returns
     current-epoch-requires
     previous-epoch-requires

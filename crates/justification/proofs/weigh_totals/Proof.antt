@@ -22,23 +22,11 @@ returns c =
 late : (c : tie.Else1) → 1 < «get_current_epoch» (c .before .before .before .args .s) (c .before .before .before .args .old .slot)
 late c = omega (arith, c .before .current-epoch .ensures, c .if1 .left)
 
-enum-known-total : tie.Need-enum-known-total
-enum-known-total c = search needs
-
-enum-told : tie.Need-enum-told
-enum-told c = search needs
-
 returns-2 : tie.Need-returns-2
 returns-2 c =
     let e = c .before .before in
     let a = e .before .before .before .args in
     record { of = λ vs g. later-epochs (a .s) (a .roots .now) (a .old) vs (late e) (stop _ (only-active _ _ _) (g .active) (c .enum-told .given .1) refl) }
-
-enum-known-previous-target : tie.Need-enum-known-previous-target
-enum-known-previous-target c = search needs
-
-enum-told-2 : tie.Need-enum-told-2
-enum-told-2 c = search needs
 
 returns-3 : tie.Need-returns-3
 returns-3 c =
@@ -47,12 +35,6 @@ returns-3 c =
     let a = e .before .before .before .args in
     record { of = λ vs g. later-epochs (a .s) (a .roots .now) (a .old) vs (late e) (next _ (g .active) (t .total .given .1) (stop _ (only-total _ _) (g .previous) (c .enum-told2 .given .1) refl)) }
 
-enum-known-current-target : tie.Need-enum-known-current-target
-enum-known-current-target c = search needs
-
-enum-told-3 : tie.Need-enum-told-3
-enum-told-3 c = search needs
-
 returns-4 : tie.Need-returns-4
 returns-4 c =
     let u = c .before .before .before in
@@ -60,9 +42,6 @@ returns-4 c =
     let e = t .before .before in
     let a = e .before .before .before .args in
     record { of = λ vs g. later-epochs (a .s) (a .roots .now) (a .old) vs (late e) (next _ (g .active) (t .total .given .1) (next _ (g .previous) (u .previous-target .given .1) (stop _ (only-total _ _) (g .current) (c .enum-told3 .given .1) refl))) }
-
-weigh-requires : tie.Need-weigh-requires
-weigh-requires c κs = search needs
 
 returns-5 : tie.Need-returns-5
 returns-5 c =
@@ -79,14 +58,14 @@ weigh-totals-spec =
     (tie.spec
     current-epoch-requires
     returns
-    enum-known-total
-    enum-told
+    (λ c. search needs)
+    (λ c. search needs)
     returns-2
-    enum-known-previous-target
-    enum-told-2
+    (λ c. search needs)
+    (λ c. search needs)
     returns-3
-    enum-known-current-target
-    enum-told-3
+    (λ c. search needs)
+    (λ c. search needs)
     returns-4
-    weigh-requires
+    (λ c κs. search needs)
     returns-5)

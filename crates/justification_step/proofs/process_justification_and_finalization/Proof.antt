@@ -6,9 +6,6 @@ use Rattle.justification_step.proofs.Answered.{answer-refused, answer-g
 use Rattle.justification_step.proofs.process_justification_and_finalization.Statement.{statement}
 use Rattle.justification_step.proofs.process_justification_and_finalization.Tie as tie
 
-process-justification-and-finalization-requires : tie.Need-process-justification-and-finalization-requires
-process-justification-and-finalization-requires c κs = search needs
-
 returns : tie.Need-returns
 returns c =
     let k : tie.After-process-justification-and-finalization = search needs in
@@ -31,7 +28,7 @@ pub process-justification-and-finalization-spec : {M : Type 1} → statement M
 process-justification-and-finalization-spec =
     tie.close
     (tie.spec
-    process-justification-and-finalization-requires
+    (λ c κs. search needs)
     returns
     finalizing-test-requires
     returns-2)

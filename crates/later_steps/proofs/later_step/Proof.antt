@@ -8,47 +8,17 @@ rewards-booked-requires : tie.Need-rewards-booked-requires
 rewards-booked-requires c κs =
     let a = c .before .before .before .before .before .before .before .before .pre in (a .0 .2, (good-settings _ (a .0 .2) .positive .«inactivity_penalty_quotient_altair», (a .1 .1 .0, a .1 .1 .1)))
 
-same-length : tie.Need-same-length
-same-length c = search needs
-
-same-length-2 : tie.Need-same-length-2
-same-length-2 c = search needs
-
 returns : tie.Need-returns
 returns c =
     by-rewards _ _ _ _ _ _ (c .before .before .before .before .before .before .before .if1 .taken) (c .before .before .before .before .rewards-booked .ensures)
-
-slashings-booked-requires : tie.Need-slashings-booked-requires
-slashings-booked-requires c κs = search needs
-
-same-length-3 : tie.Need-same-length-3
-same-length-3 c = search needs
-
-same-length-4 : tie.Need-same-length-4
-same-length-4 c = search needs
-
-same-length-5 : tie.Need-same-length-5
-same-length-5 c = search needs
 
 returns-2 : tie.Need-returns-2
 returns-2 c =
     by-slashings _ _ _ _ _ _ (c .before .before .before .before .before .before .before .before .if2 .taken) (c .before .before .before .before .slashings-booked .ensures)
 
-slashings-reset-core-requires : tie.Need-slashings-reset-core-requires
-slashings-reset-core-requires c κs = search needs
-
-same-length-6 : tie.Need-same-length-6
-same-length-6 c = search needs
-
 returns-3 : tie.Need-returns-3
 returns-3 c =
     by-reset _ _ _ _ _ _ (c .before .before .before .before .if3 .taken) (c .before .before .before .before .before .before .before .before .before .before .before .before .pre .1 .1 .0) (c .before .before .slashings-reset-core .ensures)
-
-plain-step-requires : tie.Need-plain-step-requires
-plain-step-requires c κs = search needs
-
-same-length-7 : tie.Need-same-length-7
-same-length-7 c = search needs
 
 returns-4 : tie.Need-returns-4
 returns-4 c =
@@ -59,17 +29,17 @@ later-step-spec =
     tie.close
     (tie.spec
     rewards-booked-requires
-    same-length
-    same-length-2
+    (λ c. search needs)
+    (λ c. search needs)
     returns
-    slashings-booked-requires
-    same-length-3
-    same-length-4
-    same-length-5
+    (λ c κs. search needs)
+    (λ c. search needs)
+    (λ c. search needs)
+    (λ c. search needs)
     returns-2
-    slashings-reset-core-requires
-    same-length-6
+    (λ c κs. search needs)
+    (λ c. search needs)
     returns-3
-    plain-step-requires
-    same-length-7
+    (λ c κs. search needs)
+    (λ c. search needs)
     returns-4)

@@ -36,18 +36,9 @@ add-least-2 : tie.Need-add-least-2
 add-least-2 c =
     let p = epochs _ _ (c .before .before .before .before .before .before .before .before .before .before .before .before .before .before .pre .0) (c .before .before .before .before .before .before .before .before .before .before .before .before .before .before .pre .1 .0 .0) in omega (arith, p .fits, c .before .before .before .before .before .before .before .before .before .before .before .current-epoch .ensures)
 
-start-pair-requires : tie.Need-start-pair-requires
-start-pair-requires c κs = search needs
-
 update-by-requires : tie.Need-update-by-requires
 update-by-requires c κs =
     let p = epochs _ _ (c .before .before .before .before .before .before .before .before .before .before .before .before .before .before .before .before .pre .0) (c .before .before .before .before .before .before .before .before .before .before .before .before .before .before .before .before .pre .1 .0 .0) in let q = good-settings _ (c .before .before .before .before .before .before .before .before .before .before .before .before .before .before .before .before .pre .0) .small .«max_seed_lookahead» in ((c .before .before .before .before .before .before .before .before .before .before .before .before .before .before .before .before .pre .1 .1 .0, omega (arith, p .small, c .before .before .before .before .before .before .before .before .before .before .before .before .before .current-epoch .ensures), q), (omega arith, (rw (c .before .start-pair .ensures) (tracks-start (omega (arith, p .fits, c .before .before .before .before .before .before .before .before .before .before .before .before .before .current-epoch .ensures)) (c .before .before .before .before .before .before .before .before .before .survey-registry .ensures .queue)), c .before .before .before .cut-queue .ensures)))
-
-same-length : tie.Need-same-length
-same-length c = search needs
-
-same-length-2 : tie.Need-same-length-2
-same-length-2 c = search needs
 
 returns : tie.Need-returns
 returns c =
@@ -64,8 +55,8 @@ registry-core-spec =
     cut-queue-requires
     add-least
     add-least-2
-    start-pair-requires
+    (λ c κs. search needs)
     update-by-requires
-    same-length
-    same-length-2
+    (λ c. search needs)
+    (λ c. search needs)
     returns)

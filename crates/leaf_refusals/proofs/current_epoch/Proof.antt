@@ -4,12 +4,9 @@ use Rattle.definitions.specs.Document.Phase0.Helpers.{«get_current_epoch», «
 use Rattle.leaf_refusals.proofs.current_epoch.Statement.{statement}
 use Rattle.leaf_refusals.proofs.current_epoch.Tie as tie
 
-div-result : tie.Need-div-result
-div-result c = search needs
-
 returns : tie.Need-returns
 unfolding «get_current_epoch» «compute_epoch_at_slot»
 returns c = refl
 
 pub current-epoch-spec : {M : Type 1} → statement M
-current-epoch-spec = tie.close (tie.spec div-result returns)
+current-epoch-spec = tie.close (tie.spec (λ c. search needs) returns)

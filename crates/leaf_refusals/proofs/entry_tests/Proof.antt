@@ -10,9 +10,6 @@ returns : tie.Need-returns
 unfolding entryTests inOrder
 returns c = rw (ne-eqb _ _ (c .if1 .taken))
 
-good-entry-requires : tie.Need-good-entry-requires
-good-entry-requires c κs = search needs
-
 returns-2 : tie.Need-returns-2
 unfolding entryTests inOrder
 returns-2 c = rw (eq-eqb _ _ (c .before .before .if1 .left), fails (c .before .good-entry .ensures) (c .if2 .taken))
@@ -22,4 +19,4 @@ unfolding entryTests inOrder
 returns-3 c = rw (eq-eqb _ _ (c .before .before .if1 .left), passes (c .before .good-entry .ensures) (c .if2 .left))
 
 pub entry-tests-spec : {M : Type 1} → statement M
-entry-tests-spec = tie.close (tie.spec returns good-entry-requires returns-2 returns-3)
+entry-tests-spec = tie.close (tie.spec returns (λ c κs. search needs) returns-2 returns-3)

@@ -6,15 +6,9 @@ use Rattle.leaf_refusals.proofs.Order.{refused-before, last-failed, las
 use Rattle.leaf_refusals.proofs.finalized_entry_tests.Statement.{statement}
 use Rattle.leaf_refusals.proofs.finalized_entry_tests.Tie as tie
 
-entry-tests-requires : tie.Need-entry-tests-requires
-entry-tests-requires c κs = search needs
-
 returns : tie.Need-returns
 unfolding entryTests finalizedEntryTests
 returns c = refused-before _ _ (isSmall (c .before .before .before .args .finalized-epoch)) _ (c .before .entry-tests .ensures) (c .if1 .taken)
-
-is-small-requires : tie.Need-is-small-requires
-is-small-requires c κs = search needs
 
 returns-2 : tie.Need-returns-2
 unfolding entryTests finalizedEntryTests
@@ -26,4 +20,4 @@ returns-3 c = last-passed _ _ _ _ (c .before .before .before .entry-tests .ensur
 
 pub finalized-entry-tests-spec : {M : Type 1} → statement M
 finalized-entry-tests-spec =
-    tie.close (tie.spec entry-tests-requires returns is-small-requires returns-2 returns-3)
+    tie.close (tie.spec (λ c κs. search needs) returns (λ c κs. search needs) returns-2 returns-3)

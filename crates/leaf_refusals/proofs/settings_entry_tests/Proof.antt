@@ -6,9 +6,6 @@ use Rattle.refusals.proofs.All.{fails, passes}
 use Rattle.leaf_refusals.proofs.settings_entry_tests.Statement.{statement}
 use Rattle.leaf_refusals.proofs.settings_entry_tests.Tie as tie
 
-settings-shaped-requires : tie.Need-settings-shaped-requires
-settings-shaped-requires c κs = search needs
-
 returns : tie.Need-returns
 unfolding settingsEntryTests inOrder
 returns c = rw (fails (c .before .settings-shaped .ensures) (c .if1 .taken))
@@ -17,17 +14,11 @@ returns-2 : tie.Need-returns-2
 unfolding settingsEntryTests inOrder
 returns-2 c = rw (passes (c .before .before .settings-shaped .ensures) (c .before .if1 .left), ne-eqb _ _ (c .if2 .taken))
 
-good-settings-requires : tie.Need-good-settings-requires
-good-settings-requires c κs = search needs
-
 returns-3 : tie.Need-returns-3
 unfolding settingsEntryTests inOrder
 returns-3 c =
     let d = c .before .before in
     rw (passes (d .before .before .settings-shaped .ensures) (d .before .if1 .left), eq-eqb _ _ (d .if2 .left), fails (c .before .good-settings .ensures) (c .if3 .taken))
-
-good-entry-requires : tie.Need-good-entry-requires
-good-entry-requires c κs = search needs
 
 returns-4 : tie.Need-returns-4
 unfolding settingsEntryTests inOrder
@@ -47,11 +38,11 @@ pub settings-entry-tests-spec : {M : Type 1} → statement M
 settings-entry-tests-spec =
     tie.close
     (tie.spec
-    settings-shaped-requires
+    (λ c κs. search needs)
     returns
     returns-2
-    good-settings-requires
+    (λ c κs. search needs)
     returns-3
-    good-entry-requires
+    (λ c κs. search needs)
     returns-4
     returns-5)

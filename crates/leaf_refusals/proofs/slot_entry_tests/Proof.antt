@@ -6,15 +6,9 @@ use Rattle.leaf_refusals.proofs.Order.{refused-before, last-failed, las
 use Rattle.leaf_refusals.proofs.slot_entry_tests.Statement.{statement}
 use Rattle.leaf_refusals.proofs.slot_entry_tests.Tie as tie
 
-settings-entry-tests-requires : tie.Need-settings-entry-tests-requires
-settings-entry-tests-requires c κs = search needs
-
 returns : tie.Need-returns
 unfolding settingsEntryTests slotEntryTests
 returns c = refused-before _ _ (isSmall (c .before .before .before .args .state-slot)) _ (c .before .settings-entry-tests .ensures) (c .if1 .taken)
-
-is-small-requires : tie.Need-is-small-requires
-is-small-requires c κs = search needs
 
 returns-2 : tie.Need-returns-2
 unfolding settingsEntryTests slotEntryTests
@@ -27,4 +21,4 @@ returns-3 c = last-passed _ _ _ _ (c .before .before .before .settings-entry-tes
 pub slot-entry-tests-spec : {M : Type 1} → statement M
 slot-entry-tests-spec =
     tie.close
-    (tie.spec settings-entry-tests-requires returns is-small-requires returns-2 returns-3)
+    (tie.spec (λ c κs. search needs) returns (λ c κs. search needs) returns-2 returns-3)

@@ -38,9 +38,6 @@ returns-5 c =
     let a = c .before .before .before .before .before .args in
     rw (lt-leb (207 + 127 * a .h .validators) (length (a .text .now)) (omega arith), and-false)
 
-sub-if6 : tie.Need-sub-if6
-sub-if6 c = search needs
-
 returns-6 : tie.Need-returns-6
 unfolding fits
 returns-6 c =
@@ -56,4 +53,4 @@ returns-7 c =
 pub fits-spec : {M : Type 1} → statement M
 fits-spec =
     tie.close
-    (tie.spec returns returns-2 returns-3 returns-4 returns-5 sub-if6 returns-6 returns-7)
+    (tie.spec returns returns-2 returns-3 returns-4 returns-5 (λ c. search needs) returns-6 returns-7)

@@ -8,12 +8,6 @@ use Rattle.listing.proofs.list_record.Tie as tie
 abbrev lentTo : tie.Start → Buffers
 lentTo s = buffers (s .args .registry .now) (s .args .slashings .now) (s .args .closing-registry .now) (s .args .closing-slashings .now) (s .args .text .now)
 
-read-file-requires : tie.Need-read-file-requires
-read-file-requires c κs = search needs
-
-put-refused-requires : tie.Need-put-refused-requires
-put-refused-requires c κs = search needs
-
 same-length : tie.Need-same-length
 same-length c = c .before .before .before .before .before .before .before .before .before .registry .given
 
@@ -28,9 +22,6 @@ returns c =
     let r = c .before .before .before .before .before .before .before .before .before .before .read-file .ensures in
     let p = c .before .before .put-refused .ensures in
     record-refused (c .before .before .before .before .before .before .before .before .before .before .before .before .before .before .before .before .before .before .before .args .bytes .now) (lentTo (c .before .before .before .before .before .before .before .before .before .before .before .before .before .before .before .before .before .before .before)) (r .0) (r .1 .1 .1 .1 .1 .0) (r .1 .1 .1 .1 .1 .1) (c .before .before .before .before .if1 .taken) (p .0) (omega (arith, p .1, c .before .before .before .before .before .before .before .before .before .before .before .before .before .before .before .before .before .before .before .pre))
-
-file-roots-requires : tie.Need-file-roots-requires
-file-roots-requires c κs = search needs
 
 list-close-requires : tie.Need-list-close-requires
 list-close-requires c κs = omega (arith, c .before .before .before .before .before .before .before .before .before .before .before .before .before .before .before .before .before .before .before .before .before .before .before .before .before .pre, c .before .before .before .before .before .before .before .before .before .before .before .before .before .before .before .registry .given)
@@ -59,13 +50,13 @@ pub list-record-spec : {M : Type 1} → statement M
 list-record-spec =
     tie.close
     (tie.spec
-    read-file-requires
-    put-refused-requires
+    (λ c κs. search needs)
+    (λ c κs. search needs)
     same-length
     same-length-2
     same-length-3
     returns
-    file-roots-requires
+    (λ c κs. search needs)
     list-close-requires
     same-length-4
     same-length-5

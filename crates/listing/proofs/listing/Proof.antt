@@ -14,12 +14,6 @@ lentTo s = buffers (s .args .registry .now) (s .args .slashings .now) (s .args .
 has : (c : tie.Else1) → Room (c .before .before .before .before .before .before .before .sizes .result) (lentTo (c .before .before .before .before .before .before .before .before .before .before .before .before .before .before))
 has c = has-room (c .before .before .before .before .before .before .before .before .before .before .before .before .before .before .args .bytes .now) (lentTo (c .before .before .before .before .before .before .before .before .before .before .before .before .before .before)) (c .before .before .before .before .before .before .before .sizes .ensures) (c .before .fits2 .ensures) (c .if1 .left)
 
-sizes-requires : tie.Need-sizes-requires
-sizes-requires c κs = search needs
-
-fits-requires : tie.Need-fits-requires
-fits-requires c κs = search needs
-
 same-length : tie.Need-same-length
 same-length c = refl
 
@@ -97,18 +91,6 @@ list-record-requires c κs =
     let h = has (c .before .before .before .before .before .before) in
     omega (arith, h .text, length-take-le (10 * c .before .before .before .before .before .before .before .before .before .before .before .before .before .sizes .result .validators) (c .before .before .before .before .before .before .before .before .before .before .before .before .before .before .before .before .before .before .before .before .args .registry .now) (h .registry))
 
-same-length-11 : tie.Need-same-length-11
-same-length-11 c = search needs
-
-same-length-12 : tie.Need-same-length-12
-same-length-12 c = search needs
-
-same-length-13 : tie.Need-same-length-13
-same-length-13 c = search needs
-
-same-length-14 : tie.Need-same-length-14
-same-length-14 c = search needs
-
 same-length-15 : tie.Need-same-length-15
 same-length-15 c = c .before .text2 .given
 
@@ -124,8 +106,8 @@ pub listing-spec : {M : Type 1} → statement M
 listing-spec =
     tie.close
     (tie.spec
-    sizes-requires
-    fits-requires
+    (λ c κs. search needs)
+    (λ c κs. search needs)
     same-length
     same-length-2
     same-length-3
@@ -149,9 +131,9 @@ listing-spec =
     slice-relend-prefix-list-record-4
     slice-aggregate-list-record-4
     list-record-requires
-    same-length-11
-    same-length-12
-    same-length-13
-    same-length-14
+    (λ c. search needs)
+    (λ c. search needs)
+    (λ c. search needs)
+    (λ c. search needs)
     same-length-15
     returns-3)

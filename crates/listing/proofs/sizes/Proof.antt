@@ -8,12 +8,9 @@ returns : tie.Need-returns
 unfolding sizes
 returns c = rw (lt-ltb _ _ (c .if1 .taken))
 
-read-header-requires : tie.Need-read-header-requires
-read-header-requires c κs = search needs
-
 returns-2 : tie.Need-returns-2
 unfolding sizes
 returns-2 c = rw (le-ltb _ _ (c .before .if1 .left)) (c .read-header .ensures)
 
 pub sizes-spec : {M : Type 1} → statement M
-sizes-spec = tie.close (tie.spec returns read-header-requires returns-2)
+sizes-spec = tie.close (tie.spec returns (λ c κs. search needs) returns-2)

@@ -13,21 +13,6 @@ use Rattle.listing_close.proofs.list_close.Tie as tie
 abbrev handed : tie.Start → Call
 handed s = called (altairRules (s .args .s)) (s .args .finality) (s .args .registry .now) (s .args .slashings .now) (s .args .roots .now) (s .args .closing-registry .now) (s .args .closing-slashings .now)
 
-close-as-altair-requires : tie.Need-close-as-altair-requires
-close-as-altair-requires c κs = search needs
-
-put-refused-requires : tie.Need-put-refused-requires
-put-refused-requires c κs = search needs
-
-same-length : tie.Need-same-length
-same-length c = search needs
-
-same-length-2 : tie.Need-same-length-2
-same-length-2 c = search needs
-
-same-length-3 : tie.Need-same-length-3
-same-length-3 c = search needs
-
 returns : tie.Need-returns
 returns c =
     let p = c .before .before .put-refused .ensures in
@@ -37,15 +22,6 @@ put-close-requires : tie.Need-put-close-requires
 put-close-requires c κs =
     let a = accepted (handed (c .before .before .before .before .before .before .before .before .before .before .before .before .before .before .before .before .before .before)) (sym (ap (λ (o : Outcome). o .refusal) (c .before .before .before .before .before .before .before .before .before .close-as-altair .ensures)) ∙ c .before .before .before .if1 .left) in
     (a .epochs, ((a .shaped, omega (arith, a .alike, c .before .before .before .before .before .before .before .before .closing-registry .given)), c .before .before .before .before .before .before .before .before .before .before .before .before .before .before .before .before .before .before .pre))
-
-same-length-4 : tie.Need-same-length-4
-same-length-4 c = search needs
-
-same-length-5 : tie.Need-same-length-5
-same-length-5 c = search needs
-
-same-length-6 : tie.Need-same-length-6
-same-length-6 c = search needs
 
 returns-2 : tie.Need-returns-2
 unfolding closeText acceptedText
@@ -61,14 +37,14 @@ pub list-close-spec : {M : Type 1} → statement M
 list-close-spec =
     tie.close
     (tie.spec
-    close-as-altair-requires
-    put-refused-requires
-    same-length
-    same-length-2
-    same-length-3
+    (λ c κs. search needs)
+    (λ c κs. search needs)
+    (λ c. search needs)
+    (λ c. search needs)
+    (λ c. search needs)
     returns
     put-close-requires
-    same-length-4
-    same-length-5
-    same-length-6
+    (λ c. search needs)
+    (λ c. search needs)
+    (λ c. search needs)
     returns-2)

@@ -12,12 +12,6 @@ changes-requires c κs =
     let s = c .before .before .before in
     (registry-shaped _ (s .pre .1 .0 .0) .long, s .pre .1 .0 .1)
 
-put-refused-requires : tie.Need-put-refused-requires
-put-refused-requires c κs = search needs
-
-same-length : tie.Need-same-length
-same-length c = search needs
-
 returns : tie.Need-returns
 returns c =
     let p = c .before .before .put-refused .ensures in
@@ -28,15 +22,6 @@ head-core-requires : tie.Need-head-core-requires
 head-core-requires c κs =
     let s = c .before .before .before .before .before in
     (s .pre .0, registry-shaped _ (s .pre .1 .0 .0) .long)
-
-put-head-requires : tie.Need-put-head-requires
-put-head-requires c κs = search needs
-
-put-lines-requires : tie.Need-put-lines-requires
-put-lines-requires c κs = search needs
-
-same-length-2 : tie.Need-same-length-2
-same-length-2 c = search needs
 
 returns-2 : tie.Need-returns-2
 returns-2 c =
@@ -52,11 +37,11 @@ put-close-spec =
     tie.close
     (tie.spec
     changes-requires
-    put-refused-requires
-    same-length
+    (λ c κs. search needs)
+    (λ c. search needs)
     returns
     head-core-requires
-    put-head-requires
-    put-lines-requires
-    same-length-2
+    (λ c κs. search needs)
+    (λ c κs. search needs)
+    (λ c. search needs)
     returns-2)

@@ -35,15 +35,6 @@ mul-net-change-2 c = omega arith
 shared-slice-read-net-change-2 : tie.Need-shared-slice-read-net-change-2 Inv-loop μ-loop
 shared-slice-read-net-change-2 c = omega arith
 
-net-change-requires : tie.Need-net-change-requires Inv-loop μ-loop
-net-change-requires c κs = search needs
-
-enum-told : tie.Need-enum-told Inv-loop μ-loop
-enum-told c = search needs
-
-enum-told-2 : tie.Need-enum-told-2 Inv-loop μ-loop
-enum-told-2 c = search needs
-
 returns : tie.Need-returns Inv-loop μ-loop
 returns c =
     let k = c .before .before in
@@ -82,9 +73,9 @@ changes-spec =
     shared-slice-read-net-change
     mul-net-change-2
     shared-slice-read-net-change-2
-    net-change-requires
-    enum-told
-    enum-told-2
+    (λ c κs. search needs)
+    (λ c. search needs)
+    (λ c. search needs)
     returns
     add-i
     loop-less

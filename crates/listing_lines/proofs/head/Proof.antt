@@ -6,20 +6,8 @@ use Rattle.listing_lines.proofs.HeadNumbers.{head-refused, finality-ref
 use Rattle.listing_lines.proofs.head.Statement.{statement}
 use Rattle.listing_lines.proofs.head.Tie as tie
 
-slot-registry-tests-requires : tie.Need-slot-registry-tests-requires
-slot-registry-tests-requires c κs = search needs
-
-no-head-requires : tie.Need-no-head-requires
-no-head-requires c κs = search needs
-
 returns : tie.Need-returns
 returns c = c .no-head .ensures ∙ head-refused _ _ _ _ (c .before .before .slot-registry-tests .ensures) (c .before .if1 .taken)
-
-good-finality-requires : tie.Need-good-finality-requires
-good-finality-requires c κs = search needs
-
-no-head-requires-2 : tie.Need-no-head-requires-2
-no-head-requires-2 c κs = search needs
 
 returns-2 : tie.Need-returns-2
 returns-2 c =
@@ -41,11 +29,11 @@ pub head-spec : {M : Type 1} → statement M
 head-spec =
     tie.close
     (tie.spec
-    slot-registry-tests-requires
-    no-head-requires
+    (λ c κs. search needs)
+    (λ c κs. search needs)
     returns
-    good-finality-requires
-    no-head-requires-2
+    (λ c κs. search needs)
+    (λ c κs. search needs)
     returns-2
     head-core-requires
     returns-3)

@@ -19,31 +19,13 @@ returns-2 c =
     let done = c .before .before .before .before .before .args .running .done in
     rw (ne-eqb done 9 (λ e. omega (arith, e, c .before .if1 .left)), ne-eqb done 8 (λ e. omega (arith, e, c .if2 .taken)))
 
-ninth-tests-requires : tie.Need-ninth-tests-requires
-ninth-tests-requires c κs = search needs
-
-same-length : tie.Need-same-length
-same-length c = search needs
-
-same-length-2 : tie.Need-same-length-2
-same-length-2 c = search needs
-
 returns-3 : tie.Need-returns-3
 returns-3 c =
     let eighth : c .before .before .before .before .before .before .before .before .before .args .running .done ≡ 8 = omega (arith, c .before .before .before .before .if2 .left) in
     turned-away (ninthCalled _ _ _ _ _ _) (c .before .ninth-tests .ensures) eighth (c .if3 .taken)
 
-settings-under-requires : tie.Need-settings-under-requires
-settings-under-requires c κs = search needs
-
 carry-tested-requires : tie.Need-carry-tested-requires
 carry-tested-requires c κs = rw (c .before .before .settings-under .ensures) (ready (ninthCalled _ _ _ _ _ _) (c .before .before .before .before .ninth-tests .ensures) (c .before .before .before .if3 .left))
-
-same-length-3 : tie.Need-same-length-3
-same-length-3 c = search needs
-
-same-length-4 : tie.Need-same-length-4
-same-length-4 c = search needs
 
 returns-4 : tie.Need-returns-4
 returns-4 c =
@@ -56,12 +38,12 @@ carry-out-spec =
     (tie.spec
     returns
     returns-2
-    ninth-tests-requires
-    same-length
-    same-length-2
+    (λ c κs. search needs)
+    (λ c. search needs)
+    (λ c. search needs)
     returns-3
-    settings-under-requires
+    (λ c κs. search needs)
     carry-tested-requires
-    same-length-3
-    same-length-4
+    (λ c. search needs)
+    (λ c. search needs)
     returns-4)

@@ -21,12 +21,6 @@ add-least-2 c = omega (arith, c .before .before .before .current-epoch .ensures,
 try-all-requires : tie.Need-try-all-requires
 try-all-requires c κs = let a = c .before .before .before .before .before .before .before .before .before .before .before .before .before .pre in ((omega (arith, a .long), real _ _ (a .settings) (c .before .before .before .before .before .current-epoch .ensures)), (a .queue, (a .listed, a .answered)))
 
-same-length : tie.Need-same-length
-same-length c = search needs
-
-same-length-2 : tie.Need-same-length-2
-same-length-2 c = search needs
-
 returns : tie.Need-returns
 returns c = let a = c .before .before .before .before .before .before .before .before .before .before .before .before .before .before .before .before .before .before in carried _ _ _ _ _ _ (a .pre) (c .before .before .before .before .before .before .before .before .before .before .current-epoch .ensures) (c .before .before .before .before .before .before .before .before .churn-limit .ensures) (c .before .before .before .before .try-all .ensures)
 
@@ -39,6 +33,6 @@ carry-tested-spec =
     add-least
     add-least-2
     try-all-requires
-    same-length
-    same-length-2
+    (λ c. search needs)
+    (λ c. search needs)
     returns)

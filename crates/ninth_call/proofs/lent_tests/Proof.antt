@@ -4,20 +4,11 @@ use borrow.Author.Needs.{needs}
 use Rattle.ninth_call.proofs.lent_tests.Statement.{statement}
 use Rattle.ninth_call.proofs.lent_tests.Tie as tie
 
-rules-tests-requires : tie.Need-rules-tests-requires
-rules-tests-requires c κs = search needs
-
 returns : tie.Need-returns
 returns c = rules-refuse _ _ _ _ _ _ _ (c .before .rules-tests .ensures) (c .if1 .taken)
 
-is-small-requires : tie.Need-is-small-requires
-is-small-requires c κs = search needs
-
 returns-2 : tie.Need-returns-2
 returns-2 c = period-refuses _ _ _ _ _ _ _ (c .before .before .before .rules-tests .ensures) (c .before .before .if1 .left) (fails (c .before .is-small .ensures) (c .if2 .taken))
-
-good-finality-requires : tie.Need-good-finality-requires
-good-finality-requires c κs = search needs
 
 returns-3 : tie.Need-returns-3
 returns-3 c = finality-refuses _ _ _ _ _ _ _ (c .before .before .before .before .before .rules-tests .ensures) (c .before .before .before .before .if1 .left) (passes (c .before .before .before .is-small .ensures) (c .before .before .if2 .left)) (fails (c .before .good-finality .ensures) (c .if3 .taken))
@@ -29,10 +20,10 @@ pub lent-tests-spec : {M : Type 1} → statement M
 lent-tests-spec =
     tie.close
     (tie.spec
-    rules-tests-requires
+    (λ c κs. search needs)
     returns
-    is-small-requires
+    (λ c κs. search needs)
     returns-2
-    good-finality-requires
+    (λ c κs. search needs)
     returns-3
     returns-4)

@@ -3,9 +3,6 @@ use borrow.Author.Needs.{needs}
 use Rattle.ninth_call.proofs.lists_shaped.Statement.{statement}
 use Rattle.ninth_call.proofs.lists_shaped.Tie as tie
 
-orders-shaped-requires : tie.Need-orders-shaped-requires
-orders-shaped-requires c κs = search needs
-
 returns : tie.Need-returns
 returns c = rw (fails (c .before .orders-shaped .ensures) (c .if1 .taken))
 
@@ -13,4 +10,4 @@ returns-2 : tie.Need-returns-2
 returns-2 c = rw (passes (c .before .orders-shaped .ensures) (c .if1 .left))
 
 pub lists-shaped-spec : {M : Type 1} → statement M
-lists-shaped-spec = tie.close (tie.spec orders-shaped-requires returns returns-2)
+lists-shaped-spec = tie.close (tie.spec (λ c κs. search needs) returns returns-2)

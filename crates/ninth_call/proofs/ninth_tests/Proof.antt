@@ -4,9 +4,6 @@ use borrow.Author.Needs.{needs}
 use Rattle.ninth_call.proofs.ninth_tests.Statement.{statement}
 use Rattle.ninth_call.proofs.ninth_tests.Tie as tie
 
-lent-tests-requires : tie.Need-lent-tests-requires
-lent-tests-requires c κs = search needs
-
 returns : tie.Need-returns
 returns c = lent-refuses _ (c .before .lent-tests .ensures) (c .if1 .taken)
 
@@ -16,9 +13,6 @@ see-registry-requires c κs = let a = c .before .before .before .before .before 
 returns-2 : tie.Need-returns-2
 returns-2 c = entries-refuse _ (c .before .before .before .before .lent-tests .ensures) (c .before .before .before .if1 .left) (c .before .before .see-registry .ensures) (c .if2 .taken)
 
-queue-refusal-requires : tie.Need-queue-refusal-requires
-queue-refusal-requires c κs = search needs
-
 returns-3 : tie.Need-returns-3
 returns-3 c = queue-tested _ (c .before .before .before .before .before .before .before .lent-tests .ensures) (c .before .before .before .before .before .before .if1 .left) (c .before .before .before .before .before .see-registry .ensures) (c .before .before .before .if2 .left) (c .queue-refusal .ensures)
 
@@ -26,9 +20,9 @@ pub ninth-tests-spec : {M : Type 1} → statement M
 ninth-tests-spec =
     tie.close
     (tie.spec
-    lent-tests-requires
+    (λ c κs. search needs)
     returns
     see-registry-requires
     returns-2
-    queue-refusal-requires
+    (λ c κs. search needs)
     returns-3)

@@ -4,15 +4,9 @@ use borrow.Author.Needs.{needs}
 use Rattle.ninth_call.proofs.rules_tests.Statement.{statement}
 use Rattle.ninth_call.proofs.rules_tests.Tie as tie
 
-settings-tests-requires : tie.Need-settings-tests-requires
-settings-tests-requires c κs = search needs
-
-rules-refusal-requires : tie.Need-rules-refusal-requires
-rules-refusal-requires c κs = search needs
-
 returns : tie.Need-returns
 unfolding rulesTests
 returns c = rules-tested _ _ _ (c .rules-refusal .ensures) (c .before .settings-tests .ensures)
 
 pub rules-tests-spec : {M : Type 1} → statement M
-rules-tests-spec = tie.close (tie.spec settings-tests-requires rules-refusal-requires returns)
+rules-tests-spec = tie.close (tie.spec (λ c κs. search needs) (λ c κs. search needs) returns)

@@ -4,29 +4,17 @@ use borrow.Author.Needs.{needs}
 use Rattle.ninth_call.proofs.settings_tests.Statement.{statement}
 use Rattle.ninth_call.proofs.settings_tests.Tie as tie
 
-settings-shaped-requires : tie.Need-settings-shaped-requires
-settings-shaped-requires c κs = search needs
-
 returns : tie.Need-returns
 unfolding inOrder
 returns c = rw (fails (c .before .settings-shaped .ensures) (c .if1 .taken))
-
-registry-shaped-requires : tie.Need-registry-shaped-requires
-registry-shaped-requires c κs = search needs
 
 returns-2 : tie.Need-returns-2
 unfolding inOrder
 returns-2 c = rw (passes (c .before .before .before .settings-shaped .ensures) (c .before .before .if1 .left), fails (c .before .registry-shaped .ensures) (c .if2 .taken))
 
-lists-shaped-requires : tie.Need-lists-shaped-requires
-lists-shaped-requires c κs = search needs
-
 returns-3 : tie.Need-returns-3
 unfolding inOrder
 returns-3 c = rw (passes (c .before .before .before .before .before .settings-shaped .ensures) (c .before .before .before .before .if1 .left), passes (c .before .before .before .registry-shaped .ensures) (c .before .before .if2 .left), fails (c .before .lists-shaped .ensures) (c .if3 .taken))
-
-good-settings-requires : tie.Need-good-settings-requires
-good-settings-requires c κs = search needs
 
 returns-4 : tie.Need-returns-4
 unfolding inOrder
@@ -40,12 +28,12 @@ pub settings-tests-spec : {M : Type 1} → statement M
 settings-tests-spec =
     tie.close
     (tie.spec
-    settings-shaped-requires
+    (λ c κs. search needs)
     returns
-    registry-shaped-requires
+    (λ c κs. search needs)
     returns-2
-    lists-shaped-requires
+    (λ c κs. search needs)
     returns-3
-    good-settings-requires
+    (λ c κs. search needs)
     returns-4
     returns-5)

@@ -7,11 +7,8 @@ use Rattle.orders.proofs.is_due.Tie as tie
 returns : tie.Need-returns
 returns c = rw (lt-leb _ _ (c .if1 .taken))
 
-sub-result : tie.Need-sub-result
-sub-result c = search needs
-
 returns-2 : tie.Need-returns-2
 returns-2 c = rw (le-leb _ _ (c .if1 .left)) (due _ _ _ (c .before .pre))
 
 pub is-due-spec : {M : Type 1} → statement M
-is-due-spec = tie.close (tie.spec returns sub-result returns-2)
+is-due-spec = tie.close (tie.spec returns (λ c. search needs) returns-2)

@@ -9,38 +9,17 @@ returns : tie.Need-returns
 unfolding takeOrder
 returns c = rw (eq-eqb _ _ (c .if1 .taken))
 
-takes-orders-requires : tie.Need-takes-orders-requires
-takes-orders-requires c κs = search needs
-
 returns-2 : tie.Need-returns-2
 unfolding takeOrder
 returns-2 c = rw (ne-eqb _ _ (c .before .before .if1 .left), fails (c .before .takes-orders .ensures) (c .if2 .taken))
-
-orders-shaped-requires : tie.Need-orders-shaped-requires
-orders-shaped-requires c κs = search needs
-
-same-length : tie.Need-same-length
-same-length c = search needs
 
 returns-3 : tie.Need-returns-3
 unfolding takeOrder
 returns-3 c = rw (ne-eqb _ _ (c .before .before .before .before .before .if1 .left), passes (c .before .before .before .before .takes-orders .ensures) (c .before .before .before .if2 .left), fails (c .before .orders-shaped .ensures) (c .if3 .taken))
 
-same-length-2 : tie.Need-same-length-2
-same-length-2 c = search needs
-
 returns-4 : tie.Need-returns-4
 unfolding takeOrder
 returns-4 c = rw (ne-eqb _ _ (c .before .before .before .before .before .before .if1 .left), passes (c .before .before .before .before .before .takes-orders .ensures) (c .before .before .before .before .if2 .left), passes (c .before .before .orders-shaped .ensures) (c .before .if3 .left), le-ltb _ _ (c .if4 .taken))
-
-put-order-requires : tie.Need-put-order-requires
-put-order-requires c κs = search needs
-
-add-t17 : tie.Need-add-t17
-add-t17 c = search needs
-
-same-length-3 : tie.Need-same-length-3
-same-length-3 c = search needs
 
 returns-5 : tie.Need-returns-5
 unfolding takeOrder appended
@@ -51,14 +30,14 @@ take-order-spec =
     tie.close
     (tie.spec
     returns
-    takes-orders-requires
+    (λ c κs. search needs)
     returns-2
-    orders-shaped-requires
-    same-length
+    (λ c κs. search needs)
+    (λ c. search needs)
     returns-3
-    same-length-2
+    (λ c. search needs)
     returns-4
-    put-order-requires
-    add-t17
-    same-length-3
+    (λ c κs. search needs)
+    (λ c. search needs)
+    (λ c. search needs)
     returns-5)

@@ -18,12 +18,9 @@ returns : tie.Need-returns
 unfolding goodTail
 returns c = rw (ne-eqb _ _ (c .if1 .taken))
 
-read-number-requires : tie.Need-read-number-requires
-read-number-requires c κs = search needs
-
 returns-2 : tie.Need-returns-2
 unfolding goodTail
 returns-2 c = rw (eq-eqb _ _ (c .before .before .if1 .left)) (ap (λ (n : ℕ). leb n 4096) (c .before .read-number .ensures .0))
 
 pub good-tail-spec : {M : Type 1} → statement M
-good-tail-spec = tie.close (tie.spec mul-if1 add-if1 returns read-number-requires returns-2)
+good-tail-spec = tie.close (tie.spec mul-if1 add-if1 returns (λ c κs. search needs) returns-2)

@@ -15,9 +15,6 @@ behind s = good-tail (countOf (s .args .file .now)) (s .args .tail .now) (s .pre
 copy-requires : tie.Need-copy-requires
 copy-requires c κs = omega (arith, c .before .before .before .before .before .before .before .before .before .before .before .before .pre .0 .openings, c .before .before .before .before .before .before .before .before .before .before .before .before .pre .0 .entries)
 
-file-roots-requires : tie.Need-file-roots-requires
-file-roots-requires c κs = search needs
-
 put-bytes-requires : tie.Need-put-bytes-requires
 put-bytes-requires c κs =
     let s = c .before .before .before .before .before .before .before .before .before .before .before .before .before .before .before .before .before .before .before in
@@ -95,7 +92,7 @@ put-read-spec =
     tie.close
     (tie.spec
     copy-requires
-    file-roots-requires
+    (λ c κs. search needs)
     put-bytes-requires
     read-numbers-requires
     read-number-requires

@@ -11,23 +11,11 @@ use Rattle.outage.proofs.put_rows.Tie as tie
 changes-requires : tie.Need-changes-requires
 changes-requires c κs = (registry-shaped _ (c .before .before .before .pre .0 .0) .long, c .before .before .before .pre .0 .1)
 
-put-refused-requires : tie.Need-put-refused-requires
-put-refused-requires c κs = search needs
-
-same-length : tie.Need-same-length
-same-length c = search needs
-
 returns : tie.Need-returns
 unfolding linesText
 returns c =
     let p = c .before .before .put-refused .ensures in
     (rw (or-refused _ (c .before .before .before .before .before .changes .ensures) (c .before .before .before .before .if1 .taken)) (p .0), omega (arith, p .1, c .before .before .before .before .before .before .before .before .before .pre .1))
-
-put-lines-requires : tie.Need-put-lines-requires
-put-lines-requires c κs = search needs
-
-same-length-2 : tie.Need-same-length-2
-same-length-2 c = search needs
 
 returns-2 : tie.Need-returns-2
 unfolding linesText
@@ -40,9 +28,9 @@ put-rows-spec =
     tie.close
     (tie.spec
     changes-requires
-    put-refused-requires
-    same-length
+    (λ c κs. search needs)
+    (λ c. search needs)
     returns
-    put-lines-requires
-    same-length-2
+    (λ c κs. search needs)
+    (λ c. search needs)
     returns-2)

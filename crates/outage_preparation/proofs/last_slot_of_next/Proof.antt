@@ -7,9 +7,6 @@ use Rattle.outage_preparation.proofs.Slots.{next}
 use Rattle.outage_preparation.proofs.last_slot_of_next.Statement.{statement}
 use Rattle.outage_preparation.proofs.last_slot_of_next.Tie as tie
 
-current-epoch-requires : tie.Need-current-epoch-requires
-current-epoch-requires c κs = search needs
-
 add-result : tie.Need-add-result
 unfolding «get_current_epoch» «compute_epoch_at_slot»
 add-result c =
@@ -37,4 +34,4 @@ returns c =
 
 pub last-slot-of-next-spec : {M : Type 1} → statement M
 last-slot-of-next-spec =
-    tie.close (tie.spec current-epoch-requires add-result mul-result sub-result returns)
+    tie.close (tie.spec (λ c κs. search needs) add-result mul-result sub-result returns)

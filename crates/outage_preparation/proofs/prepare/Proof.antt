@@ -20,15 +20,6 @@ current-epoch-requires c κs = c .before .before .before .before .before .before
 set-flags-requires : tie.Need-set-flags-requires
 set-flags-requires c κs = let r = c .before .before .before .before .before .before .before .before .before .before .before .pre in (r .entries, r .pairs)
 
-with-slot-requires : tie.Need-with-slot-requires
-with-slot-requires c κs = search needs
-
-same-length : tie.Need-same-length
-same-length c = search needs
-
-same-length-2 : tie.Need-same-length-2
-same-length-2 c = search needs
-
 returns : tie.Need-returns
 returns c =
     let f = c .before .before .before in
@@ -47,7 +38,7 @@ prepare-spec =
     put-roots-requires
     current-epoch-requires
     set-flags-requires
-    with-slot-requires
-    same-length
-    same-length-2
+    (λ c κs. search needs)
+    (λ c. search needs)
+    (λ c. search needs)
     returns)

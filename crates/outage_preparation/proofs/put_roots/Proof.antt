@@ -12,9 +12,6 @@ Inv-loop places root roots₀ slot count n i₀ roots i = Rooting places root ro
 abbrev μ-loop : tie.MeasureT-loop
 μ-loop places root roots₀ slot count n i₀ roots i = n - i
 
-min-requires : tie.Need-min-requires Inv-loop μ-loop
-min-requires c κs = search needs
-
 loop-holds : tie.Need-loop-holds Inv-loop μ-loop
 loop-holds c = rooting-none _ _ _ _ _
 
@@ -53,7 +50,7 @@ put-roots-spec =
     (tie.spec
     Inv-loop
     μ-loop
-    min-requires
+    (λ c κs. search needs)
     loop-holds
     add-at
     rem-at

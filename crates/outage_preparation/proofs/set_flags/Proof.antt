@@ -38,9 +38,6 @@ mul-flags-at-2 c = omega arith
 shared-slice-read-flags-at-2 : tie.Need-shared-slice-read-flags-at-2 Inv-loop μ-loop
 shared-slice-read-flags-at-2 c = omega arith
 
-flags-at-requires : tie.Need-flags-at-requires Inv-loop μ-loop
-flags-at-requires c κs = search needs
-
 mul-a : tie.Need-mul-a Inv-loop μ-loop
 mul-a c = omega arith
 
@@ -95,7 +92,7 @@ set-flags-spec =
     shared-slice-read-flags-at
     mul-flags-at-2
     shared-slice-read-flags-at-2
-    flags-at-requires
+    (λ c κs. search needs)
     mul-a
     add-b
     mul-entry-flags

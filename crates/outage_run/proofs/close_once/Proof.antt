@@ -19,21 +19,6 @@ handed s = contentsWith (s .args .s) (s .args .finality) (s .args .registry .now
 abbrev calledWith : tie.Start → Call
 calledWith s = called (altairRules (s .args .s)) (s .args .finality) (s .args .registry .now) (s .args .slashings .now) (s .args .roots .now) (s .args .closing-registry .now) (s .args .closing-slashings .now)
 
-close-as-altair-requires : tie.Need-close-as-altair-requires
-close-as-altair-requires c κs = search needs
-
-same-length : tie.Need-same-length
-same-length c = search needs
-
-same-length-2 : tie.Need-same-length-2
-same-length-2 c = search needs
-
-same-length-3 : tie.Need-same-length-3
-same-length-3 c = search needs
-
-same-length-4 : tie.Need-same-length-4
-same-length-4 c = search needs
-
 returns : tie.Need-returns
 returns c =
     let s = c .before .before .before .before .before .before .before .before .before .before .before .before .before .before .before .before .before in
@@ -53,21 +38,6 @@ copy-requires c κs = omega (arith, c .before .before .before .before .before .b
 copy-requires-2 : tie.Need-copy-requires-2
 copy-requires-2 c κs = omega (arith, c .before .before .before .before .before .before .before .before .before .before .before .before .before .before .before .before .before .closing-slashings .given, c .before .before .before .before .before .before .before .before .before .before .before .before .before .before .before .before .before .before .before .before .before .before .before .before .before .before .before .before .before .before .before .pre .sums)
 
-same-length-5 : tie.Need-same-length-5
-same-length-5 c = search needs
-
-same-length-6 : tie.Need-same-length-6
-same-length-6 c = search needs
-
-same-length-7 : tie.Need-same-length-7
-same-length-7 c = search needs
-
-same-length-8 : tie.Need-same-length-8
-same-length-8 c = search needs
-
-same-length-9 : tie.Need-same-length-9
-same-length-9 c = search needs
-
 returns-2 : tie.Need-returns-2
 unfolding headOf
 returns-2 c =
@@ -83,19 +53,19 @@ pub close-once-spec : {M : Type 1} → statement M
 close-once-spec =
     tie.close
     (tie.spec
-    close-as-altair-requires
-    same-length
-    same-length-2
-    same-length-3
-    same-length-4
+    (λ c κs. search needs)
+    (λ c. search needs)
+    (λ c. search needs)
+    (λ c. search needs)
+    (λ c. search needs)
     returns
     head-core-requires
     put-head-requires
     copy-requires
     copy-requires-2
-    same-length-5
-    same-length-6
-    same-length-7
-    same-length-8
-    same-length-9
+    (λ c. search needs)
+    (λ c. search needs)
+    (λ c. search needs)
+    (λ c. search needs)
+    (λ c. search needs)
     returns-2)

@@ -5,9 +5,6 @@ use Rattle.refusals.proofs.All.{fails, passes}
 use Rattle.participation_flags.proofs.rotation_tests.Statement.{statement}
 use Rattle.participation_flags.proofs.rotation_tests.Tie as tie
 
-registry-shaped-requires : tie.Need-registry-shaped-requires
-registry-shaped-requires c κs = search needs
-
 returns : tie.Need-returns
 unfolding rotationTests inOrder
 returns c = rw (fails (c .before .registry-shaped .ensures) (c .if1 .taken))
@@ -15,9 +12,6 @@ returns c = rw (fails (c .before .registry-shaped .ensures) (c .if1 .taken))
 returns-2 : tie.Need-returns-2
 unfolding rotationTests inOrder
 returns-2 c = rw (passes (c .before .before .registry-shaped .ensures) (c .before .if1 .left), ne-eqb _ _ (c .if2 .taken))
-
-good-registry-requires : tie.Need-good-registry-requires
-good-registry-requires c κs = search needs
 
 returns-3 : tie.Need-returns-3
 unfolding rotationTests inOrder
@@ -31,9 +25,9 @@ pub rotation-tests-spec : {M : Type 1} → statement M
 rotation-tests-spec =
     tie.close
     (tie.spec
-    registry-shaped-requires
+    (λ c κs. search needs)
     returns
     returns-2
-    good-registry-requires
+    (λ c κs. search needs)
     returns-3
     returns-4)

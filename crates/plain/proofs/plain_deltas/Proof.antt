@@ -3,12 +3,6 @@ use borrow.Author.Needs.{needs}
 use Rattle.plain.proofs.plain_deltas.Statement.{statement}
 use Rattle.plain.proofs.plain_deltas.Tie as tie
 
-enum-known-d : tie.Need-enum-known-d
-enum-known-d c = search needs
-
-enum-known-d-2 : tie.Need-enum-known-d-2
-enum-known-d-2 c = search needs
-
 returns : tie.Need-returns
 unfolding plainDeltas
 returns c = rw (c .before .d .given .1)
@@ -18,4 +12,4 @@ unfolding plainDeltas
 returns-2 c = rw (c .before .d2 .given .1)
 
 pub plain-deltas-spec : {M : Type 1} → statement M
-plain-deltas-spec = tie.close (tie.spec enum-known-d enum-known-d-2 returns returns-2)
+plain-deltas-spec = tie.close (tie.spec (λ c. search needs) (λ c. search needs) returns returns-2)

@@ -3,12 +3,6 @@ use borrow.Author.Needs.{needs}
 use Rattle.plain.proofs.plain_number.Statement.{statement}
 use Rattle.plain.proofs.plain_number.Tie as tie
 
-enum-known-n : tie.Need-enum-known-n
-enum-known-n c = search needs
-
-enum-known-n-2 : tie.Need-enum-known-n-2
-enum-known-n-2 c = search needs
-
 returns : tie.Need-returns
 unfolding plainNumber
 returns c = rw (c .before .n .given .1)
@@ -18,4 +12,4 @@ unfolding plainNumber
 returns-2 c = rw (c .before .n2 .given .1)
 
 pub plain-number-spec : {M : Type 1} → statement M
-plain-number-spec = tie.close (tie.spec enum-known-n enum-known-n-2 returns returns-2)
+plain-number-spec = tie.close (tie.spec (λ c. search needs) (λ c. search needs) returns returns-2)

@@ -8,12 +8,9 @@ returns : tie.Need-returns
 unfolding rootGiven
 returns c = rw (ne-eqb _ _ (c .if1 .taken))
 
-root-copy-requires : tie.Need-root-copy-requires
-root-copy-requires c κs = search needs
-
 returns-2 : tie.Need-returns-2
 unfolding rootGiven
 returns-2 c = rw (eq-eqb _ _ (c .before .if1 .left), c .root-copy .ensures)
 
 pub plain-root-spec : {M : Type 1} → statement M
-plain-root-spec = tie.close (tie.spec returns root-copy-requires returns-2)
+plain-root-spec = tie.close (tie.spec returns (λ c κs. search needs) returns-2)

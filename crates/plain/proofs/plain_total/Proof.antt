@@ -3,12 +3,6 @@ use borrow.Author.Needs.{needs}
 use Rattle.plain.proofs.plain_total.Statement.{statement}
 use Rattle.plain.proofs.plain_total.Tie as tie
 
-enum-known-t : tie.Need-enum-known-t
-enum-known-t c = search needs
-
-enum-known-t-2 : tie.Need-enum-known-t-2
-enum-known-t-2 c = search needs
-
 returns : tie.Need-returns
 unfolding plainTotal
 returns c = rw (c .before .t .given .1)
@@ -18,4 +12,4 @@ unfolding plainTotal
 returns-2 c = rw (c .before .t2 .given .1)
 
 pub plain-total-spec : {M : Type 1} → statement M
-plain-total-spec = tie.close (tie.spec enum-known-t enum-known-t-2 returns returns-2)
+plain-total-spec = tie.close (tie.spec (λ c. search needs) (λ c. search needs) returns returns-2)

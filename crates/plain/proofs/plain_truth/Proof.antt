@@ -10,15 +10,6 @@ as-number : (b : Bool) → boolByte b ≡ cond b 1 0
 as-number true = refl
 as-number false = refl
 
-enum-known-t : tie.Need-enum-known-t
-enum-known-t c = search needs
-
-cast-t5 : tie.Need-cast-t5
-cast-t5 c = search needs
-
-enum-known-t-2 : tie.Need-enum-known-t-2
-enum-known-t-2 c = search needs
-
 returns : tie.Need-returns
 unfolding plainTruth
 returns c = rw (c .before .t .given .1, as-number)
@@ -28,4 +19,4 @@ unfolding plainTruth
 returns-2 c = rw (c .before .t2 .given .1)
 
 pub plain-truth-spec : {M : Type 1} → statement M
-plain-truth-spec = tie.close (tie.spec enum-known-t cast-t5 enum-known-t-2 returns returns-2)
+plain-truth-spec = tie.close (tie.spec (λ c. search needs) (λ c. search needs) (λ c. search needs) returns returns-2)

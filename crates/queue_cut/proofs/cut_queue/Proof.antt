@@ -8,18 +8,9 @@ use Rattle.queue_cut.proofs.cut_queue.Tie as tie
 returns : tie.Need-returns
 returns c = cut-none (c .if1 .taken)
 
-cut-few-requires : tie.Need-cut-few-requires
-cut-few-requires c κs = search needs
-
 returns-2 : tie.Need-returns-2
 returns-2 c = cut-kept (c .before .before .before .before .before .pre .1 .1) (omega arith) (omega arith) (c .cut-few .ensures)
 
-cut-many-requires : tie.Need-cut-many-requires
-cut-many-requires c κs = search needs
-
-returns-3 : tie.Need-returns-3
-returns-3 c = search needs
-
 pub cut-queue-spec : {M : Type 1} → statement M
 cut-queue-spec =
-    tie.close (tie.spec returns cut-few-requires returns-2 cut-many-requires returns-3)
+    tie.close (tie.spec returns (λ c κs. search needs) returns-2 (λ c κs. search needs) (λ c. search needs))

@@ -8,12 +8,9 @@ returns : tie.Need-returns
 unfolding foundTests
 returns c = rw (ne-eqb _ _ (c .if1 .taken))
 
-queue-refusal-requires : tie.Need-queue-refusal-requires
-queue-refusal-requires c κs = search needs
-
 returns-2 : tie.Need-returns-2
 unfolding foundTests
 returns-2 c = rw (eq-eqb _ _ (c .before .if1 .left)) (c .queue-refusal .ensures)
 
 pub found-refusal-spec : {M : Type 1} → statement M
-found-refusal-spec = tie.close (tie.spec returns queue-refusal-requires returns-2)
+found-refusal-spec = tie.close (tie.spec returns (λ c κs. search needs) returns-2)

@@ -3,9 +3,6 @@ use Rattle.refusals.proofs.All.{fails, passes}
 use Rattle.queue_tests.proofs.queue_refusal.Statement.{statement}
 use Rattle.queue_tests.proofs.queue_refusal.Tie as tie
 
-same-queue-requires : tie.Need-same-queue-requires
-same-queue-requires c κs = search needs
-
 returns : tie.Need-returns
 returns c = rw (fails (c .before .same-queue .ensures) (c .if1 .taken))
 
@@ -13,4 +10,4 @@ returns-2 : tie.Need-returns-2
 returns-2 c = rw (passes (c .before .same-queue .ensures) (c .if1 .left))
 
 pub queue-refusal-spec : {M : Type 1} → statement M
-queue-refusal-spec = tie.close (tie.spec same-queue-requires returns returns-2)
+queue-refusal-spec = tie.close (tie.spec (λ c κs. search needs) returns returns-2)

@@ -6,9 +6,6 @@ use Rattle.raised.specs.Flags.{answerWith}
 use Rattle.raised.proofs.answer_with.Statement.{statement}
 use Rattle.raised.proofs.answer_with.Tie as tie
 
-none-raised-requires : tie.Need-none-raised-requires
-none-raised-requires c κs = search needs
-
 returns : tie.Need-returns
 unfolding answerWith
 returns c = rw (ne-eqb (c .before .before .args .refusal) 0 (λ z. omega (arith, c .before .if1 .taken)), c .none-raised .ensures)
@@ -18,4 +15,4 @@ unfolding answerWith
 returns-2 c = rw (eq-eqb (c .before .args .refusal) 0 (omega (arith, c .if1 .left)))
 
 pub answer-with-spec : {M : Type 1} → statement M
-answer-with-spec = tie.close (tie.spec none-raised-requires returns returns-2)
+answer-with-spec = tie.close (tie.spec (λ c κs. search needs) returns returns-2)

@@ -9,24 +9,6 @@ use Rattle.raised.proofs.raised_totals.Tie as tie
 small : (c : tie.Start) → c .args .s .«effective_balance_increment» < 2 ^ 64
 small c = omega arith
 
-current-epoch-requires : tie.Need-current-epoch-requires
-current-epoch-requires c κs = search needs
-
-previous-epoch-requires : tie.Need-previous-epoch-requires
-previous-epoch-requires c κs = search needs
-
-active-total-requires : tie.Need-active-total-requires
-active-total-requires c κs = search needs
-
-participating-total-requires : tie.Need-participating-total-requires
-participating-total-requires c κs = search needs
-
-participating-total-requires-2 : tie.Need-participating-total-requires-2
-participating-total-requires-2 c κs = search needs
-
-raised-of-requires : tie.Need-raised-of-requires
-raised-of-requires c κs = search needs
-
 returns : tie.Need-returns
 returns c =
     let p = c .before .before .before .before in
@@ -38,10 +20,10 @@ pub raised-totals-spec : {M : Type 1} → statement M
 raised-totals-spec =
     tie.close
     (tie.spec
-    current-epoch-requires
-    previous-epoch-requires
-    active-total-requires
-    participating-total-requires
-    participating-total-requires-2
-    raised-of-requires
+    (λ c κs. search needs)
+    (λ c κs. search needs)
+    (λ c κs. search needs)
+    (λ c κs. search needs)
+    (λ c κs. search needs)
+    (λ c κs. search needs)
     returns)

@@ -36,54 +36,15 @@ penalty-told c =
     let a = c .before .before .before .before .before .before .before .before .before .before .before .before .before .before .before .before .before .before .before .pre in
     penalty-says (a .1 .1 .1 .1 .0) _ (a .1 .1 .1 .1 .1) (c .before .before .before .before .before .before .before .before .before .before .before .before .before .before .before .before .before .entry-is-eligible .ensures) _ (c .before .before .before .before .before .before .before .before .before .before .before .before .before .before .before .entry-is-participating2 .ensures) (c .penalty-by .ensures)
 
-entry-is-eligible-requires : tie.Need-entry-is-eligible-requires
-entry-is-eligible-requires c κs = search needs
-
-entry-is-participating-requires : tie.Need-entry-is-participating-requires
-entry-is-participating-requires c κs = search needs
-
-entry-is-participating-requires-2 : tie.Need-entry-is-participating-requires-2
-entry-is-participating-requires-2 c κs = search needs
-
-entry-is-participating-requires-3 : tie.Need-entry-is-participating-requires-3
-entry-is-participating-requires-3 c κs = search needs
-
-flag-by-requires : tie.Need-flag-by-requires
-flag-by-requires c κs = search needs
-
-enum-known-a : tie.Need-enum-known-a
-enum-known-a c = search needs
-
-enum-told : tie.Need-enum-told
-enum-told c = search needs
-
 returns : tie.Need-returns
 unfolding rewardedBalance
 returns c = stop-told _ (only-flag _ _ _ _ _ _) (source-told (c .before .before)) tells-deltas (c .enum-told .given .1) refl
-
-flag-by-requires-2 : tie.Need-flag-by-requires-2
-flag-by-requires-2 c κs = search needs
-
-enum-known-b : tie.Need-enum-known-b
-enum-known-b c = search needs
-
-enum-told-2 : tie.Need-enum-told-2
-enum-told-2 c = search needs
 
 returns-2 : tie.Need-returns-2
 unfolding rewardedBalance
 returns-2 c =
     next-told _ (source-told (c .before .before .before .before .before .before)) tells-deltas (c .before .before .before .before .a .given .1)
     (stop-told _ (only-flag _ _ _ _ _ _) (target-told (c .before .before)) tells-deltas (c .enum-told2 .given .1) refl)
-
-flag-by-requires-3 : tie.Need-flag-by-requires-3
-flag-by-requires-3 c κs = search needs
-
-enum-known-c : tie.Need-enum-known-c
-enum-known-c c = search needs
-
-enum-told-3 : tie.Need-enum-told-3
-enum-told-3 c = search needs
 
 returns-3 : tie.Need-returns-3
 unfolding rewardedBalance
@@ -98,12 +59,6 @@ shared-slice-read-penalty-by c = omega (arith, c .before .before .before .before
 penalty-by-requires : tie.Need-penalty-by-requires
 penalty-by-requires c κs = let a = c .before .before .before .before .before .before .before .before .before .before .before .before .before .before .before .before .before .before .pre in (a .1 .0, (a .1 .1 .0, a .1 .1 .1 .1 .0 .most))
 
-enum-known-d : tie.Need-enum-known-d
-enum-known-d c = search needs
-
-enum-told-4 : tie.Need-enum-told-4
-enum-told-4 c = search needs
-
 returns-4 : tie.Need-returns-4
 unfolding rewardedBalance
 returns-4 c =
@@ -114,9 +69,6 @@ returns-4 c =
 
 shared-slice-read-all-applied : tie.Need-shared-slice-read-all-applied
 shared-slice-read-all-applied c = omega (arith, c .before .before .before .before .before .before .before .before .before .before .before .before .before .before .before .before .before .before .before .before .before .before .before .pre .1 .1 .1 .0)
-
-all-applied-requires : tie.Need-all-applied-requires
-all-applied-requires c κs = search needs
 
 returns-5 : tie.Need-returns-5
 unfolding rewardedBalance
@@ -130,27 +82,27 @@ pub balance-by-spec : {M : Type 1} → statement M
 balance-by-spec =
     tie.close
     (tie.spec
-    entry-is-eligible-requires
-    entry-is-participating-requires
-    entry-is-participating-requires-2
-    entry-is-participating-requires-3
-    flag-by-requires
-    enum-known-a
-    enum-told
+    (λ c κs. search needs)
+    (λ c κs. search needs)
+    (λ c κs. search needs)
+    (λ c κs. search needs)
+    (λ c κs. search needs)
+    (λ c. search needs)
+    (λ c. search needs)
     returns
-    flag-by-requires-2
-    enum-known-b
-    enum-told-2
+    (λ c κs. search needs)
+    (λ c. search needs)
+    (λ c. search needs)
     returns-2
-    flag-by-requires-3
-    enum-known-c
-    enum-told-3
+    (λ c κs. search needs)
+    (λ c. search needs)
+    (λ c. search needs)
     returns-3
     shared-slice-read-penalty-by
     penalty-by-requires
-    enum-known-d
-    enum-told-4
+    (λ c. search needs)
+    (λ c. search needs)
     returns-4
     shared-slice-read-all-applied
-    all-applied-requires
+    (λ c κs. search needs)
     returns-5)

@@ -11,23 +11,8 @@ use Rattle.rates.proofs.Rated.{told-past, told-fits, no-base, not-fits,
 use Rattle.rates.proofs.hit_amount.Statement.{statement}
 use Rattle.rates.proofs.hit_amount.Tie as tie
 
-enum-known-base : tie.Need-enum-known-base
-enum-known-base c = search needs
-
-enum-told : tie.Need-enum-told
-enum-told c = search needs
-
 returns : tie.Need-returns
 returns c = record { of = λ m o b. told-past m _ _ (no-base m _ rewardOf (says-overflow b (record { why = o }) (c .enum-told .given .1) .0)) }
-
-hit-deltas-requires : tie.Need-hit-deltas-requires
-hit-deltas-requires c κs = search needs
-
-enum-known-deltas : tie.Need-enum-known-deltas
-enum-known-deltas c = search needs
-
-enum-told-2 : tie.Need-enum-told-2
-enum-told-2 c = search needs
 
 returns-2 : tie.Need-returns-2
 returns-2 c = record { of = λ m o b. told-past m _ _ (not-fits m _ rewardOf (says-value b (c .before .before .before .before .base .given .1)) (answers-overflow tells-deltas (c .before .before .hit-deltas .ensures) (only-hit _ _ _ _) (c .enum-told2 .given .1) .0)) }
@@ -39,11 +24,11 @@ pub hit-amount-spec : {M : Type 1} → statement M
 hit-amount-spec =
     tie.close
     (tie.spec
-    enum-known-base
-    enum-told
+    (λ c. search needs)
+    (λ c. search needs)
     returns
-    hit-deltas-requires
-    enum-known-deltas
-    enum-told-2
+    (λ c κs. search needs)
+    (λ c. search needs)
+    (λ c. search needs)
     returns-2
     returns-3)

@@ -6,11 +6,8 @@ use Rattle.rates.proofs.most_score_of.Tie as tie
 returns : tie.Need-returns
 returns c = most-none (c .if1 .taken)
 
-div-result : tie.Need-div-result
-div-result c = search needs
-
 returns-2 : tie.Need-returns-2
 returns-2 c = most-some (c .if1 .left)
 
 pub most-score-of-spec : {M : Type 1} → statement M
-most-score-of-spec = tie.close (tie.spec returns div-result returns-2)
+most-score-of-spec = tie.close (tie.spec returns (λ c. search needs) returns-2)

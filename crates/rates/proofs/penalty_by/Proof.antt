@@ -13,12 +13,6 @@ returns c = not-eligible _ _ _ _ _ _ (c .if1 .taken)
 returns-2 : tie.Need-returns-2
 returns-2 c = target-hit _ _ _ _ _ _ (c .before .if1 .left) (c .if2 .taken)
 
-enum-known-product : tie.Need-enum-known-product
-enum-known-product c = search needs
-
-enum-told : tie.Need-enum-told
-enum-told c = search needs
-
 returns-3 : tie.Need-returns-3
 returns-3 c = no-product _ _ _ _ _ _ (c .before .before .before .if1 .left) (c .before .before .if2 .left) (says-overflow (c .before .before .before .before .pre .1 .0) (only-mul64 _ _) (c .enum-told .given .1) .0)
 
@@ -50,8 +44,8 @@ penalty-by-spec =
     (tie.spec
     returns
     returns-2
-    enum-known-product
-    enum-told
+    (λ c. search needs)
+    (λ c. search needs)
     returns-3
     returns-4
     returns-5

@@ -15,9 +15,6 @@ is-told told seen balance e t = eqb-true told 1 (both (eqb told 1) (eqb seen bal
 is-same : (told seen balance : ℕ) {r : Bool} → r ≡ (eqb told 1 && eqb seen balance) → r ≡ true → seen ≡ balance
 is-same told seen balance e t = eqb-true seen balance (both (eqb told 1) (eqb seen balance) (sym e ∙ t) .second)
 
-is-of-requires : tie.Need-is-of-requires
-is-of-requires c κs = search needs
-
 returns : tie.Need-returns
 returns c =
     let a = c .before .before .before in
@@ -25,18 +22,12 @@ returns c =
     let test = c .before .is-of .ensures in
     (a .pre .1, (a .pre .1 .last (is-told (q .told) (q .«effective_balance») (a .args .balance) test (c .if1 .taken)), is-same (q .told) (q .«effective_balance») (a .args .balance) test (c .if1 .taken)))
 
-is-of-requires-2 : tie.Need-is-of-requires-2
-is-of-requires-2 c κs = search needs
-
 returns-2 : tie.Need-returns-2
 returns-2 c =
     let a = c .before .before .before .before .before .before in
     let q = a .args .carried .other in
     let test = c .before .is-of2 .ensures in
     (record { last = a .pre .1 .other; other = a .pre .1 .last }, (a .pre .1 .other (is-told (q .told) (q .«effective_balance») (a .args .balance) test (c .if2 .taken)), is-same (q .told) (q .«effective_balance») (a .args .balance) test (c .if2 .taken)))
-
-rates-of-requires : tie.Need-rates-of-requires
-rates-of-requires c κs = search needs
 
 returns-3 : tie.Need-returns-3
 returns-3 c =
@@ -47,4 +38,4 @@ returns-3 c =
 pub rates-for-spec : {M : Type 1} → statement M
 rates-for-spec =
     tie.close
-    (tie.spec is-of-requires returns is-of-requires-2 returns-2 rates-of-requires returns-3)
+    (tie.spec (λ c κs. search needs) returns (λ c κs. search needs) returns-2 (λ c κs. search needs) returns-3)

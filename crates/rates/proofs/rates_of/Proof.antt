@@ -9,30 +9,6 @@ use Rattle.rates.proofs.rates_of.Tie as tie
 only-base : (c : tie.Start) → OnlyOverflow (baseOf (c .args .s) (c .args .h .total) (c .args .balance))
 only-base c = only-bind (only-per-increment _ _) (λ reward. only-mul64 _ _)
 
-base-of-requires : tie.Need-base-of-requires
-base-of-requires c κs = search needs
-
-hit-amount-requires : tie.Need-hit-amount-requires
-hit-amount-requires c κs = search needs
-
-miss-amount-requires : tie.Need-miss-amount-requires
-miss-amount-requires c κs = search needs
-
-hit-amount-requires-2 : tie.Need-hit-amount-requires-2
-hit-amount-requires-2 c κs = search needs
-
-miss-amount-requires-2 : tie.Need-miss-amount-requires-2
-miss-amount-requires-2 c κs = search needs
-
-hit-amount-requires-3 : tie.Need-hit-amount-requires-3
-hit-amount-requires-3 c κs = search needs
-
-miss-amount-requires-3 : tie.Need-miss-amount-requires-3
-miss-amount-requires-3 c κs = search needs
-
-most-score-of-requires : tie.Need-most-score-of-requires
-most-score-of-requires c κs = search needs
-
 returns : tie.Need-returns
 returns c =
     let o = only-base (c .before .before .before .before .before .before .before .before) .why in
@@ -53,12 +29,12 @@ pub rates-of-spec : {M : Type 1} → statement M
 rates-of-spec =
     tie.close
     (tie.spec
-    base-of-requires
-    hit-amount-requires
-    miss-amount-requires
-    hit-amount-requires-2
-    miss-amount-requires-2
-    hit-amount-requires-3
-    miss-amount-requires-3
-    most-score-of-requires
+    (λ c κs. search needs)
+    (λ c κs. search needs)
+    (λ c κs. search needs)
+    (λ c κs. search needs)
+    (λ c κs. search needs)
+    (λ c κs. search needs)
+    (λ c κs. search needs)
+    (λ c κs. search needs)
     returns)

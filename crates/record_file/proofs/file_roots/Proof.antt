@@ -12,18 +12,6 @@ Long c = Lengths (c .args .bytes .now) (c .args .registry .now) (c .args .slashi
 lengths : (c : tie.Else1) → Long (c .before .before .before .before .before .before)
 lengths c = read-lengths _ _ _ (c .before .before .read-tests .ensures .number) (c .if1 .left)
 
-read-tests-requires : tie.Need-read-tests-requires
-read-tests-requires c κs = search needs
-
-sub-result : tie.Need-sub-result
-sub-result c = search needs
-
-part-result-start : tie.Need-part-result-start
-part-result-start c = search needs
-
-part-result-end : tie.Need-part-result-end
-part-result-end c = search needs
-
 returns : tie.Need-returns
 returns c =
     let g = read-refused _ _ _ (c .before .before .before .read-tests .ensures .number) (c .before .if1 .taken) in
@@ -62,10 +50,10 @@ pub file-roots-spec : {M : Type 1} → statement M
 file-roots-spec =
     tie.close
     (tie.spec
-    read-tests-requires
-    sub-result
-    part-result-start
-    part-result-end
+    (λ c κs. search needs)
+    (λ c. search needs)
+    (λ c. search needs)
+    (λ c. search needs)
     returns
     registry-at-requires
     mul-from

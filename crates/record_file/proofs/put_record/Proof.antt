@@ -28,20 +28,11 @@ current-root c = search needs
 finalized-root : (c : tie.Start) → length (c .args .finality .«finalized_checkpoint» .root) ≡ 32
 finalized-root c = search needs
 
-mul-roots-at : tie.Need-mul-roots-at
-mul-roots-at c = search needs
-
-add-roots-at : tie.Need-add-roots-at
-add-roots-at c = search needs
-
 add-slashings-at : tie.Need-add-slashings-at
 add-slashings-at c = omega (arith, good (c .before .before .before .before))
 
 header-of-requires : tie.Need-header-of-requires
 header-of-requires c κs = (omega arith, omega arith, omega (arith, good (c .before .before .before .before)))
-
-slice-aggregate-put-numbers : tie.Need-slice-aggregate-put-numbers
-slice-aggregate-put-numbers c = search needs
 
 put-numbers-requires : tie.Need-put-numbers-requires
 put-numbers-requires c κs = omega (arith, good (c .before .before .before .before .before .before .before), ap length (c .before .before .header-of .ensures))
@@ -63,9 +54,6 @@ put-bytes-requires c κs = omega (arith, good (c .before .before .before .before
 
 put-numbers-requires-3 : tie.Need-put-numbers-requires-3
 put-numbers-requires-3 c κs = omega (arith, good (c .before .before .before .before .before .before .before .before .before .before .before .before .before .before .before .before .before .before .before .before .before .before .before .before .before .before .before .before .before .before .before))
-
-same-length : tie.Need-same-length
-same-length c = search needs
 
 returns : tie.Need-returns
 unfolding fileOf
@@ -89,11 +77,11 @@ pub put-record-spec : {M : Type 1} → statement M
 put-record-spec =
     tie.close
     (tie.spec
-    mul-roots-at
-    add-roots-at
+    (λ c. search needs)
+    (λ c. search needs)
     add-slashings-at
     header-of-requires
-    slice-aggregate-put-numbers
+    (λ c. search needs)
     put-numbers-requires
     put-settings-requires
     put-finality-requires
@@ -101,5 +89,5 @@ put-record-spec =
     put-numbers-requires-2
     put-bytes-requires
     put-numbers-requires-3
-    same-length
+    (λ c. search needs)
     returns)

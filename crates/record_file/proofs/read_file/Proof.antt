@@ -12,21 +12,6 @@ Long c = Lengths (c .args .bytes .now) (c .args .registry .now) (c .args .slashi
 lengths : (c : tie.Else1) → Long (c .before .before .before .before .before .before .before .before .before)
 lengths c = read-lengths _ _ _ (c .before .before .before .read-tests .ensures .number) (c .if1 .left)
 
-read-tests-requires : tie.Need-read-tests-requires
-read-tests-requires c κs = search needs
-
-no-settings-requires : tie.Need-no-settings-requires
-no-settings-requires c κs = search needs
-
-no-finality-requires : tie.Need-no-finality-requires
-no-finality-requires c κs = search needs
-
-same-length : tie.Need-same-length
-same-length c = search needs
-
-same-length-2 : tie.Need-same-length-2
-same-length-2 c = search needs
-
 returns : tie.Need-returns
 unfolding read
 returns c =
@@ -59,12 +44,6 @@ read-numbers-requires c κs = omega (arith, lengths (c .before .before .before .
 read-numbers-requires-2 : tie.Need-read-numbers-requires-2
 read-numbers-requires-2 c κs = omega (arith, lengths (c .before .before .before .before .before .before .before .before))
 
-same-length-3 : tie.Need-same-length-3
-same-length-3 c = search needs
-
-same-length-4 : tie.Need-same-length-4
-same-length-4 c = search needs
-
 returns-2 : tie.Need-returns-2
 unfolding read contentsOf
 returns-2 c =
@@ -81,11 +60,11 @@ pub read-file-spec : {M : Type 1} → statement M
 read-file-spec =
     tie.close
     (tie.spec
-    read-tests-requires
-    no-settings-requires
-    no-finality-requires
-    same-length
-    same-length-2
+    (λ c κs. search needs)
+    (λ c κs. search needs)
+    (λ c κs. search needs)
+    (λ c. search needs)
+    (λ c. search needs)
     returns
     read-settings-requires
     read-finality-requires
@@ -94,6 +73,6 @@ read-file-spec =
     sub-slashings-at
     read-numbers-requires
     read-numbers-requires-2
-    same-length-3
-    same-length-4
+    (λ c. search needs)
+    (λ c. search needs)
     returns-2)

@@ -11,12 +11,6 @@ use Rattle.record_file.proofs.read_header.Tie as tie
 header : (c : tie.Else1) → goodHeader (c .before .before .before .args .bytes .now) ≡ true
 header c = passes (c .before .good-header .ensures) (c .if1 .left)
 
-good-header-requires : tie.Need-good-header-requires
-good-header-requires c κs = search needs
-
-no-header-requires : tie.Need-no-header-requires
-no-header-requires c κs = search needs
-
 returns : tie.Need-returns
 returns c = c .no-header .ensures ∙ header-refused _ (fails (c .before .before .good-header .ensures) (c .before .if1 .taken))
 
@@ -31,4 +25,4 @@ returns-2 c =
 pub read-header-spec : {M : Type 1} → statement M
 read-header-spec =
     tie.close
-    (tie.spec good-header-requires no-header-requires returns read-counts-requires returns-2)
+    (tie.spec (λ c κs. search needs) (λ c κs. search needs) returns read-counts-requires returns-2)

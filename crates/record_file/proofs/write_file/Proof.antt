@@ -7,12 +7,6 @@ use Rattle.record_file.proofs.Writing.{write-refused}
 use Rattle.record_file.proofs.write_file.Statement.{statement}
 use Rattle.record_file.proofs.write_file.Tie as tie
 
-write-tests-requires : tie.Need-write-tests-requires
-write-tests-requires c κs = search needs
-
-same-length : tie.Need-same-length
-same-length c = search needs
-
 returns : tie.Need-returns
 returns c =
     let e = c .before .write-tests .ensures in
@@ -23,9 +17,6 @@ put-record-requires c κs =
     let w = write-good _ _ _ (passed _ (c .before .before .write-tests .ensures) (c .before .if1 .left)) in
     record { entries = w .good .entries; roots = w .good .roots; slashings = w .good .slashings; long = w .long }
 
-same-length-2 : tie.Need-same-length-2
-same-length-2 c = search needs
-
 returns-2 : tie.Need-returns-2
 returns-2 c =
     let e = c .before .before .before .before .before .write-tests .ensures in
@@ -35,4 +26,4 @@ returns-2 c =
 pub write-file-spec : {M : Type 1} → statement M
 write-file-spec =
     tie.close
-    (tie.spec write-tests-requires same-length returns put-record-requires same-length-2 returns-2)
+    (tie.spec (λ c κs. search needs) (λ c. search needs) returns put-record-requires (λ c. search needs) returns-2)

@@ -5,9 +5,6 @@ use Rattle.refusals.proofs.All.{fails, passes}
 use Rattle.refusals.proofs.good_finality.Statement.{statement}
 use Rattle.refusals.proofs.good_finality.Tie as tie
 
-is-small-requires : tie.Need-is-small-requires
-is-small-requires c κs = search needs
-
 returns : tie.Need-returns
 unfolding goodFinality
 returns c = rw (fails (c .before .is-small .ensures) (c .if1 .taken))
@@ -16,17 +13,11 @@ returns-2 : tie.Need-returns-2
 unfolding goodFinality
 returns-2 c = rw (passes (c .before .before .before .is-small .ensures) (c .before .before .if1 .left), lt-leb _ _ (c .if2 .taken))
 
-is-small-requires-2 : tie.Need-is-small-requires-2
-is-small-requires-2 c κs = search needs
-
 returns-3 : tie.Need-returns-3
 unfolding goodFinality
 returns-3 c =
     let d = c .before .before in
     rw (passes (d .before .before .before .is-small .ensures) (d .before .before .if1 .left), le-leb _ _ (d .if2 .left), fails (c .before .is-small2 .ensures) (c .if3 .taken))
-
-is-small-requires-3 : tie.Need-is-small-requires-3
-is-small-requires-3 c κs = search needs
 
 returns-4 : tie.Need-returns-4
 unfolding goodFinality
@@ -34,9 +25,6 @@ returns-4 c =
     let e = c .before .before in
     let d = e .before .before in
     rw (passes (d .before .before .before .is-small .ensures) (d .before .before .if1 .left), le-leb _ _ (d .if2 .left), passes (e .before .is-small2 .ensures) (e .if3 .left), fails (c .before .is-small3 .ensures) (c .if4 .taken))
-
-is-small-requires-4 : tie.Need-is-small-requires-4
-is-small-requires-4 c κs = search needs
 
 returns-5 : tie.Need-returns-5
 unfolding goodFinality
@@ -50,12 +38,12 @@ pub good-finality-spec : {M : Type 1} → statement M
 good-finality-spec =
     tie.close
     (tie.spec
-    is-small-requires
+    (λ c κs. search needs)
     returns
     returns-2
-    is-small-requires-2
+    (λ c κs. search needs)
     returns-3
-    is-small-requires-3
+    (λ c κs. search needs)
     returns-4
-    is-small-requires-4
+    (λ c κs. search needs)
     returns-5)

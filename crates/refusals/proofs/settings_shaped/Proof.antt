@@ -4,15 +4,9 @@ use Rattle.refusals.proofs.All.{fails, passes}
 use Rattle.refusals.proofs.settings_shaped.Statement.{statement}
 use Rattle.refusals.proofs.settings_shaped.Tie as tie
 
-is-vector-length-requires : tie.Need-is-vector-length-requires
-is-vector-length-requires c κs = search needs
-
 returns : tie.Need-returns
 unfolding settingsShaped
 returns c = rw (fails (c .before .is-vector-length .ensures) (c .if1 .taken))
-
-is-vector-length-requires-2 : tie.Need-is-vector-length-requires-2
-is-vector-length-requires-2 c κs = search needs
 
 returns-2 : tie.Need-returns-2
 unfolding settingsShaped
@@ -20,4 +14,4 @@ returns-2 c = rw (passes (c .before .before .is-vector-length .ensures) (c .befo
 
 pub settings-shaped-spec : {M : Type 1} → statement M
 settings-shaped-spec =
-    tie.close (tie.spec is-vector-length-requires returns is-vector-length-requires-2 returns-2)
+    tie.close (tie.spec (λ c κs. search needs) returns (λ c κs. search needs) returns-2)

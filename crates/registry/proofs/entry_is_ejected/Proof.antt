@@ -4,15 +4,9 @@ use Rattle.refusals.proofs.All.{fails, passes}
 use Rattle.registry.proofs.entry_is_ejected.Statement.{statement}
 use Rattle.registry.proofs.entry_is_ejected.Tie as tie
 
-entry-is-active-requires : tie.Need-entry-is-active-requires
-entry-is-active-requires c κs = search needs
-
 returns : tie.Need-returns
 unfolding isEjected
 returns c = rw (fails (c .before .entry-is-active .ensures) (c .if1 .taken))
-
-shared-slice-read-result : tie.Need-shared-slice-read-result
-shared-slice-read-result c = search needs
 
 returns-2 : tie.Need-returns-2
 unfolding isEjected
@@ -20,4 +14,4 @@ returns-2 c = rw (passes (c .before .before .before .entry-is-active .ensures) (
 
 pub entry-is-ejected-spec : {M : Type 1} → statement M
 entry-is-ejected-spec =
-    tie.close (tie.spec entry-is-active-requires returns shared-slice-read-result returns-2)
+    tie.close (tie.spec (λ c κs. search needs) returns (λ c. search needs) returns-2)

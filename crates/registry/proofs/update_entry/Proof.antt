@@ -4,23 +4,8 @@ use Rattle.registry.proofs.Turns.{turn-stays, turn-exits}
 use Rattle.registry.proofs.update_entry.Statement.{statement}
 use Rattle.registry.proofs.update_entry.Tie as tie
 
-entry-queue-eligible-requires : tie.Need-entry-queue-eligible-requires
-entry-queue-eligible-requires c κs = search needs
-
-entry-is-ejected-requires : tie.Need-entry-is-ejected-requires
-entry-is-ejected-requires c κs = search needs
-
-same-length : tie.Need-same-length
-same-length c = search needs
-
 returns : tie.Need-returns
 returns c = turn-stays _ _ _ _ _ (c .before .before .before .before .before .entry-queue-eligible .ensures) (c .before .entry-is-ejected .ensures) (not-true _ (c .if1 .taken))
-
-exit-entry-requires : tie.Need-exit-entry-requires
-exit-entry-requires c κs = search needs
-
-same-length-2 : tie.Need-same-length-2
-same-length-2 c = search needs
 
 returns-2 : tie.Need-returns-2
 returns-2 c =
@@ -31,10 +16,10 @@ pub update-entry-spec : {M : Type 1} → statement M
 update-entry-spec =
     tie.close
     (tie.spec
-    entry-queue-eligible-requires
-    entry-is-ejected-requires
-    same-length
+    (λ c κs. search needs)
+    (λ c κs. search needs)
+    (λ c. search needs)
     returns
-    exit-entry-requires
-    same-length-2
+    (λ c κs. search needs)
+    (λ c. search needs)
     returns-2)

@@ -4,20 +4,8 @@ use Rattle.selection.proofs.Picking.{blank-length, blank-part}
 use Rattle.registry_close.proofs.close_registry.Statement.{statement}
 use Rattle.registry_close.proofs.close_registry.Tie as tie
 
-sub-close-kept : tie.Need-sub-close-kept
-sub-close-kept c = search needs
-
-part-kept-start : tie.Need-part-kept-start
-part-kept-start c = search needs
-
-part-kept-end : tie.Need-part-kept-end
-part-kept-end c = search needs
-
 close-kept-requires : tie.Need-close-kept-requires
 close-kept-requires c κs = let a = c .before .before .before .before .before .before in (a .pre .0, (a .pre .1, (blank-length 64 64 (omega arith), blank-part 64 64 (omega arith) (omega arith))))
-
-same-length : tie.Need-same-length
-same-length c = search needs
 
 returns : tie.Need-returns
 returns c = c .before .before .before .close-kept .ensures
@@ -25,4 +13,4 @@ returns c = c .before .before .before .close-kept .ensures
 pub close-registry-spec : {M : Type 1} → statement M
 close-registry-spec =
     tie.close
-    (tie.spec sub-close-kept part-kept-start part-kept-end close-kept-requires same-length returns)
+    (tie.spec (λ c. search needs) (λ c. search needs) (λ c. search needs) close-kept-requires (λ c. search needs) returns)

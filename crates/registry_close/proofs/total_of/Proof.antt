@@ -8,12 +8,9 @@ returns : tie.Need-returns
 unfolding totalOf
 returns c = rw (ne-eqb _ 0 (c .if1 .taken))
 
-total-from-requires : tie.Need-total-from-requires
-total-from-requires c κs = search needs
-
 returns-2 : tie.Need-returns-2
 unfolding totalOf
 returns-2 c = rw (eq-eqb _ 0 (c .before .if1 .left), c .total-from .ensures)
 
 pub total-of-spec : {M : Type 1} → statement M
-total-of-spec = tie.close (tie.spec returns total-from-requires returns-2)
+total-of-spec = tie.close (tie.spec returns (λ c κs. search needs) returns-2)

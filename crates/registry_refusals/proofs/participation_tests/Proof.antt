@@ -11,15 +11,9 @@ returns : tie.Need-returns
 unfolding participationTests inOrder
 returns c = rw (lt-leb _ _ (c .if1 .taken)) (simp and-false)
 
-is-participation-epoch-requires : tie.Need-is-participation-epoch-requires
-is-participation-epoch-requires c κs = search needs
-
 returns-2 : tie.Need-returns-2
 unfolding participationTests inOrder
 returns-2 c = rw (fails (c .before .is-participation-epoch .ensures) (c .if2 .taken)) (simp and-false)
-
-slot-registry-tests-requires : tie.Need-slot-registry-tests-requires
-slot-registry-tests-requires c κs = search needs
 
 returns-3 : tie.Need-returns-3
 unfolding participationTests slotRegistryTests
@@ -30,7 +24,7 @@ participation-tests-spec =
     tie.close
     (tie.spec
     returns
-    is-participation-epoch-requires
+    (λ c κs. search needs)
     returns-2
-    slot-registry-tests-requires
+    (λ c κs. search needs)
     returns-3)

@@ -4,15 +4,9 @@ use Rattle.refusals.proofs.All.{fails, passes}
 use Rattle.registry_refusals.proofs.settings_registry_tests.Statement.{statement}
 use Rattle.registry_refusals.proofs.settings_registry_tests.Tie as tie
 
-settings-shaped-requires : tie.Need-settings-shaped-requires
-settings-shaped-requires c κs = search needs
-
 returns : tie.Need-returns
 unfolding inOrder
 returns c = rw (fails (c .before .settings-shaped .ensures) (c .if1 .taken))
-
-registry-shaped-requires : tie.Need-registry-shaped-requires
-registry-shaped-requires c κs = search needs
 
 returns-2 : tie.Need-returns-2
 unfolding inOrder
@@ -20,18 +14,12 @@ returns-2 c =
     let d = c .before .before in
     rw (passes (d .before .settings-shaped .ensures) (d .if1 .left), fails (c .before .registry-shaped .ensures) (c .if2 .taken))
 
-good-settings-requires : tie.Need-good-settings-requires
-good-settings-requires c κs = search needs
-
 returns-3 : tie.Need-returns-3
 unfolding inOrder
 returns-3 c =
     let e = c .before .before in
     let d = e .before .before in
     rw (passes (d .before .settings-shaped .ensures) (d .if1 .left), passes (e .before .registry-shaped .ensures) (e .if2 .left), fails (c .before .good-settings .ensures) (c .if3 .taken))
-
-good-registry-requires : tie.Need-good-registry-requires
-good-registry-requires c κs = search needs
 
 returns-4 : tie.Need-returns-4
 unfolding inOrder
@@ -53,12 +41,12 @@ pub settings-registry-tests-spec : {M : Type 1} → statement M
 settings-registry-tests-spec =
     tie.close
     (tie.spec
-    settings-shaped-requires
+    (λ c κs. search needs)
     returns
-    registry-shaped-requires
+    (λ c κs. search needs)
     returns-2
-    good-settings-requires
+    (λ c κs. search needs)
     returns-3
-    good-registry-requires
+    (λ c κs. search needs)
     returns-4
     returns-5)

@@ -6,15 +6,9 @@ use Rattle.leaf_refusals.proofs.Order.{refused-before, last-failed, last-passed
 use Rattle.registry_refusals.proofs.slot_registry_tests.Statement.{statement}
 use Rattle.registry_refusals.proofs.slot_registry_tests.Tie as tie
 
-settings-registry-tests-requires : tie.Need-settings-registry-tests-requires
-settings-registry-tests-requires c κs = search needs
-
 returns : tie.Need-returns
 unfolding slotRegistryTests
 returns c = refused-before _ _ (isSmall (c .before .before .before .args .state-slot)) _ (c .before .settings-registry-tests .ensures) (c .if1 .taken)
-
-is-small-requires : tie.Need-is-small-requires
-is-small-requires c κs = search needs
 
 returns-2 : tie.Need-returns-2
 unfolding slotRegistryTests
@@ -27,4 +21,4 @@ returns-3 c = last-passed _ _ _ _ (c .before .before .before .settings-registry-
 pub slot-registry-tests-spec : {M : Type 1} → statement M
 slot-registry-tests-spec =
     tie.close
-    (tie.spec settings-registry-tests-requires returns is-small-requires returns-2 returns-3)
+    (tie.spec (λ c κs. search needs) returns (λ c κs. search needs) returns-2 returns-3)

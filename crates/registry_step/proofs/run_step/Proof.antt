@@ -5,30 +5,15 @@ use Rattle.registry_step.proofs.Run.{run-restored, run-done}
 use Rattle.registry_step.proofs.run_step.Statement.{statement}
 use Rattle.registry_step.proofs.run_step.Tie as tie
 
-copy-requires : tie.Need-copy-requires
-copy-requires c κs = search needs
-
 update-registry-requires : tie.Need-update-registry-requires
 update-registry-requires c κs =
     let s = c .before .before .before .before .before .before .before .before in
     (s .pre .0, (s .pre .1 .0, ((s .pre .1 .1 .0 .0, c .before .before .before .copy .ensures), s .pre .1 .1 .1)))
 
-copy-requires-2 : tie.Need-copy-requires-2
-copy-requires-2 c κs = search needs
-
-same-length : tie.Need-same-length
-same-length c = search needs
-
 returns : tie.Need-returns
 returns c =
     let a = c .before .before .before .before .before .before .before .before .before .before .before .before .before .before .before .before .args in
     run-restored (registryUpdatesTo (a .stop) (a .s) (a .state-slot) (a .finalized-epoch)) _ (c .before .before .before .before .before .before .before .update-registry .ensures) (λ z. omega (arith, z, c .before .before .before .before .if1 .taken)) (c .before .before .copy2 .ensures)
-
-queue-of-requires : tie.Need-queue-of-requires
-queue-of-requires c κs = search needs
-
-same-length-2 : tie.Need-same-length-2
-same-length-2 c = search needs
 
 returns-2 : tie.Need-returns-2
 returns-2 c =
@@ -39,11 +24,11 @@ pub run-step-spec : {M : Type 1} → statement M
 run-step-spec =
     tie.close
     (tie.spec
-    copy-requires
+    (λ c κs. search needs)
     update-registry-requires
-    copy-requires-2
-    same-length
+    (λ c κs. search needs)
+    (λ c. search needs)
     returns
-    queue-of-requires
-    same-length-2
+    (λ c κs. search needs)
+    (λ c. search needs)
     returns-2)

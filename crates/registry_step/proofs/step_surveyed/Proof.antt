@@ -21,12 +21,6 @@ survey-registry-requires c κs =
     let p = tested (c .before .before .before .before .before .before) in
     (p .long, (omega (arith, epochs _ _ (p .good) (p .slot) .small, c .before .before .current-epoch .ensures), c .before .before .before .before .before .before .pre .1))
 
-found-refusal-requires : tie.Need-found-refusal-requires
-found-refusal-requires c κs = search needs
-
-same-length : tie.Need-same-length
-same-length c = search needs
-
 returns : tie.Need-returns
 returns c =
     let i = c in
@@ -46,12 +40,6 @@ run-step-requires c κs =
     let p = tested s in
     (p .good, ((p .slot, p .finalized), ((p .long, p .same), (p .stops, (true-pair (a .stop) (a .s) (a .state-slot) (a .finalized-epoch) (a .queue) (a .opening .now) (a .closing .now) e (i .if1 .left), rw (← see .before .before .before .current-epoch .ensures, ← see .before .before .previous-epoch .ensures) (see .survey-registry .ensures))))))
 
-same-length-2 : tie.Need-same-length-2
-same-length-2 c = search needs
-
-same-length-3 : tie.Need-same-length-3
-same-length-3 c = search needs
-
 returns-2 : tie.Need-returns-2
 returns-2 c =
     let i = c .before .before .before .before .before in
@@ -68,10 +56,10 @@ step-surveyed-spec =
     current-epoch-requires
     previous-epoch-requires
     survey-registry-requires
-    found-refusal-requires
-    same-length
+    (λ c κs. search needs)
+    (λ c. search needs)
     returns
     run-step-requires
-    same-length-2
-    same-length-3
+    (λ c. search needs)
+    (λ c. search needs)
     returns-2)

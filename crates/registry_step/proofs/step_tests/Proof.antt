@@ -5,16 +5,10 @@ use Rattle.refusals.proofs.All.{fails, passes}
 use Rattle.registry_step.proofs.step_tests.Statement.{statement}
 use Rattle.registry_step.proofs.step_tests.Tie as tie
 
-settings-shaped-requires : tie.Need-settings-shaped-requires
-settings-shaped-requires c κs = search needs
-
 returns : tie.Need-returns
 unfolding inOrder
 returns c =
     rw (fails (c .before .settings-shaped .ensures) (c .if1 .taken))
-
-registry-shaped-requires : tie.Need-registry-shaped-requires
-registry-shaped-requires c κs = search needs
 
 returns-2 : tie.Need-returns-2
 unfolding inOrder
@@ -37,9 +31,6 @@ returns-4 c =
     let p1 = p2 .before .before in
     rw (passes (p1 .before .settings-shaped .ensures) (p1 .if1 .left), passes (p2 .before .registry-shaped .ensures) (p2 .if2 .left), eq-eqb _ _ (p3 .if3 .left), lt-leb _ _ (c .if4 .taken))
 
-good-settings-requires : tie.Need-good-settings-requires
-good-settings-requires c κs = search needs
-
 returns-5 : tie.Need-returns-5
 unfolding inOrder
 returns-5 c =
@@ -48,9 +39,6 @@ returns-5 c =
     let p2 = p3 .before in
     let p1 = p2 .before .before in
     rw (passes (p1 .before .settings-shaped .ensures) (p1 .if1 .left), passes (p2 .before .registry-shaped .ensures) (p2 .if2 .left), eq-eqb _ _ (p3 .if3 .left), le-leb _ _ (p4 .if4 .left), fails (c .before .good-settings .ensures) (c .if5 .taken))
-
-is-small-requires : tie.Need-is-small-requires
-is-small-requires c κs = search needs
 
 returns-6 : tie.Need-returns-6
 unfolding inOrder
@@ -61,9 +49,6 @@ returns-6 c =
     let p2 = p3 .before in
     let p1 = p2 .before .before in
     rw (passes (p1 .before .settings-shaped .ensures) (p1 .if1 .left), passes (p2 .before .registry-shaped .ensures) (p2 .if2 .left), eq-eqb _ _ (p3 .if3 .left), le-leb _ _ (p4 .if4 .left), passes (p5 .before .good-settings .ensures) (p5 .if5 .left), fails (c .before .is-small .ensures) (c .if6 .taken))
-
-is-small-requires-2 : tie.Need-is-small-requires-2
-is-small-requires-2 c κs = search needs
 
 returns-7 : tie.Need-returns-7
 unfolding inOrder
@@ -91,16 +76,16 @@ pub step-tests-spec : {M : Type 1} → statement M
 step-tests-spec =
     tie.close
     (tie.spec
-    settings-shaped-requires
+    (λ c κs. search needs)
     returns
-    registry-shaped-requires
+    (λ c κs. search needs)
     returns-2
     returns-3
     returns-4
-    good-settings-requires
+    (λ c κs. search needs)
     returns-5
-    is-small-requires
+    (λ c κs. search needs)
     returns-6
-    is-small-requires-2
+    (λ c κs. search needs)
     returns-7
     returns-8)

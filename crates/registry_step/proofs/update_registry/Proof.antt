@@ -35,9 +35,6 @@ add-least-2 c =
     let s = c .before .before .before .before .before .before .before in
     omega (arith, epochs _ _ (s .pre .0) (s .pre .1 .0 .0) .fits, c .before .before .before .current-epoch .ensures)
 
-start-pair-requires : tie.Need-start-pair-requires
-start-pair-requires c κs = search needs
-
 update-by-requires : tie.Need-update-by-requires
 update-by-requires c κs =
     let s = c .before .before .before .before .before .before .before .before .before in
@@ -45,9 +42,6 @@ update-by-requires c κs =
     let p = epochs _ _ (s .pre .0) (s .pre .1 .0 .0) in
     rw (s .pre .1 .1 .0 .1)
     ((s .pre .1 .1 .0 .0, omega (arith, p .small, e), good-settings _ (s .pre .0) .small .«max_seed_lookahead»), (s .pre .1 .1 .1 .0, (rw (c .before .start-pair .ensures) (tracks-start (omega (arith, p .fits, e)) (rw (sym (s .pre .1 .1 .1 .1 .0)) at (tracks-queue (decode (s .args .opening .now))))), c .before .before .before .cut-queue .ensures)))
-
-same-length : tie.Need-same-length
-same-length c = search needs
 
 returns : tie.Need-returns
 returns c =
@@ -66,7 +60,7 @@ update-registry-spec =
     cut-queue-requires
     add-least
     add-least-2
-    start-pair-requires
+    (λ c κs. search needs)
     update-by-requires
-    same-length
+    (λ c. search needs)
     returns)

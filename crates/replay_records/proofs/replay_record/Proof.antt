@@ -12,32 +12,8 @@ Inv-loop words bytes at end tally₀ number r answers answer₀ operation₀ tal
 abbrev μ-loop : tie.MeasureT-loop
 μ-loop words bytes at end tally₀ number r answers answer₀ operation₀ tally answer operation = answers - operation
 
-records-requires : tie.Need-records-requires Inv-loop μ-loop
-records-requires c κs = search needs
-
-read-record-requires : tie.Need-read-record-requires Inv-loop μ-loop
-read-record-requires c κs = search needs
-
-whole-requires : tie.Need-whole-requires Inv-loop μ-loop
-whole-requires c κs = search needs
-
 same-length : tie.Need-same-length Inv-loop μ-loop
 same-length c = omega arith
-
-returns : tie.Need-returns Inv-loop μ-loop
-returns c = search needs
-
-loop-holds : tie.Need-loop-holds Inv-loop μ-loop
-loop-holds c = search needs
-
-read-outcome-requires : tie.Need-read-outcome-requires Inv-loop μ-loop
-read-outcome-requires c κs = search needs
-
-differs-in-room-requires : tie.Need-differs-in-room-requires Inv-loop μ-loop
-differs-in-room-requires c κs = search needs
-
-note-requires : tie.Need-note-requires Inv-loop μ-loop
-note-requires c κs = search needs
 
 add-operation : tie.Need-add-operation Inv-loop μ-loop
 add-operation c = omega arith
@@ -45,17 +21,8 @@ add-operation c = omega arith
 loop-less : tie.Need-loop-less Inv-loop μ-loop
 loop-less c = omega arith
 
-loop-again : tie.Need-loop-again Inv-loop μ-loop
-loop-again c = search needs
-
-whole-requires-2 : tie.Need-whole-requires-2 Inv-loop μ-loop
-whole-requires-2 c κs = search needs
-
 same-length-2 : tie.Need-same-length-2 Inv-loop μ-loop
 same-length-2 c = omega arith
-
-returns-2 : tie.Need-returns-2 Inv-loop μ-loop
-returns-2 c = search needs
 
 pub replay-record-spec : {M : Type 1} → statement M
 replay-record-spec =
@@ -63,18 +30,18 @@ replay-record-spec =
     (tie.spec
     Inv-loop
     μ-loop
-    records-requires
-    read-record-requires
-    whole-requires
+    (λ c κs. search needs)
+    (λ c κs. search needs)
+    (λ c κs. search needs)
     same-length
-    returns
-    loop-holds
-    read-outcome-requires
-    differs-in-room-requires
-    note-requires
+    (λ c. search needs)
+    (λ c. search needs)
+    (λ c κs. search needs)
+    (λ c κs. search needs)
+    (λ c κs. search needs)
     add-operation
     loop-less
-    loop-again
-    whole-requires-2
+    (λ c. search needs)
+    (λ c κs. search needs)
     same-length-2
-    returns-2)
+    (λ c. search needs))

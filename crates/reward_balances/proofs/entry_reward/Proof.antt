@@ -6,28 +6,10 @@ use borrow.Author.Needs.{needs}
 use Rattle.reward_balances.proofs.entry_reward.Statement.{statement}
 use Rattle.reward_balances.proofs.entry_reward.Tie as tie
 
-new-balance-requires : tie.Need-new-balance-requires
-new-balance-requires c κs = search needs
-
-enum-known-balance : tie.Need-enum-known-balance
-enum-known-balance c = search needs
-
-enum-told : tie.Need-enum-told
-enum-told c = search needs
-
-same-length : tie.Need-same-length
-same-length c = search needs
-
 returns : tie.Need-returns
 returns c =
     let k = says-overflow (c .before .before .new-balance .ensures) (only-rewarded _ _ _ _ _ _ _ _) (c .enum-told .given .1) .0 in
     settles-refused _ (c .before .before .before .before .before .pre .1 .1 .1) (not-rewarded _ _ _ _ _ _ _ _ k)
-
-slice-write-entry : tie.Need-slice-write-entry
-slice-write-entry c = search needs
-
-same-length-2 : tie.Need-same-length-2
-same-length-2 c = search needs
 
 returns-2 : tie.Need-returns-2
 returns-2 c =
@@ -39,11 +21,11 @@ pub entry-reward-spec : {M : Type 1} → statement M
 entry-reward-spec =
     tie.close
     (tie.spec
-    new-balance-requires
-    enum-known-balance
-    enum-told
-    same-length
+    (λ c κs. search needs)
+    (λ c. search needs)
+    (λ c. search needs)
+    (λ c. search needs)
     returns
-    slice-write-entry
-    same-length-2
+    (λ c. search needs)
+    (λ c. search needs)
     returns-2)

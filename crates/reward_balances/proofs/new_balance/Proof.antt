@@ -8,45 +8,15 @@ use borrow.Author.Needs.{needs}
 use Rattle.reward_balances.proofs.new_balance.Statement.{statement}
 use Rattle.reward_balances.proofs.new_balance.Tie as tie
 
-entry-base-reward-requires : tie.Need-entry-base-reward-requires
-entry-base-reward-requires c κs = search needs
-
-flag-deltas-requires : tie.Need-flag-deltas-requires
-flag-deltas-requires c κs = search needs
-
-enum-known-a : tie.Need-enum-known-a
-enum-known-a c = search needs
-
-enum-told : tie.Need-enum-told
-enum-told c = search needs
-
 returns : tie.Need-returns
 unfolding rewardedBalance
 returns c = stop-told _ (only-flag _ _ _ _ _ _) (c .before .before .flag-deltas .ensures) tells-deltas (c .enum-told .given .1) refl
-
-flag-deltas-requires-2 : tie.Need-flag-deltas-requires-2
-flag-deltas-requires-2 c κs = search needs
-
-enum-known-b : tie.Need-enum-known-b
-enum-known-b c = search needs
-
-enum-told-2 : tie.Need-enum-told-2
-enum-told-2 c = search needs
 
 returns-2 : tie.Need-returns-2
 unfolding rewardedBalance
 returns-2 c =
     next-told _ (c .before .before .before .before .before .before .flag-deltas .ensures) tells-deltas (c .before .before .before .before .a .given .1)
     (stop-told _ (only-flag _ _ _ _ _ _) (c .before .before .flag-deltas2 .ensures) tells-deltas (c .enum-told2 .given .1) refl)
-
-flag-deltas-requires-3 : tie.Need-flag-deltas-requires-3
-flag-deltas-requires-3 c κs = search needs
-
-enum-known-c : tie.Need-enum-known-c
-enum-known-c c = search needs
-
-enum-told-3 : tie.Need-enum-told-3
-enum-told-3 c = search needs
 
 returns-3 : tie.Need-returns-3
 unfolding rewardedBalance
@@ -58,12 +28,6 @@ returns-3 c =
 penalty-deltas-requires : tie.Need-penalty-deltas-requires
 penalty-deltas-requires c κs = let a = c .before .before .before .before .before .before .before .before .before .before .before .before .before .before .pre in (a .1 .0 .0, (a .1 .0 .1, (a .1 .1 .1, a .1 .1 .0)))
 
-enum-known-d : tie.Need-enum-known-d
-enum-known-d c = search needs
-
-enum-told-4 : tie.Need-enum-told-4
-enum-told-4 c = search needs
-
 returns-4 : tie.Need-returns-4
 unfolding rewardedBalance
 returns-4 c =
@@ -74,9 +38,6 @@ returns-4 c =
 
 shared-slice-read-all-applied : tie.Need-shared-slice-read-all-applied
 shared-slice-read-all-applied c = omega (arith, c .before .before .before .before .before .before .before .before .before .before .before .before .before .before .before .before .before .before .before .pre .1 .1 .1)
-
-all-applied-requires : tie.Need-all-applied-requires
-all-applied-requires c κs = search needs
 
 returns-5 : tie.Need-returns-5
 unfolding rewardedBalance
@@ -91,23 +52,23 @@ pub new-balance-spec : {M : Type 1} → statement M
 new-balance-spec =
     tie.close
     (tie.spec
-    entry-base-reward-requires
-    flag-deltas-requires
-    enum-known-a
-    enum-told
+    (λ c κs. search needs)
+    (λ c κs. search needs)
+    (λ c. search needs)
+    (λ c. search needs)
     returns
-    flag-deltas-requires-2
-    enum-known-b
-    enum-told-2
+    (λ c κs. search needs)
+    (λ c. search needs)
+    (λ c. search needs)
     returns-2
-    flag-deltas-requires-3
-    enum-known-c
-    enum-told-3
+    (λ c κs. search needs)
+    (λ c. search needs)
+    (λ c. search needs)
     returns-3
     penalty-deltas-requires
-    enum-known-d
-    enum-told-4
+    (λ c. search needs)
+    (λ c. search needs)
     returns-4
     shared-slice-read-all-applied
-    all-applied-requires
+    (λ c κs. search needs)
     returns-5)

@@ -6,14 +6,8 @@ use borrow.Author.Needs.{needs}
 use Rattle.rewards.proofs.get_inactivity_penalty_deltas.Statement.{statement}
 use Rattle.rewards.proofs.get_inactivity_penalty_deltas.Tie as tie
 
-penalty-tests-requires : tie.Need-penalty-tests-requires
-penalty-tests-requires c κs = search needs
-
 returns : tie.Need-returns
 returns c = tests-refused _ _ (c .before .penalty-tests .ensures) tells-deltas (c .if1 .taken)
-
-settings-under-requires : tie.Need-settings-under-requires
-settings-under-requires c κs = search needs
 
 current-epoch-requires : tie.Need-current-epoch-requires
 current-epoch-requires c κs =
@@ -23,9 +17,6 @@ previous-epoch-requires : tie.Need-previous-epoch-requires
 previous-epoch-requires c κs =
     let u = c .before in
     rw (u .settings-under .ensures) (penalty-passed _ _ _ (u .before .before .penalty-tests .ensures) (u .before .if1 .left) .settings .positive .«slots_per_epoch»)
-
-mul64-requires : tie.Need-mul64-requires
-mul64-requires c κs = search needs
 
 penalty-deltas-requires : tie.Need-penalty-deltas-requires
 penalty-deltas-requires c κs =
@@ -43,11 +34,11 @@ pub get-inactivity-penalty-deltas-spec : {M : Type 1} → statement M
 get-inactivity-penalty-deltas-spec =
     tie.close
     (tie.spec
-    penalty-tests-requires
+    (λ c κs. search needs)
     returns
-    settings-under-requires
+    (λ c κs. search needs)
     current-epoch-requires
     previous-epoch-requires
-    mul64-requires
+    (λ c κs. search needs)
     penalty-deltas-requires
     returns-2)

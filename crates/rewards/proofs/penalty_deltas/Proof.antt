@@ -5,41 +5,14 @@ use borrow.Author.Needs.{needs}
 use Rattle.rewards.proofs.penalty_deltas.Statement.{statement}
 use Rattle.rewards.proofs.penalty_deltas.Tie as tie
 
-entry-is-eligible-requires : tie.Need-entry-is-eligible-requires
-entry-is-eligible-requires c κs = search needs
-
 returns : tie.Need-returns
 returns c = search (needs, penalty-none)
-
-entry-is-participating-requires : tie.Need-entry-is-participating-requires
-entry-is-participating-requires c κs = search needs
 
 returns-2 : tie.Need-returns-2
 returns-2 c = search (needs, penalty-hit)
 
-shared-slice-read-mul64 : tie.Need-shared-slice-read-mul64
-shared-slice-read-mul64 c = search needs
-
-shared-slice-read-mul64-2 : tie.Need-shared-slice-read-mul64-2
-shared-slice-read-mul64-2 c = search needs
-
-mul64-requires : tie.Need-mul64-requires
-mul64-requires c κs = search needs
-
-enum-known-numerator : tie.Need-enum-known-numerator
-enum-known-numerator c = search needs
-
-enum-told : tie.Need-enum-told
-enum-told c = search needs
-
 returns-3 : tie.Need-returns-3
 returns-3 c = search (needs, chain, penalty-miss) depth 9
-
-enum-known-product : tie.Need-enum-known-product
-enum-known-product c = search needs
-
-enum-told-2 : tie.Need-enum-told-2
-enum-told-2 c = search needs
 
 returns-4 : tie.Need-returns-4
 returns-4 c = search (needs, chain, penalty-miss) depth 9
@@ -54,18 +27,18 @@ pub penalty-deltas-spec : {M : Type 1} → statement M
 penalty-deltas-spec =
     tie.close
     (tie.spec
-    entry-is-eligible-requires
+    (λ c κs. search needs)
     returns
-    entry-is-participating-requires
+    (λ c κs. search needs)
     returns-2
-    shared-slice-read-mul64
-    shared-slice-read-mul64-2
-    mul64-requires
-    enum-known-numerator
-    enum-told
+    (λ c. search needs)
+    (λ c. search needs)
+    (λ c κs. search needs)
+    (λ c. search needs)
+    (λ c. search needs)
     returns-3
-    enum-known-product
-    enum-told-2
+    (λ c. search needs)
+    (λ c. search needs)
     returns-4
     div-penalty
     returns-5)

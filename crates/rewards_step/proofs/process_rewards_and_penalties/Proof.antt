@@ -11,12 +11,6 @@ use borrow.Author.Needs.{needs}
 use Rattle.rewards_step.proofs.process_rewards_and_penalties.Statement.{statement}
 use Rattle.rewards_step.proofs.process_rewards_and_penalties.Tie as tie
 
-rewards-tests-requires : tie.Need-rewards-tests-requires
-rewards-tests-requires c κs = search needs
-
-same-length : tie.Need-same-length
-same-length c = search needs
-
 returns : tie.Need-returns
 returns c = closes-refused encode _ (c .before .rewards-tests .ensures) _ (c .if1 .taken)
 
@@ -34,9 +28,6 @@ copy-requires-2 c κs =
     let u = c .before .before .before .before .before .before .before .before .before .before in
     omega (arith, rewards-passed _ _ _ _ _ (u .before .before .rewards-tests .ensures) (u .before .if1 .left) .same)
 
-same-length-2 : tie.Need-same-length-2
-same-length-2 c = search needs
-
 returns-2 : tie.Need-returns-2
 returns-2 c =
     let k = c .before .before .before .before .before .before .before in
@@ -46,9 +37,6 @@ returns-2 c =
     let a = t .before .before .before .before .before .args in
     let s = settingsUnder (a .rules) in
     step-restored («process_rewards_and_penalties» s (s .«inactivity_penalty_quotient_altair») (a .state-slot) (a .finalized-epoch)) _ (t .before .rewards-tests .ensures) (t .if1 .left) (q .copy .ensures) (rw (u .settings-under .ensures) at (k .rewards-core .ensures)) (c .before .before .before .before .if2 .taken) (c .before .before .copy2 .ensures)
-
-same-length-3 : tie.Need-same-length-3
-same-length-3 c = search needs
 
 returns-3 : tie.Need-returns-3
 returns-3 c =
@@ -60,21 +48,18 @@ returns-3 c =
     let s = settingsUnder (a .rules) in
     step-done («process_rewards_and_penalties» s (s .«inactivity_penalty_quotient_altair») (a .state-slot) (a .finalized-epoch)) _ (t .before .rewards-tests .ensures) (t .if1 .left) (q .copy .ensures) (rw (u .settings-under .ensures) at (k .rewards-core .ensures)) (c .if2 .left)
 
-settings-under-requires : tie.Need-settings-under-requires
-settings-under-requires c κs = search needs
-
 pub process-rewards-and-penalties-spec : {M : Type 1} → statement M
 process-rewards-and-penalties-spec =
     tie.close
     (tie.spec
-    rewards-tests-requires
-    same-length
+    (λ c κs. search needs)
+    (λ c. search needs)
     returns
-    settings-under-requires
+    (λ c κs. search needs)
     copy-requires
     rewards-core-requires
     copy-requires-2
-    same-length-2
+    (λ c. search needs)
     returns-2
-    same-length-3
+    (λ c. search needs)
     returns-3)

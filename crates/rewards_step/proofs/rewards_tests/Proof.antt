@@ -11,15 +11,9 @@ returns : tie.Need-returns
 unfolding rewardsTests inOrder
 returns c = rw (ne-eqb _ _ (c .if1 .taken)) (simp and-false)
 
-finalized-registry-tests-requires : tie.Need-finalized-registry-tests-requires
-finalized-registry-tests-requires c κs = search needs
-
-rules-refusal-requires : tie.Need-rules-refusal-requires
-rules-refusal-requires c κs = search needs
-
 returns-2 : tie.Need-returns-2
 unfolding rewardsTests
 returns-2 c = rw (eq-eqb _ _ (c .before .before .before .if1 .left)) (simp and-true (rules-tested _ _ _ (c .rules-refusal .ensures) (c .before .finalized-registry-tests .ensures)))
 
 pub rewards-tests-spec : {M : Type 1} → statement M
-rewards-tests-spec = tie.close (tie.spec returns finalized-registry-tests-requires rules-refusal-requires returns-2)
+rewards-tests-spec = tie.close (tie.spec returns (λ c κs. search needs) (λ c κs. search needs) returns-2)

@@ -7,21 +7,9 @@ use borrow.Author.Needs.{needs}
 use Rattle.roots.proofs.epoch_lookup.Statement.{statement}
 use Rattle.roots.proofs.epoch_lookup.Tie as tie
 
-mul64-requires : tie.Need-mul64-requires
-mul64-requires c κs = search needs
-
-enum-known-slot : tie.Need-enum-known-slot
-enum-known-slot c = search needs
-
-enum-told : tie.Need-enum-told
-enum-told c = search needs
-
 returns : tie.Need-returns
 unfolding «get_block_root» «compute_start_slot_at_epoch»
 returns c = ap codeOf (sym (bind-refused _ (says-overflow (c .before .before .mul64 .ensures) (only-mul64 _ _) (c .enum-told .given .1) .0)))
-
-slot-lookup-requires : tie.Need-slot-lookup-requires
-slot-lookup-requires c κs = search needs
 
 returns-2 : tie.Need-returns-2
 unfolding «get_block_root» «compute_start_slot_at_epoch»
@@ -30,4 +18,4 @@ returns-2 c = c .slot-lookup .ensures ∙ ap codeOf (sym (bind-value _ (says-val
 pub epoch-lookup-spec : {M : Type 1} → statement M
 epoch-lookup-spec =
     tie.close
-    (tie.spec mul64-requires enum-known-slot enum-told returns slot-lookup-requires returns-2)
+    (tie.spec (λ c κs. search needs) (λ c. search needs) (λ c. search needs) returns (λ c κs. search needs) returns-2)

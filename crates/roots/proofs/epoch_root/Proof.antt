@@ -3,15 +3,9 @@ use borrow.Author.Needs.{needs}
 use Rattle.roots.proofs.epoch_root.Statement.{statement}
 use Rattle.roots.proofs.epoch_root.Tie as tie
 
-mul-slot-root : tie.Need-mul-slot-root
-mul-slot-root c = search needs
-
-slot-root-requires : tie.Need-slot-root-requires
-slot-root-requires c κs = search needs
-
 returns : tie.Need-returns
 unfolding «get_block_root» «compute_start_slot_at_epoch»
 returns c = c .slot-root .ensures
 
 pub epoch-root-spec : {M : Type 1} → statement M
-epoch-root-spec = tie.close (tie.spec mul-slot-root slot-root-requires returns)
+epoch-root-spec = tie.close (tie.spec (λ c. search needs) (λ c κs. search needs) returns)

@@ -6,18 +6,6 @@ use borrow.Author.Needs.{needs}
 use Rattle.roots.proofs.get_block_root.Statement.{statement}
 use Rattle.roots.proofs.get_block_root.Tie as tie
 
-get-block-root-refusal-requires : tie.Need-get-block-root-refusal-requires
-get-block-root-refusal-requires c κs = search needs
-
-sub-result : tie.Need-sub-result
-sub-result c = search needs
-
-part-result-start : tie.Need-part-result-start
-part-result-start c = search needs
-
-part-result-end : tie.Need-part-result-end
-part-result-end c = search needs
-
 returns : tie.Need-returns
 returns c = no-bytes _ _ (c .before .before .get-block-root-refusal .ensures) (c .before .if1 .taken)
 
@@ -35,10 +23,10 @@ pub get-block-root-spec : {M : Type 1} → statement M
 get-block-root-spec =
     tie.close
     (tie.spec
-    get-block-root-refusal-requires
-    sub-result
-    part-result-start
-    part-result-end
+    (λ c κs. search needs)
+    (λ c. search needs)
+    (λ c. search needs)
+    (λ c. search needs)
     returns
     epoch-root-requires
     returns-2)

@@ -3,18 +3,12 @@ use borrow.Author.Needs.{needs}
 use Rattle.roots.proofs.get_block_root_refusal.Statement.{statement}
 use Rattle.roots.proofs.get_block_root_refusal.Tie as tie
 
-root-refusal-requires : tie.Need-root-refusal-requires
-root-refusal-requires c κs = search needs
-
 returns : tie.Need-returns
 returns c = code-refused _ _ (c .before .root-refusal .ensures) (c .if1 .taken)
-
-epoch-lookup-requires : tie.Need-epoch-lookup-requires
-epoch-lookup-requires c κs = search needs
 
 returns-2 : tie.Need-returns-2
 returns-2 c = code-passed _ _ (c .before .before .root-refusal .ensures) (c .before .if1 .left) (c .epoch-lookup .ensures)
 
 pub get-block-root-refusal-spec : {M : Type 1} → statement M
 get-block-root-refusal-spec =
-    tie.close (tie.spec root-refusal-requires returns epoch-lookup-requires returns-2)
+    tie.close (tie.spec (λ c κs. search needs) returns (λ c κs. search needs) returns-2)

@@ -5,9 +5,6 @@ use borrow.Author.Needs.{needs}
 use Rattle.roots.proofs.roots_shaped.Statement.{statement}
 use Rattle.roots.proofs.roots_shaped.Tie as tie
 
-settings-shaped-requires : tie.Need-settings-shaped-requires
-settings-shaped-requires c κs = search needs
-
 returns : tie.Need-returns
 returns c = rw (fails (c .before .settings-shaped .ensures) (c .if1 .taken))
 
@@ -18,4 +15,4 @@ returns-2 : tie.Need-returns-2
 returns-2 c = rw (passes (c .before .settings-shaped .ensures) (c .if1 .left))
 
 pub roots-shaped-spec : {M : Type 1} → statement M
-roots-shaped-spec = tie.close (tie.spec settings-shaped-requires returns mul-result returns-2)
+roots-shaped-spec = tie.close (tie.spec (λ c κs. search needs) returns mul-result returns-2)

@@ -10,15 +10,6 @@ use Rattle.roots.proofs.slot_lookup.Tie as tie
 returns : tie.Need-returns
 returns c = ap codeOf (sym (late _ _ _ _ (c .if1 .taken)))
 
-add64-requires : tie.Need-add64-requires
-add64-requires c κs = search needs
-
-enum-known-last : tie.Need-enum-known-last
-enum-known-last c = search needs
-
-enum-told : tie.Need-enum-told
-enum-told c = search needs
-
 returns-2 : tie.Need-returns-2
 returns-2 c = ap codeOf (sym (over _ _ _ _ (c .before .before .before .if1 .left) (says-overflow (c .before .before .add64 .ensures) (only-add64 _ _) (c .enum-told .given .1) .0)))
 
@@ -31,4 +22,4 @@ returns-4 c = ap codeOf (sym (found _ _ _ _ (c .before .before .before .before .
 pub slot-lookup-spec : {M : Type 1} → statement M
 slot-lookup-spec =
     tie.close
-    (tie.spec returns add64-requires enum-known-last enum-told returns-2 returns-3 returns-4)
+    (tie.spec returns (λ c κs. search needs) (λ c. search needs) (λ c. search needs) returns-2 returns-3 returns-4)

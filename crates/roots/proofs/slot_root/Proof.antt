@@ -7,20 +7,11 @@ use borrow.Author.Needs.{needs}
 use Rattle.roots.proofs.slot_root.Statement.{statement}
 use Rattle.roots.proofs.slot_root.Tie as tie
 
-rem-a : tie.Need-rem-a
-rem-a c = search needs
-
 mul-a : tie.Need-mul-a
 mul-a c = omega (arith, mod-lt (c .before .args .slot) (c .before .pre .1))
 
 add-b : tie.Need-add-b
 add-b c = omega (arith, mod-lt (c .before .args .slot) (c .before .pre .1))
-
-sub-result : tie.Need-sub-result
-sub-result c = search needs
-
-part-result-start : tie.Need-part-result-start
-part-result-start c = search needs
 
 part-result-end : tie.Need-part-result-end
 part-result-end c = omega (arith, mod-lt (c .before .args .slot) (c .before .pre .1))
@@ -35,4 +26,4 @@ returns c =
 
 pub slot-root-spec : {M : Type 1} → statement M
 slot-root-spec =
-    tie.close (tie.spec rem-a mul-a add-b sub-result part-result-start part-result-end returns)
+    tie.close (tie.spec (λ c. search needs) mul-a add-b (λ c. search needs) (λ c. search needs) part-result-end returns)

@@ -9,19 +9,13 @@ returns : tie.Need-returns
 unfolding goodBellatrix
 returns c = rw (eq-eqb _ _ (c .if1 .taken))
 
-is-small-requires : tie.Need-is-small-requires
-is-small-requires c κs = search needs
-
 returns-2 : tie.Need-returns-2
 unfolding goodBellatrix
 returns-2 c = rw (ne-eqb _ _ (c .before .before .if1 .left), fails (c .before .is-small .ensures) (c .if2 .taken))
-
-is-small-requires-2 : tie.Need-is-small-requires-2
-is-small-requires-2 c κs = search needs
 
 returns-3 : tie.Need-returns-3
 unfolding goodBellatrix
 returns-3 c = rw (ne-eqb _ _ (c .before .before .before .if1 .left), passes (c .before .before .is-small .ensures) (c .before .if2 .left)) (c .is-small2 .ensures)
 
 pub good-bellatrix-spec : {M : Type 1} → statement M
-good-bellatrix-spec = tie.close (tie.spec returns is-small-requires returns-2 is-small-requires-2 returns-3)
+good-bellatrix-spec = tie.close (tie.spec returns (λ c κs. search needs) returns-2 (λ c κs. search needs) returns-3)

@@ -23,9 +23,6 @@ returns-3 c =
     let a = d .before .args in
     rw (le-leb (a .rules .fork) 1 (omega (arith, d .if1 .left)), ne-eqb (a .by-settings) 1 (λ e. omega (arith, e, c .before .if2 .left)), eq-eqb (a .rules .fork) 0 (omega (arith, c .if3 .taken)))
 
-good-bellatrix-requires : tie.Need-good-bellatrix-requires
-good-bellatrix-requires c κs = search needs
-
 returns-4 : tie.Need-returns-4
 unfolding rulesRefusal
 returns-4 c =
@@ -41,4 +38,4 @@ returns-5 c =
     rw (le-leb (a .rules .fork) 1 (omega (arith, d .before .before .if1 .left)), ne-eqb (a .by-settings) 1 (λ e. omega (arith, e, d .before .if2 .left)), ne-eqb (a .rules .fork) 0 (λ e. omega (arith, e, d .if3 .left)), passes (c .before .good-bellatrix .ensures) (c .if4 .left))
 
 pub rules-refusal-spec : {M : Type 1} → statement M
-rules-refusal-spec = tie.close (tie.spec returns returns-2 returns-3 good-bellatrix-requires returns-4 returns-5)
+rules-refusal-spec = tie.close (tie.spec returns returns-2 returns-3 (λ c κs. search needs) returns-4 returns-5)

@@ -8,26 +8,11 @@ use Rattle.selection.proofs.keep.Reads as reads
 use Rattle.selection.proofs.keep.Lts as lts
 use Rattle.selection.proofs.highest.Reads as highest-reads
 
-mul-if1 : tie.Need-mul-if1
-mul-if1 c = search needs
-
-slice-read-if1 : tie.Need-slice-read-if1
-slice-read-if1 c = search needs
-
 returns : tie.Need-returns
 returns c = kept-same _ (c .before .before .before .pre) (c .if1 .taken)
 
-mul-kept : tie.Need-mul-kept
-mul-kept c = search needs
-
-slice-write-kept : tie.Need-slice-write-kept
-slice-write-kept c = search needs
-
 highest-requires : tie.Need-highest-requires
 highest-requires c κs = simp length-set (omega (arith, c .before .before .before .before .pre .inside))
-
-same-length : tie.Need-same-length
-same-length c = search needs
 
 returns-2 : tie.Need-returns-2
 returns-2 c = kept-set (c .before .before .before .before .before .pre) (c .before .before .if1 .left) (c .highest .ensures)
@@ -36,11 +21,11 @@ pub keep-spec : {M : Type 1} → statement M
 keep-spec =
     tie.close
     (tie.spec
-    mul-if1
-    slice-read-if1
+    (λ c. search needs)
+    (λ c. search needs)
     returns
-    mul-kept
-    slice-write-kept
+    (λ c. search needs)
+    (λ c. search needs)
     highest-requires
-    same-length
+    (λ c. search needs)
     returns-2)

@@ -42,12 +42,6 @@ mul-at-most-next c = omega arith
 slice-read-at-most-next : tie.Need-slice-read-at-most-next Inv-loop μ-loop
 slice-read-at-most-next c = omega arith
 
-at-most-next-requires : tie.Need-at-most-next-requires Inv-loop μ-loop
-at-most-next-requires c κs = search needs
-
-count-under-requires : tie.Need-count-under-requires Inv-loop μ-loop
-count-under-requires c κs = search needs
-
 sub-t18 : tie.Need-sub-t18 Inv-loop μ-loop
 sub-t18 c = let b = c .before .before in omega (arith, c .count-under .ensures, filter-le (under (b .at-most-next .result)) (b .before .before .before .loop .first))
 
@@ -72,8 +66,8 @@ pick-spec =
     loop-again
     mul-at-most-next
     slice-read-at-most-next
-    at-most-next-requires
-    count-under-requires
+    (λ c κs. search needs)
+    (λ c κs. search needs)
     sub-t18
     same-length
     returns)

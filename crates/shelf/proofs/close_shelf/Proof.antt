@@ -7,39 +7,12 @@ use Rattle.shelf.specs.Lent.{shelfOf}
 use Rattle.shelf.proofs.close_shelf.Statement.{statement}
 use Rattle.shelf.proofs.close_shelf.Tie as tie
 
-shelf-shaped-requires : tie.Need-shelf-shaped-requires
-shelf-shaped-requires c κs = search needs
-
-same-length : tie.Need-same-length
-same-length c = search needs
-
-same-length-2 : tie.Need-same-length-2
-same-length-2 c = search needs
-
-same-length-3 : tie.Need-same-length-3
-same-length-3 c = search needs
-
-same-length-4 : tie.Need-same-length-4
-same-length-4 c = search needs
-
 returns : tie.Need-returns
 unfolding shelfRefusal answersAfter closingAfter
 returns c = let f = fails (c .before .shelf-shaped .ensures) (c .if1 .taken) in (rw f, (rw f, (rw f, (record { long = refl; unwritten = λ _. refl }, record { long = refl; unwritten = λ _. refl }))))
 
 close-files-requires : tie.Need-close-files-requires
 close-files-requires c κs = passes (c .before .before .before .before .before .shelf-shaped .ensures) (c .before .before .before .before .if1 .left)
-
-same-length-5 : tie.Need-same-length-5
-same-length-5 c = search needs
-
-same-length-6 : tie.Need-same-length-6
-same-length-6 c = search needs
-
-same-length-7 : tie.Need-same-length-7
-same-length-7 c = search needs
-
-same-length-8 : tie.Need-same-length-8
-same-length-8 c = search needs
 
 returns-2 : tie.Need-returns-2
 unfolding shelfRefusal answersAfter closingAfter
@@ -53,15 +26,15 @@ pub close-shelf-spec : {M : Type 1} → statement M
 close-shelf-spec =
     tie.close
     (tie.spec
-    shelf-shaped-requires
-    same-length
-    same-length-2
-    same-length-3
-    same-length-4
+    (λ c κs. search needs)
+    (λ c. search needs)
+    (λ c. search needs)
+    (λ c. search needs)
+    (λ c. search needs)
     returns
     close-files-requires
-    same-length-5
-    same-length-6
-    same-length-7
-    same-length-8
+    (λ c. search needs)
+    (λ c. search needs)
+    (λ c. search needs)
+    (λ c. search needs)
     returns-2)

@@ -8,9 +8,6 @@ use Rattle.refusals.proofs.All.{fails, passes}
 use Rattle.shelf.proofs.shelf_shaped.Statement.{statement}
 use Rattle.shelf.proofs.shelf_shaped.Tie as tie
 
-sums-to-requires : tie.Need-sums-to-requires
-sums-to-requires c κs = search needs
-
 returns : tie.Need-returns
 unfolding shelfShaped
 returns c = rw (fails (c .before .sums-to .ensures) (c .if1 .taken))
@@ -19,15 +16,9 @@ returns-2 : tie.Need-returns-2
 unfolding shelfShaped
 returns-2 c = rw (ne-eqb _ _ (c .if2 .taken), and-false)
 
-holds-longest-requires : tie.Need-holds-longest-requires
-holds-longest-requires c κs = search needs
-
 returns-3 : tie.Need-returns-3
 unfolding shelfShaped
 returns-3 c = rw (fails (c .before .holds-longest .ensures) (c .if3 .taken), and-false)
-
-holds-longest-requires-2 : tie.Need-holds-longest-requires-2
-holds-longest-requires-2 c κs = search needs
 
 returns-4 : tie.Need-returns-4
 unfolding shelfShaped
@@ -55,12 +46,12 @@ pub shelf-shaped-spec : {M : Type 1} → statement M
 shelf-shaped-spec =
     tie.close
     (tie.spec
-    sums-to-requires
+    (λ c κs. search needs)
     returns
     returns-2
-    holds-longest-requires
+    (λ c κs. search needs)
     returns-3
-    holds-longest-requires-2
+    (λ c κs. search needs)
     returns-4
     returns-5
     returns-6)

@@ -31,9 +31,6 @@ counts c =
       slashings = ap (λ (l : ℕ). 10 * c .read-counts .result .validators + l) (e .2);
     }
 
-on-shelf-requires : tie.Need-on-shelf-requires
-on-shelf-requires c κs = search needs
-
 returns : tie.Need-returns
 returns c =
     let s = c .before .before .before .before .before .before in
@@ -56,9 +53,6 @@ file-tests-requires : tie.Need-file-tests-requires
 unfolding contentsOf
 file-tests-requires c κs = let k = counts (c .before .before) in (record { counts = k; room = omega (arith, counts-long k, k, c .before .before .before .before .before .before .before .before .before .pre .1 .0) }, c .before .read-settings .ensures)
 
-same-length : tie.Need-same-length
-same-length c = search needs
-
 returns-2 : tie.Need-returns-2
 returns-2 c =
     let s = c .before .before .before .before .before .before .before .before .before .before .before in
@@ -80,15 +74,6 @@ close-passed-requires c κs =
     let k = counts (c .before .before .before .before .before .before .before) in
     (record { counts = k; room = omega (arith, counts-long k, k, s .pre .1 .0) }, ((c .before .before .before .before .before .before .read-settings .ensures, passed _ (c .before .before .before .before .file-tests .ensures) (c .before .before .before .if2 .left)), (length-take-le _ (s .args .closing-numbers .now) (omega (arith, counts-long k, k, s .pre .1 .1)), s .pre .0)))
 
-same-length-2 : tie.Need-same-length-2
-same-length-2 c = search needs
-
-same-length-3 : tie.Need-same-length-3
-same-length-3 c = search needs
-
-same-length-4 : tie.Need-same-length-4
-same-length-4 c = search needs
-
 returns-3 : tie.Need-returns-3
 returns-3 c = let f = c .before .before .before .before .before .before .close-passed .ensures in (f .number, f .part)
 
@@ -96,19 +81,19 @@ pub close-file-spec : {M : Type 1} → statement M
 close-file-spec =
     tie.close
     (tie.spec
-    on-shelf-requires
+    (λ c κs. search needs)
     returns
     read-counts-requires
     mul-a
     add-b
     read-settings-requires
     file-tests-requires
-    same-length
+    (λ c. search needs)
     returns-2
     slice-relend-prefix-close-passed
     slice-aggregate-close-passed
     close-passed-requires
-    same-length-2
-    same-length-3
-    same-length-4
+    (λ c. search needs)
+    (λ c. search needs)
+    (λ c. search needs)
     returns-3)

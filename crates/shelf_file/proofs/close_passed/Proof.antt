@@ -35,17 +35,8 @@ within c = omega (arith, start c .pre .0 .room, c .before .before .numbers .give
 behind : (c : tie.After-slashings-reset-core) → let t = start (c .before .before .before .before .before .before .before .before .before .before) in let xs = c .before .before .before .before .before .before .before .before .before .before .before .before .before .read-opening .last .1 .1 .1 .0 in let ys = c .slashings-reset-core .last .1 .1 .0 in numbersBehind (t .args .a) (t .args .b) (take (t .args .a) xs ++ (ys ++ drop (t .args .b - t .args .a) (drop (t .args .a) xs))) ≡ ys
 behind c = behind-put _ _ _ _ (ordered (start (c .before .before .before .before .before .before .before .before .before .before))) (within (c .before .before .before .before .before .before .before .before .before .before)) (c .slashings-reset-core .kept .1 .1 .0)
 
-settings-under-requires : tie.Need-settings-under-requires
-settings-under-requires c κs = search needs
-
 read-finality-requires : tie.Need-read-finality-requires
 read-finality-requires c κs = omega (arith, counts-long (c .before .before .before .before .before .before .pre .0 .counts))
-
-read-opening-requires : tie.Need-read-opening-requires
-read-opening-requires c κs = search needs
-
-roots-of-requires : tie.Need-roots-of-requires
-roots-of-requires c κs = search needs
 
 close-opening-requires : tie.Need-close-opening-requires
 close-opening-requires c κs =
@@ -55,15 +46,6 @@ close-opening-requires c κs =
 
 put-bytes-requires : tie.Need-put-bytes-requires
 put-bytes-requires c κs = let t = c .before .before .before .before .before .before .before .before .before .before .before .before .before .before .before .before .before .before .before .before in omega (arith, t .pre .1 .1 .1)
-
-same-length : tie.Need-same-length
-same-length c = search needs
-
-same-length-2 : tie.Need-same-length-2
-same-length-2 c = search needs
-
-same-length-3 : tie.Need-same-length-3
-same-length-3 c = search needs
 
 returns : tie.Need-returns
 returns c =
@@ -100,15 +82,6 @@ put-closed-requires c κs =
     let n : length (numbersBehind (t .args .a) (t .args .b) (c .before .before .before .before .before .before .before .before .before .before .before .before .before .before .before .before .before .before .read-opening .last .1 .1 .1 .0)) ≡ slashingCountOf (t .args .file .now) = ap length (c .before .before .before .before .before .before .before .before .before .before .before .before .before .before .before .before .before .before .read-opening .ensures .slashings) ∙ length-slashings (t .args .file .now) in
     ((ordered t, omega (arith, within j, c .before .before .before .before .numbers2 .given)), sized (t .args .rules .fork) (t .args .rules .bellatrix) (t .args .file .now) (t .pre .1 .0 .1) (t .pre .1 .0 .0) (j .roots-of .ensures) (c .before .before .before .before .before .before .before .before .before .before .before .closing .given ∙ t .pre .1 .1 .0 ∙ p .counts .registry) (ap length (behind (c .before .before .before .before .before)) ∙ c .before .before .before .before .before .slashings-reset-core .kept .1 .1 .0 ∙ n) (t .pre .1 .1 .1))
 
-same-length-4 : tie.Need-same-length-4
-same-length-4 c = search needs
-
-same-length-5 : tie.Need-same-length-5
-same-length-5 c = search needs
-
-same-length-6 : tie.Need-same-length-6
-same-length-6 c = search needs
-
 returns-2 : tie.Need-returns-2
 returns-2 c =
     let j = c .before .before .before .before .before .before .before .before .before .before .before .before .before .before .before .before .before .before in
@@ -121,15 +94,15 @@ pub close-passed-spec : {M : Type 1} → statement M
 close-passed-spec =
     tie.close
     (tie.spec
-    settings-under-requires
+    (λ c κs. search needs)
     read-finality-requires
-    read-opening-requires
-    roots-of-requires
+    (λ c κs. search needs)
+    (λ c κs. search needs)
     close-opening-requires
     put-bytes-requires
-    same-length
-    same-length-2
-    same-length-3
+    (λ c. search needs)
+    (λ c. search needs)
+    (λ c. search needs)
     returns
     mul-slashings-reset-core
     sub-slashings-reset-core
@@ -137,7 +110,7 @@ close-passed-spec =
     part-slashings-reset-core-end
     slashings-reset-core-requires
     put-closed-requires
-    same-length-4
-    same-length-5
-    same-length-6
+    (λ c. search needs)
+    (λ c. search needs)
+    (λ c. search needs)
     returns-2)

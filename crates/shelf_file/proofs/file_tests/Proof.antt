@@ -13,24 +13,6 @@ use Rattle.shelf_file.proofs.file_tests.Tie as tie
 slice-aggregate-read-tests : tie.Need-slice-aggregate-read-tests
 slice-aggregate-read-tests c = omega (arith, length-take (c .before .before .before .args .a) (c .before .before .before .args .numbers .now))
 
-mul-read-tests : tie.Need-mul-read-tests
-mul-read-tests c = search needs
-
-sub-read-tests : tie.Need-sub-read-tests
-sub-read-tests c = search needs
-
-part-read-tests-start : tie.Need-part-read-tests-start
-part-read-tests-start c = search needs
-
-part-read-tests-end : tie.Need-part-read-tests-end
-part-read-tests-end c = search needs
-
-read-tests-requires : tie.Need-read-tests-requires
-read-tests-requires c κs = search needs
-
-rules-refusal-requires : tie.Need-rules-refusal-requires
-rules-refusal-requires c κs = search needs
-
 returns : tie.Need-returns
 returns c =
     let s = c .before .before .before .before .before .before in
@@ -46,10 +28,10 @@ file-tests-spec =
     tie.close
     (tie.spec
     slice-aggregate-read-tests
-    mul-read-tests
-    sub-read-tests
-    part-read-tests-start
-    part-read-tests-end
-    read-tests-requires
-    rules-refusal-requires
+    (λ c. search needs)
+    (λ c. search needs)
+    (λ c. search needs)
+    (λ c. search needs)
+    (λ c κs. search needs)
+    (λ c κs. search needs)
     returns)

@@ -13,9 +13,6 @@ first-or-second (suc zero) l m f g = f refl
 first-or-second (suc (suc zero)) l m f g = g refl
 first-or-second (suc (suc (suc k))) l m f g = absurd (omega arith)
 
-good-header-requires : tie.Need-good-header-requires
-good-header-requires c κs = search needs
-
 returns : tie.Need-returns
 returns c = rw (fails (c .before .good-header .ensures) (c .if1 .taken))
 
@@ -33,4 +30,4 @@ returns-2 c =
     (λ e. rw (good, sym number, e))
 
 pub on-shelf-spec : {M : Type 1} → statement M
-on-shelf-spec = tie.close (tie.spec good-header-requires returns read-number-requires returns-2)
+on-shelf-spec = tie.close (tie.spec (λ c κs. search needs) returns read-number-requires returns-2)

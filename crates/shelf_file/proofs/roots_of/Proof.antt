@@ -10,9 +10,6 @@ mul-from c = let s : tie.Start = search needs in omega (arith, s .pre, counts-lo
 add-from : tie.Need-add-from
 add-from c = let s : tie.Start = search needs in omega (arith, s .pre, counts-long (s .pre), s .good)
 
-sub-to : tie.Need-sub-to
-sub-to c = search needs
-
 mul-to : tie.Need-mul-to
 mul-to c = let s : tie.Start = search needs in omega (arith, s .pre, counts-long (s .pre), s .good)
 
@@ -25,9 +22,6 @@ sub-result c = let s : tie.Start = search needs in omega (arith, s .pre, counts-
 part-result-start : tie.Need-part-result-start
 part-result-start c = let s : tie.Start = search needs in omega (arith, s .pre, counts-long (s .pre), s .good)
 
-part-result-end : tie.Need-part-result-end
-part-result-end c = search needs
-
 returns : tie.Need-returns
 returns c = let s : tie.Start = search needs in roots-part (s .pre)
 
@@ -37,10 +31,10 @@ roots-of-spec =
     (tie.spec
     mul-from
     add-from
-    sub-to
+    (λ c. search needs)
     mul-to
     sub-to-2
     sub-result
     part-result-start
-    part-result-end
+    (λ c. search needs)
     returns)

@@ -8,17 +8,8 @@ use Rattle.slashings.proofs.Passed.{slashings-passed}
 use Rattle.slashings.proofs.process_slashings.Statement.{statement}
 use Rattle.slashings.proofs.process_slashings.Tie as tie
 
-slashings-tests-requires : tie.Need-slashings-tests-requires
-slashings-tests-requires c κs = search needs
-
-same-length : tie.Need-same-length
-same-length c = search needs
-
 returns : tie.Need-returns
 returns c = closes-refused encode _ (c .before .slashings-tests .ensures) _ (c .if1 .taken)
-
-settings-under-requires : tie.Need-settings-under-requires
-settings-under-requires c κs = search needs
 
 copy-requires : tie.Need-copy-requires
 copy-requires c κs = slashings-passed _ _ _ _ _ (c .before .before .before .slashings-tests .ensures) (c .before .before .if1 .left) .same
@@ -34,9 +25,6 @@ copy-requires-2 c κs =
     let u = c .before .before .before .before .before .before .before .before .before .before in
     omega (arith, slashings-passed _ _ _ _ _ (u .before .before .slashings-tests .ensures) (u .before .if1 .left) .same)
 
-same-length-2 : tie.Need-same-length-2
-same-length-2 c = search needs
-
 returns-2 : tie.Need-returns-2
 returns-2 c =
     let k = c .before .before .before .before .before .before .before in
@@ -46,9 +34,6 @@ returns-2 c =
     let a = t .before .before .before .before .before .before .args in
     let s = settingsUnder (a .rules) in
     step-restored («process_slashings» s (s .«proportional_slashing_multiplier_altair») (a .state-slot) (a .slashings .now)) _ (t .before .slashings-tests .ensures) (t .if1 .left) (q .copy .ensures) (rw (u .settings-under .ensures) at (k .slashings-core .ensures)) (c .before .before .before .before .if2 .taken) (c .before .before .copy2 .ensures)
-
-same-length-3 : tie.Need-same-length-3
-same-length-3 c = search needs
 
 returns-3 : tie.Need-returns-3
 returns-3 c =
@@ -64,14 +49,14 @@ pub process-slashings-spec : {M : Type 1} → statement M
 process-slashings-spec =
     tie.close
     (tie.spec
-    slashings-tests-requires
-    same-length
+    (λ c κs. search needs)
+    (λ c. search needs)
     returns
-    settings-under-requires
+    (λ c κs. search needs)
     copy-requires
     slashings-core-requires
     copy-requires-2
-    same-length-2
+    (λ c. search needs)
     returns-2
-    same-length-3
+    (λ c. search needs)
     returns-3)

@@ -4,12 +4,6 @@ use Rattle.slashings.proofs.Passed.{reset-passed}
 use Rattle.slashings.proofs.process_slashings_reset.Statement.{statement}
 use Rattle.slashings.proofs.process_slashings_reset.Tie as tie
 
-slashings-reset-tests-requires : tie.Need-slashings-reset-tests-requires
-slashings-reset-tests-requires c κs = search needs
-
-same-length : tie.Need-same-length
-same-length c = search needs
-
 returns : tie.Need-returns
 returns c = closes-refused _ _ (c .before .slashings-reset-tests .ensures) _ (c .if1 .taken)
 
@@ -21,9 +15,6 @@ slashings-reset-core-requires c κs =
     let p = reset-passed _ _ _ _ (c .before .before .before .before .before .before .slashings-reset-tests .ensures) (c .before .before .before .before .before .if1 .left) in
     (rw (c .before .before .before .copy .ensures) (p .long), p .settings)
 
-same-length-2 : tie.Need-same-length-2
-same-length-2 c = search needs
-
 returns-2 : tie.Need-returns-2
 returns-2 c = closes-plain _ _ (c .before .before .before .before .before .before .before .before .before .slashings-reset-tests .ensures) _ (c .before .before .before .before .before .before .before .before .if1 .left) (rw (c .before .before .before .before .before .before .copy .ensures) at (c .before .before .slashings-reset-core .ensures))
 
@@ -31,10 +22,10 @@ pub process-slashings-reset-spec : {M : Type 1} → statement M
 process-slashings-reset-spec =
     tie.close
     (tie.spec
-    slashings-reset-tests-requires
-    same-length
+    (λ c κs. search needs)
+    (λ c. search needs)
     returns
     copy-requires
     slashings-reset-core-requires
-    same-length-2
+    (λ c. search needs)
     returns-2)

@@ -11,33 +11,9 @@ use Rattle.slashings.proofs.slashings_core.Tie as tie
 current-epoch-requires : tie.Need-current-epoch-requires
 current-epoch-requires c κs = good-settings (c .before .before .args .s) (c .before .before .pre .1) .positive .«slots_per_epoch»
 
-total-active-requires : tie.Need-total-active-requires
-total-active-requires c κs = search needs
-
-enum-known-total : tie.Need-enum-known-total
-enum-known-total c = search needs
-
-enum-told : tie.Need-enum-told
-enum-told c = search needs
-
-same-length : tie.Need-same-length
-same-length c = search needs
-
 returns : tie.Need-returns
 unfolding «get_total_active_balance»
 returns c = rw (slashings-by _ _ _ _ _, ← c .before .before .before .before .current-epoch .ensures) (ran-over _ (only-total _ _) (c .before .before .total-active .ensures) (c .enum-told .given .1))
-
-adjusted-balance-requires : tie.Need-adjusted-balance-requires
-adjusted-balance-requires c κs = search needs
-
-enum-known-adjusted : tie.Need-enum-known-adjusted
-enum-known-adjusted c = search needs
-
-enum-told-2 : tie.Need-enum-told-2
-enum-told-2 c = search needs
-
-same-length-2 : tie.Need-same-length-2
-same-length-2 c = search needs
 
 returns-2 : tie.Need-returns-2
 unfolding «get_total_active_balance»
@@ -55,9 +31,6 @@ slash-all-requires c κs =
     let p = good-settings (a .args .s) (a .pre .1) .positive .«effective_balance_increment» in
     (a .pre .0, p, total-positive _ _ (says-value (g .total-active .ensures) (h .total .given .1)) p)
 
-same-length-3 : tie.Need-same-length-3
-same-length-3 c = search needs
-
 returns-3 : tie.Need-returns-3
 unfolding «get_total_active_balance»
 returns-3 c =
@@ -73,16 +46,16 @@ slashings-core-spec =
     tie.close
     (tie.spec
     current-epoch-requires
-    total-active-requires
-    enum-known-total
-    enum-told
-    same-length
+    (λ c κs. search needs)
+    (λ c. search needs)
+    (λ c. search needs)
+    (λ c. search needs)
     returns
-    adjusted-balance-requires
-    enum-known-adjusted
-    enum-told-2
-    same-length-2
+    (λ c κs. search needs)
+    (λ c. search needs)
+    (λ c. search needs)
+    (λ c. search needs)
     returns-2
     slash-all-requires
-    same-length-3
+    (λ c. search needs)
     returns-3)

@@ -22,9 +22,6 @@ mul-slashings c = scaled-fits _ (c .before .before .before .args .s .«epochs_pe
 slice-write-slashings : tie.Need-slice-write-slashings
 slice-write-slashings c = rw (c .before .before .before .pre .0) (mod-lt _ (settings-shaped (c .before .before .before .args .s) (c .before .before .before .pre .1 .shaped) .slashings .least))
 
-same-length : tie.Need-same-length
-same-length c = search needs
-
 returns : tie.Need-returns
 unfolding resetSlashings
 returns c = rw (c .before .current-epoch .ensures)
@@ -38,5 +35,5 @@ slashings-reset-core-spec =
     rem-at
     mul-slashings
     slice-write-slashings
-    same-length
+    (λ c. search needs)
     returns)

@@ -5,9 +5,6 @@ use Rattle.refusals.proofs.All.{fails, passes}
 use Rattle.slashings.proofs.slashings_reset_tests.Statement.{statement}
 use Rattle.slashings.proofs.slashings_reset_tests.Tie as tie
 
-settings-shaped-requires : tie.Need-settings-shaped-requires
-settings-shaped-requires c κs = search needs
-
 returns : tie.Need-returns
 unfolding slashingsResetTests inOrder
 returns c = rw (fails (c .before .settings-shaped .ensures) (c .if1 .taken))
@@ -20,15 +17,9 @@ returns-3 : tie.Need-returns-3
 unfolding slashingsResetTests inOrder
 returns-3 c = rw (passes (c .before .before .before .before .settings-shaped .ensures) (c .before .before .before .if1 .left), eq-eqb _ _ (c .before .if2 .left), ne-eqb _ _ (c .if3 .taken))
 
-good-settings-requires : tie.Need-good-settings-requires
-good-settings-requires c κs = search needs
-
 returns-4 : tie.Need-returns-4
 unfolding slashingsResetTests inOrder
 returns-4 c = rw (passes (c .before .before .before .before .before .before .settings-shaped .ensures) (c .before .before .before .before .before .if1 .left), eq-eqb _ _ (c .before .before .before .if2 .left), eq-eqb _ _ (c .before .before .if3 .left), fails (c .before .good-settings .ensures) (c .if4 .taken))
-
-is-small-requires : tie.Need-is-small-requires
-is-small-requires c κs = search needs
 
 returns-5 : tie.Need-returns-5
 unfolding slashingsResetTests inOrder
@@ -42,12 +33,12 @@ pub slashings-reset-tests-spec : {M : Type 1} → statement M
 slashings-reset-tests-spec =
     tie.close
     (tie.spec
-    settings-shaped-requires
+    (λ c κs. search needs)
     returns
     returns-2
     returns-3
-    good-settings-requires
+    (λ c κs. search needs)
     returns-4
-    is-small-requires
+    (λ c κs. search needs)
     returns-5
     returns-6)

@@ -16,16 +16,10 @@ returns-2 : tie.Need-returns-2
 unfolding slashingsTests inOrder
 returns-2 c = rw (ne-eqb _ _ (c .if2 .taken)) (simp and-false)
 
-slot-registry-tests-requires : tie.Need-slot-registry-tests-requires
-slot-registry-tests-requires c κs = search needs
-
-rules-refusal-requires : tie.Need-rules-refusal-requires
-rules-refusal-requires c κs = search needs
-
 returns-3 : tie.Need-returns-3
 unfolding slashingsTests slotRegistryTests
 returns-3 c = rw (eq-eqb _ _ (c .before .before .before .if1 .left), eq-eqb _ _ (c .before .before .if2 .left)) (simp and-true (rules-tested _ _ _ (c .rules-refusal .ensures) (c .before .slot-registry-tests .ensures)))
 
 pub slashings-tests-spec : {M : Type 1} → statement M
 slashings-tests-spec =
-    tie.close (tie.spec returns returns-2 slot-registry-tests-requires rules-refusal-requires returns-3)
+    tie.close (tie.spec returns returns-2 (λ c κs. search needs) (λ c κs. search needs) returns-3)

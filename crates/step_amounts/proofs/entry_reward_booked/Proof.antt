@@ -7,36 +7,9 @@ use borrow.Author.Needs.{needs}
 use Rattle.step_amounts.proofs.entry_reward_booked.Statement.{statement}
 use Rattle.step_amounts.proofs.entry_reward_booked.Tie as tie
 
-four-pairs-requires : tie.Need-four-pairs-requires
-four-pairs-requires c κs = search needs
-
-enum-known-pairs : tie.Need-enum-known-pairs
-enum-known-pairs c = search needs
-
-enum-told : tie.Need-enum-told
-enum-told c = search needs
-
-same-length : tie.Need-same-length
-same-length c = search needs
-
 returns : tie.Need-returns
 returns c =
     four-refused _ _ _ _ _ _ _ _ (c .before .before .before .before .before .before .pre .1 .1 .1 .0) (answers-overflow tells-pairs (c .before .before .four-pairs .ensures) (only-four _ _ _ _ _ _ _ _) (c .enum-told .given .1) .0)
-
-slice-read-before : tie.Need-slice-read-before
-slice-read-before c = search needs
-
-all-applied-requires : tie.Need-all-applied-requires
-all-applied-requires c κs = search needs
-
-enum-known-balance : tie.Need-enum-known-balance
-enum-known-balance c = search needs
-
-enum-told-2 : tie.Need-enum-told-2
-enum-told-2 c = search needs
-
-same-length-2 : tie.Need-same-length-2
-same-length-2 c = search needs
 
 returns-2 : tie.Need-returns-2
 returns-2 c =
@@ -50,12 +23,6 @@ slice-write-entry : tie.Need-slice-write-entry
 slice-write-entry c =
     omega (arith, c .before .before .before .before .before .before .before .before .before .before .before .before .before .before .before .before .before .before .before .before .pre .1 .1 .1 .0)
 
-same-length-3 : tie.Need-same-length-3
-same-length-3 c = search needs
-
-same-length-4 : tie.Need-same-length-4
-same-length-4 c = search needs
-
 returns-3 : tie.Need-returns-3
 returns-3 c =
     entry-booked _ _ _ _ _ _ _ _ (c .before .before .before .before .before .before .before .before .before .before .before .before .before .before .before .before .before .before .before .before .pre .1 .1 .1 .0) (answers-value tells-pairs (c .before .before .before .before .before .before .before .before .before .before .before .before .before .before .before .before .four-pairs .ensures) (c .before .before .before .before .before .before .before .before .before .before .before .before .before .before .pairs .given .1)) (says-value (c .before .before .before .before .before .before .before .all-applied .ensures) (c .before .before .before .before .before .balance .given .1)) (c .before .before .put-amounts .ensures)
@@ -64,19 +31,19 @@ pub entry-reward-booked-spec : {M : Type 1} → statement M
 entry-reward-booked-spec =
     tie.close
     (tie.spec
-    four-pairs-requires
-    enum-known-pairs
-    enum-told
-    same-length
+    (λ c κs. search needs)
+    (λ c. search needs)
+    (λ c. search needs)
+    (λ c. search needs)
     returns
-    slice-read-before
-    all-applied-requires
-    enum-known-balance
-    enum-told-2
-    same-length-2
+    (λ c. search needs)
+    (λ c κs. search needs)
+    (λ c. search needs)
+    (λ c. search needs)
+    (λ c. search needs)
     returns-2
     put-amounts-requires
     slice-write-entry
-    same-length-3
-    same-length-4
+    (λ c. search needs)
+    (λ c. search needs)
     returns-3)

@@ -9,12 +9,6 @@ use Rattle.store.proofs.Passed.{addition-passed}
 use Rattle.store.proofs.add_rules.Statement.{statement}
 use Rattle.store.proofs.add_rules.Tie as tie
 
-addition-tests-requires : tie.Need-addition-tests-requires
-addition-tests-requires c κs = search needs
-
-same-length : tie.Need-same-length
-same-length c = search needs
-
 returns : tie.Need-returns
 returns c =
     let a = c .before .before .before .before .args in
@@ -35,23 +29,11 @@ add-b c = let p = space c in omega arith
 mul-put-entry : tie.Need-mul-put-entry
 mul-put-entry c = let p = space c in omega arith
 
-sub-put-entry : tie.Need-sub-put-entry
-sub-put-entry c = search needs
-
-part-put-entry-start : tie.Need-part-put-entry-start
-part-put-entry-start c = search needs
-
 part-put-entry-end : tie.Need-part-put-entry-end
 part-put-entry-end c = let p = space c in omega arith
 
-put-entry-requires : tie.Need-put-entry-requires
-put-entry-requires c κs = search needs
-
 add-t17 : tie.Need-add-t17
 add-t17 c = let p = space (c .before .before .before .before) in omega arith
-
-same-length-2 : tie.Need-same-length-2
-same-length-2 c = search needs
 
 returns-2 : tie.Need-returns-2
 returns-2 c =
@@ -63,16 +45,16 @@ pub add-rules-spec : {M : Type 1} → statement M
 add-rules-spec =
     tie.close
     (tie.spec
-    addition-tests-requires
-    same-length
+    (λ c κs. search needs)
+    (λ c. search needs)
     returns
     mul-a
     add-b
     mul-put-entry
-    sub-put-entry
-    part-put-entry-start
+    (λ c. search needs)
+    (λ c. search needs)
     part-put-entry-end
-    put-entry-requires
+    (λ c κs. search needs)
     add-t17
-    same-length-2
+    (λ c. search needs)
     returns-2)

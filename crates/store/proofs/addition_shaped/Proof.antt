@@ -6,9 +6,6 @@ use Rattle.store.proofs.Passed.{store-shaped}
 use Rattle.store.proofs.addition_shaped.Statement.{statement}
 use Rattle.store.proofs.addition_shaped.Tie as tie
 
-store-shaped-requires : tie.Need-store-shaped-requires
-store-shaped-requires c κs = search needs
-
 returns : tie.Need-returns
 unfolding additionShaped
 returns c = rw (fails (c .before .store-shaped .ensures) (c .if1 .taken))
@@ -16,9 +13,6 @@ returns c = rw (fails (c .before .store-shaped .ensures) (c .if1 .taken))
 returns-2 : tie.Need-returns-2
 unfolding additionShaped
 returns-2 c = rw (passes (c .before .before .store-shaped .ensures) (c .before .if1 .left), le-ltb _ _ (c .if2 .taken))
-
-rules-shaped-requires : tie.Need-rules-shaped-requires
-rules-shaped-requires c κs = search needs
 
 returns-3 : tie.Need-returns-3
 unfolding additionShaped
@@ -42,10 +36,10 @@ pub addition-shaped-spec : {M : Type 1} → statement M
 addition-shaped-spec =
     tie.close
     (tie.spec
-    store-shaped-requires
+    (λ c κs. search needs)
     returns
     returns-2
-    rules-shaped-requires
+    (λ c κs. search needs)
     returns-3
     keeps-last-requires
     returns-4)

@@ -7,9 +7,6 @@ use Rattle.store.proofs.Passed.{store-shaped, addition-shaped}
 use Rattle.store.proofs.addition_tests.Statement.{statement}
 use Rattle.store.proofs.addition_tests.Tie as tie
 
-addition-shaped-requires : tie.Need-addition-shaped-requires
-addition-shaped-requires c κs = search needs
-
 returns : tie.Need-returns
 unfolding additionTests afterTests bind inOrder
 returns c = rw (fails (c .before .addition-shaped .ensures) (c .if1 .taken))
@@ -23,9 +20,6 @@ unfolding additionTests afterTests bind inOrder
 returns-2 c =
     let d = c .before .before in
     rw (passes (d .before .addition-shaped .ensures) (d .if1 .left), fails (c .before .good-entries .ensures) (c .if2 .taken))
-
-good-rules-requires : tie.Need-good-rules-requires
-good-rules-requires c κs = search needs
 
 returns-3 : tie.Need-returns-3
 unfolding additionTests afterTests bind inOrder
@@ -59,11 +53,11 @@ pub addition-tests-spec : {M : Type 1} → statement M
 addition-tests-spec =
     tie.close
     (tie.spec
-    addition-shaped-requires
+    (λ c κs. search needs)
     returns
     good-entries-requires
     returns-2
-    good-rules-requires
+    (λ c κs. search needs)
     returns-3
     starts-after-requires
     returns-4

@@ -8,12 +8,6 @@ use Rattle.store.proofs.Passed.{store-passed}
 use Rattle.store.proofs.read_rules.Statement.{statement}
 use Rattle.store.proofs.read_rules.Tie as tie
 
-store-tests-requires : tie.Need-store-tests-requires
-store-tests-requires c κs = search needs
-
-turned-away-requires : tie.Need-turned-away-requires
-turned-away-requires c κs = search needs
-
 returns : tie.Need-returns
 unfolding readRules
 returns c =
@@ -37,4 +31,4 @@ returns-2 c =
 pub read-rules-spec : {M : Type 1} → statement M
 read-rules-spec =
     tie.close
-    (tie.spec store-tests-requires turned-away-requires returns rules-at-requires returns-2)
+    (tie.spec (λ c κs. search needs) (λ c κs. search needs) returns rules-at-requires returns-2)

@@ -13,12 +13,6 @@ use Rattle.store.proofs.rules_at.Tie as tie
 abbrev given : Rules → RulesAnswer
 given rules = record { refusal = 0; rules = rules }
 
-find-entry-requires : tie.Need-find-entry-requires
-find-entry-requires c κs = search needs
-
-turned-away-requires : tie.Need-turned-away-requires
-turned-away-requires c κs = search needs
-
 returns : tie.Need-returns
 unfolding rulesAt bind
 returns c =
@@ -26,27 +20,6 @@ returns c =
     let a = d .before .before .args in
     let n = c .before .if1 .taken in
     c .turned-away .ensures ∙ rw (d .find-entry .ensures .none (omega (arith, length-entries (a .n) (a .store .now))))
-
-mul-a : tie.Need-mul-a
-mul-a c = search needs
-
-add-b : tie.Need-add-b
-add-b c = search needs
-
-mul-entry-rules : tie.Need-mul-entry-rules
-mul-entry-rules c = search needs
-
-sub-entry-rules : tie.Need-sub-entry-rules
-sub-entry-rules c = search needs
-
-part-entry-rules-start : tie.Need-part-entry-rules-start
-part-entry-rules-start c = search needs
-
-part-entry-rules-end : tie.Need-part-entry-rules-end
-part-entry-rules-end c = search needs
-
-entry-rules-requires : tie.Need-entry-rules-requires
-entry-rules-requires c κs = search needs
 
 returns-2 : tie.Need-returns-2
 unfolding rulesAt bind
@@ -64,14 +37,14 @@ pub rules-at-spec : {M : Type 1} → statement M
 rules-at-spec =
     tie.close
     (tie.spec
-    find-entry-requires
-    turned-away-requires
+    (λ c κs. search needs)
+    (λ c κs. search needs)
     returns
-    mul-a
-    add-b
-    mul-entry-rules
-    sub-entry-rules
-    part-entry-rules-start
-    part-entry-rules-end
-    entry-rules-requires
+    (λ c. search needs)
+    (λ c. search needs)
+    (λ c. search needs)
+    (λ c. search needs)
+    (λ c. search needs)
+    (λ c. search needs)
+    (λ c κs. search needs)
     returns-2)

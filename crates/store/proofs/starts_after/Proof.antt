@@ -10,18 +10,6 @@ returns : tie.Need-returns
 unfolding ofLast lastOf entriesFrom
 returns c = rw (c .if1 .taken)
 
-mul-a : tie.Need-mul-a
-mul-a c = search needs
-
-sub-a : tie.Need-sub-a
-sub-a c = search needs
-
-mul-result : tie.Need-mul-result
-mul-result c = search needs
-
-shared-slice-read-result : tie.Need-shared-slice-read-result
-shared-slice-read-result c = search needs
-
 returns-2 : tie.Need-returns-2
 unfolding ofLast
 returns-2 c =
@@ -32,4 +20,4 @@ returns-2 c =
 
 pub starts-after-spec : {M : Type 1} → statement M
 starts-after-spec =
-    tie.close (tie.spec returns mul-a sub-a mul-result shared-slice-read-result returns-2)
+    tie.close (tie.spec returns (λ c. search needs) (λ c. search needs) (λ c. search needs) (λ c. search needs) returns-2)

@@ -6,9 +6,6 @@ use Rattle.store.proofs.Passed.{store-shaped}
 use Rattle.store.proofs.store_tests.Statement.{statement}
 use Rattle.store.proofs.store_tests.Tie as tie
 
-store-shaped-requires : tie.Need-store-shaped-requires
-store-shaped-requires c κs = search needs
-
 returns : tie.Need-returns
 unfolding storeTests inOrder
 returns c = rw (fails (c .before .store-shaped .ensures) (c .if1 .taken))
@@ -30,4 +27,4 @@ returns-3 c =
 
 pub store-tests-spec : {M : Type 1} → statement M
 store-tests-spec =
-    tie.close (tie.spec store-shaped-requires returns good-entries-requires returns-2 returns-3)
+    tie.close (tie.spec (λ c κs. search needs) returns good-entries-requires returns-2 returns-3)

@@ -21,35 +21,8 @@ call c =
 asked : (c : tie.After-rules-for) → c .rules-for .result ≡ rulesAnswerFor (rulesFor (call c))
 asked c = c .rules-for .ensures ∙ ap rulesAnswerFor (rules-with (call c))
 
-rules-for-requires : tie.Need-rules-for-requires
-rules-for-requires c κs = search needs
-
-none-raised-requires : tie.Need-none-raised-requires
-none-raised-requires c κs = search needs
-
-same-length : tie.Need-same-length
-same-length c = search needs
-
-same-length-2 : tie.Need-same-length-2
-same-length-2 c = search needs
-
-same-length-3 : tie.Need-same-length-3
-same-length-3 c = search needs
-
 returns : tie.Need-returns
 returns c = let d = c .before .before in turned-away (call d) (asked d) (c .none-raised .ensures) (c .before .if1 .taken)
-
-full-close-requires : tie.Need-full-close-requires
-full-close-requires c κs = search needs
-
-same-length-4 : tie.Need-same-length-4
-same-length-4 c = search needs
-
-same-length-5 : tie.Need-same-length-5
-same-length-5 c = search needs
-
-same-length-6 : tie.Need-same-length-6
-same-length-6 c = search needs
 
 returns-2 : tie.Need-returns-2
 returns-2 c =
@@ -61,14 +34,14 @@ pub store-close-spec : {M : Type 1} → statement M
 store-close-spec =
     tie.close
     (tie.spec
-    rules-for-requires
-    none-raised-requires
-    same-length
-    same-length-2
-    same-length-3
+    (λ c κs. search needs)
+    (λ c κs. search needs)
+    (λ c. search needs)
+    (λ c. search needs)
+    (λ c. search needs)
     returns
-    full-close-requires
-    same-length-4
-    same-length-5
-    same-length-6
+    (λ c κs. search needs)
+    (λ c. search needs)
+    (λ c. search needs)
+    (λ c. search needs)
     returns-2)

@@ -42,9 +42,6 @@ entry-rules-requires c κs =
     let start = s .before .before .before in
     part-length _ _ (start .pre) _ _ _ refl refl (s .loop-test .taken)
 
-rules-shaped-requires : tie.Need-rules-shaped-requires Inv-loop μ-loop
-rules-shaped-requires c κs = search needs
-
 returns : tie.Need-returns Inv-loop μ-loop
 returns c =
     let s = c .before .before .before .before in
@@ -88,7 +85,7 @@ entries-shaped-spec =
     part-entry-rules-start
     part-entry-rules-end
     entry-rules-requires
-    rules-shaped-requires
+    (λ c κs. search needs)
     returns
     add-i
     loop-less

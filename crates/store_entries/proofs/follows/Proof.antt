@@ -5,24 +5,9 @@ use Rattle.definitions_store.specs.Store.{follows}
 use Rattle.store_entries.proofs.follows.Statement.{statement}
 use Rattle.store_entries.proofs.follows.Tie as tie
 
-shared-slice-read-if1 : tie.Need-shared-slice-read-if1
-shared-slice-read-if1 c = search needs
-
-shared-slice-read-if1-2 : tie.Need-shared-slice-read-if1-2
-shared-slice-read-if1-2 c = search needs
-
 returns : tie.Need-returns
 unfolding follows
 returns c = rw (le-ltb _ _ (c .if1 .taken))
-
-entry-rules-requires : tie.Need-entry-rules-requires
-entry-rules-requires c κs = search needs
-
-entry-rules-requires-2 : tie.Need-entry-rules-requires-2
-entry-rules-requires-2 c κs = search needs
-
-keeps-requires : tie.Need-keeps-requires
-keeps-requires c κs = search needs
 
 returns-2 : tie.Need-returns-2
 unfolding follows
@@ -34,10 +19,10 @@ pub follows-spec : {M : Type 1} → statement M
 follows-spec =
     tie.close
     (tie.spec
-    shared-slice-read-if1
-    shared-slice-read-if1-2
+    (λ c. search needs)
+    (λ c. search needs)
     returns
-    entry-rules-requires
-    entry-rules-requires-2
-    keeps-requires
+    (λ c κs. search needs)
+    (λ c κs. search needs)
+    (λ c κs. search needs)
     returns-2)

@@ -42,9 +42,6 @@ entry-rules-requires c κs =
     let start = s .before .before .before in
     part-length _ _ (start .pre) _ _ _ refl refl (s .loop-test .taken)
 
-good-rules-requires : tie.Need-good-rules-requires Inv-loop μ-loop
-good-rules-requires c κs = search needs
-
 returns : tie.Need-returns Inv-loop μ-loop
 unfolding goodEntries
 returns c =
@@ -90,7 +87,7 @@ good-entries-spec =
     part-entry-rules-start
     part-entry-rules-end
     entry-rules-requires
-    good-rules-requires
+    (λ c κs. search needs)
     returns
     add-i
     loop-less

@@ -13,9 +13,6 @@ is-zero : (t : Bool) → eqb (cond t 0 2) 0 ≡ t
 is-zero true = refl
 is-zero false = refl
 
-good-settings-requires : tie.Need-good-settings-requires
-good-settings-requires c κs = search needs
-
 returns : tie.Need-returns
 unfolding goodRules
 returns c = rw (fails (c .before .good-settings .ensures) (c .if1 .taken))
@@ -23,9 +20,6 @@ returns c = rw (fails (c .before .good-settings .ensures) (c .if1 .taken))
 returns-2 : tie.Need-returns-2
 unfolding goodRules
 returns-2 c = rw (passes (c .before .before .before .good-settings .ensures) (c .before .before .if1 .left), eq-eqb _ _ (c .if2 .taken))
-
-rules-refusal-requires : tie.Need-rules-refusal-requires
-rules-refusal-requires c κs = search needs
 
 returns-3 : tie.Need-returns-3
 unfolding goodRules rulesRefusal
@@ -35,4 +29,4 @@ returns-3 c =
 
 pub good-rules-spec : {M : Type 1} → statement M
 good-rules-spec =
-    tie.close (tie.spec good-settings-requires returns returns-2 rules-refusal-requires returns-3)
+    tie.close (tie.spec (λ c κs. search needs) returns returns-2 (λ c κs. search needs) returns-3)

@@ -4,9 +4,6 @@ use Rattle.refusals.proofs.All.{fails, passes}
 use Rattle.store_entries.proofs.rules_shaped.Statement.{statement}
 use Rattle.store_entries.proofs.rules_shaped.Tie as tie
 
-settings-shaped-requires : tie.Need-settings-shaped-requires
-settings-shaped-requires c κs = search needs
-
 returns : tie.Need-returns
 unfolding rulesShaped
 returns c = rw (fails (c .before .settings-shaped .ensures) (c .if1 .taken))
@@ -16,4 +13,4 @@ unfolding rulesShaped
 returns-2 c = rw (passes (c .before .before .settings-shaped .ensures) (c .before .if1 .left))
 
 pub rules-shaped-spec : {M : Type 1} → statement M
-rules-shaped-spec = tie.close (tie.spec settings-shaped-requires returns returns-2)
+rules-shaped-spec = tie.close (tie.spec (λ c κs. search needs) returns returns-2)

@@ -13,17 +13,11 @@ returns-2 : tie.Need-returns-2
 unfolding storeShaped
 returns-2 c = rw (eq-eqb _ _ (c .before .if1 .left), lt-leb _ _ (c .if2 .taken))
 
-entries-shaped-requires : tie.Need-entries-shaped-requires
-entries-shaped-requires c κs = search needs
-
 returns-3 : tie.Need-returns-3
 unfolding storeShaped
 returns-3 c =
     let d = c .before .before in
     rw (eq-eqb _ _ (d .before .if1 .left), le-leb _ _ (d .if2 .left), fails (c .before .entries-shaped .ensures) (c .if3 .taken))
-
-in-sequence-requires : tie.Need-in-sequence-requires
-in-sequence-requires c κs = search needs
 
 returns-4 : tie.Need-returns-4
 unfolding storeShaped
@@ -34,4 +28,4 @@ returns-4 c =
 pub store-shaped-spec : {M : Type 1} → statement M
 store-shaped-spec =
     tie.close
-    (tie.spec returns returns-2 entries-shaped-requires returns-3 in-sequence-requires returns-4)
+    (tie.spec returns returns-2 (λ c κs. search needs) returns-3 (λ c κs. search needs) returns-4)

@@ -5,15 +5,9 @@ use Rattle.store_rules.specs.Called.{shapedWith}
 use Rattle.store_rules.proofs.call_shaped.Statement.{statement}
 use Rattle.store_rules.proofs.call_shaped.Tie as tie
 
-store-shaped-requires : tie.Need-store-shaped-requires
-store-shaped-requires c κs = search needs
-
 returns : tie.Need-returns
 unfolding shapedWith
 returns c = rw (fails (c .before .store-shaped .ensures) (c .if1 .taken))
-
-lent-shaped-requires : tie.Need-lent-shaped-requires
-lent-shaped-requires c κs = search needs
 
 returns-2 : tie.Need-returns-2
 unfolding shapedWith
@@ -37,9 +31,9 @@ pub call-shaped-spec : {M : Type 1} → statement M
 call-shaped-spec =
     tie.close
     (tie.spec
-    store-shaped-requires
+    (λ c κs. search needs)
     returns
-    lent-shaped-requires
+    (λ c κs. search needs)
     returns-2
     fits-last-requires
     returns-3)

@@ -15,32 +15,11 @@ returns : tie.Need-returns
 unfolding ofLast lastOf entriesFrom
 returns c = rw (c .if1 .taken)
 
-mul-b : tie.Need-mul-b
-mul-b c = search needs
-
-sub-a : tie.Need-sub-a
-sub-a c = search needs
-
-mul-entry-rules : tie.Need-mul-entry-rules
-mul-entry-rules c = search needs
-
-sub-entry-rules : tie.Need-sub-entry-rules
-sub-entry-rules c = search needs
-
-part-entry-rules-start : tie.Need-part-entry-rules-start
-part-entry-rules-start c = search needs
-
-part-entry-rules-end : tie.Need-part-entry-rules-end
-part-entry-rules-end c = search needs
-
 entry-rules-requires : tie.Need-entry-rules-requires
 entry-rules-requires c κs =
     let start = c .before .before .before .before .before in
     let n = start .args .n in
     part-length n (start .args .store .now) (start .pre) (n - 1) (23 * n - 23) (23 * n) (omega arith) (omega arith) (omega arith)
-
-fits-settings-requires : tie.Need-fits-settings-requires
-fits-settings-requires c κs = search needs
 
 returns-2 : tie.Need-returns-2
 unfolding ofLast
@@ -61,12 +40,12 @@ fits-last-spec =
     tie.close
     (tie.spec
     returns
-    mul-b
-    sub-a
-    mul-entry-rules
-    sub-entry-rules
-    part-entry-rules-start
-    part-entry-rules-end
+    (λ c. search needs)
+    (λ c. search needs)
+    (λ c. search needs)
+    (λ c. search needs)
+    (λ c. search needs)
+    (λ c. search needs)
     entry-rules-requires
-    fits-settings-requires
+    (λ c κs. search needs)
     returns-2)

@@ -4,9 +4,6 @@ use Rattle.refusals.proofs.All.{fails, passes}
 use Rattle.store_rules.proofs.lent_shaped.Statement.{statement}
 use Rattle.store_rules.proofs.lent_shaped.Tie as tie
 
-registry-shaped-requires : tie.Need-registry-shaped-requires
-registry-shaped-requires c κs = search needs
-
 returns : tie.Need-returns
 returns c = rw (fails (c .before .registry-shaped .ensures) (c .if1 .taken))
 
@@ -18,9 +15,6 @@ returns-3 c =
     let d = c .before .before in
     rw (passes (d .before .registry-shaped .ensures) (d .if1 .left), eq-eqb _ _ (c .before .if2 .left), ne-eqb _ _ (c .if3 .taken))
 
-mul-result : tie.Need-mul-result
-mul-result c = search needs
-
 returns-4 : tie.Need-returns-4
 returns-4 c =
     let d = c .before .before in
@@ -28,4 +22,4 @@ returns-4 c =
 
 pub lent-shaped-spec : {M : Type 1} → statement M
 lent-shaped-spec =
-    tie.close (tie.spec registry-shaped-requires returns returns-2 returns-3 mul-result returns-4)
+    tie.close (tie.spec (λ c κs. search needs) returns returns-2 returns-3 (λ c. search needs) returns-4)

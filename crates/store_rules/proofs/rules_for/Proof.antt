@@ -8,12 +8,6 @@ use Rattle.store_rules.proofs.Given.{with-fits}
 use Rattle.store_rules.proofs.rules_for.Statement.{statement}
 use Rattle.store_rules.proofs.rules_for.Tie as tie
 
-call-shaped-requires : tie.Need-call-shaped-requires
-call-shaped-requires c κs = search needs
-
-turned-away-requires : tie.Need-turned-away-requires
-turned-away-requires c κs = search needs
-
 returns : tie.Need-returns
 unfolding rulesWith afterTests inOrder bind
 returns c =
@@ -22,9 +16,6 @@ returns c =
 
 good-entries-requires : tie.Need-good-entries-requires
 good-entries-requires c κs = with-fits _ _ _ _ _ _ _ (passes (c .before .call-shaped .ensures) (c .if1 .left))
-
-turned-away-requires-2 : tie.Need-turned-away-requires-2
-turned-away-requires-2 c κs = search needs
 
 returns-2 : tie.Need-returns-2
 unfolding rulesWith afterTests inOrder bind
@@ -49,11 +40,11 @@ pub rules-for-spec : {M : Type 1} → statement M
 rules-for-spec =
     tie.close
     (tie.spec
-    call-shaped-requires
-    turned-away-requires
+    (λ c κs. search needs)
+    (λ c κs. search needs)
     returns
     good-entries-requires
-    turned-away-requires-2
+    (λ c κs. search needs)
     returns-2
     rules-at-slot-requires
     returns-3)

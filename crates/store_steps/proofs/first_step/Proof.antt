@@ -23,35 +23,8 @@ call c =
 asked : (c : tie.After-rules-for) → c .rules-for .result ≡ rulesAnswerFor (rulesFor (call c .whole))
 asked c = c .rules-for .ensures ∙ ap rulesAnswerFor (rules-with (call c .whole))
 
-rules-for-requires : tie.Need-rules-for-requires
-rules-for-requires c κs = search needs
-
-ended-by-requires : tie.Need-ended-by-requires
-ended-by-requires c κs = search needs
-
-same-length : tie.Need-same-length
-same-length c = search needs
-
-same-length-2 : tie.Need-same-length-2
-same-length-2 c = search needs
-
-same-length-3 : tie.Need-same-length-3
-same-length-3 c = search needs
-
 returns : tie.Need-returns
 returns c = let d = c .before .before in first-turned (call d) (asked d) (start d .pre) (c .before .if1 .taken) (c .ended-by .ensures)
-
-close-step-requires : tie.Need-close-step-requires
-close-step-requires c κs = search needs
-
-same-length-4 : tie.Need-same-length-4
-same-length-4 c = search needs
-
-same-length-5 : tie.Need-same-length-5
-same-length-5 c = search needs
-
-same-length-6 : tie.Need-same-length-6
-same-length-6 c = search needs
 
 returns-2 : tie.Need-returns-2
 returns-2 c =
@@ -63,14 +36,14 @@ pub first-step-spec : {M : Type 1} → statement M
 first-step-spec =
     tie.close
     (tie.spec
-    rules-for-requires
-    ended-by-requires
-    same-length
-    same-length-2
-    same-length-3
+    (λ c κs. search needs)
+    (λ c κs. search needs)
+    (λ c. search needs)
+    (λ c. search needs)
+    (λ c. search needs)
     returns
-    close-step-requires
-    same-length-4
-    same-length-5
-    same-length-6
+    (λ c κs. search needs)
+    (λ c. search needs)
+    (λ c. search needs)
+    (λ c. search needs)
     returns-2)

@@ -7,11 +7,8 @@ use Rattle.store_steps.proofs.in_turn.Tie as tie
 returns : tie.Need-returns
 returns c = sym (late _ _ (c .if1 .taken))
 
-add-result : tie.Need-add-result
-add-result c = search needs
-
 returns-2 : tie.Need-returns-2
 returns-2 c = timely _ _ (c .if1 .left)
 
 pub in-turn-spec : {M : Type 1} → statement M
-in-turn-spec = tie.close (tie.spec returns add-result returns-2)
+in-turn-spec = tie.close (tie.spec returns (λ c. search needs) returns-2)

@@ -8,23 +8,11 @@ use borrow.Author.Needs.{needs}
 use Rattle.store_steps.proofs.ninth_rules.Statement.{statement}
 use Rattle.store_steps.proofs.ninth_rules.Tie as tie
 
-store-shaped-requires : tie.Need-store-shaped-requires
-store-shaped-requires c κs = search needs
-
-turned-away-requires : tie.Need-turned-away-requires
-turned-away-requires c κs = search needs
-
 returns : tie.Need-returns
 unfolding ninthRulesWith afterTests inOrder bind
 returns c =
     let d = c .before in
     c .turned-away .ensures ∙ rw (fails (d .before .store-shaped .ensures) (d .if1 .taken))
-
-registry-shaped-requires : tie.Need-registry-shaped-requires
-registry-shaped-requires c κs = search needs
-
-turned-away-requires-2 : tie.Need-turned-away-requires-2
-turned-away-requires-2 c κs = search needs
 
 returns-2 : tie.Need-returns-2
 unfolding ninthRulesWith afterTests inOrder bind
@@ -32,12 +20,6 @@ returns-2 c =
     let e = c .before in
     let d = e .before .before in
     c .turned-away2 .ensures ∙ rw (passes (d .before .store-shaped .ensures) (d .if1 .left), fails (e .before .registry-shaped .ensures) (e .if2 .taken))
-
-lists-shaped-requires : tie.Need-lists-shaped-requires
-lists-shaped-requires c κs = search needs
-
-turned-away-requires-3 : tie.Need-turned-away-requires-3
-turned-away-requires-3 c κs = search needs
 
 returns-3 : tie.Need-returns-3
 unfolding ninthRulesWith afterTests inOrder bind
@@ -52,9 +34,6 @@ good-entries-requires c κs =
     let d = c .before .before .before .before in
     store-shaped _ (passes (d .before .store-shaped .ensures) (d .if1 .left)) .fits
 
-turned-away-requires-4 : tie.Need-turned-away-requires-4
-turned-away-requires-4 c κs = search needs
-
 returns-4 : tie.Need-returns-4
 unfolding ninthRulesWith afterTests inOrder bind
 returns-4 c =
@@ -63,12 +42,6 @@ returns-4 c =
     let e = f .before .before in
     let d = e .before .before in
     c .turned-away4 .ensures ∙ rw (passes (d .before .store-shaped .ensures) (d .if1 .left), passes (e .before .registry-shaped .ensures) (e .if2 .left), passes (f .before .lists-shaped .ensures) (f .if3 .left), fails (g .before .good-entries .ensures) (g .if4 .taken))
-
-is-small-requires : tie.Need-is-small-requires
-is-small-requires c κs = search needs
-
-turned-away-requires-5 : tie.Need-turned-away-requires-5
-turned-away-requires-5 c κs = search needs
 
 returns-5 : tie.Need-returns-5
 unfolding ninthRulesWith afterTests inOrder bind
@@ -100,20 +73,20 @@ pub ninth-rules-spec : {M : Type 1} → statement M
 ninth-rules-spec =
     tie.close
     (tie.spec
-    store-shaped-requires
-    turned-away-requires
+    (λ c κs. search needs)
+    (λ c κs. search needs)
     returns
-    registry-shaped-requires
-    turned-away-requires-2
+    (λ c κs. search needs)
+    (λ c κs. search needs)
     returns-2
-    lists-shaped-requires
-    turned-away-requires-3
+    (λ c κs. search needs)
+    (λ c κs. search needs)
     returns-3
     good-entries-requires
-    turned-away-requires-4
+    (λ c κs. search needs)
     returns-4
-    is-small-requires
-    turned-away-requires-5
+    (λ c κs. search needs)
+    (λ c κs. search needs)
     returns-5
     rules-at-slot-requires
     returns-6)

@@ -20,23 +20,8 @@ returns : tie.Need-returns
 unfolding storeStep unwritten
 returns c = rw (eq-eqb _ _ (c .if1 .taken))
 
-in-turn-requires : tie.Need-in-turn-requires
-in-turn-requires c κs = search needs
-
 returns-2 : tie.Need-returns-2
 returns-2 c = out-of-turn (call (c .before .before .before .before .before .before .before .before .before .before)) (c .before .before .if1 .left) (fails (c .before .in-turn .ensures) (c .if2 .taken))
-
-first-step-requires : tie.Need-first-step-requires
-first-step-requires c κs = search needs
-
-same-length : tie.Need-same-length
-same-length c = search needs
-
-same-length-2 : tie.Need-same-length-2
-same-length-2 c = search needs
-
-same-length-3 : tie.Need-same-length-3
-same-length-3 c = search needs
 
 returns-3 : tie.Need-returns-3
 returns-3 c =
@@ -44,18 +29,6 @@ returns-3 c =
     let e = f .before .before .before .before in
     let d = e .before in
     f .first-step .ensures ∙ first (call (d .before .before .before .before .before .before .before .before .before .before)) (d .before .before .if1 .left) (passes (d .before .in-turn .ensures) (d .if2 .left)) (e .if3 .taken)
-
-later-step-requires : tie.Need-later-step-requires
-later-step-requires c κs = search needs
-
-same-length-4 : tie.Need-same-length-4
-same-length-4 c = search needs
-
-same-length-5 : tie.Need-same-length-5
-same-length-5 c = search needs
-
-same-length-6 : tie.Need-same-length-6
-same-length-6 c = search needs
 
 returns-4 : tie.Need-returns-4
 returns-4 c =
@@ -69,15 +42,15 @@ store-step-spec =
     tie.close
     (tie.spec
     returns
-    in-turn-requires
+    (λ c κs. search needs)
     returns-2
-    first-step-requires
-    same-length
-    same-length-2
-    same-length-3
+    (λ c κs. search needs)
+    (λ c. search needs)
+    (λ c. search needs)
+    (λ c. search needs)
     returns-3
-    later-step-requires
-    same-length-4
-    same-length-5
-    same-length-6
+    (λ c κs. search needs)
+    (λ c. search needs)
+    (λ c. search needs)
+    (λ c. search needs)
     returns-4)

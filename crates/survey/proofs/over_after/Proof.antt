@@ -6,9 +6,6 @@ use borrow.Author.Needs.{needs}
 use Rattle.survey.proofs.over_after.Statement.{statement}
 use Rattle.survey.proofs.over_after.Tie as tie
 
-sub-if1 : tie.Need-sub-if1
-sub-if1 c = search needs
-
 returns : tie.Need-returns
 unfolding overAfter
 returns c = let a = c .before .args in rw (le-ltb (a .sum + a .weight) (2 ^ 64) (omega arith))
@@ -18,4 +15,4 @@ unfolding overAfter
 returns-2 c = let a = c .before .args in rw (lt-ltb (a .sum + a .weight) (2 ^ 64) (omega arith))
 
 pub over-after-spec : {M : Type 1} → statement M
-over-after-spec = tie.close (tie.spec sub-if1 returns returns-2)
+over-after-spec = tie.close (tie.spec (λ c. search needs) returns returns-2)

@@ -13,12 +13,6 @@ Inv-loop current-epoch previous-epoch registry kept₀ n most found₀ p₀ i₀
 abbrev μ-loop : tie.MeasureT-loop
 μ-loop current-epoch previous-epoch registry kept₀ n most found₀ p₀ i₀ kept found p i = n - i
 
-no-sums-requires : tie.Need-no-sums-requires Inv-loop μ-loop
-no-sums-requires c κs = search needs
-
-no-sums-requires-2 : tie.Need-no-sums-requires-2 Inv-loop μ-loop
-no-sums-requires-2 c κs = search needs
-
 loop-holds : tie.Need-loop-holds Inv-loop μ-loop
 loop-holds c = let s = c .before .before .before .before in rw (c .before .no-sums .ensures, c .no-sums2 .ensures) (seeing-none _ _ _ (s .pre .0) (s .pre .1 .1 .0) (s .pre .1 .1 .1))
 
@@ -97,8 +91,8 @@ survey-registry-spec =
     (tie.spec
     Inv-loop
     μ-loop
-    no-sums-requires
-    no-sums-requires-2
+    (λ c κs. search needs)
+    (λ c κs. search needs)
     loop-holds
     mul-a
     add-b

@@ -3,12 +3,9 @@ use borrow.Author.Needs.{needs}
 use Rattle.totals.proofs.active_total.Statement.{statement}
 use Rattle.totals.proofs.active_total.Tie as tie
 
-members-total-requires : tie.Need-members-total-requires
-members-total-requires c κs = search needs
-
 returns : tie.Need-returns
 unfolding «get_active_validator_indices»
 returns c = c .members-total .ensures
 
 pub active-total-spec : {M : Type 1} → statement M
-active-total-spec = tie.close (tie.spec members-total-requires returns)
+active-total-spec = tie.close (tie.spec (λ c κs. search needs) returns)

@@ -3,12 +3,6 @@ use Rattle.totals.specs.Totals.{balanceFor}
 use Rattle.totals.proofs.balance_of.Statement.{statement}
 use Rattle.totals.proofs.balance_of.Tie as tie
 
-enum-known-answer : tie.Need-enum-known-answer
-enum-known-answer c = search needs
-
-enum-known-answer-2 : tie.Need-enum-known-answer-2
-enum-known-answer-2 c = search needs
-
 returns : tie.Need-returns
 unfolding balanceFor
 returns c = rw (c .before .answer .given .1)
@@ -18,4 +12,4 @@ unfolding balanceFor
 returns-2 c = rw (c .before .answer2 .given .1)
 
 pub balance-of-spec : {M : Type 1} → statement M
-balance-of-spec = tie.close (tie.spec enum-known-answer enum-known-answer-2 returns returns-2)
+balance-of-spec = tie.close (tie.spec (λ c. search needs) (λ c. search needs) returns returns-2)

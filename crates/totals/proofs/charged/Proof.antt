@@ -4,9 +4,6 @@ use Rattle.totals.proofs.Tested.{says-refused, says-plain}
 use Rattle.totals.proofs.charged.Statement.{statement}
 use Rattle.totals.proofs.charged.Tie as tie
 
-slot-registry-tests-requires : tie.Need-slot-registry-tests-requires
-slot-registry-tests-requires c κs = search needs
-
 returns : tie.Need-returns
 returns c = says-refused _ (c .before .slot-registry-tests .ensures) _ (c .if1 .taken)
 
@@ -19,4 +16,4 @@ returns-2 : tie.Need-returns-2
 returns-2 c = says-plain _ (c .before .before .slot-registry-tests .ensures) (c .before .if1 .left) (c .charged-count .ensures)
 
 pub charged-spec : {M : Type 1} → statement M
-charged-spec = tie.close (tie.spec slot-registry-tests-requires returns charged-count-requires returns-2)
+charged-spec = tie.close (tie.spec (λ c κs. search needs) returns charged-count-requires returns-2)

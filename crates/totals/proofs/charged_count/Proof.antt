@@ -4,17 +4,8 @@ use Rattle.totals.proofs.Genesis.{charged-none, charged-some}
 use Rattle.totals.proofs.charged_count.Statement.{statement}
 use Rattle.totals.proofs.charged_count.Tie as tie
 
-current-epoch-requires : tie.Need-current-epoch-requires
-current-epoch-requires c κs = search needs
-
 returns : tie.Need-returns
 returns c = charged-none _ _ _ (c .before .current-epoch .ensures) (omega arith)
-
-previous-epoch-requires : tie.Need-previous-epoch-requires
-previous-epoch-requires c κs = search needs
-
-members-count-requires : tie.Need-members-count-requires
-members-count-requires c κs = search needs
 
 returns-2 : tie.Need-returns-2
 returns-2 c =
@@ -24,4 +15,4 @@ returns-2 c =
 pub charged-count-spec : {M : Type 1} → statement M
 charged-count-spec =
     tie.close
-    (tie.spec current-epoch-requires returns previous-epoch-requires members-count-requires returns-2)
+    (tie.spec (λ c κs. search needs) returns (λ c κs. search needs) (λ c κs. search needs) returns-2)

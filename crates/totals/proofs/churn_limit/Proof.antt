@@ -3,19 +3,10 @@ use borrow.Author.Needs.{needs}
 use Rattle.totals.proofs.churn_limit.Statement.{statement}
 use Rattle.totals.proofs.churn_limit.Tie as tie
 
-current-epoch-requires : tie.Need-current-epoch-requires
-current-epoch-requires c κs = search needs
-
-members-count-requires : tie.Need-members-count-requires
-members-count-requires c κs = search needs
-
-churn-by-requires : tie.Need-churn-by-requires
-churn-by-requires c κs = search needs
-
 returns : tie.Need-returns
 unfolding «get_validator_churn_limit» «get_active_validator_indices»
 returns c = rw (← c .before .before .current-epoch .ensures, ← c .before .members-count .ensures) (c .churn-by .ensures)
 
 pub churn-limit-spec : {M : Type 1} → statement M
 churn-limit-spec =
-    tie.close (tie.spec current-epoch-requires members-count-requires churn-by-requires returns)
+    tie.close (tie.spec (λ c κs. search needs) (λ c κs. search needs) (λ c κs. search needs) returns)

@@ -6,9 +6,6 @@ use Rattle.totals.proofs.WithRaised.{total-refused, total-after}
 use Rattle.totals.proofs.get_participating_balance.Statement.{statement}
 use Rattle.totals.proofs.get_participating_balance.Tie as tie
 
-participation-tests-requires : tie.Need-participation-tests-requires
-participation-tests-requires c κs = search needs
-
 returns : tie.Need-returns
 returns c = total-refused _ (c .before .participation-tests .ensures) _ (c .if1 .taken)
 
@@ -28,7 +25,7 @@ pub get-participating-balance-spec : {M : Type 1} → statement M
 get-participating-balance-spec =
     tie.close
     (tie.spec
-    participation-tests-requires
+    (λ c κs. search needs)
     returns
     current-epoch-requires
     participating-total-requires

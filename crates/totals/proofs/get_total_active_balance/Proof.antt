@@ -4,9 +4,6 @@ use Rattle.totals.proofs.WithRaised.{total-refused, total-after}
 use Rattle.totals.proofs.get_total_active_balance.Statement.{statement}
 use Rattle.totals.proofs.get_total_active_balance.Tie as tie
 
-slot-registry-tests-requires : tie.Need-slot-registry-tests-requires
-slot-registry-tests-requires c κs = search needs
-
 returns : tie.Need-returns
 returns c = total-refused _ (c .before .slot-registry-tests .ensures) _ (c .if1 .taken)
 
@@ -23,7 +20,7 @@ pub get-total-active-balance-spec : {M : Type 1} → statement M
 get-total-active-balance-spec =
     tie.close
     (tie.spec
-    slot-registry-tests-requires
+    (λ c κs. search needs)
     returns
     current-epoch-requires
     active-total-requires

@@ -4,9 +4,6 @@ use Rattle.totals.proofs.Tested.{says-refused, says-plain}
 use Rattle.totals.proofs.get_validator_churn_limit.Statement.{statement}
 use Rattle.totals.proofs.get_validator_churn_limit.Tie as tie
 
-slot-registry-tests-requires : tie.Need-slot-registry-tests-requires
-slot-registry-tests-requires c κs = search needs
-
 returns : tie.Need-returns
 returns c = says-refused _ (c .before .slot-registry-tests .ensures) _ (c .if1 .taken)
 
@@ -20,4 +17,4 @@ returns-2 c = says-plain _ (c .before .before .slot-registry-tests .ensures) (c 
 
 pub get-validator-churn-limit-spec : {M : Type 1} → statement M
 get-validator-churn-limit-spec =
-    tie.close (tie.spec slot-registry-tests-requires returns churn-limit-requires returns-2)
+    tie.close (tie.spec (λ c κs. search needs) returns churn-limit-requires returns-2)

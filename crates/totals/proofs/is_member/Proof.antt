@@ -2,21 +2,6 @@ use borrow.Author.Needs.{needs}
 use Rattle.totals.proofs.is_member.Statement.{statement}
 use Rattle.totals.proofs.is_member.Tie as tie
 
-enum-known-members : tie.Need-enum-known-members
-enum-known-members c = search needs
-
-entry-is-active-requires : tie.Need-entry-is-active-requires
-entry-is-active-requires c κs = search needs
-
-enum-known-members-2 : tie.Need-enum-known-members-2
-enum-known-members-2 c = search needs
-
-entry-is-eligible-requires : tie.Need-entry-is-eligible-requires
-entry-is-eligible-requires c κs = search needs
-
-enum-known-members-3 : tie.Need-enum-known-members-3
-enum-known-members-3 c = search needs
-
 entry-is-participating-requires : tie.Need-entry-is-participating-requires
 entry-is-participating-requires c κs =
     let k = c .before .before .before .before in
@@ -35,11 +20,11 @@ pub is-member-spec : {M : Type 1} → statement M
 is-member-spec =
     tie.close
     (tie.spec
-    enum-known-members
-    entry-is-active-requires
-    enum-known-members-2
-    entry-is-eligible-requires
-    enum-known-members-3
+    (λ c. search needs)
+    (λ c κs. search needs)
+    (λ c. search needs)
+    (λ c κs. search needs)
+    (λ c. search needs)
     entry-is-participating-requires
     returns
     returns-2

@@ -3,12 +3,6 @@ use borrow.Author.Needs.{needs}
 use Rattle.totals.proofs.member_weight.Statement.{statement}
 use Rattle.totals.proofs.member_weight.Tie as tie
 
-is-member-requires : tie.Need-is-member-requires
-is-member-requires c κs = search needs
-
-shared-slice-read-result : tie.Need-shared-slice-read-result
-shared-slice-read-result c = search needs
-
 returns : tie.Need-returns
 returns c = rw (sym (c .before .before .is-member .ensures) ∙ c .before .if1 .taken)
 
@@ -17,4 +11,4 @@ returns-2 c = rw (sym (c .before .is-member .ensures) ∙ c .if1 .left)
 
 pub member-weight-spec : {M : Type 1} → statement M
 member-weight-spec =
-    tie.close (tie.spec is-member-requires shared-slice-read-result returns returns-2)
+    tie.close (tie.spec (λ c κs. search needs) (λ c. search needs) returns returns-2)

@@ -5,20 +5,8 @@ use Rattle.totals.proofs.WithRaised.{total-of-sum, total-over}
 use Rattle.totals.proofs.members_total.Statement.{statement}
 use Rattle.totals.proofs.members_total.Tie as tie
 
-members-balance-requires : tie.Need-members-balance-requires
-members-balance-requires c κs = search needs
-
-enum-known-sum : tie.Need-enum-known-sum
-enum-known-sum c = search needs
-
-enum-told : tie.Need-enum-told
-enum-told c = search needs
-
 returns : tie.Need-returns
 returns c = total-over _ _ (says-overflow (c .before .before .members-balance .ensures) (only-sum64 _) (c .enum-told .given .1) .0)
-
-total-from-requires : tie.Need-total-from-requires
-total-from-requires c κs = search needs
 
 returns-2 : tie.Need-returns-2
 returns-2 c = total-of-sum _ _ (says-value (c .before .before .before .before .members-balance .ensures) (c .before .before .sum .given .1)) (c .total-from .ensures)
@@ -27,9 +15,9 @@ pub members-total-spec : {M : Type 1} → statement M
 members-total-spec =
     tie.close
     (tie.spec
-    members-balance-requires
-    enum-known-sum
-    enum-told
+    (λ c κs. search needs)
+    (λ c. search needs)
+    (λ c. search needs)
     returns
-    total-from-requires
+    (λ c κs. search needs)
     returns-2)

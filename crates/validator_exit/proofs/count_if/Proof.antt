@@ -3,9 +3,6 @@ use borrow.Author.Needs.{needs}
 use Rattle.validator_exit.proofs.count_if.Statement.{statement}
 use Rattle.validator_exit.proofs.count_if.Tie as tie
 
-add-result : tie.Need-add-result
-add-result c = search needs
-
 returns : tie.Need-returns
 returns c = rw (c .if1 .taken)
 
@@ -13,4 +10,4 @@ returns-2 : tie.Need-returns-2
 returns-2 c = rw (c .if1 .left) (omega arith)
 
 pub count-if-spec : {M : Type 1} → statement M
-count-if-spec = tie.close (tie.spec add-result returns returns-2)
+count-if-spec = tie.close (tie.spec (λ c. search needs) returns returns-2)

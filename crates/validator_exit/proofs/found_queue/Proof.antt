@@ -5,9 +5,6 @@ use Rattle.validator_exit.proofs.Found.{found-shape, found-record, foun
 use Rattle.validator_exit.proofs.found_queue.Statement.{statement}
 use Rattle.validator_exit.proofs.found_queue.Tie as tie
 
-registry-shaped-requires : tie.Need-registry-shaped-requires
-registry-shaped-requires c κs = search needs
-
 returns : tie.Need-returns
 returns c = found-shape _ (fails (c .before .registry-shaped .ensures) (c .if1 .taken))
 
@@ -25,4 +22,4 @@ returns-3 c =
     found-pair _ (passes (i .before .registry-shaped .ensures) (i .if1 .left)) (c .before .before .before .see-registry .ensures) (c .before .if2 .left)
 
 pub found-queue-spec : {M : Type 1} → statement M
-found-queue-spec = tie.close (tie.spec registry-shaped-requires returns see-registry-requires returns-2 returns-3)
+found-queue-spec = tie.close (tie.spec (λ c κs. search needs) returns see-registry-requires returns-2 returns-3)

@@ -5,12 +5,6 @@ use Rattle.validator_exit.proofs.Tests.{turned-away, shape-refused, pos
 use Rattle.validator_exit.proofs.initiate_validator_exit.Statement.{statement}
 use Rattle.validator_exit.proofs.initiate_validator_exit.Tie as tie
 
-shape-tests-requires : tie.Need-shape-tests-requires
-shape-tests-requires c κs = search needs
-
-same-length : tie.Need-same-length
-same-length c = search needs
-
 returns : tie.Need-returns
 returns c = let a = c .before .before .before .before .args in shape-refused (a .s) (a .state-slot) (a .index) (a .queue) (a .registry .now) (c .before .shape-tests .ensures) (c .if1 .taken)
 
@@ -19,12 +13,6 @@ current-epoch-requires c κs = let a = c .before .before .before .before .args i
 
 see-registry-requires : tie.Need-see-registry-requires
 see-registry-requires c κs = let a = c .before .before .before .before .before .before .args in long (a .s) (a .state-slot) (a .index) (a .queue) (a .registry .now) (c .before .before .before .shape-tests .ensures) (c .before .before .if1 .left)
-
-found-refusal-requires : tie.Need-found-refusal-requires
-found-refusal-requires c κs = search needs
-
-same-length-2 : tie.Need-same-length-2
-same-length-2 c = search needs
 
 returns-2 : tie.Need-returns-2
 returns-2 c =
@@ -67,9 +55,6 @@ exit-in-place-requires c κs =
     let p = all-passed (a .s) (a .state-slot) (a .index) (a .queue) (a .registry .now) e (i .if2 .left) in
     ((p .others .shape .long, p .known, omega (arith, least-real (a .s) (a .state-slot) (a .index) (a .queue) (a .registry .now) e (i .if2 .left), see .before .before .current-epoch .ensures)), both-passed (a .s) (a .state-slot) (a .index) (a .queue) (a .registry .now) e (i .if2 .left) .queue)
 
-same-length-3 : tie.Need-same-length-3
-same-length-3 c = search needs
-
 returns-3 : tie.Need-returns-3
 returns-3 c =
     let i = c .before .before .before .before .before .before .before in
@@ -83,17 +68,17 @@ pub initiate-validator-exit-spec : {M : Type 1} → statement M
 initiate-validator-exit-spec =
     tie.close
     (tie.spec
-    shape-tests-requires
-    same-length
+    (λ c κs. search needs)
+    (λ c. search needs)
     returns
     current-epoch-requires
     see-registry-requires
-    found-refusal-requires
-    same-length-2
+    (λ c κs. search needs)
+    (λ c. search needs)
     returns-2
     churn-by-requires
     add-least
     add-least-2
     exit-in-place-requires
-    same-length-3
+    (λ c. search needs)
     returns-3)

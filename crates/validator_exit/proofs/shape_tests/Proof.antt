@@ -5,15 +5,9 @@ use Rattle.refusals.proofs.All.{fails, passes}
 use Rattle.validator_exit.proofs.shape_tests.Statement.{statement}
 use Rattle.validator_exit.proofs.shape_tests.Tie as tie
 
-settings-shaped-requires : tie.Need-settings-shaped-requires
-settings-shaped-requires c κs = search needs
-
 returns : tie.Need-returns
 unfolding inOrder
 returns c = rw (fails (c .before .settings-shaped .ensures) (c .if1 .taken))
-
-registry-shaped-requires : tie.Need-registry-shaped-requires
-registry-shaped-requires c κs = search needs
 
 returns-2 : tie.Need-returns-2
 unfolding inOrder
@@ -28,9 +22,6 @@ returns-3 c =
     let a = b .before .before in
     rw (passes (a .before .settings-shaped .ensures) (a .if1 .left), passes (b .before .registry-shaped .ensures) (b .if2 .left), le-ltb _ _ (c .if3 .taken))
 
-good-settings-requires : tie.Need-good-settings-requires
-good-settings-requires c κs = search needs
-
 returns-4 : tie.Need-returns-4
 unfolding inOrder
 returns-4 c =
@@ -38,9 +29,6 @@ returns-4 c =
     let b = d .before in
     let a = b .before .before in
     rw (passes (a .before .settings-shaped .ensures) (a .if1 .left), passes (b .before .registry-shaped .ensures) (b .if2 .left), lt-ltb _ _ (d .if3 .left), fails (c .before .good-settings .ensures) (c .if4 .taken))
-
-is-small-requires : tie.Need-is-small-requires
-is-small-requires c κs = search needs
 
 returns-5 : tie.Need-returns-5
 unfolding inOrder
@@ -64,13 +52,13 @@ pub shape-tests-spec : {M : Type 1} → statement M
 shape-tests-spec =
     tie.close
     (tie.spec
-    settings-shaped-requires
+    (λ c κs. search needs)
     returns
-    registry-shaped-requires
+    (λ c κs. search needs)
     returns-2
     returns-3
-    good-settings-requires
+    (λ c κs. search needs)
     returns-4
-    is-small-requires
+    (λ c κs. search needs)
     returns-5
     returns-6)

@@ -6,12 +6,9 @@ use borrow.Author.Needs.{needs}
 use Rattle.vote_outcome.proofs.finalized_after.Statement.{statement}
 use Rattle.vote_outcome.proofs.finalized_after.Tie as tie
 
-weighed-requires : tie.Need-weighed-requires
-weighed-requires c κs = search needs
-
 returns : tie.Need-returns
 unfolding weighed finalizedAfter
 returns c = ap (λ (f : Finality). f .«finalized_checkpoint» .epoch) (c .before .weighed .ensures)
 
 pub finalized-after-spec : {M : Type 1} → statement M
-finalized-after-spec = tie.close (tie.spec weighed-requires returns)
+finalized-after-spec = tie.close (tie.spec (λ c κs. search needs) returns)

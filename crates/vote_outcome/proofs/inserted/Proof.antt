@@ -9,9 +9,6 @@ returns : tie.Need-returns
 unfolding insertInto
 returns c = (rw (eq-eqb _ _ (c .if1 .taken)), omega arith)
 
-add-t4 : tie.Need-add-t4
-add-t4 c = search needs
-
 returns-2 : tie.Need-returns-2
 unfolding insertInto
 returns-2 c = (rw (ne-eqb _ _ (c .before .before .before .if1 .left), lt-ltb _ _ (c .before .if2 .taken)), omega arith)
@@ -23,9 +20,6 @@ returns-3 c = (rw (ne-eqb _ _ (c .before .before .before .before .if1 .left), le
 returns-4 : tie.Need-returns-4
 unfolding insertInto
 returns-4 c = (rw (ne-eqb _ _ (c .before .before .before .before .before .before .if1 .left), le-ltb _ _ (c .before .before .before .before .if2 .left), ne-eqb _ _ (c .before .before .if3 .left), eq-eqb _ _ (c .if4 .taken)), omega arith)
-
-add-t5 : tie.Need-add-t5
-add-t5 c = search needs
 
 returns-5 : tie.Need-returns-5
 unfolding insertInto
@@ -39,9 +33,6 @@ returns-7 : tie.Need-returns-7
 unfolding insertInto
 returns-7 c = (rw (ne-eqb _ _ (c .before .before .before .before .before .before .before .before .before .before .before .before .if1 .left), le-ltb _ _ (c .before .before .before .before .before .before .before .before .before .before .if2 .left), ne-eqb _ _ (c .before .before .before .before .before .before .before .before .if3 .left), ne-eqb _ _ (c .before .before .before .before .before .before .if4 .left), le-ltb _ _ (c .before .before .before .before .if5 .left), ne-eqb _ _ (c .before .before .if6 .left), eq-eqb _ _ (c .if7 .taken)), omega arith)
 
-add-t6 : tie.Need-add-t6
-add-t6 c = search needs
-
 returns-8 : tie.Need-returns-8
 unfolding insertInto
 returns-8 c = (rw (ne-eqb _ _ (c .before .before .before .before .before .before .before .before .before .before .before .before .before .before .before .if1 .left), le-ltb _ _ (c .before .before .before .before .before .before .before .before .before .before .before .before .before .if2 .left), ne-eqb _ _ (c .before .before .before .before .before .before .before .before .before .before .before .if3 .left), ne-eqb _ _ (c .before .before .before .before .before .before .before .before .before .if4 .left), le-ltb _ _ (c .before .before .before .before .before .before .before .if5 .left), ne-eqb _ _ (c .before .before .before .before .before .if6 .left), ne-eqb _ _ (c .before .before .before .if7 .left), lt-ltb _ _ (c .before .if8 .taken)), omega arith)
@@ -49,9 +40,6 @@ returns-8 c = (rw (ne-eqb _ _ (c .before .before .before .before .before .before
 returns-9 : tie.Need-returns-9
 unfolding insertInto
 returns-9 c = (rw (ne-eqb _ _ (c .before .before .before .before .before .before .before .before .before .before .before .before .before .before .before .before .if1 .left), le-ltb _ _ (c .before .before .before .before .before .before .before .before .before .before .before .before .before .before .if2 .left), ne-eqb _ _ (c .before .before .before .before .before .before .before .before .before .before .before .before .if3 .left), ne-eqb _ _ (c .before .before .before .before .before .before .before .before .before .before .if4 .left), le-ltb _ _ (c .before .before .before .before .before .before .before .before .if5 .left), ne-eqb _ _ (c .before .before .before .before .before .before .if6 .left), ne-eqb _ _ (c .before .before .before .before .if7 .left), le-ltb _ _ (c .before .before .if8 .left), eq-eqb _ _ (c .if9 .taken)), omega arith)
-
-add-t7 : tie.Need-add-t7
-add-t7 c = search needs
 
 returns-10 : tie.Need-returns-10
 unfolding insertInto
@@ -62,16 +50,16 @@ inserted-spec =
     tie.close
     (tie.spec
     returns
-    add-t4
+    (λ c. search needs)
     returns-2
     returns-3
     returns-4
-    add-t5
+    (λ c. search needs)
     returns-5
     returns-6
     returns-7
-    add-t6
+    (λ c. search needs)
     returns-8
     returns-9
-    add-t7
+    (λ c. search needs)
     returns-10)

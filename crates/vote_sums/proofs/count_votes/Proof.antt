@@ -43,15 +43,6 @@ part-entry-sums-end c = omega arith
 entry-sums-requires : tie.Need-entry-sums-requires Inv-loop μ-loop
 entry-sums-requires c κs = (reading-ten (counting-at (c .before .before .before .loop .inv)) (c .before .before .loop-test .taken), c .before .before .before .before .before .before .pre .1 .1)
 
-added-requires : tie.Need-added-requires Inv-loop μ-loop
-added-requires c κs = search needs
-
-enum-known-more : tie.Need-enum-known-more Inv-loop μ-loop
-enum-known-more c = search needs
-
-enum-told : tie.Need-enum-told Inv-loop μ-loop
-enum-told c = search needs
-
 returns : tie.Need-returns Inv-loop μ-loop
 returns c =
     let d = c .before .before in
@@ -89,9 +80,9 @@ count-votes-spec =
     part-entry-sums-start
     part-entry-sums-end
     entry-sums-requires
-    added-requires
-    enum-known-more
-    enum-told
+    (λ c κs. search needs)
+    (λ c. search needs)
+    (λ c. search needs)
     returns
     add-i
     loop-less

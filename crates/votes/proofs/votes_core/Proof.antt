@@ -43,22 +43,10 @@ returns c = ends-early _ (rw (c .before .before .current-epoch .ensures) at (c .
 previous-epoch-requires : tie.Need-previous-epoch-requires
 previous-epoch-requires c κs = votes-passed _ _ _ _ _ (start c .pre) .epoch
 
-epoch-lookup-requires : tie.Need-epoch-lookup-requires
-epoch-lookup-requires c κs = search needs
-
-refused-requires : tie.Need-refused-requires
-refused-requires c κs = search needs
-
 returns-2 : tie.Need-returns-2
 returns-2 c =
     let a = c .before .before in
     ends-lost _ (late (begun a)) (previous-root a) (c .before .if2 .taken) (c .refused .ensures)
-
-epoch-lookup-requires-2 : tie.Need-epoch-lookup-requires-2
-epoch-lookup-requires-2 c κs = search needs
-
-refused-requires-2 : tie.Need-refused-requires-2
-refused-requires-2 c κs = search needs
 
 returns-3 : tie.Need-returns-3
 returns-3 c =
@@ -71,15 +59,6 @@ count-votes-requires c κs =
     let e = begun (first (c .before)) in
     let p = votes-passed _ _ _ _ _ (start e .pre) in
     (p .shape .long, (p .marked, previous-earlier _ _ (e .before .current-epoch .ensures) (first (c .before) .before .previous-epoch .ensures) (e .if1 .left)))
-
-enum-known-sums : tie.Need-enum-known-sums
-enum-known-sums c = search needs
-
-enum-told : tie.Need-enum-told
-enum-told c = search needs
-
-refused-requires-3 : tie.Need-refused-requires-3
-refused-requires-3 c κs = search needs
 
 returns-4 : tie.Need-returns-4
 returns-4 c =
@@ -113,16 +92,16 @@ votes-core-spec =
     current-epoch-requires
     returns
     previous-epoch-requires
-    epoch-lookup-requires
-    refused-requires
+    (λ c κs. search needs)
+    (λ c κs. search needs)
     returns-2
-    epoch-lookup-requires-2
-    refused-requires-2
+    (λ c κs. search needs)
+    (λ c κs. search needs)
     returns-3
     count-votes-requires
-    enum-known-sums
-    enum-told
-    refused-requires-3
+    (λ c. search needs)
+    (λ c. search needs)
+    (λ c κs. search needs)
     returns-4
     weigh-votes-requires
     returns-5)

@@ -6,15 +6,9 @@ use borrow.Author.Needs.{needs}
 use Rattle.votes.proofs.votes_refusal.Statement.{statement}
 use Rattle.votes.proofs.votes_refusal.Tie as tie
 
-roots-shaped-requires : tie.Need-roots-shaped-requires
-roots-shaped-requires c κs = search needs
-
 returns : tie.Need-returns
 unfolding votesTests inOrder
 returns c = rw (fails (c .before .roots-shaped .ensures) (c .if1 .taken))
-
-registry-shaped-requires : tie.Need-registry-shaped-requires
-registry-shaped-requires c κs = search needs
 
 returns-2 : tie.Need-returns-2
 unfolding votesTests inOrder
@@ -33,9 +27,6 @@ returns-3 c =
       ne-eqb _ _ (c .if3 .taken),
     )
 
-good-settings-requires : tie.Need-good-settings-requires
-good-settings-requires c κs = search needs
-
 returns-4 : tie.Need-returns-4
 unfolding votesTests inOrder
 returns-4 c =
@@ -45,9 +36,6 @@ returns-4 c =
       eq-eqb _ _ (c .before .before .if3 .left),
       fails (c .before .good-settings .ensures) (c .if4 .taken),
     )
-
-good-finality-requires : tie.Need-good-finality-requires
-good-finality-requires c κs = search needs
 
 returns-5 : tie.Need-returns-5
 unfolding votesTests inOrder
@@ -60,9 +48,6 @@ returns-5 c =
       fails (c .before .good-finality .ensures) (c .if5 .taken),
     )
 
-good-registry-requires : tie.Need-good-registry-requires
-good-registry-requires c κs = search needs
-
 returns-6 : tie.Need-returns-6
 unfolding votesTests inOrder
 returns-6 c =
@@ -74,9 +59,6 @@ returns-6 c =
       passes (c .before .before .before .good-finality .ensures) (c .before .before .if5 .left),
       fails (c .before .good-registry .ensures) (c .if6 .taken),
     )
-
-good-marks-requires : tie.Need-good-marks-requires
-good-marks-requires c κs = search needs
 
 returns-7 : tie.Need-returns-7
 unfolding votesTests inOrder
@@ -108,17 +90,17 @@ pub votes-refusal-spec : {M : Type 1} → statement M
 votes-refusal-spec =
     tie.close
     (tie.spec
-    roots-shaped-requires
+    (λ c κs. search needs)
     returns
-    registry-shaped-requires
+    (λ c κs. search needs)
     returns-2
     returns-3
-    good-settings-requires
+    (λ c κs. search needs)
     returns-4
-    good-finality-requires
+    (λ c κs. search needs)
     returns-5
-    good-registry-requires
+    (λ c κs. search needs)
     returns-6
-    good-marks-requires
+    (λ c κs. search needs)
     returns-7
     returns-8)

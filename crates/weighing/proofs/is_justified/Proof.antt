@@ -4,27 +4,9 @@ use borrow.Author.Needs.{needs}
 use Rattle.weighing.proofs.is_justified.Statement.{statement}
 use Rattle.weighing.proofs.is_justified.Tie as tie
 
-mul64-requires : tie.Need-mul64-requires
-mul64-requires c κs = search needs
-
-enum-known-left : tie.Need-enum-known-left
-enum-known-left c = search needs
-
-enum-told : tie.Need-enum-told
-enum-told c = search needs
-
 returns : tie.Need-returns
 unfolding isJustified
 returns c = search (needs, chain)
-
-mul64-requires-2 : tie.Need-mul64-requires-2
-mul64-requires-2 c κs = search needs
-
-enum-known-right : tie.Need-enum-known-right
-enum-known-right c = search needs
-
-enum-told-2 : tie.Need-enum-told-2
-enum-told-2 c = search needs
 
 returns-2 : tie.Need-returns-2
 unfolding isJustified
@@ -38,12 +20,12 @@ pub is-justified-spec : {M : Type 1} → statement M
 is-justified-spec =
     tie.close
     (tie.spec
-    mul64-requires
-    enum-known-left
-    enum-told
+    (λ c κs. search needs)
+    (λ c. search needs)
+    (λ c. search needs)
     returns
-    mul64-requires-2
-    enum-known-right
-    enum-told-2
+    (λ c κs. search needs)
+    (λ c. search needs)
+    (λ c. search needs)
     returns-2
     returns-3)

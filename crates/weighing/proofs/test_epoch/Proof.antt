@@ -10,23 +10,11 @@ use borrow.Author.Needs.{needs}
 use Rattle.weighing.proofs.test_epoch.Statement.{statement}
 use Rattle.weighing.proofs.test_epoch.Tie as tie
 
-is-justified-requires : tie.Need-is-justified-requires
-is-justified-requires c κs = search needs
-
-enum-known-passed : tie.Need-enum-known-passed
-enum-known-passed c = search needs
-
-enum-told : tie.Need-enum-told
-enum-told c = search needs
-
 returns : tie.Need-returns
 returns c = test-over _ _ _ _ _ _ (answers-overflow tells-truth (c .before .before .is-justified .ensures) (only-justified _ _) (c .enum-told .given .1) .0)
 
 returns-2 : tie.Need-returns-2
 returns-2 c = test-failed _ _ _ _ _ _ (answers-value tells-truth (c .before .before .before .before .is-justified .ensures) (c .before .before .passed .given .1) ∙ ap value (not-true _ (c .if1 .taken)))
-
-epoch-lookup-requires : tie.Need-epoch-lookup-requires
-epoch-lookup-requires c κs = search needs
 
 returns-3 : tie.Need-returns-3
 returns-3 c = test-refused _ _ _ _ _ _ (answers-value tells-truth (c .before .before .before .before .before .before .is-justified .ensures) (c .before .before .before .before .passed .given .1) ∙ ap value (not-false _ (c .before .before .if1 .left))) (c .before .epoch-lookup .ensures) (c .if2 .taken)
@@ -48,12 +36,12 @@ pub test-epoch-spec : {M : Type 1} → statement M
 test-epoch-spec =
     tie.close
     (tie.spec
-    is-justified-requires
-    enum-known-passed
-    enum-told
+    (λ c κs. search needs)
+    (λ c. search needs)
+    (λ c. search needs)
     returns
     returns-2
-    epoch-lookup-requires
+    (λ c κs. search needs)
     returns-3
     epoch-root-requires
     root-copy-requires

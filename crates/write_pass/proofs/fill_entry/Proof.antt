@@ -5,26 +5,11 @@ use borrow.Author.Needs.{needs}
 use Rattle.write_pass.proofs.fill_entry.Statement.{statement}
 use Rattle.write_pass.proofs.fill_entry.Tie as tie
 
-shared-slice-read-put-nine : tie.Need-shared-slice-read-put-nine
-shared-slice-read-put-nine c = search needs
-
-shared-slice-read-put-nine-2 : tie.Need-shared-slice-read-put-nine-2
-shared-slice-read-put-nine-2 c = search needs
-
 sub-put-nine : tie.Need-sub-put-nine
 sub-put-nine c = genesis-less (c .before .before .before .before .before .before .before .before .pre .1 .1 .1) (c .before .before .if1 .taken)
 
-put-nine-requires : tie.Need-put-nine-requires
-put-nine-requires c κs = search needs
-
-same-length : tie.Need-same-length
-same-length c = search needs
-
 returns : tie.Need-returns
 returns c = c .before .before .put-nine .ensures ∙ genesis-nine (c .before .before .before .before .before .before .before .before .before .before .before .before .pre .1 .1 .1) (c .before .before .before .before .before .before .if1 .taken)
-
-shared-slice-read-pairs-by : tie.Need-shared-slice-read-pairs-by
-shared-slice-read-pairs-by c = search needs
 
 pairs-by-requires : tie.Need-pairs-by-requires
 pairs-by-requires c κs =
@@ -45,9 +30,6 @@ put-amounts-requires c κs =
     let g = c .before .before .before .pairs-by .ensures in
     (a .1 .1 .0 .2, (paid-fits (a .1 .1 .1) n g, paid-left (a .1 .1 .1) n g))
 
-same-length-2 : tie.Need-same-length-2
-same-length-2 c = search needs
-
 returns-2 : tie.Need-returns-2
 returns-2 c = c .before .before .put-amounts .ensures ∙ paid-nine (c .before .before .before .before .before .before .before .before .before .before .before .before .before .before .pre .1 .1 .1) (c .before .before .before .before .before .before .before .before .if1 .left) (c .before .before .before .before .before .before .pairs-by .ensures)
 
@@ -55,16 +37,16 @@ pub fill-entry-spec : {M : Type 1} → statement M
 fill-entry-spec =
     tie.close
     (tie.spec
-    shared-slice-read-put-nine
-    shared-slice-read-put-nine-2
+    (λ c. search needs)
+    (λ c. search needs)
     sub-put-nine
-    put-nine-requires
-    same-length
+    (λ c κs. search needs)
+    (λ c. search needs)
     returns
-    shared-slice-read-pairs-by
+    (λ c. search needs)
     pairs-by-requires
     shared-slice-read-put-amounts
     shared-slice-read-put-amounts-2
     put-amounts-requires
-    same-length-2
+    (λ c. search needs)
     returns-2)

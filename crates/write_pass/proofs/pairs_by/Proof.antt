@@ -6,27 +6,6 @@ use borrow.Author.Needs.{needs}
 use Rattle.write_pass.proofs.pairs_by.Statement.{statement}
 use Rattle.write_pass.proofs.pairs_by.Tie as tie
 
-entry-is-eligible-requires : tie.Need-entry-is-eligible-requires
-entry-is-eligible-requires c κs = search needs
-
-entry-is-participating-requires : tie.Need-entry-is-participating-requires
-entry-is-participating-requires c κs = search needs
-
-entry-is-participating-requires-2 : tie.Need-entry-is-participating-requires-2
-entry-is-participating-requires-2 c κs = search needs
-
-entry-is-participating-requires-3 : tie.Need-entry-is-participating-requires-3
-entry-is-participating-requires-3 c κs = search needs
-
-flag-pair-requires : tie.Need-flag-pair-requires
-flag-pair-requires c κs = search needs
-
-flag-pair-requires-2 : tie.Need-flag-pair-requires-2
-flag-pair-requires-2 c κs = search needs
-
-flag-pair-requires-3 : tie.Need-flag-pair-requires-3
-flag-pair-requires-3 c κs = search needs
-
 charge-requires : tie.Need-charge-requires
 charge-requires c κs =
     let a = c .before .before .before .before .before .before .before .before .before .pre in
@@ -48,12 +27,12 @@ pub pairs-by-spec : {M : Type 1} → statement M
 pairs-by-spec =
     tie.close
     (tie.spec
-    entry-is-eligible-requires
-    entry-is-participating-requires
-    entry-is-participating-requires-2
-    entry-is-participating-requires-3
-    flag-pair-requires
-    flag-pair-requires-2
-    flag-pair-requires-3
+    (λ c κs. search needs)
+    (λ c κs. search needs)
+    (λ c κs. search needs)
+    (λ c κs. search needs)
+    (λ c κs. search needs)
+    (λ c κs. search needs)
+    (λ c κs. search needs)
     charge-requires
     returns)

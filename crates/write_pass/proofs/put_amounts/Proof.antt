@@ -26,12 +26,6 @@ sub-put-nine : tie.Need-sub-put-nine
 unfolding left
 sub-put-nine c = rw (c .before .book4 .ensures .left, c .before .before .before .book3 .ensures .left, c .before .before .before .before .before .book2 .ensures .left, c .before .before .before .before .before .before .before .book .ensures .left) (c .before .before .before .before .before .before .before .before .before .before .pre .1 .1)
 
-put-nine-requires : tie.Need-put-nine-requires
-put-nine-requires c κs = search needs
-
-same-length : tie.Need-same-length
-same-length c = search needs
-
 returns : tie.Need-returns
 returns c = c .before .before .put-nine .ensures ∙ nine-booked _ (c .before .before .before .before .before .before .before .before .before .before .before .book .ensures) (c .before .before .before .before .before .before .before .before .before .book2 .ensures) (c .before .before .before .before .before .before .before .book3 .ensures) (c .before .before .before .before .before .book4 .ensures)
 
@@ -44,6 +38,6 @@ put-amounts-spec =
     book-requires-3
     book-requires-4
     sub-put-nine
-    put-nine-requires
-    same-length
+    (λ c κs. search needs)
+    (λ c. search needs)
     returns)

@@ -5,18 +5,6 @@ use borrow.Author.Needs.{needs}
 use Rattle.write_pass.proofs.put_nine.Statement.{statement}
 use Rattle.write_pass.proofs.put_nine.Tie as tie
 
-slice-write-nine : tie.Need-slice-write-nine
-slice-write-nine c = search needs
-
-slice-write-nine-2 : tie.Need-slice-write-nine-2
-slice-write-nine-2 c = search needs
-
-slice-write-nine-3 : tie.Need-slice-write-nine-3
-slice-write-nine-3 c = search needs
-
-slice-write-nine-4 : tie.Need-slice-write-nine-4
-slice-write-nine-4 c = search needs
-
 slice-write-nine-5 : tie.Need-slice-write-nine-5
 slice-write-nine-5 c = simp length-set (omega arith)
 
@@ -42,10 +30,10 @@ pub put-nine-spec : {M : Type 1} → statement M
 put-nine-spec =
     tie.close
     (tie.spec
-    slice-write-nine
-    slice-write-nine-2
-    slice-write-nine-3
-    slice-write-nine-4
+    (λ c. search needs)
+    (λ c. search needs)
+    (λ c. search needs)
+    (λ c. search needs)
     slice-write-nine-5
     slice-write-nine-6
     slice-write-nine-7

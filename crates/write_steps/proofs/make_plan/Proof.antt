@@ -3,21 +3,6 @@ use borrow.Author.Needs.{needs}
 use Rattle.write_steps.proofs.make_plan.Statement.{statement}
 use Rattle.write_steps.proofs.make_plan.Tie as tie
 
-div-source : tie.Need-div-source
-div-source c = search needs
-
-div-target : tie.Need-div-target
-div-target c = search needs
-
-div-head : tie.Need-div-head
-div-head c = search needs
-
-shared-numbers-requires : tie.Need-shared-numbers-requires
-shared-numbers-requires c κs = search needs
-
-mul64-requires : tie.Need-mul64-requires
-mul64-requires c κs = search needs
-
 returns : tie.Need-returns
 returns c =
     let h = c .before .shared-numbers .ensures in
@@ -30,9 +15,9 @@ pub make-plan-spec : {M : Type 1} → statement M
 make-plan-spec =
     tie.close
     (tie.spec
-    div-source
-    div-target
-    div-head
-    shared-numbers-requires
-    mul64-requires
+    (λ c. search needs)
+    (λ c. search needs)
+    (λ c. search needs)
+    (λ c κs. search needs)
+    (λ c κs. search needs)
     returns)

@@ -19,35 +19,14 @@ previous-epoch-requires c κs = good-settings _ (c .before .before .pre .0) .pos
 leak-of-requires : tie.Need-leak-of-requires
 leak-of-requires c κs = (good-settings _ (c .before .before .before .pre .0) .positive .«slots_per_epoch», c .before .current-epoch .ensures)
 
-enum-known-leaking : tie.Need-enum-known-leaking
-enum-known-leaking c = search needs
-
-enum-told : tie.Need-enum-told
-enum-told c = search needs
-
 returns : tie.Need-returns
 returns c = plan-lacks (noLeak (answers-overflow tells-truth (c .before .before .leak-of .ensures) (only-leak _ _ _) (c .enum-told .given .1) .0))
-
-adjusted-balance-requires : tie.Need-adjusted-balance-requires
-adjusted-balance-requires c κs = search needs
-
-enum-known-adjusted : tie.Need-enum-known-adjusted
-enum-known-adjusted c = search needs
-
-enum-told-2 : tie.Need-enum-told-2
-enum-told-2 c = search needs
 
 returns-2 : tie.Need-returns-2
 returns-2 c = plan-lacks (noAdjusted (says-overflow (c .before .before .adjusted-balance .ensures) (only-adjusted _ _ _) (c .enum-told2 .given .1) .0))
 
 hysteresis-requires : tie.Need-hysteresis-requires
 hysteresis-requires c κs = good-settings _ (c .before .before .before .before .before .before .before .before .before .before .before .pre .0) .positive .«hysteresis_quotient»
-
-enum-known-thresholds : tie.Need-enum-known-thresholds
-enum-known-thresholds c = search needs
-
-enum-told-3 : tie.Need-enum-told-3
-enum-told-3 c = search needs
 
 returns-3 : tie.Need-returns-3
 returns-3 c = plan-lacks (noThresholds (answers-overflow tells-thresholds (c .before .before .hysteresis .ensures) (only-thresholds _) (c .enum-told3 .given .1) .0))
@@ -76,16 +55,16 @@ plan-for-spec =
     current-epoch-requires
     previous-epoch-requires
     leak-of-requires
-    enum-known-leaking
-    enum-told
+    (λ c. search needs)
+    (λ c. search needs)
     returns
-    adjusted-balance-requires
-    enum-known-adjusted
-    enum-told-2
+    (λ c κs. search needs)
+    (λ c. search needs)
+    (λ c. search needs)
     returns-2
     hysteresis-requires
-    enum-known-thresholds
-    enum-told-3
+    (λ c. search needs)
+    (λ c. search needs)
     returns-3
     make-plan-requires
     returns-4)

@@ -22,12 +22,6 @@ Accepted-at c = Accepted (c .args .s) (c .args .state-slot) (c .args .finalized-
 plan-for-requires : tie.Need-plan-for-requires
 plan-for-requires c κs = let a = c .before .before .before .before in (a .pre .0 .0, total-least _ _ (a .pre .1 .1 .totals .active))
 
-enum-known-p : tie.Need-enum-known-p
-enum-known-p c = search needs
-
-enum-told : tie.Need-enum-told
-enum-told c = search needs
-
 returns : tie.Need-returns
 returns c =
     let a = c .before .before .before .before .before .before .before in
@@ -57,12 +51,6 @@ write-all-requires c κs =
     let m = k .before .before .before .before .plan-for .ensures .given _ (k .before .before .p .given .1) .makes in
     (m .planned, (a .pre .1 .0, (rw (m .is) (ep a .small), queue-few (a .args .opening .now) (a .pre .1 .0 .0) (a .pre .1 .1 .queue))))
 
-same-length : tie.Need-same-length
-same-length c = search needs
-
-same-length-2 : tie.Need-same-length-2
-same-length-2 c = search needs
-
 returns-2 : tie.Need-returns-2
 returns-2 c =
     let k = c .before .before .before .before .before .before .before .before in
@@ -76,13 +64,13 @@ write-found-spec =
     tie.close
     (tie.spec
     plan-for-requires
-    enum-known-p
-    enum-told
+    (λ c. search needs)
+    (λ c. search needs)
     returns
     current-epoch-requires
     add-t16
     add-t17
     write-all-requires
-    same-length
-    same-length-2
+    (λ c. search needs)
+    (λ c. search needs)
     returns-2)

@@ -20,17 +20,11 @@ ep c = epochs (c .args .s) (c .args .state-slot) (c .pre .0 .0) (c .pre .0 .1)
 abbrev Accepted-at : tie.Start → Type 0
 Accepted-at c = Accepted (c .args .s) (c .args .state-slot) (c .args .finalized-epoch) (c .args .slashings .now) (decode (c .args .opening .now))
 
-all-fit-requires : tie.Need-all-fit-requires
-all-fit-requires c κs = search needs
-
 returns : tie.Need-returns
 returns c =
     let a = c .before .before .before .before .before .before .before in
     let over = fails (c .before .all-fit .ensures) (c .if1 .taken) in
     (ran-overflow (not-accepted _ _ _ (ep a) _ _ (λ (g : Accepted-at a). true≢false (sym (plain-fit (a .pre .1 .1) (g .plain)) ∙ over))), record { booked = λ z. absurd (omega (arith, z)) })
-
-totals-requires : tie.Need-totals-requires
-totals-requires c κs = search needs
 
 current-epoch-requires : tie.Need-current-epoch-requires
 current-epoch-requires c κs = good-settings _ (c .before .before .before .before .before .before .before .before .pre .0 .0) .positive .«slots_per_epoch»
@@ -48,9 +42,6 @@ add-least c = omega (arith, current-small (c .before))
 add-least-2 : tie.Need-add-least-2
 add-least-2 c = omega (arith, current-small (c .before .before), good-settings _ (c .before .before .before .before .before .before .before .before .before .before .before .pre .0 .0) .small .«max_seed_lookahead»)
 
-start-pair-requires : tie.Need-start-pair-requires
-start-pair-requires c κs = search needs
-
 cut-queue-requires : tie.Need-cut-queue-requires
 cut-queue-requires c κs =
     let a = c .before .before .before .before .before .before .before .before .before .before .before .before .pre in
@@ -62,12 +53,6 @@ write-found-requires c κs =
     let e = c .before .before .before .before .before .before .current-epoch .ensures in
     ((a .pre .0 .0, a .pre .0 .1), (a .pre .1 .0, found-all (a .args .s) (a .args .state-slot) (a .args .finalized-epoch) (ep a) (a .args .opening .now) (a .pre .1 .1) (passes (c .before .before .before .before .before .before .before .before .before .all-fit .ensures) (c .before .before .before .before .before .before .before .before .if1 .left)) (c .before .before .before .before .before .before .before .totals .ensures) (c .before .before .before .before .before .churn-by .ensures) (rw e at (c .before .before .before .start-pair .ensures)) (rw e at (c .before .before .cut-queue .ensures))))
 
-same-length : tie.Need-same-length
-same-length c = search needs
-
-same-length-2 : tie.Need-same-length-2
-same-length-2 c = search needs
-
 returns-2 : tie.Need-returns-2
 returns-2 c = c .before .before .before .before .write-found .ensures
 
@@ -75,16 +60,16 @@ pub write-registry-spec : {M : Type 1} → statement M
 write-registry-spec =
     tie.close
     (tie.spec
-    all-fit-requires
+    (λ c κs. search needs)
     returns
-    totals-requires
+    (λ c κs. search needs)
     current-epoch-requires
     churn-by-requires
     add-least
     add-least-2
-    start-pair-requires
+    (λ c κs. search needs)
     cut-queue-requires
     write-found-requires
-    same-length
-    same-length-2
+    (λ c. search needs)
+    (λ c. search needs)
     returns-2)

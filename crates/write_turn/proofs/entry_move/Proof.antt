@@ -5,20 +5,8 @@ use borrow.Author.Needs.{needs}
 use Rattle.write_turn.proofs.entry_move.Statement.{statement}
 use Rattle.write_turn.proofs.entry_move.Tie as tie
 
-update-entry-requires : tie.Need-update-entry-requires
-update-entry-requires c κs = search needs
-
-same-length : tie.Need-same-length
-same-length c = search needs
-
 returns : tie.Need-returns
 returns c = record { steps = after-stop (turn-steps _ _ _ (c .before .before .before .update-entry .ensures)) _ (c .if1 .taken); few = omega arith }
-
-admit-entry-requires : tie.Need-admit-entry-requires
-admit-entry-requires c κs = search needs
-
-same-length-2 : tie.Need-same-length-2
-same-length-2 c = search needs
 
 returns-2 : tie.Need-returns-2
 returns-2 c = record { steps = after-then (turn-steps _ _ _ (c .before .before .before .before .before .before .before .before .update-entry .ensures)) _ (c .before .before .before .before .before .if1 .left) (admit-steps _ _ _ _ (c .before .before .admit-entry .ensures .0) (c .before .before .admit-entry .ensures .1)); few = turn-few _ _ _ (c .before .before .before .before .before .before .before .before .update-entry .ensures) (c .before .before .before .before .before .if1 .left) }
@@ -27,9 +15,9 @@ pub entry-move-spec : {M : Type 1} → statement M
 entry-move-spec =
     tie.close
     (tie.spec
-    update-entry-requires
-    same-length
+    (λ c κs. search needs)
+    (λ c. search needs)
     returns
-    admit-entry-requires
-    same-length-2
+    (λ c κs. search needs)
+    (λ c. search needs)
     returns-2)

@@ -11,12 +11,6 @@ returns c =
     let a = c .before .before .before .before in
     record { runs = pays-none (a .args .s) (a .args .p) (a .pre .1 .0) (omega (arith, c .if1 .taken)); memo = a .pre .1 .1; rates = λ z. rates-none (a .args .s) (a .args .p) (omega (arith, c .if1 .taken)) }
 
-entry-update-score-requires : tie.Need-entry-update-score-requires
-entry-update-score-requires c κs = search needs
-
-same-length : tie.Need-same-length
-same-length c = search needs
-
 returns-2 : tie.Need-returns-2
 returns-2 c =
     let a = c .before .before .before .before .before .before .before .before .before in
@@ -26,21 +20,12 @@ returns-2 c =
       rates = λ z. absurd (omega (arith, z, c .if2 .taken));
     }
 
-slice-read-balance : tie.Need-slice-read-balance
-slice-read-balance c = search needs
-
-rates-for-requires : tie.Need-rates-for-requires
-rates-for-requires c κs = search needs
-
 entry-reward-by-requires : tie.Need-entry-reward-by-requires
 entry-reward-by-requires c κs =
     let a = c .before .before .before .before .before .before .before .before .before .before .before .before .before .pre in
     let score = c .before .before .before .before .before .before .before in
     let rates = c .before .before .rates-for .ensures in
     (a .0 .shared, ((a .0 .bias, a .0 .quotient), (a .0 .product, (score .entry-update-score .kept .1 .1 .1 .1 .0 ∙ a .1 .0, (rates .1 .0, rates .1 .1)))))
-
-same-length-2 : tie.Need-same-length-2
-same-length-2 c = search needs
 
 returns-3 : tie.Need-returns-3
 returns-3 c =
@@ -56,11 +41,11 @@ entry-pay-spec =
     tie.close
     (tie.spec
     returns
-    entry-update-score-requires
-    same-length
+    (λ c κs. search needs)
+    (λ c. search needs)
     returns-2
-    slice-read-balance
-    rates-for-requires
+    (λ c. search needs)
+    (λ c κs. search needs)
     entry-reward-by-requires
-    same-length-2
+    (λ c. search needs)
     returns-3)

@@ -5,14 +5,8 @@ use borrow.Author.Needs.{needs}
 use Rattle.write_turn.proofs.write_entry.Statement.{statement}
 use Rattle.write_turn.proofs.write_entry.Tie as tie
 
-copy-entry-requires : tie.Need-copy-entry-requires
-copy-entry-requires c κs = search needs
-
 entry-pay-requires : tie.Need-entry-pay-requires
 entry-pay-requires c κs = let a = c .before .before .before .before .before .before .before .pre in (a .0, (search needs, a .1 .0))
-
-same-length : tie.Need-same-length
-same-length c = search needs
 
 returns : tie.Need-returns
 returns c =
@@ -24,9 +18,6 @@ entry-move-requires : tie.Need-entry-move-requires
 entry-move-requires c κs =
     let a = c .before .before .before .before .before .before .before .before .before .before .before .before .before .before .before .pre in
     (c .before .before .before .before .before .before .before .entry-pay .kept .1 .1 .1 .0 ∙ c .before .before .before .before .before .before .before .before .before .before .before .copy-entry .kept .1 .0 ∙ a .1 .1 .0 .1, a .1 .1 .1 .0, a .1 .1 .1 .1)
-
-same-length-2 : tie.Need-same-length-2
-same-length-2 c = search needs
 
 returns-2 : tie.Need-returns-2
 returns-2 c =
@@ -45,9 +36,6 @@ entry-finish-requires c κs =
     let a = c .before .before .before .before .before .before .before .before .before .before .before .before .before .before .before .before .before .before .before .before .before .before .pre in
     (a .0, c .before .before .before .before .before .before .entry-move .kept .1 .1 .1 .1 .1 .0 ∙ c .before .before .before .before .before .before .before .before .before .before .before .before .before .before .entry-pay .kept .1 .1 .1 .0 ∙ c .before .before .before .before .before .before .before .before .before .before .before .before .before .before .before .before .before .before .copy-entry .kept .1 .0 ∙ a .1 .1 .0 .1)
 
-same-length-3 : tie.Need-same-length-3
-same-length-3 c = search needs
-
 returns-3 : tie.Need-returns-3
 returns-3 c =
     let copied = c .before .before .before .before .before .before .before .before .before .before .before .before .before .before .before .before .before .before .before .before .before .copy-entry .ensures in
@@ -64,13 +52,13 @@ pub write-entry-spec : {M : Type 1} → statement M
 write-entry-spec =
     tie.close
     (tie.spec
-    copy-entry-requires
+    (λ c κs. search needs)
     entry-pay-requires
-    same-length
+    (λ c. search needs)
     returns
     entry-move-requires
-    same-length-2
+    (λ c. search needs)
     returns-2
     entry-finish-requires
-    same-length-3
+    (λ c. search needs)
     returns-3)

@@ -4,15 +4,9 @@ use borrow.Author.Needs.{needs}
 use Rattle.exports.proofs.altair_helpers.altair_get_base_reward.Statement.{statement}
 use Rattle.exports.proofs.altair_helpers.altair_get_base_reward.Tie as tie
 
-get-base-reward-requires : tie.Need-get-base-reward-requires
-get-base-reward-requires c κs = search needs
-
-plain-number-requires : tie.Need-plain-number-requires
-plain-number-requires c κs = search needs
-
 returns : tie.Need-returns
 returns c = c .plain-number .ensures ∙ ap plainNumber (c .before .get-base-reward .ensures .is)
 
 pub altair-get-base-reward-spec : {M : Type 1} → statement M
 altair-get-base-reward-spec =
-    tie.close (tie.spec get-base-reward-requires plain-number-requires returns)
+    tie.close (tie.spec (λ c κs. search needs) (λ c κs. search needs) returns)

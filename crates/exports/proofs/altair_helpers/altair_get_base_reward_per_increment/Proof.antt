@@ -6,15 +6,9 @@ use Rattle.exports.proofs.altair_helpers.altair_get_base_reward_per_inc
 }
 use Rattle.exports.proofs.altair_helpers.altair_get_base_reward_per_increment.Tie as tie
 
-get-base-reward-per-increment-requires : tie.Need-get-base-reward-per-increment-requires
-get-base-reward-per-increment-requires c κs = search needs
-
-plain-number-requires : tie.Need-plain-number-requires
-plain-number-requires c κs = search needs
-
 returns : tie.Need-returns
 returns c = c .plain-number .ensures ∙ ap plainNumber (c .before .get-base-reward-per-increment .ensures .is)
 
 pub altair-get-base-reward-per-increment-spec : {M : Type 1} → statement M
 altair-get-base-reward-per-increment-spec =
-    tie.close (tie.spec get-base-reward-per-increment-requires plain-number-requires returns)
+    tie.close (tie.spec (λ c κs. search needs) (λ c κs. search needs) returns)

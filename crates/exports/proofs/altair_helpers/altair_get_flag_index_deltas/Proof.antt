@@ -4,15 +4,9 @@ use borrow.Author.Needs.{needs}
 use Rattle.exports.proofs.altair_helpers.altair_get_flag_index_deltas.Statement.{statement}
 use Rattle.exports.proofs.altair_helpers.altair_get_flag_index_deltas.Tie as tie
 
-get-flag-index-deltas-requires : tie.Need-get-flag-index-deltas-requires
-get-flag-index-deltas-requires c κs = search needs
-
-plain-deltas-requires : tie.Need-plain-deltas-requires
-plain-deltas-requires c κs = search needs
-
 returns : tie.Need-returns
 returns c = c .plain-deltas .ensures ∙ ap plainDeltas (c .before .get-flag-index-deltas .ensures .is)
 
 pub altair-get-flag-index-deltas-spec : {M : Type 1} → statement M
 altair-get-flag-index-deltas-spec =
-    tie.close (tie.spec get-flag-index-deltas-requires plain-deltas-requires returns)
+    tie.close (tie.spec (λ c κs. search needs) (λ c κs. search needs) returns)

@@ -6,15 +6,9 @@ use Rattle.exports.proofs.altair_helpers.altair_get_inactivity_penalty_
 }
 use Rattle.exports.proofs.altair_helpers.altair_get_inactivity_penalty_deltas.Tie as tie
 
-get-inactivity-penalty-deltas-requires : tie.Need-get-inactivity-penalty-deltas-requires
-get-inactivity-penalty-deltas-requires c κs = search needs
-
-plain-deltas-requires : tie.Need-plain-deltas-requires
-plain-deltas-requires c κs = search needs
-
 returns : tie.Need-returns
 returns c = c .plain-deltas .ensures ∙ ap plainDeltas (c .before .get-inactivity-penalty-deltas .ensures .is)
 
 pub altair-get-inactivity-penalty-deltas-spec : {M : Type 1} → statement M
 altair-get-inactivity-penalty-deltas-spec =
-    tie.close (tie.spec get-inactivity-penalty-deltas-requires plain-deltas-requires returns)
+    tie.close (tie.spec (λ c κs. search needs) (λ c κs. search needs) returns)

@@ -6,15 +6,9 @@ use Rattle.exports.proofs.altair_helpers.altair_get_participating_balan
 }
 use Rattle.exports.proofs.altair_helpers.altair_get_participating_balance.Tie as tie
 
-get-participating-balance-requires : tie.Need-get-participating-balance-requires
-get-participating-balance-requires c κs = search needs
-
-plain-total-requires : tie.Need-plain-total-requires
-plain-total-requires c κs = search needs
-
 returns : tie.Need-returns
 returns c = c .plain-total .ensures ∙ ap plainTotal (c .before .get-participating-balance .ensures .is)
 
 pub altair-get-participating-balance-spec : {M : Type 1} → statement M
 altair-get-participating-balance-spec =
-    tie.close (tie.spec get-participating-balance-requires plain-total-requires returns)
+    tie.close (tie.spec (λ c κs. search needs) (λ c κs. search needs) returns)

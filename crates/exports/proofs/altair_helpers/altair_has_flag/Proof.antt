@@ -4,14 +4,8 @@ use borrow.Author.Needs.{needs}
 use Rattle.exports.proofs.altair_helpers.altair_has_flag.Statement.{statement}
 use Rattle.exports.proofs.altair_helpers.altair_has_flag.Tie as tie
 
-has-flag-requires : tie.Need-has-flag-requires
-has-flag-requires c κs = search needs
-
-plain-truth-requires : tie.Need-plain-truth-requires
-plain-truth-requires c κs = search needs
-
 returns : tie.Need-returns
 returns c = c .plain-truth .ensures ∙ ap plainTruth (c .before .has-flag .ensures)
 
 pub altair-has-flag-spec : {M : Type 1} → statement M
-altair-has-flag-spec = tie.close (tie.spec has-flag-requires plain-truth-requires returns)
+altair-has-flag-spec = tie.close (tie.spec (λ c κs. search needs) (λ c κs. search needs) returns)

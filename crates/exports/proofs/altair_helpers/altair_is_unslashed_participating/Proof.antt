@@ -6,15 +6,9 @@ use Rattle.exports.proofs.altair_helpers.altair_is_unslashed_participat
 }
 use Rattle.exports.proofs.altair_helpers.altair_is_unslashed_participating.Tie as tie
 
-is-unslashed-participating-requires : tie.Need-is-unslashed-participating-requires
-is-unslashed-participating-requires c κs = search needs
-
-plain-truth-requires : tie.Need-plain-truth-requires
-plain-truth-requires c κs = search needs
-
 returns : tie.Need-returns
 returns c = c .plain-truth .ensures ∙ ap plainTruth (c .before .is-unslashed-participating .ensures)
 
 pub altair-is-unslashed-participating-spec : {M : Type 1} → statement M
 altair-is-unslashed-participating-spec =
-    tie.close (tie.spec is-unslashed-participating-requires plain-truth-requires returns)
+    tie.close (tie.spec (λ c κs. search needs) (λ c κs. search needs) returns)

@@ -4,15 +4,9 @@ use borrow.Author.Needs.{needs}
 use Rattle.exports.proofs.epoch_processing.altair_get_finality_delay.Statement.{statement}
 use Rattle.exports.proofs.epoch_processing.altair_get_finality_delay.Tie as tie
 
-get-finality-delay-requires : tie.Need-get-finality-delay-requires
-get-finality-delay-requires c κs = search needs
-
-plain-number-requires : tie.Need-plain-number-requires
-plain-number-requires c κs = search needs
-
 returns : tie.Need-returns
 returns c = c .plain-number .ensures ∙ ap plainNumber (c .before .get-finality-delay .ensures .is)
 
 pub altair-get-finality-delay-spec : {M : Type 1} → statement M
 altair-get-finality-delay-spec =
-    tie.close (tie.spec get-finality-delay-requires plain-number-requires returns)
+    tie.close (tie.spec (λ c κs. search needs) (λ c κs. search needs) returns)

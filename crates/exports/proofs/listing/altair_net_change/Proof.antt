@@ -16,15 +16,6 @@ told : (opening closing : ℕ) {z : ℤ} → netChange opening closing ≡ value
 unfolding plainChange
 told opening closing e = rw (signed opening closing e, e)
 
-net-change-requires : tie.Need-net-change-requires
-net-change-requires c κs = search needs
-
-enum-known-value : tie.Need-enum-known-value
-enum-known-value c = search needs
-
-enum-known-refusal : tie.Need-enum-known-refusal
-enum-known-refusal c = search needs
-
 returns : tie.Need-returns
 returns c = told _ _ (given _ (c .before .before .before .net-change .ensures) (c .before .value .given .1))
 
@@ -34,4 +25,4 @@ returns-2 c = ap plainChange (sym (c .before .refusal .given .1) ∙ c .before .
 
 pub altair-net-change-spec : {M : Type 1} → statement M
 altair-net-change-spec =
-    tie.close (tie.spec net-change-requires enum-known-value enum-known-refusal returns returns-2)
+    tie.close (tie.spec (λ c κs. search needs) (λ c. search needs) (λ c. search needs) returns returns-2)

@@ -4,14 +4,8 @@ use borrow.Author.Needs.{needs}
 use Rattle.exports.proofs.opening_hours.altair_epoch_at_time.Statement.{statement}
 use Rattle.exports.proofs.opening_hours.altair_epoch_at_time.Tie as tie
 
-epoch-at-time-requires : tie.Need-epoch-at-time-requires
-epoch-at-time-requires c κs = search needs
-
-plain-number-requires : tie.Need-plain-number-requires
-plain-number-requires c κs = search needs
-
 returns : tie.Need-returns
 returns c = c .plain-number .ensures ∙ ap plainNumber (c .before .epoch-at-time .ensures .is)
 
 pub altair-epoch-at-time-spec : {M : Type 1} → statement M
-altair-epoch-at-time-spec = tie.close (tie.spec epoch-at-time-requires plain-number-requires returns)
+altair-epoch-at-time-spec = tie.close (tie.spec (λ c κs. search needs) (λ c κs. search needs) returns)

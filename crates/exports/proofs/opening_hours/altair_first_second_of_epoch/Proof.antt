@@ -4,14 +4,8 @@ use borrow.Author.Needs.{needs}
 use Rattle.exports.proofs.opening_hours.altair_first_second_of_epoch.Statement.{statement}
 use Rattle.exports.proofs.opening_hours.altair_first_second_of_epoch.Tie as tie
 
-first-second-of-epoch-requires : tie.Need-first-second-of-epoch-requires
-first-second-of-epoch-requires c κs = search needs
-
-plain-number-requires : tie.Need-plain-number-requires
-plain-number-requires c κs = search needs
-
 returns : tie.Need-returns
 returns c = c .plain-number .ensures ∙ ap plainNumber (c .before .first-second-of-epoch .ensures .is)
 
 pub altair-first-second-of-epoch-spec : {M : Type 1} → statement M
-altair-first-second-of-epoch-spec = tie.close (tie.spec first-second-of-epoch-requires plain-number-requires returns)
+altair-first-second-of-epoch-spec = tie.close (tie.spec (λ c κs. search needs) (λ c κs. search needs) returns)

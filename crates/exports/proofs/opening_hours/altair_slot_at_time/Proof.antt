@@ -4,14 +4,8 @@ use borrow.Author.Needs.{needs}
 use Rattle.exports.proofs.opening_hours.altair_slot_at_time.Statement.{statement}
 use Rattle.exports.proofs.opening_hours.altair_slot_at_time.Tie as tie
 
-slot-at-time-requires : tie.Need-slot-at-time-requires
-slot-at-time-requires c κs = search needs
-
-plain-number-requires : tie.Need-plain-number-requires
-plain-number-requires c κs = search needs
-
 returns : tie.Need-returns
 returns c = c .plain-number .ensures ∙ ap plainNumber (c .before .slot-at-time .ensures .is)
 
 pub altair-slot-at-time-spec : {M : Type 1} → statement M
-altair-slot-at-time-spec = tie.close (tie.spec slot-at-time-requires plain-number-requires returns)
+altair-slot-at-time-spec = tie.close (tie.spec (λ c κs. search needs) (λ c κs. search needs) returns)

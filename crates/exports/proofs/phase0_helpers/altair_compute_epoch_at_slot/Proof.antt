@@ -4,15 +4,9 @@ use borrow.Author.Needs.{needs}
 use Rattle.exports.proofs.phase0_helpers.altair_compute_epoch_at_slot.Statement.{statement}
 use Rattle.exports.proofs.phase0_helpers.altair_compute_epoch_at_slot.Tie as tie
 
-compute-epoch-at-slot-requires : tie.Need-compute-epoch-at-slot-requires
-compute-epoch-at-slot-requires c κs = search needs
-
-plain-number-requires : tie.Need-plain-number-requires
-plain-number-requires c κs = search needs
-
 returns : tie.Need-returns
 returns c = c .plain-number .ensures ∙ ap plainNumber (c .before .compute-epoch-at-slot .ensures .is)
 
 pub altair-compute-epoch-at-slot-spec : {M : Type 1} → statement M
 altair-compute-epoch-at-slot-spec =
-    tie.close (tie.spec compute-epoch-at-slot-requires plain-number-requires returns)
+    tie.close (tie.spec (λ c κs. search needs) (λ c κs. search needs) returns)

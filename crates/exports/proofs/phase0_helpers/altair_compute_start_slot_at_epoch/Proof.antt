@@ -6,15 +6,9 @@ use Rattle.exports.proofs.phase0_helpers.altair_compute_start_slot_at_e
 }
 use Rattle.exports.proofs.phase0_helpers.altair_compute_start_slot_at_epoch.Tie as tie
 
-compute-start-slot-at-epoch-requires : tie.Need-compute-start-slot-at-epoch-requires
-compute-start-slot-at-epoch-requires c κs = search needs
-
-plain-number-requires : tie.Need-plain-number-requires
-plain-number-requires c κs = search needs
-
 returns : tie.Need-returns
 returns c = c .plain-number .ensures ∙ ap plainNumber (c .before .compute-start-slot-at-epoch .ensures .is)
 
 pub altair-compute-start-slot-at-epoch-spec : {M : Type 1} → statement M
 altair-compute-start-slot-at-epoch-spec =
-    tie.close (tie.spec compute-start-slot-at-epoch-requires plain-number-requires returns)
+    tie.close (tie.spec (λ c κs. search needs) (λ c κs. search needs) returns)

@@ -4,15 +4,9 @@ use borrow.Author.Needs.{needs}
 use Rattle.exports.proofs.phase0_helpers.altair_get_current_epoch.Statement.{statement}
 use Rattle.exports.proofs.phase0_helpers.altair_get_current_epoch.Tie as tie
 
-get-current-epoch-requires : tie.Need-get-current-epoch-requires
-get-current-epoch-requires c κs = search needs
-
-plain-number-requires : tie.Need-plain-number-requires
-plain-number-requires c κs = search needs
-
 returns : tie.Need-returns
 returns c = c .plain-number .ensures ∙ ap plainNumber (c .before .get-current-epoch .ensures .is)
 
 pub altair-get-current-epoch-spec : {M : Type 1} → statement M
 altair-get-current-epoch-spec =
-    tie.close (tie.spec get-current-epoch-requires plain-number-requires returns)
+    tie.close (tie.spec (λ c κs. search needs) (λ c κs. search needs) returns)

@@ -6,15 +6,9 @@ use Rattle.exports.proofs.phase0_helpers.altair_get_validator_churn_lim
 }
 use Rattle.exports.proofs.phase0_helpers.altair_get_validator_churn_limit.Tie as tie
 
-get-validator-churn-limit-requires : tie.Need-get-validator-churn-limit-requires
-get-validator-churn-limit-requires c κs = search needs
-
-plain-number-requires : tie.Need-plain-number-requires
-plain-number-requires c κs = search needs
-
 returns : tie.Need-returns
 returns c = c .plain-number .ensures ∙ ap plainNumber (c .before .get-validator-churn-limit .ensures .is)
 
 pub altair-get-validator-churn-limit-spec : {M : Type 1} → statement M
 altair-get-validator-churn-limit-spec =
-    tie.close (tie.spec get-validator-churn-limit-requires plain-number-requires returns)
+    tie.close (tie.spec (λ c κs. search needs) (λ c κs. search needs) returns)

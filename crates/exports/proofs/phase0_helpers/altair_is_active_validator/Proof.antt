@@ -4,15 +4,9 @@ use borrow.Author.Needs.{needs}
 use Rattle.exports.proofs.phase0_helpers.altair_is_active_validator.Statement.{statement}
 use Rattle.exports.proofs.phase0_helpers.altair_is_active_validator.Tie as tie
 
-is-active-validator-requires : tie.Need-is-active-validator-requires
-is-active-validator-requires c κs = search needs
-
-plain-truth-requires : tie.Need-plain-truth-requires
-plain-truth-requires c κs = search needs
-
 returns : tie.Need-returns
 returns c = c .plain-truth .ensures ∙ ap plainTruth (c .before .is-active-validator .ensures)
 
 pub altair-is-active-validator-spec : {M : Type 1} → statement M
 altair-is-active-validator-spec =
-    tie.close (tie.spec is-active-validator-requires plain-truth-requires returns)
+    tie.close (tie.spec (λ c κs. search needs) (λ c κs. search needs) returns)

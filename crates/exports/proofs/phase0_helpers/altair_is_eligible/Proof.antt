@@ -4,14 +4,8 @@ use borrow.Author.Needs.{needs}
 use Rattle.exports.proofs.phase0_helpers.altair_is_eligible.Statement.{statement}
 use Rattle.exports.proofs.phase0_helpers.altair_is_eligible.Tie as tie
 
-is-eligible-requires : tie.Need-is-eligible-requires
-is-eligible-requires c κs = search needs
-
-plain-truth-requires : tie.Need-plain-truth-requires
-plain-truth-requires c κs = search needs
-
 returns : tie.Need-returns
 returns c = c .plain-truth .ensures ∙ ap plainTruth (c .before .is-eligible .ensures)
 
 pub altair-is-eligible-spec : {M : Type 1} → statement M
-altair-is-eligible-spec = tie.close (tie.spec is-eligible-requires plain-truth-requires returns)
+altair-is-eligible-spec = tie.close (tie.spec (λ c κs. search needs) (λ c κs. search needs) returns)

@@ -6,15 +6,9 @@ use Rattle.exports.proofs.phase0_helpers.altair_is_eligible_for_activat
 }
 use Rattle.exports.proofs.phase0_helpers.altair_is_eligible_for_activation.Tie as tie
 
-is-eligible-for-activation-requires : tie.Need-is-eligible-for-activation-requires
-is-eligible-for-activation-requires c κs = search needs
-
-plain-truth-requires : tie.Need-plain-truth-requires
-plain-truth-requires c κs = search needs
-
 returns : tie.Need-returns
 returns c = c .plain-truth .ensures ∙ ap plainTruth (c .before .is-eligible-for-activation .ensures)
 
 pub altair-is-eligible-for-activation-spec : {M : Type 1} → statement M
 altair-is-eligible-for-activation-spec =
-    tie.close (tie.spec is-eligible-for-activation-requires plain-truth-requires returns)
+    tie.close (tie.spec (λ c κs. search needs) (λ c κs. search needs) returns)

@@ -8,23 +8,11 @@ use Rattle.listing_lines.proofs.Change.{lost-fits, lost-told, gain, gai
 use Rattle.listing_lines.proofs.numbers.net_change.Statement.{statement}
 use Rattle.listing_lines.proofs.numbers.net_change.Tie as tie
 
-cast-t7 : tie.Need-cast-t7
-cast-t7 c = search needs
-
 returns : tie.Need-returns
 returns c = ap Value (toZ-pos w64 (c .if2 .taken)) ∙ gain _ _ (c .before .if1 .taken) (c .if2 .taken)
 
 returns-2 : tie.Need-returns-2
 returns-2 c = gain-wide _ _ (c .before .if1 .taken) (c .if2 .left)
-
-sub-loss : tie.Need-sub-loss
-sub-loss c = search needs
-
-sub-loss-2 : tie.Need-sub-loss-2
-sub-loss-2 c = search needs
-
-cast-t9 : tie.Need-cast-t9
-cast-t9 c = search needs
 
 sub-t10 : tie.Need-sub-t10
 sub-t10 c = lost-fits _ (c .if3 .taken)
@@ -38,4 +26,4 @@ returns-4 c = loses-wide _ _ (omega arith) (c .before .if1 .left) (c .if3 .left)
 pub net-change-spec : {M : Type 1} → statement M
 net-change-spec =
     tie.close
-    (tie.spec cast-t7 returns returns-2 sub-loss sub-loss-2 cast-t9 sub-t10 returns-3 returns-4)
+    (tie.spec (λ c. search needs) returns returns-2 (λ c. search needs) (λ c. search needs) (λ c. search needs) sub-t10 returns-3 returns-4)

@@ -4,33 +4,6 @@ use Rattle.decimals.proofs.Put.{put-more}
 use Rattle.listing_lines.proofs.text.put_line.Statement.{statement}
 use Rattle.listing_lines.proofs.text.put_line.Tie as tie
 
-slice-aggregate-put-row : tie.Need-slice-aggregate-put-row
-slice-aggregate-put-row c = search needs
-
-slice-aggregate-put-row-2 : tie.Need-slice-aggregate-put-row-2
-slice-aggregate-put-row-2 c = search needs
-
-slice-aggregate-put-row-3 : tie.Need-slice-aggregate-put-row-3
-slice-aggregate-put-row-3 c = search needs
-
-slice-aggregate-put-row-4 : tie.Need-slice-aggregate-put-row-4
-slice-aggregate-put-row-4 c = search needs
-
-slice-aggregate-put-row-5 : tie.Need-slice-aggregate-put-row-5
-slice-aggregate-put-row-5 c = search needs
-
-put-row-requires : tie.Need-put-row-requires
-put-row-requires c κs = search needs
-
-put-change-requires : tie.Need-put-change-requires
-put-change-requires c κs = search needs
-
-put-end-requires : tie.Need-put-end-requires
-put-end-requires c κs = search needs
-
-same-length : tie.Need-same-length
-same-length c = search needs
-
 returns : tie.Need-returns
 returns c =
     let k = c .before .before .before .before in
@@ -43,13 +16,13 @@ pub put-line-spec : {M : Type 1} → statement M
 put-line-spec =
     tie.close
     (tie.spec
-    slice-aggregate-put-row
-    slice-aggregate-put-row-2
-    slice-aggregate-put-row-3
-    slice-aggregate-put-row-4
-    slice-aggregate-put-row-5
-    put-row-requires
-    put-change-requires
-    put-end-requires
-    same-length
+    (λ c. search needs)
+    (λ c. search needs)
+    (λ c. search needs)
+    (λ c. search needs)
+    (λ c. search needs)
+    (λ c κs. search needs)
+    (λ c κs. search needs)
+    (λ c κs. search needs)
+    (λ c. search needs)
     returns)

@@ -4,27 +4,6 @@ use Rattle.decimals.proofs.Put.{put-more}
 use Rattle.listing_lines.proofs.text.put_raised.Statement.{statement}
 use Rattle.listing_lines.proofs.text.put_raised.Tie as tie
 
-slice-aggregate-put-labelled : tie.Need-slice-aggregate-put-labelled
-slice-aggregate-put-labelled c = search needs
-
-put-labelled-requires : tie.Need-put-labelled-requires
-put-labelled-requires c κs = search needs
-
-slice-aggregate-put-labelled-2 : tie.Need-slice-aggregate-put-labelled-2
-slice-aggregate-put-labelled-2 c = search needs
-
-put-labelled-requires-2 : tie.Need-put-labelled-requires-2
-put-labelled-requires-2 c κs = search needs
-
-slice-aggregate-put-labelled-3 : tie.Need-slice-aggregate-put-labelled-3
-slice-aggregate-put-labelled-3 c = search needs
-
-put-labelled-requires-3 : tie.Need-put-labelled-requires-3
-put-labelled-requires-3 c κs = search needs
-
-same-length : tie.Need-same-length
-same-length c = search needs
-
 returns : tie.Need-returns
 returns c =
     let k1 : tie.After-put-labelled = search needs in
@@ -39,11 +18,11 @@ pub put-raised-spec : {M : Type 1} → statement M
 put-raised-spec =
     tie.close
     (tie.spec
-    slice-aggregate-put-labelled
-    put-labelled-requires
-    slice-aggregate-put-labelled-2
-    put-labelled-requires-2
-    slice-aggregate-put-labelled-3
-    put-labelled-requires-3
-    same-length
+    (λ c. search needs)
+    (λ c κs. search needs)
+    (λ c. search needs)
+    (λ c κs. search needs)
+    (λ c. search needs)
+    (λ c κs. search needs)
+    (λ c. search needs)
     returns)

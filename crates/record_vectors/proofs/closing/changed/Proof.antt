@@ -32,20 +32,11 @@ mul-result c = omega arith
 shared-slice-read-result : tie.Need-shared-slice-read-result Inv-loop μ-loop
 shared-slice-read-result c = omega arith
 
-returns : tie.Need-returns Inv-loop μ-loop
-returns c = search needs
-
 add-k : tie.Need-add-k Inv-loop μ-loop
 add-k c = omega arith
 
 loop-less : tie.Need-loop-less Inv-loop μ-loop
 loop-less c = omega arith
-
-loop-again : tie.Need-loop-again Inv-loop μ-loop
-loop-again c = search needs
-
-returns-2 : tie.Need-returns-2 Inv-loop μ-loop
-returns-2 c = search needs
 
 pub changed-spec : {M : Type 1} → statement M
 changed-spec =
@@ -60,8 +51,8 @@ changed-spec =
     add-result
     mul-result
     shared-slice-read-result
-    returns
+    (λ c. search needs)
     add-k
     loop-less
-    loop-again
-    returns-2)
+    (λ c. search needs)
+    (λ c. search needs))

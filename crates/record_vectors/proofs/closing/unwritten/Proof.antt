@@ -18,9 +18,6 @@ loop-holds c = omega arith
 same-length : tie.Need-same-length Inv-loop μ-loop
 same-length c = omega arith
 
-returns : tie.Need-returns Inv-loop μ-loop
-returns c = search needs
-
 mul-to : tie.Need-mul-to Inv-loop μ-loop
 mul-to c = omega arith
 
@@ -39,9 +36,6 @@ loop-again c = simp length-set (omega arith)
 same-length-2 : tie.Need-same-length-2 Inv-loop μ-loop
 same-length-2 c = omega arith
 
-returns-2 : tie.Need-returns-2 Inv-loop μ-loop
-returns-2 c = search needs
-
 pub unwritten-spec : {M : Type 1} → statement M
 unwritten-spec =
     tie.close
@@ -50,11 +44,11 @@ unwritten-spec =
     μ-loop
     loop-holds
     same-length
-    returns
+    (λ c. search needs)
     mul-to
     slice-write-to
     add-i
     loop-less
     loop-again
     same-length-2
-    returns-2)
+    (λ c. search needs))

@@ -15,12 +15,6 @@ abbrev μ-loop : tie.MeasureT-loop
 loop-holds : tie.Need-loop-holds Inv-loop μ-loop
 loop-holds c = omega arith
 
-same-length : tie.Need-same-length Inv-loop μ-loop
-same-length c = search needs
-
-returns : tie.Need-returns Inv-loop μ-loop
-returns c = search needs
-
 mul-to : tie.Need-mul-to Inv-loop μ-loop
 mul-to c = omega arith
 
@@ -42,12 +36,6 @@ loop-less c = omega arith
 loop-again : tie.Need-loop-again Inv-loop μ-loop
 loop-again c = simp length-set (omega arith)
 
-same-length-2 : tie.Need-same-length-2 Inv-loop μ-loop
-same-length-2 c = search needs
-
-returns-2 : tie.Need-returns-2 Inv-loop μ-loop
-returns-2 c = search needs
-
 pub copy-spec : {M : Type 1} → statement M
 copy-spec =
     tie.close
@@ -55,8 +43,8 @@ copy-spec =
     Inv-loop
     μ-loop
     loop-holds
-    same-length
-    returns
+    (λ c. search needs)
+    (λ c. search needs)
     mul-to
     shared-slice-read-to
     mul-to-2
@@ -64,5 +52,5 @@ copy-spec =
     add-i
     loop-less
     loop-again
-    same-length-2
-    returns-2)
+    (λ c. search needs)
+    (λ c. search needs))

@@ -12,12 +12,6 @@ Inv-loop b r₀ i₀ r i = (i ≤ 32) × ((length b ≡ 32) × (length r ≡ 32)
 abbrev μ-loop : tie.MeasureT-loop
 μ-loop b r₀ i₀ r i = 32 - i
 
-returns : tie.Need-returns Inv-loop μ-loop
-returns c = search needs
-
-loop-holds : tie.Need-loop-holds Inv-loop μ-loop
-loop-holds c = search needs
-
 shared-slice-read-r : tie.Need-shared-slice-read-r Inv-loop μ-loop
 shared-slice-read-r c = omega arith
 
@@ -33,20 +27,17 @@ loop-less c = omega arith
 loop-again : tie.Need-loop-again Inv-loop μ-loop
 loop-again c = simp length-set (omega arith)
 
-returns-2 : tie.Need-returns-2 Inv-loop μ-loop
-returns-2 c = search needs
-
 pub root-of-spec : {M : Type 1} → statement M
 root-of-spec =
     tie.close
     (tie.spec
     Inv-loop
     μ-loop
-    returns
-    loop-holds
+    (λ c. search needs)
+    (λ c. search needs)
     shared-slice-read-r
     array-write-r
     add-i
     loop-less
     loop-again
-    returns-2)
+    (λ c. search needs))
