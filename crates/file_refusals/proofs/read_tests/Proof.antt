@@ -30,10 +30,7 @@ header c = passes (c .before .good-header .ensures) (c .if2 .left)
 head : (c : tie.Else2) → Header (bytes c)
 head c = good-header _ (header c)
 
-abbrev Shaped : tie.Start → Type 0
-Shaped c = fileShaped (c .args .bytes .now) (c .args .registry .now) (c .args .slashings .now) ≡ true
-
-shape : (c : tie.Else3) → Shaped (start (c .before .before))
+shape : (c : tie.Else3) → let a = start (c .before .before) .args in fileShaped (a .bytes .now) (a .registry .now) (a .slashings .now) ≡ true
 shape c = passes (c .before .file-shaped .ensures) (c .if3 .left)
 
 settings : (c : tie.Else4) → goodSettings (contentsOf (bytes (c .before .before .before .before .before)) .settings) ≡ true
@@ -50,30 +47,12 @@ count c = c .read-counts .ensures .0
 from : (c : tie.After-validators-at) → c .validators-at .result ≡ validatorsAt (versionOf (bytes (c .before .before .before .before .before .before .before .before .before .before)))
 from c = c .validators-at .ensures ∙ ap validatorsAt (c .before .read-counts .ensures .3)
 
-abbrev Stopped : ℕ → List ℕ → Type 0
-Stopped at xs = at ≡ stoppedAt (validatorsAt (versionOf xs)) (registryIn xs (validatorsAt (versionOf xs)) (countOf xs))
-
-stopped : (c : tie.After-first-bad) → Stopped (c .first-bad .result) (bytes (c .before .before .before .before .before .before .before .before .before .before .before))
+stopped : (c : tie.After-first-bad) → let xs = bytes (c .before .before .before .before .before .before .before .before .before .before .before) in let at = validatorsAt (versionOf xs) in c .first-bad .result ≡ stoppedAt at (registryIn xs at (countOf xs))
 stopped c = rw (from (c .before), count (c .before .before)) at (c .first-bad .ensures)
 
 -- where the roots begin
 end : (c : tie.After-first-bad) → c .before .validators-at .result + 80 * c .before .before .read-counts .result .validators ≡ validatorsAt (versionOf (bytes (c .before .before .before .before .before .before .before .before .before .before .before))) + 80 * countOf (bytes (c .before .before .before .before .before .before .before .before .before .before .before))
 end c = omega (arith, from (c .before), count (c .before .before))
-
-returns : tie.Need-returns
-returns c = rw (c .refused .ensures) (answered-short _ _ _ (c .before .if1 .taken))
-
-returns-2 : tie.Need-returns-2
-returns-2 c = rw (c .refused2 .ensures) (answered-header _ _ _ (c .before .before .before .if1 .left) (fails (c .before .before .good-header .ensures) (c .before .if2 .taken)))
-
-file-shaped-requires : tie.Need-file-shaped-requires
-file-shaped-requires c κs = omega (arith, head c .long)
-
-returns-3 : tie.Need-returns-3
-returns-3 c = let p = c .before .before .before in rw (c .refused3 .ensures) (answered-shape _ _ _ (enough p) (header p) (fails (c .before .before .file-shaped .ensures) (c .before .if3 .taken)))
-
-read-settings-requires : tie.Need-read-settings-requires
-read-settings-requires c κs = omega (arith, head (c .before .before) .long)
 
 returns-4 : tie.Need-returns-4
 unfolding contentsOf
@@ -81,29 +60,11 @@ returns-4 c =
     let p = c .before .before .before .before .before .before in
     rw (c .refused4 .ensures) (answered-settings _ _ _ (enough p) (header p) (shape (c .before .before .before .before)) (fails (rw (c .before .before .before .read-settings .ensures) at (c .before .before .good-settings .ensures)) (c .before .if4 .taken)))
 
-read-finality-requires : tie.Need-read-finality-requires
-read-finality-requires c κs = omega (arith, head (c .before .before .before .before .before) .long)
-
 returns-5 : tie.Need-returns-5
 unfolding contentsOf
 returns-5 c =
     let p = c .before .before .before .before .before .before .before .before .before in
     rw (c .refused5 .ensures) (answered-finality _ _ _ (enough p) (header p) (shape (c .before .before .before .before .before .before .before)) (settings (c .before .before .before .before)) (fails (rw (c .before .before .before .read-finality .ensures) at (c .before .before .good-finality .ensures)) (c .before .if5 .taken)))
-
-read-counts-requires : tie.Need-read-counts-requires
-read-counts-requires c κs = enough (c .before .before .before .before .before .before .before .before)
-
-validators-at-requires : tie.Need-validators-at-requires
-validators-at-requires c κs = let h = head (c .before .before .before .before .before .before .before .before .before) in let v = c .read-counts .ensures .3 in (omega (arith, h .some-version), omega (arith, h .known-version))
-
-first-bad-requires : tie.Need-first-bad-requires
-first-bad-requires c κs = omega (arith, count (c .before), from c, head (c .before .before .before .before .before .before .before .before .before .before) .long)
-
-mul-if6 : tie.Need-mul-if6
-mul-if6 c = let p = c .before .before .before .before .before .before .before .before .before .before .before in omega (arith, count (c .before .before), from (c .before), head p .long, start p .good)
-
-add-if6 : tie.Need-add-if6
-add-if6 c = let p = c .before .before .before .before .before .before .before .before .before .before .before in omega (arith, count (c .before .before), from (c .before), head p .long, start p .good)
 
 returns-6 : tie.Need-returns-6
 unfolding contentsOf
@@ -132,26 +93,26 @@ read-tests-spec =
     tie.close
     (tie.spec
     (λ c κs. search needs)
-    returns
+    (λ c. rw (c .refused .ensures) (answered-short _ _ _ (c .before .if1 .taken)))
     (λ c κs. search needs)
     (λ c κs. search needs)
-    returns-2
-    file-shaped-requires
+    (λ c. rw (c .refused2 .ensures) (answered-header _ _ _ (c .before .before .before .if1 .left) (fails (c .before .before .good-header .ensures) (c .before .if2 .taken))))
+    (λ c κs. omega (arith, head c .long))
     (λ c κs. search needs)
-    returns-3
-    read-settings-requires
+    (λ c. let p = c .before .before .before in rw (c .refused3 .ensures) (answered-shape _ _ _ (enough p) (header p) (fails (c .before .before .file-shaped .ensures) (c .before .if3 .taken))))
+    (λ c κs. omega (arith, head (c .before .before) .long))
     (λ c κs. search needs)
     (λ c κs. search needs)
     returns-4
-    read-finality-requires
+    (λ c κs. omega (arith, head (c .before .before .before .before .before) .long))
     (λ c κs. search needs)
     (λ c κs. search needs)
     returns-5
-    read-counts-requires
-    validators-at-requires
-    first-bad-requires
-    mul-if6
-    add-if6
+    (λ c κs. enough (c .before .before .before .before .before .before .before .before))
+    (λ c κs. let h = head (c .before .before .before .before .before .before .before .before .before) in let v = c .read-counts .ensures .3 in (omega (arith, h .some-version), omega (arith, h .known-version)))
+    (λ c κs. omega (arith, count (c .before), from c, head (c .before .before .before .before .before .before .before .before .before .before) .long))
+    (λ c. let p = c .before .before .before .before .before .before .before .before .before .before .before in omega (arith, count (c .before .before), from (c .before), head p .long, start p .good))
+    (λ c. let p = c .before .before .before .before .before .before .before .before .before .before .before in omega (arith, count (c .before .before), from (c .before), head p .long, start p .good))
     (λ c κs. search needs)
     returns-6
     queue-tests-requires

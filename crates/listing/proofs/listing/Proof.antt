@@ -14,38 +14,8 @@ lentTo s = buffers (s .args .registry .now) (s .args .slashings .now) (s .args .
 has : (c : tie.Else1) → Room (c .before .before .before .before .before .before .before .sizes .result) (lentTo (c .before .before .before .before .before .before .before .before .before .before .before .before .before .before))
 has c = has-room (c .before .before .before .before .before .before .before .before .before .before .before .before .before .before .args .bytes .now) (lentTo (c .before .before .before .before .before .before .before .before .before .before .before .before .before .before)) (c .before .before .before .before .before .before .before .sizes .ensures) (c .before .fits2 .ensures) (c .if1 .left)
 
-same-length : tie.Need-same-length
-same-length c = refl
-
-same-length-2 : tie.Need-same-length-2
-same-length-2 c = refl
-
-same-length-3 : tie.Need-same-length-3
-same-length-3 c = refl
-
-same-length-4 : tie.Need-same-length-4
-same-length-4 c = refl
-
-same-length-5 : tie.Need-same-length-5
-same-length-5 c = refl
-
 returns : tie.Need-returns
 returns c = listed-none (c .before .before .before .before .before .before .before .before .before .before .before .before .before .before .args .bytes .now) (lentTo (c .before .before .before .before .before .before .before .before .before .before .before .before .before .before)) (c .before .before .before .before .before .before .before .sizes .ensures) (c .before .fits2 .ensures) (c .if1 .taken)
-
-put-refused-requires : tie.Need-put-refused-requires
-put-refused-requires c κs = omega (arith, has (c .before .before) .text)
-
-same-length-6 : tie.Need-same-length-6
-same-length-6 c = refl
-
-same-length-7 : tie.Need-same-length-7
-same-length-7 c = refl
-
-same-length-8 : tie.Need-same-length-8
-same-length-8 c = refl
-
-same-length-9 : tie.Need-same-length-9
-same-length-9 c = refl
 
 same-length-10 : tie.Need-same-length-10
 same-length-10 c = c .before .text .given
@@ -54,9 +24,6 @@ returns-2 : tie.Need-returns-2
 returns-2 c =
     let p = c .before .before .put-refused .ensures in
     listed-long (c .before .before .before .before .before .before .before .before .before .before .before .before .before .before .before .before .before .before .before .args .bytes .now) (lentTo (c .before .before .before .before .before .before .before .before .before .before .before .before .before .before .before .before .before .before .before)) (c .before .before .before .before .before .before .before .before .before .before .before .before .sizes .ensures) (c .before .before .before .before .before .before .fits2 .ensures) (c .before .before .before .before .before .if1 .left) (c .before .before .before .before .if2 .taken) (p .0) (omega (arith, p .1, has (c .before .before .before .before .before) .text))
-
-mul-n : tie.Need-mul-n
-mul-n c = omega (arith, has (c .before) .registry)
 
 slice-relend-prefix-list-record : tie.Need-slice-relend-prefix-list-record
 slice-relend-prefix-list-record c = has (c .before) .registry
@@ -108,20 +75,20 @@ listing-spec =
     (tie.spec
     (λ c κs. search needs)
     (λ c κs. search needs)
-    same-length
-    same-length-2
-    same-length-3
-    same-length-4
-    same-length-5
+    (λ c. refl)
+    (λ c. refl)
+    (λ c. refl)
+    (λ c. refl)
+    (λ c. refl)
     returns
-    put-refused-requires
-    same-length-6
-    same-length-7
-    same-length-8
-    same-length-9
+    (λ c κs. omega (arith, has (c .before .before) .text))
+    (λ c. refl)
+    (λ c. refl)
+    (λ c. refl)
+    (λ c. refl)
     same-length-10
     returns-2
-    mul-n
+    (λ c. omega (arith, has (c .before) .registry))
     slice-relend-prefix-list-record
     slice-aggregate-list-record
     slice-relend-prefix-list-record-2

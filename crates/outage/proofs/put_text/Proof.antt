@@ -3,7 +3,7 @@ use Prim.Native.Nat.{_*_}
 use native.Mathlib.Omega.{arith}
 use lib.Seq.{length-take-le}
 use Rattle.outage.proofs.Text.{text-headless}
-use Rattle.outage.proofs.Fronts.{counted, headless, held, fit, exact}
+use Rattle.outage.proofs.Fronts.{Counted, counted, headless, Fit, held, fit, exact}
 use borrow.Author.Needs.{needs}
 use Rattle.outage.proofs.put_text.Statement.{statement}
 use Rattle.outage.proofs.put_text.Tie as tie
@@ -18,82 +18,15 @@ returns c =
       inside = omega (arith, p .1, s .pre .bytes);
     }
 
-mul-entries : tie.Need-mul-entries
-mul-entries c =
-    let k = counted _ (c .before .before .read-header .ensures) (c .if1 .left) in
-    omega (arith, k .validators, held (c .before .before .before .before .before .before .before .before .before .before .before .before .before .pre) k .entries)
+-- where there is a header, what it counts is held by the file and fits what is lent
+abbrev start : tie.Else1 → tie.Start
+start c = c .before .before .before .before .before .before .before .before .before .before .before .before .before
 
-mul-pairs : tie.Need-mul-pairs
-mul-pairs c =
-    let k = counted _ (c .before .before .read-header .ensures) (c .if1 .left) in
-    omega (arith, k .validators, held (c .before .before .before .before .before .before .before .before .before .before .before .before .before .pre) k .entries)
+counts : (c : tie.Else1) → Counted (start c .args .file .now) (c .before .before .read-header .result)
+counts c = counted _ (c .before .before .read-header .ensures) (c .if1 .left)
 
-mul-places : tie.Need-mul-places
-mul-places c =
-    let k = counted _ (c .before .before .read-header .ensures) (c .if1 .left) in
-    omega (arith, k .roots, held (c .before .before .before .before .before .before .before .before .before .before .before .before .before .pre) k .places)
-
-slice-relend-prefix-put-file : tie.Need-slice-relend-prefix-put-file
-slice-relend-prefix-put-file c = fit (c .before .before .before .before .before .before .before .before .before .before .before .before .before .pre) (counted _ (c .before .before .read-header .ensures) (c .if1 .left)) .openings
-
-slice-aggregate-put-file : tie.Need-slice-aggregate-put-file
-slice-aggregate-put-file c =
-    let h = c .before .before .before .read-header .result in
-    sym (length-take-le (10 * h .validators) (c .before .before .before .before .before .before .before .before .before .before .before .before .before .before .args .opening .now) (fit (c .before .before .before .before .before .before .before .before .before .before .before .before .before .before .pre) (counted _ (c .before .before .before .read-header .ensures) (c .before .if1 .left)) .openings))
-
-slice-relend-prefix-put-file-2 : tie.Need-slice-relend-prefix-put-file-2
-slice-relend-prefix-put-file-2 c = fit (c .before .before .before .before .before .before .before .before .before .before .before .before .before .before .pre) (counted _ (c .before .before .before .read-header .ensures) (c .before .if1 .left)) .pairs
-
-slice-aggregate-put-file-2 : tie.Need-slice-aggregate-put-file-2
-slice-aggregate-put-file-2 c =
-    let h = c .before .before .before .before .read-header .result in
-    sym (length-take-le (2 * h .validators) (c .before .before .before .before .before .before .before .before .before .before .before .before .before .before .before .args .absences .now) (fit (c .before .before .before .before .before .before .before .before .before .before .before .before .before .before .before .pre) (counted _ (c .before .before .before .before .read-header .ensures) (c .before .before .if1 .left)) .pairs))
-
-slice-relend-prefix-put-file-3 : tie.Need-slice-relend-prefix-put-file-3
-slice-relend-prefix-put-file-3 c = fit (c .before .before .before .before .before .before .before .before .before .before .before .before .before .before .before .pre) (counted _ (c .before .before .before .before .read-header .ensures) (c .before .before .if1 .left)) .entries
-
-slice-aggregate-put-file-3 : tie.Need-slice-aggregate-put-file-3
-slice-aggregate-put-file-3 c =
-    let h = c .before .before .before .before .before .read-header .result in
-    sym (length-take-le (10 * h .validators) (c .before .before .before .before .before .before .before .before .before .before .before .before .before .before .before .before .args .registry .now) (fit (c .before .before .before .before .before .before .before .before .before .before .before .before .before .before .before .before .pre) (counted _ (c .before .before .before .before .before .read-header .ensures) (c .before .before .before .if1 .left)) .entries))
-
-slice-relend-prefix-put-file-4 : tie.Need-slice-relend-prefix-put-file-4
-slice-relend-prefix-put-file-4 c = fit (c .before .before .before .before .before .before .before .before .before .before .before .before .before .before .before .before .pre) (counted _ (c .before .before .before .before .before .read-header .ensures) (c .before .before .before .if1 .left)) .sums
-
-slice-aggregate-put-file-4 : tie.Need-slice-aggregate-put-file-4
-slice-aggregate-put-file-4 c =
-    let h = c .before .before .before .before .before .before .read-header .result in
-    sym (length-take-le (h .slashings) (c .before .before .before .before .before .before .before .before .before .before .before .before .before .before .before .before .before .args .slashings .now) (fit (c .before .before .before .before .before .before .before .before .before .before .before .before .before .before .before .before .before .pre) (counted _ (c .before .before .before .before .before .before .read-header .ensures) (c .before .before .before .before .if1 .left)) .sums))
-
-slice-relend-prefix-put-file-5 : tie.Need-slice-relend-prefix-put-file-5
-slice-relend-prefix-put-file-5 c = fit (c .before .before .before .before .before .before .before .before .before .before .before .before .before .before .before .before .before .pre) (counted _ (c .before .before .before .before .before .before .read-header .ensures) (c .before .before .before .before .if1 .left)) .places
-
-slice-aggregate-put-file-5 : tie.Need-slice-aggregate-put-file-5
-slice-aggregate-put-file-5 c =
-    let h = c .before .before .before .before .before .before .before .read-header .result in
-    sym (length-take-le (32 * h .roots) (c .before .before .before .before .before .before .before .before .before .before .before .before .before .before .before .before .before .before .args .roots .now) (fit (c .before .before .before .before .before .before .before .before .before .before .before .before .before .before .before .before .before .before .pre) (counted _ (c .before .before .before .before .before .before .before .read-header .ensures) (c .before .before .before .before .before .if1 .left)) .places))
-
-slice-relend-prefix-put-file-6 : tie.Need-slice-relend-prefix-put-file-6
-slice-relend-prefix-put-file-6 c = fit (c .before .before .before .before .before .before .before .before .before .before .before .before .before .before .before .before .before .before .pre) (counted _ (c .before .before .before .before .before .before .before .read-header .ensures) (c .before .before .before .before .before .if1 .left)) .closing-entries
-
-slice-aggregate-put-file-6 : tie.Need-slice-aggregate-put-file-6
-slice-aggregate-put-file-6 c =
-    let h = c .before .before .before .before .before .before .before .before .read-header .result in
-    sym (length-take-le (10 * h .validators) (c .before .before .before .before .before .before .before .before .before .before .before .before .before .before .before .before .before .before .before .args .closing-registry .now) (fit (c .before .before .before .before .before .before .before .before .before .before .before .before .before .before .before .before .before .before .before .pre) (counted _ (c .before .before .before .before .before .before .before .before .read-header .ensures) (c .before .before .before .before .before .before .if1 .left)) .closing-entries))
-
-slice-relend-prefix-put-file-7 : tie.Need-slice-relend-prefix-put-file-7
-slice-relend-prefix-put-file-7 c = fit (c .before .before .before .before .before .before .before .before .before .before .before .before .before .before .before .before .before .before .before .pre) (counted _ (c .before .before .before .before .before .before .before .before .read-header .ensures) (c .before .before .before .before .before .before .if1 .left)) .closing-sums
-
-slice-aggregate-put-file-7 : tie.Need-slice-aggregate-put-file-7
-slice-aggregate-put-file-7 c =
-    let h = c .before .before .before .before .before .before .before .before .before .read-header .result in
-    sym (length-take-le (h .slashings) (c .before .before .before .before .before .before .before .before .before .before .before .before .before .before .before .before .before .before .before .before .args .closing-slashings .now) (fit (c .before .before .before .before .before .before .before .before .before .before .before .before .before .before .before .before .before .before .before .before .pre) (counted _ (c .before .before .before .before .before .before .before .before .before .read-header .ensures) (c .before .before .before .before .before .before .before .if1 .left)) .closing-sums))
-
-put-file-requires : tie.Need-put-file-requires
-put-file-requires c κs = exact (c .before .before .before .before .before .before .before .before .before .before .before .before .before .before .before .before .before .before .before .before .before .pre) (counted _ (c .before .before .before .before .before .before .before .before .before .before .read-header .ensures) (c .before .before .before .before .before .before .before .before .if1 .left))
-
-returns-2 : tie.Need-returns-2
-returns-2 c = c .before .before .before .before .before .before .before .before .before .before .before .before .before .before .before .before .put-file .ensures
+fits : (c : tie.Else1) → let a = start c .args in Fit (c .before .before .read-header .result) (a .opening .now) (a .absences .now) (a .registry .now) (a .slashings .now) (a .roots .now) (a .closing-registry .now) (a .closing-slashings .now)
+fits c = fit (start c .pre) (counts c)
 
 pub put-text-spec : {M : Type 1} → statement M
 put-text-spec =
@@ -103,24 +36,24 @@ put-text-spec =
     (λ c κs. search needs)
     (λ c. search needs)
     returns
-    mul-entries
-    mul-pairs
-    mul-places
-    slice-relend-prefix-put-file
-    slice-aggregate-put-file
-    slice-relend-prefix-put-file-2
-    slice-aggregate-put-file-2
-    slice-relend-prefix-put-file-3
-    slice-aggregate-put-file-3
-    slice-relend-prefix-put-file-4
-    slice-aggregate-put-file-4
-    slice-relend-prefix-put-file-5
-    slice-aggregate-put-file-5
-    slice-relend-prefix-put-file-6
-    slice-aggregate-put-file-6
-    slice-relend-prefix-put-file-7
-    slice-aggregate-put-file-7
-    put-file-requires
+    (λ c. omega (arith, counts c .validators, held (start c .pre) (counts c) .entries))
+    (λ c. omega (arith, counts c .validators, held (start c .pre) (counts c) .entries))
+    (λ c. omega (arith, counts c .roots, held (start c .pre) (counts c) .places))
+    (λ c. fits c .openings)
+    (λ c. let e = c .before in let h = e .before .before .read-header .result in sym (length-take-le (10 * h .validators) (start e .args .opening .now) (fits e .openings)))
+    (λ c. fits (c .before) .pairs)
+    (λ c. let e = c .before .before in let h = e .before .before .read-header .result in sym (length-take-le (2 * h .validators) (start e .args .absences .now) (fits e .pairs)))
+    (λ c. fits (c .before .before) .entries)
+    (λ c. let e = c .before .before .before in let h = e .before .before .read-header .result in sym (length-take-le (10 * h .validators) (start e .args .registry .now) (fits e .entries)))
+    (λ c. fits (c .before .before .before) .sums)
+    (λ c. let e = c .before .before .before .before in let h = e .before .before .read-header .result in sym (length-take-le (h .slashings) (start e .args .slashings .now) (fits e .sums)))
+    (λ c. fits (c .before .before .before .before) .places)
+    (λ c. let e = c .before .before .before .before .before in let h = e .before .before .read-header .result in sym (length-take-le (32 * h .roots) (start e .args .roots .now) (fits e .places)))
+    (λ c. fits (c .before .before .before .before .before) .closing-entries)
+    (λ c. let e = c .before .before .before .before .before .before in let h = e .before .before .read-header .result in sym (length-take-le (10 * h .validators) (start e .args .closing-registry .now) (fits e .closing-entries)))
+    (λ c. fits (c .before .before .before .before .before .before) .closing-sums)
+    (λ c. let e = c .before .before .before .before .before .before .before in let h = e .before .before .read-header .result in sym (length-take-le (h .slashings) (start e .args .closing-slashings .now) (fits e .closing-sums)))
+    (λ c κs. let e = c .before .before .before .before .before .before .before .before in exact (start e .pre) (counts e))
     (λ c. search needs)
     (λ c. search needs)
     (λ c. search needs)
@@ -129,4 +62,4 @@ put-text-spec =
     (λ c. search needs)
     (λ c. search needs)
     (λ c. search needs)
-    returns-2)
+    (λ c. c .before .before .before .before .before .before .before .before .before .before .before .before .before .before .before .before .put-file .ensures))

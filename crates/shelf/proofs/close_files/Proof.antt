@@ -26,33 +26,6 @@ left c = ltb-true _ _ (sym (c .before .loop .inv .3) ∙ c .loop-test .taken)
 loop-holds : tie.Need-loop-holds Inv-loop μ-loop
 loop-holds c = let s = c .before .before .before .before .before .before in let p = shaped _ (s .pre) in (shelving-none _ _ _ _ _ (s .args .answers .now) (p .sums) (p .closing-long) (p .many), refl, refl, refl)
 
-mul-end : tie.Need-mul-end Inv-loop μ-loop
-mul-end c = omega (arith, left c)
-
-shared-slice-read-end : tie.Need-shared-slice-read-end Inv-loop μ-loop
-shared-slice-read-end c = omega (arith, left (c .before))
-
-add-end : tie.Need-add-end Inv-loop μ-loop
-add-end c = let g = c .before .before .loop .inv .0 in omega (arith, inside _ _ _ _ _ g (left (c .before)), c .before .before .before .before .before .before .before .before .before .good .0)
-
-sub-close-file : tie.Need-sub-close-file Inv-loop μ-loop
-sub-close-file c = let g = c .before .before .loop .inv .0 in omega (arith, inside _ _ _ _ _ g (left (c .before)), g .as-long, g .within)
-
-part-close-file-start : tie.Need-part-close-file-start Inv-loop μ-loop
-part-close-file-start c = let g = c .before .before .loop .inv .0 in omega (arith, inside _ _ _ _ _ g (left (c .before)), g .as-long, g .within)
-
-part-close-file-end : tie.Need-part-close-file-end Inv-loop μ-loop
-part-close-file-end c = let g = c .before .before .loop .inv .0 in omega (arith, inside _ _ _ _ _ g (left (c .before)), g .as-long, g .within)
-
-sub-close-file-2 : tie.Need-sub-close-file-2 Inv-loop μ-loop
-sub-close-file-2 c = let g = c .before .before .before .before .before .loop .inv .0 in omega (arith, inside _ _ _ _ _ g (left (c .before .before .before .before)), g .as-long, g .within)
-
-part-close-file-start-2 : tie.Need-part-close-file-start-2 Inv-loop μ-loop
-part-close-file-start-2 c = let g = c .before .before .before .before .before .loop .inv .0 in omega (arith, inside _ _ _ _ _ g (left (c .before .before .before .before)), g .as-long, g .within)
-
-part-close-file-end-2 : tie.Need-part-close-file-end-2 Inv-loop μ-loop
-part-close-file-end-2 c = let g = c .before .before .before .before .before .loop .inv .0 in omega (arith, inside _ _ _ _ _ g (left (c .before .before .before .before)), g .as-long, g .within)
-
 close-file-requires : tie.Need-close-file-requires Inv-loop μ-loop
 close-file-requires c κs =
     let s = c .before .before .before .before .before .before .before .before .before .before .before .before .before in
@@ -65,18 +38,6 @@ close-file-requires c κs =
     let all = longest-drop (s .args .lengths .now) (k .i) in
     (part-long _ _ _ _ _ g l ∙ sym file, (omega (arith, file, most, all, p .opening-room, k .inv .1), omega (arith, file, most, all, p .closing-room, k .inv .2)))
 
-mul-answers : tie.Need-mul-answers Inv-loop μ-loop
-mul-answers c = omega (arith, left (c .before .before .before .before .before .before .before .before .before .before .before .before))
-
-slice-write-answers : tie.Need-slice-write-answers Inv-loop μ-loop
-slice-write-answers c = let g = c .before .before .before .before .before .before .before .before .before .before .before .before .before .loop .inv .0 in omega (arith, g .as-many, left (c .before .before .before .before .before .before .before .before .before .before .before .before))
-
-add-i : tie.Need-add-i Inv-loop μ-loop
-add-i c = omega (arith, left (c .before .before .before .before .before .before .before .before .before .before .before .before))
-
-loop-less : tie.Need-loop-less Inv-loop μ-loop
-loop-less c = omega (arith, left (c .before .before .before .before .before .before .before .before .before .before .before .before))
-
 loop-again : tie.Need-loop-again Inv-loop μ-loop
 loop-again c =
     let k = c .before .before .before .before .before .before .before .before .before .before .before .before .before .loop in
@@ -85,17 +46,11 @@ loop-again c =
     let f = c .before .before .before .before .before .before .close-file in
     (shelving-more _ _ _ _ _ g l (f .ensures .0) (f .ensures .1) (f .kept .1 .1 .1 .1 .1 .0 ∙ part-long _ _ _ _ _ g l), c .before .before .before .before .before .opening-numbers .given ∙ k .inv .1, c .before .before .before .closing-numbers .given ∙ k .inv .2, refl)
 
-same-length : tie.Need-same-length Inv-loop μ-loop
-same-length c = let g = c .before .loop .inv in let p = shaped _ (c .before .before .before .before .before .before .before .before .pre) in omega (arith, g .0 .as-long, p .closing-long)
-
 same-length-2 : tie.Need-same-length-2 Inv-loop μ-loop
 same-length-2 c = c .before .loop .inv .1
 
 same-length-3 : tie.Need-same-length-3 Inv-loop μ-loop
 same-length-3 c = c .before .loop .inv .2
-
-same-length-4 : tie.Need-same-length-4 Inv-loop μ-loop
-same-length-4 c = let g = c .before .loop .inv in let p = shaped _ (c .before .before .before .before .before .before .before .before .pre) in omega (arith, g .0 .as-many, p .many)
 
 returns : tie.Need-returns Inv-loop μ-loop
 returns c = let k = c .before .loop in shelving-all _ _ _ _ _ (k .inv .0) (ltb-false _ _ (sym (k .inv .3) ∙ c .loop-test .left))
@@ -107,23 +62,23 @@ close-files-spec =
     Inv-loop
     μ-loop
     loop-holds
-    mul-end
-    shared-slice-read-end
-    add-end
-    sub-close-file
-    part-close-file-start
-    part-close-file-end
-    sub-close-file-2
-    part-close-file-start-2
-    part-close-file-end-2
+    (λ c. omega (arith, left c))
+    (λ c. omega (arith, left (c .before)))
+    (λ c. let g = c .before .before .loop .inv .0 in omega (arith, inside _ _ _ _ _ g (left (c .before)), c .before .before .before .before .before .before .before .before .before .good .0))
+    (λ c. let g = c .before .before .loop .inv .0 in omega (arith, inside _ _ _ _ _ g (left (c .before)), g .as-long, g .within))
+    (λ c. let g = c .before .before .loop .inv .0 in omega (arith, inside _ _ _ _ _ g (left (c .before)), g .as-long, g .within))
+    (λ c. let g = c .before .before .loop .inv .0 in omega (arith, inside _ _ _ _ _ g (left (c .before)), g .as-long, g .within))
+    (λ c. let g = c .before .before .before .before .before .loop .inv .0 in omega (arith, inside _ _ _ _ _ g (left (c .before .before .before .before)), g .as-long, g .within))
+    (λ c. let g = c .before .before .before .before .before .loop .inv .0 in omega (arith, inside _ _ _ _ _ g (left (c .before .before .before .before)), g .as-long, g .within))
+    (λ c. let g = c .before .before .before .before .before .loop .inv .0 in omega (arith, inside _ _ _ _ _ g (left (c .before .before .before .before)), g .as-long, g .within))
     close-file-requires
-    mul-answers
-    slice-write-answers
-    add-i
-    loop-less
+    (λ c. omega (arith, left (c .before .before .before .before .before .before .before .before .before .before .before .before)))
+    (λ c. let g = c .before .before .before .before .before .before .before .before .before .before .before .before .before .loop .inv .0 in omega (arith, g .as-many, left (c .before .before .before .before .before .before .before .before .before .before .before .before)))
+    (λ c. omega (arith, left (c .before .before .before .before .before .before .before .before .before .before .before .before)))
+    (λ c. omega (arith, left (c .before .before .before .before .before .before .before .before .before .before .before .before)))
     loop-again
-    same-length
+    (λ c. let g = c .before .loop .inv in let p = shaped _ (c .before .before .before .before .before .before .before .before .pre) in omega (arith, g .0 .as-long, p .closing-long))
     same-length-2
     same-length-3
-    same-length-4
+    (λ c. let g = c .before .loop .inv in let p = shaped _ (c .before .before .before .before .before .before .before .before .pre) in omega (arith, g .0 .as-many, p .many))
     returns)

@@ -21,77 +21,17 @@ loop-holds : tie.Need-loop-holds Inv-loop μ-loop
 loop-holds c =
     let a = c .before .before in putting-none (omega (arith, a .pre .1)) (omega (arith, a .pre .0, a .good .0))
 
-mul-c : tie.Need-mul-c Inv-loop μ-loop
-mul-c c = omega arith
-
-add-d : tie.Need-add-d Inv-loop μ-loop
-add-d c = omega arith
-
-mul-balance : tie.Need-mul-balance Inv-loop μ-loop
-mul-balance c = omega arith
-
-add-balance : tie.Need-add-balance Inv-loop μ-loop
-add-balance c = omega arith
-
-mul-balance-2 : tie.Need-mul-balance-2 Inv-loop μ-loop
-mul-balance-2 c = omega arith
-
-shared-slice-read-balance : tie.Need-shared-slice-read-balance Inv-loop μ-loop
-shared-slice-read-balance c =
-    let g = c .before .before .loop .inv in omega (arith, c .before .loop-test .taken, g .small, g .long, c .before .before .before .before .before .pre .0)
-
-mul-kept : tie.Need-mul-kept Inv-loop μ-loop
-mul-kept c =
-    let g = c .before .before .loop .inv in omega (arith, c .before .loop-test .taken, g .small, g .long, c .before .before .before .before .before .pre .0)
-
-add-kept : tie.Need-add-kept Inv-loop μ-loop
-add-kept c =
-    let g = c .before .before .loop .inv in omega (arith, c .before .loop-test .taken, g .small, g .long, c .before .before .before .before .before .pre .0)
-
-mul-kept-2 : tie.Need-mul-kept-2 Inv-loop μ-loop
-mul-kept-2 c =
-    let g = c .before .before .loop .inv in omega (arith, c .before .loop-test .taken, g .small, g .long, c .before .before .before .before .before .pre .0)
-
-slice-read-kept : tie.Need-slice-read-kept Inv-loop μ-loop
-slice-read-kept c =
-    let g = c .before .before .before .loop .inv in omega (arith, c .before .before .loop-test .taken, g .small, g .long, c .before .before .before .before .before .before .pre .0)
-
 less-requires : tie.Need-less-requires Inv-loop μ-loop
 less-requires c κs =
     tt
-
-mul-put-ninth : tie.Need-mul-put-ninth Inv-loop μ-loop
-mul-put-ninth c = omega arith
-
-sub-put-ninth : tie.Need-sub-put-ninth Inv-loop μ-loop
-sub-put-ninth c = omega arith
-
-part-put-ninth-start : tie.Need-part-put-ninth-start Inv-loop μ-loop
-part-put-ninth-start c =
-    let g = c .before .before .before .before .loop .inv in omega (arith, c .before .before .before .loop-test .taken, g .small, g .long, c .before .before .before .before .before .before .before .pre .0)
-
-part-put-ninth-end : tie.Need-part-put-ninth-end Inv-loop μ-loop
-part-put-ninth-end c =
-    let g = c .before .before .before .before .loop .inv in omega (arith, c .before .before .before .loop-test .taken, g .small, g .long, c .before .before .before .before .before .before .before .pre .0)
 
 put-ninth-requires : tie.Need-put-ninth-requires Inv-loop μ-loop
 put-ninth-requires c κs =
     putting-nine (c .before .before .before .before .before .loop .inv) (c .before .before .before .before .loop-test .taken)
 
-add-i : tie.Need-add-i Inv-loop μ-loop
-add-i c = omega arith
-
-loop-less : tie.Need-loop-less Inv-loop μ-loop
-loop-less c =
-    let g = c .before .before .before .before .before .before .before .before .loop .inv in omega (arith, c .before .before .before .before .before .before .before .loop-test .taken, g .small, g .long, c .before .before .before .before .before .before .before .before .before .before .before .pre .0)
-
 loop-again : tie.Need-loop-again Inv-loop μ-loop
 loop-again c =
     let g = c .before .before .before .before .before .before .before .before .loop .inv in let l = c .before .before .before .before .before .before .before .loop-test .taken in let e = c .before .before .put-ninth in putting-more g l (e .kept .1 .0 ∙ putting-nine g l) (e .ensures) (c .before .before .before .before .less .ensures ∙ ap₂ _-_ (putting-ninth g l) (balance-is _ _ _ (c .before .before .before .before .before .before .before .before .before .before .before .pre .0) l))
-
-same-length : tie.Need-same-length Inv-loop μ-loop
-same-length c =
-    let g = c .before .loop .inv in omega (arith, g .long, g .first)
 
 returns : tie.Need-returns Inv-loop μ-loop
 returns c =
@@ -104,24 +44,24 @@ take-balances-spec =
     Inv-loop
     μ-loop
     loop-holds
-    mul-c
-    add-d
-    mul-balance
-    add-balance
-    mul-balance-2
-    shared-slice-read-balance
-    mul-kept
-    add-kept
-    mul-kept-2
-    slice-read-kept
+    (λ c. omega arith)
+    (λ c. omega arith)
+    (λ c. omega arith)
+    (λ c. omega arith)
+    (λ c. omega arith)
+    (λ c. let g = c .before .before .loop .inv in omega (arith, c .before .loop-test .taken, g .small, g .long, c .before .before .before .before .before .pre .0))
+    (λ c. let g = c .before .before .loop .inv in omega (arith, c .before .loop-test .taken, g .small, g .long, c .before .before .before .before .before .pre .0))
+    (λ c. let g = c .before .before .loop .inv in omega (arith, c .before .loop-test .taken, g .small, g .long, c .before .before .before .before .before .pre .0))
+    (λ c. let g = c .before .before .loop .inv in omega (arith, c .before .loop-test .taken, g .small, g .long, c .before .before .before .before .before .pre .0))
+    (λ c. let g = c .before .before .before .loop .inv in omega (arith, c .before .before .loop-test .taken, g .small, g .long, c .before .before .before .before .before .before .pre .0))
     less-requires
-    mul-put-ninth
-    sub-put-ninth
-    part-put-ninth-start
-    part-put-ninth-end
+    (λ c. omega arith)
+    (λ c. omega arith)
+    (λ c. let g = c .before .before .before .before .loop .inv in omega (arith, c .before .before .before .loop-test .taken, g .small, g .long, c .before .before .before .before .before .before .before .pre .0))
+    (λ c. let g = c .before .before .before .before .loop .inv in omega (arith, c .before .before .before .loop-test .taken, g .small, g .long, c .before .before .before .before .before .before .before .pre .0))
     put-ninth-requires
-    add-i
-    loop-less
+    (λ c. omega arith)
+    (λ c. let g = c .before .before .before .before .before .before .before .before .loop .inv in omega (arith, c .before .before .before .before .before .before .before .loop-test .taken, g .small, g .long, c .before .before .before .before .before .before .before .before .before .before .before .pre .0))
     loop-again
-    same-length
+    (λ c. let g = c .before .loop .inv in omega (arith, g .long, g .first))
     returns)

@@ -19,36 +19,6 @@ loop-holds c =
     let a = c .before .before .before .before in
     passing-none _ _ _ (omega (arith, a .pre .1 .0)) (omega (arith, a .pre .1 .0)) (c .no-memo .ensures) (omega (arith, a .pre .1 .0, a .good .1 .1 .1 .1 .1 .0))
 
-mul-a : tie.Need-mul-a Inv-loop μ-loop
-mul-a c = let g = c .before .loop .inv in omega (arith, c .loop-test .taken, g .small, g .writing .at .long, g .writing .long)
-
-add-b : tie.Need-add-b Inv-loop μ-loop
-add-b c = let g = c .before .loop .inv in omega (arith, c .loop-test .taken, g .small, g .writing .at .long, g .writing .long)
-
-mul-write-entry : tie.Need-mul-write-entry Inv-loop μ-loop
-mul-write-entry c = let g = c .before .loop .inv in omega (arith, c .loop-test .taken, g .small, g .writing .at .long, g .writing .long)
-
-sub-write-entry : tie.Need-sub-write-entry Inv-loop μ-loop
-sub-write-entry c = let g = c .before .loop .inv in omega (arith, c .loop-test .taken, g .small, g .writing .at .long, g .writing .long)
-
-part-write-entry-start : tie.Need-part-write-entry-start Inv-loop μ-loop
-part-write-entry-start c = let g = c .before .loop .inv in omega (arith, c .loop-test .taken, g .small, g .writing .at .long, g .writing .long)
-
-part-write-entry-end : tie.Need-part-write-entry-end Inv-loop μ-loop
-part-write-entry-end c = let g = c .before .loop .inv in omega (arith, c .loop-test .taken, g .small, g .writing .at .long, g .writing .long)
-
-mul-write-entry-2 : tie.Need-mul-write-entry-2 Inv-loop μ-loop
-mul-write-entry-2 c = let g = c .before .before .loop .inv in omega (arith, c .before .loop-test .taken, g .small, g .writing .at .long, g .writing .long)
-
-sub-write-entry-2 : tie.Need-sub-write-entry-2 Inv-loop μ-loop
-sub-write-entry-2 c = let g = c .before .before .loop .inv in omega (arith, c .before .loop-test .taken, g .small, g .writing .at .long, g .writing .long)
-
-part-write-entry-start-2 : tie.Need-part-write-entry-start-2 Inv-loop μ-loop
-part-write-entry-start-2 c = let g = c .before .before .loop .inv in omega (arith, c .before .loop-test .taken, g .small, g .writing .at .long, g .writing .long)
-
-part-write-entry-end-2 : tie.Need-part-write-entry-end-2 Inv-loop μ-loop
-part-write-entry-end-2 c = let g = c .before .before .loop .inv in omega (arith, c .before .loop-test .taken, g .small, g .writing .at .long, g .writing .long)
-
 write-entry-requires : tie.Need-write-entry-requires Inv-loop μ-loop
 write-entry-requires c κs =
     let g = c .before .before .before .loop .inv in
@@ -66,24 +36,6 @@ same-length-2 c = c .before .before .before .before .before .before .before .loo
 
 returns : tie.Need-returns Inv-loop μ-loop
 returns c = passing-stop (c .before .before .before .before .before .before .before .loop .inv) (c .before .before .before .before .before .before .loop-test .taken) (c .before .before .before .write-entry .ensures) (c .if1 .taken)
-
-mul-book-entry : tie.Need-mul-book-entry Inv-loop μ-loop
-mul-book-entry c = let g = c .before .before .before .before .before .before .before .before .before .before .loop .inv in omega (arith, c .before .before .before .before .before .before .before .before .before .loop-test .taken, g .small, g .writing .at .long, g .writing .long)
-
-sub-book-entry : tie.Need-sub-book-entry Inv-loop μ-loop
-sub-book-entry c = let g = c .before .before .before .before .before .before .before .before .before .before .loop .inv in omega (arith, c .before .before .before .before .before .before .before .before .before .loop-test .taken, g .small, g .writing .at .long, g .writing .long)
-
-part-book-entry-start : tie.Need-part-book-entry-start Inv-loop μ-loop
-part-book-entry-start c = let g = c .before .before .before .before .before .before .before .before .before .before .loop .inv in omega (arith, c .before .before .before .before .before .before .before .before .before .loop-test .taken, g .small, g .writing .at .long, g .writing .long)
-
-part-book-entry-end : tie.Need-part-book-entry-end Inv-loop μ-loop
-part-book-entry-end c = let g = c .before .before .before .before .before .before .before .before .before .before .loop .inv in omega (arith, c .before .before .before .before .before .before .before .before .before .loop-test .taken, g .small, g .writing .at .long, g .writing .long)
-
-mul-book-entry-2 : tie.Need-mul-book-entry-2 Inv-loop μ-loop
-mul-book-entry-2 c = let g = c .before .before .before .before .before .before .before .before .before .before .before .loop .inv in omega (arith, c .before .before .before .before .before .before .before .before .before .before .loop-test .taken, g .small, g .writing .at .long, g .writing .long)
-
-sub-book-entry-2 : tie.Need-sub-book-entry-2 Inv-loop μ-loop
-sub-book-entry-2 c = let g = c .before .before .before .before .before .before .before .before .before .before .before .loop .inv in omega (arith, c .before .before .before .before .before .before .before .before .before .before .loop-test .taken, g .small, g .writing .at .long, g .writing .long)
 
 part-book-entry-start-2 : tie.Need-part-book-entry-start-2 Inv-loop μ-loop
 part-book-entry-start-2 c = let g = c .before .before .before .before .before .before .before .before .before .before .before .before .loop .inv in omega (arith, c .before .before .before .before .before .before .before .before .before .before .before .loop-test .taken, g .small, g .writing .at .long, g .writing .long, c .before .before .before .before .before .before .before .before .write-entry .kept .1 .1 .1 .1 .1 .1 .1 .0)
@@ -116,9 +68,6 @@ loop-again c =
     let b = c .before .before .book-entry in
     passing-more g l (w .ensures) (c .before .before .before .before .before .before .before .before .before .before .if1 .left) (k ∙ passing-to g l) (b .kept .1 .1 .1 .1 .1 .1 .0) (b .ensures)
 
-same-length-3 : tie.Need-same-length-3 Inv-loop μ-loop
-same-length-3 c = let g = c .before .loop .inv in omega (arith, g .writing .long, g .writing .at .long, c .before .before .before .before .before .before .pre .1 .0)
-
 same-length-4 : tie.Need-same-length-4 Inv-loop μ-loop
 same-length-4 c = c .before .loop .inv .kept
 
@@ -133,32 +82,32 @@ write-all-spec =
     μ-loop
     no-memo-requires
     loop-holds
-    mul-a
-    add-b
-    mul-write-entry
-    sub-write-entry
-    part-write-entry-start
-    part-write-entry-end
-    mul-write-entry-2
-    sub-write-entry-2
-    part-write-entry-start-2
-    part-write-entry-end-2
+    (λ c. let g = c .before .loop .inv in omega (arith, c .loop-test .taken, g .small, g .writing .at .long, g .writing .long))
+    (λ c. let g = c .before .loop .inv in omega (arith, c .loop-test .taken, g .small, g .writing .at .long, g .writing .long))
+    (λ c. let g = c .before .loop .inv in omega (arith, c .loop-test .taken, g .small, g .writing .at .long, g .writing .long))
+    (λ c. let g = c .before .loop .inv in omega (arith, c .loop-test .taken, g .small, g .writing .at .long, g .writing .long))
+    (λ c. let g = c .before .loop .inv in omega (arith, c .loop-test .taken, g .small, g .writing .at .long, g .writing .long))
+    (λ c. let g = c .before .loop .inv in omega (arith, c .loop-test .taken, g .small, g .writing .at .long, g .writing .long))
+    (λ c. let g = c .before .before .loop .inv in omega (arith, c .before .loop-test .taken, g .small, g .writing .at .long, g .writing .long))
+    (λ c. let g = c .before .before .loop .inv in omega (arith, c .before .loop-test .taken, g .small, g .writing .at .long, g .writing .long))
+    (λ c. let g = c .before .before .loop .inv in omega (arith, c .before .loop-test .taken, g .small, g .writing .at .long, g .writing .long))
+    (λ c. let g = c .before .before .loop .inv in omega (arith, c .before .loop-test .taken, g .small, g .writing .at .long, g .writing .long))
     write-entry-requires
     same-length
     same-length-2
     returns
-    mul-book-entry
-    sub-book-entry
-    part-book-entry-start
-    part-book-entry-end
-    mul-book-entry-2
-    sub-book-entry-2
+    (λ c. let g = c .before .before .before .before .before .before .before .before .before .before .loop .inv in omega (arith, c .before .before .before .before .before .before .before .before .before .loop-test .taken, g .small, g .writing .at .long, g .writing .long))
+    (λ c. let g = c .before .before .before .before .before .before .before .before .before .before .loop .inv in omega (arith, c .before .before .before .before .before .before .before .before .before .loop-test .taken, g .small, g .writing .at .long, g .writing .long))
+    (λ c. let g = c .before .before .before .before .before .before .before .before .before .before .loop .inv in omega (arith, c .before .before .before .before .before .before .before .before .before .loop-test .taken, g .small, g .writing .at .long, g .writing .long))
+    (λ c. let g = c .before .before .before .before .before .before .before .before .before .before .loop .inv in omega (arith, c .before .before .before .before .before .before .before .before .before .loop-test .taken, g .small, g .writing .at .long, g .writing .long))
+    (λ c. let g = c .before .before .before .before .before .before .before .before .before .before .before .loop .inv in omega (arith, c .before .before .before .before .before .before .before .before .before .before .loop-test .taken, g .small, g .writing .at .long, g .writing .long))
+    (λ c. let g = c .before .before .before .before .before .before .before .before .before .before .before .loop .inv in omega (arith, c .before .before .before .before .before .before .before .before .before .before .loop-test .taken, g .small, g .writing .at .long, g .writing .long))
     part-book-entry-start-2
     part-book-entry-end-2
     book-entry-requires
     add-i
     loop-less
     loop-again
-    same-length-3
+    (λ c. let g = c .before .loop .inv in omega (arith, g .writing .long, g .writing .at .long, c .before .before .before .before .before .before .pre .1 .0))
     same-length-4
     returns-2)
