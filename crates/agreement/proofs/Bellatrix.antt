@@ -3,9 +3,9 @@ use mathlib.Core.Path.{_≡_, refl}
 use mathlib.Core.Bool.{Bool, true, false, cond}
 use mathlib.Core.List.{List}
 use Prim.Native.Nat.{ℕ}
-use Rattle.types.specs.declared.Settings.{Settings}
-use Rattle.types.specs.declared.Bellatrix.{Bellatrix}
-use Rattle.types.specs.declared.Rules.{Rules}
+use Rattle.definitions.specs.declared.Settings.{Settings}
+use Rattle.definitions.specs.declared.Bellatrix.{Bellatrix}
+use Rattle.definitions.specs.declared.Rules.{Rules}
 use Rattle.definitions.specs.Record.{Validator, BeaconState}
 use Rattle.definitions.specs.Rules.{isAltair, inPlace, settingsUnder}
 use Rattle.definitions.specs.Document.Phase0.Helpers.{«compute_epoch_at_slot», «get_current_epoch», «get_previous_epoch», «get_total_balance», «get_total_active_balance», «compute_activation_exit_epoch», «compute_start_slot_at_epoch», «get_block_root_at_slot», «get_block_root», «get_validator_churn_limit», «is_eligible_for_activation_queue», «initiate_validator_exit»}

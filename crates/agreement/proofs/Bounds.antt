@@ -8,9 +8,9 @@ use native.Mathlib.Nat.{div-le-self, div-mul-le-self, mul-le-mul-right, le-trans
 use borrow.Author.Tests.{ltb-true, leb-true, eqb-false, not-true}
 use lib.Dec.{leb, eqb}
 use lib.ListN.{length, getD}
-use Rattle.types.specs.declared.Settings.{Settings}
-use Rattle.types.specs.declared.Finality.{Finality}
-use Rattle.types.specs.declared.Rules.{Rules}
+use Rattle.definitions.specs.declared.Settings.{Settings}
+use Rattle.definitions.specs.declared.Finality.{Finality}
+use Rattle.definitions.specs.declared.Rules.{Rules}
 use Rattle.definitions.specs.Lists.{all}
 use Rattle.definitions.specs.Checked.{value, bind}
 use Rattle.definitions.specs.Refusals.{inOrder, isVectorLength, settingsShaped, goodFinality, goodRegistry, goodSettings, isSmall, settingsNumbers, divisors, justificationTests, registryTests, effectiveBalanceTests, slashingsResetTests}

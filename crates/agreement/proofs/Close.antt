@@ -1,7 +1,7 @@
 -- Each step, and so the whole close: where it gives a value it is the document's, and which refusals it can answer.
 use mathlib.Core.Path.{_≡_, refl, _∙_}
 use mathlib.Core.Logic.{_⊎_, inl, inr, ⊎-elim}
-use Rattle.types.specs.declared.Settings.{Settings}
+use Rattle.definitions.specs.declared.Settings.{Settings}
 use Rattle.definitions.specs.Record.{BeaconState}
 use Rattle.definitions.specs.Checked.{Refusal, noRoot, overflow, refused, foldChecked}
 use Rattle.definitions.specs.Rules.{settingsUnder}

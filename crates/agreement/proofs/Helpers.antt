@@ -3,7 +3,7 @@ use mathlib.Core.Path.{_≡_, refl}
 use mathlib.Core.Bool.{Bool, true, false, cond}
 use mathlib.Core.List.{List}
 use Prim.Native.Nat.{ℕ}
-use Rattle.types.specs.declared.Settings.{Settings}
+use Rattle.definitions.specs.declared.Settings.{Settings}
 use Rattle.definitions.specs.Record.{Validator, BeaconState}
 use Rattle.definitions.specs.Updates.{withValidators}
 use Rattle.definitions.specs.Document.Phase0.Helpers as document

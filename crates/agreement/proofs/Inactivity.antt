@@ -1,7 +1,7 @@
 -- Agreement of the inactivity scores.
 use Prim.Native.Nat.{ℕ}
 use lib.Dec.{eqb}
-use Rattle.types.specs.declared.Settings.{Settings}
+use Rattle.definitions.specs.declared.Settings.{Settings}
 use Rattle.definitions.specs.Record.{Validator, BeaconState}
 use Rattle.definitions.specs.Document.Phase0.Helpers.{«get_current_epoch», «get_previous_epoch»}
 use Rattle.definitions.specs.Document.Phase0.EpochProcessing.{isEligible, «is_in_inactivity_leak»}

@@ -19,3 +19,4 @@ pub mod SquareRoot
 pub mod Fits
 pub mod Sums
 pub mod Bounds
+pub mod ActivationQueue

@@ -1,7 +1,7 @@
 -- Which refusals the steps and the close can answer.
 use mathlib.Core.Path.{_≡_, refl}
 use mathlib.Core.Logic.{_⊎_, inl, inr, ⊎-elim}
-use Rattle.types.specs.declared.Settings.{Settings}
+use Rattle.definitions.specs.declared.Settings.{Settings}
 use Rattle.definitions.specs.Record.{BeaconState}
 use Rattle.definitions.specs.Checked.{Refusal, noRoot, overflow, refused, bind}
 use Rattle.definitions.specs.Document.Phase0.EpochProcessing.{«process_slashings_reset»}

@@ -3,9 +3,9 @@ use mathlib.Core.Path.{_≡_}
 use mathlib.Core.List.{List}
 use Prim.Native.Nat.{ℕ}
 use mathlib.Core.Bool.{cond}
-use Rattle.types.specs.declared.Settings.{Settings}
-use Rattle.types.specs.declared.Bellatrix.{Bellatrix}
-use Rattle.types.specs.declared.Rules.{Rules}
+use Rattle.definitions.specs.declared.Settings.{Settings}
+use Rattle.definitions.specs.declared.Bellatrix.{Bellatrix}
+use Rattle.definitions.specs.declared.Rules.{Rules}
 use Rattle.definitions.specs.Record.{Validator, BeaconState}
 use Rattle.definitions.specs.Checked.{value}
 use Rattle.definitions.specs.Close as Rust

@@ -4,9 +4,9 @@ use mathlib.Core.Path.{_≡_}
 use mathlib.Core.Bool.{true}
 use mathlib.Core.List.{List}
 use Prim.Native.Nat.{ℕ, _+_, _*_, _/_, _^_, _≤_, _<_}
-use Rattle.types.specs.declared.Settings.{Settings}
-use Rattle.types.specs.declared.Finality.{Finality}
-use Rattle.types.specs.declared.Rules.{Rules}
+use Rattle.definitions.specs.declared.Settings.{Settings}
+use Rattle.definitions.specs.declared.Finality.{Finality}
+use Rattle.definitions.specs.declared.Rules.{Rules}
 use Rattle.definitions.specs.Checked.{value, add64}
 use Rattle.definitions.specs.Refusals.{settingsShaped, goodSettings, isSmall, justificationTests, registryTests, effectiveBalanceTests, slashingsResetTests}
 use Rattle.definitions.specs.Rules.{settingsUnder, rewardsTests, slashingsTests, inactivityPenaltyTests}

@@ -2,7 +2,7 @@
 -- nor 5, and nothing but 4 and 5 comes after the tests.
 use mathlib.Core.Path.{_≡_}
 use mathlib.Core.Logic.{_⊎_, _≢_}
-use Rattle.types.specs.declared.Settings.{Settings}
+use Rattle.definitions.specs.declared.Settings.{Settings}
 use Rattle.definitions.specs.Record.{BeaconState}
 use Rattle.definitions.specs.Checked.{Refusal, noRoot, overflow, value, refused}
 use Rattle.definitions.specs.Close.{Step, justificationStep, slashingsResetStep, participationFlagsStep, step, «process_epoch», Call, closeTests, closed}

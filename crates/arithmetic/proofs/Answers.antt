@@ -2,9 +2,9 @@
 use mathlib.Core.Path.{_≡_, refl, sym, ap, _∙_}
 use Prim.Native.Nat.{ℕ}
 use native.Mathlib.Omega.{arith}
-use Rattle.types.specs.declared.Number.the-variants.{Value, Refused}
-use Rattle.types.specs.declared.Truth.the-variants.{Value as TruthValue, Refused as TruthRefused}
-use Rattle.types.specs.declared.DeltasAnswer.the-variants.{Value as DeltasValue, Refused as DeltasRefused}
+use Rattle.definitions.specs.declared.Number.the-variants.{Value, Refused}
+use Rattle.definitions.specs.declared.Truth.the-variants.{Value as TruthValue, Refused as TruthRefused}
+use Rattle.definitions.specs.declared.DeltasAnswer.the-variants.{Value as DeltasValue, Refused as DeltasRefused}
 use Rattle.definitions.specs.Answers.{numberFor, truthFor, deltasAnswerFor}
 use Rattle.definitions.specs.Checked.{Refusal, overflow, numberOf, Checked, value, refused}
 use Rattle.definitions.specs.Answers.{Answers}

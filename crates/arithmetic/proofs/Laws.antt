@@ -1,8 +1,8 @@
 -- A chain of calls that answer: how it goes on, and where it stops.
 use mathlib.Core.Path.{_≡_, sym, ap, _∙_}
 use Prim.Native.Nat.{ℕ}
-use Rattle.types.specs.declared.Number.{Number}
-use Rattle.types.specs.declared.Number.the-variants.{Value, Refused}
+use Rattle.definitions.specs.declared.Number.{Number}
+use Rattle.definitions.specs.declared.Number.the-variants.{Value, Refused}
 use Rattle.definitions.specs.Answers.{numberFor}
 use Rattle.definitions.specs.Checked.{Refusal, overflow, Checked, value, refused, bind}
 use Rattle.definitions.specs.Answers.{Answers, Says}

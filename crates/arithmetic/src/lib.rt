@@ -6,7 +6,7 @@ ghost use lib.Dec.{ltb};
 ghost use Rattle.definitions.specs.Checked.{add64, sub64, mul64};
 ghost use Rattle.definitions.specs.Document.Phase0.Helpers.{«integer_squareroot»};
 ghost use Rattle.definitions.specs.Answers.{Says};
-use types::Number;
+use definitions::Number;
 
 // Refusal 5 where the sum is above 2^64 - 1.
 pub fn add64(a: u64, b: u64) -> Number

@@ -5,11 +5,14 @@ ghost use Rattle.definitions.specs.Record.{decodeOne, encodeOne};
 ghost use Rattle.definitions.specs.Checked.{value};
 ghost use Rattle.definitions.specs.LeafRefusals.{entryTests};
 ghost use Rattle.definitions.specs.Rust.Phase0.Helpers.{«increase_balance», «decrease_balance»};
-ghost use Rattle.loops.specs.Ran.{Settles};
-ghost use Rattle.buffers.specs.Closes.{Closes};
+ghost use Rattle.laws.specs.Ran.{Settles};
+ghost use Rattle.refusals.specs.Closes.{Closes};
+
+pub mod effective_balances;
+
 use arithmetic::add64;
+use definitions::Number;
 use leaf_refusals::entry_tests;
-use types::Number;
 
 pub fn entry_increase_balance(entry: &mut [u64], delta: u64) -> u64
     requires { ⌜ length (now entry) ≡ 10 ⌝ }

@@ -8,9 +8,9 @@ ghost use Rattle.definitions_clock.specs.Clock.{lastSlotOf, firstSecondOfSlot, 
 ghost use Rattle.definitions_clock.specs.Calls.{clockTests, secondTests, fits64, «slot_at_time», «epoch_at_time», «is_in_closing_window», «first_second_of_slot», «last_second_of_slot», «first_second_of_epoch», «last_second_of_epoch»};
 use arithmetic::add64;
 use arithmetic::mul64;
+use definitions::Number;
+use definitions::Truth;
 use definitions_clock::Clock;
-use types::Number;
-use types::Truth;
 
 // 15, then 2.
 fn clock_refusal(c: Clock) -> u64

@@ -6,7 +6,7 @@ use Prim.Native.Nat.{ℕ}
 use borrow.Author.Tests.{eqb-true}
 use lib.Dec.{leb}
 use lib.ListN.{length}
-use Rattle.types.specs.declared.Finality.{Finality}
+use Rattle.definitions.specs.declared.Finality.{Finality}
 use Rattle.definitions.specs.Checked.{badShape, badSettings, badRecord, codeOf}
 use Rattle.definitions.specs.Refusals.{inOrder, settingsShaped, registryShaped, rootsShaped, slashingsShaped, sameLength, isSmall, goodFinality, goodRegistry}
 use Rattle.definitions.specs.LeafRefusals.{weighTests}
@@ -17,8 +17,8 @@ use Rattle.laws.proofs.Rules.{by-fork, shaped-under, good-under}
 use Rattle.refusals.proofs.All.{both}
 use Rattle.refusals.proofs.Laws.{in-order, registry-shaped}
 use Rattle.leaf_refusals.proofs.Order.{and-true, and-false}
-use Rattle.rules.specs.Refusal.{rulesRefusal}
-use Rattle.rules.proofs.Tests.{rules-refused}
+use Rattle.refusals.specs.Refusal.{rulesRefusal}
+use Rattle.refusals.proofs.rules.Tests.{rules-refused}
 use Rattle.registry_close.specs.Worked.{Tested}
 use Rattle.close.specs.Worked.{settingsTests, recordTests}
 

@@ -2,10 +2,10 @@
 use mathlib.Core.Path.{_≡_, refl, sym, ap, _∙_, subst}
 use mathlib.Core.List.{List}
 use Prim.Native.Nat.{ℕ}
-use Rattle.types.specs.declared.Settings.{Settings}
-use Rattle.types.specs.declared.Rules.{Rules}
-use Rattle.types.specs.declared.Raised.{Raised}
-use Rattle.types.specs.declared.CloseAnswer.{CloseAnswer}
+use Rattle.definitions.specs.declared.Settings.{Settings}
+use Rattle.definitions.specs.declared.Rules.{Rules}
+use Rattle.definitions.specs.declared.Raised.{Raised}
+use Rattle.definitions.specs.declared.CloseAnswer.{CloseAnswer}
 use Rattle.definitions.specs.Checked.{codeOf, bind}
 use Rattle.definitions.specs.Refusals.{afterTests, closingBuffer}
 use Rattle.definitions.specs.Raised.{wasRaised, noneRaised, raisedTotals, raisedUnlessRefused}

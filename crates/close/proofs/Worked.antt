@@ -2,13 +2,13 @@
 use mathlib.Core.Path.{_≡_, sym, _∙_}
 use mathlib.Core.List.{List}
 use Prim.Native.Nat.{ℕ}
-use Rattle.types.specs.declared.Settings.{Settings}
-use Rattle.types.specs.declared.CloseAnswer.{CloseAnswer}
+use Rattle.definitions.specs.declared.Settings.{Settings}
+use Rattle.definitions.specs.declared.CloseAnswer.{CloseAnswer}
 use Rattle.definitions.specs.Record.{BeaconState}
 use Rattle.definitions.specs.Raised.{noneRaised, raisedUnlessRefused}
 use Rattle.definitions.specs.Refusals.{closingBuffer}
 use Rattle.definitions.specs.Close.{«process_epoch»}
-use Rattle.loops.proofs.Ran.{code-value}
+use Rattle.laws.proofs.Loops.Ran.{code-value}
 use Rattle.registry_close.specs.Worked.{Worked}
 use Rattle.registry_close.proofs.Worked.{code-refused}
 use Rattle.close.specs.Worked.{StepsClosed}

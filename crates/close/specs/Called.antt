@@ -1,9 +1,9 @@
 -- A call of the close, and what it came back with, as the definition's records.
 use mathlib.Core.List.{List}
 use Prim.Native.Nat.{ℕ}
-use Rattle.types.specs.declared.Rules.{Rules}
-use Rattle.types.specs.declared.Finality.{Finality}
-use Rattle.types.specs.declared.CloseAnswer.{CloseAnswer}
+use Rattle.definitions.specs.declared.Rules.{Rules}
+use Rattle.definitions.specs.declared.Finality.{Finality}
+use Rattle.definitions.specs.declared.CloseAnswer.{CloseAnswer}
 use Rattle.definitions.specs.Close.{Call, Outcome}
 
 abbrev pub called : Rules → Finality → List ℕ → List ℕ → List ℕ → List ℕ → List ℕ → Call

@@ -14,25 +14,25 @@ ghost use Rattle.write_steps.specs.Numbers.{Books};
 ghost use Rattle.close.specs.Called.{called, outcome};
 ghost use Rattle.registry_close.specs.Worked.{stateNow, Tested};
 ghost use Rattle.close.specs.Worked.{settingsTests, recordTests, StepsClosed, ClosedUnder};
-use buffers::copy;
+use definitions::CloseAnswer;
+use definitions::Finality;
+use definitions::Rules;
+use definitions::Settings;
 use leaf_refusals::current_epoch;
 use leaf_refusals::previous_epoch;
-use raised::none_raised;
+use refusals::buffers::copy;
 use refusals::good_finality;
 use refusals::good_settings;
 use refusals::registry_shaped;
+use refusals::rules::altair_rules;
+use refusals::rules::rules_refusal;
+use refusals::rules::settings_under;
 use refusals::settings_shaped;
 use registry_close::run_steps;
-use rules::altair_rules;
-use rules::rules_refusal;
-use rules::settings_under;
 use slashings::slashings_reset_core;
 use survey::Findings;
 use survey::survey_registry;
-use types::CloseAnswer;
-use types::Finality;
-use types::Rules;
-use types::Settings;
+use totals::raising::none_raised;
 
 // Test 1 of everything lent but the fork.
 fn close_shaped(

@@ -7,9 +7,9 @@ use native.Mathlib.Omega.{arith}
 use borrow.Author.Tests.{eq-eqb, ne-eqb, eqb-true, le-leb, lt-leb}
 use lib.Dec.{leb, eqb}
 use lib.ListN.{length, replicate}
-use Rattle.types.specs.declared.Settings.{Settings}
-use Rattle.types.specs.declared.Finality.{Finality}
-use Rattle.types.specs.declared.FullAnswer.{FullAnswer}
+use Rattle.definitions.specs.declared.Settings.{Settings}
+use Rattle.definitions.specs.declared.Finality.{Finality}
+use Rattle.definitions.specs.declared.FullAnswer.{FullAnswer}
 use Rattle.definitions.specs.Lists.{all}
 use Rattle.definitions.specs.Record.{BeaconState, encode, decode}
 use Rattle.definitions.specs.Checked.{Refusal, badShape, wrongQueue, numberOf, Checked, value, refused, bind, codeOf, settle}
@@ -21,23 +21,23 @@ use Rattle.definitions.specs.Rust.Altair.EpochProcessing.{«process_justificati
 use Rattle.definitions.specs.Rust.Phase0.Helpers.{«compute_epoch_at_slot», «get_current_epoch», «get_previous_epoch»}
 use Rattle.definitions.specs.Rust.Altair.Helpers.{«get_unslashed_participating_indices»}
 use Rattle.definitions.specs.Close.{step, Call, stateOf, closeTests}
-use Rattle.definitions_amounts.specs.Amounts.{amountsShaped}
-use Rattle.definitions_amounts.specs.FinalizingTest.{finalizingTest}
+use Rattle.definitions_close.specs.Amounts.{amountsShaped}
+use Rattle.definitions_close.specs.FinalizingTest.{finalizingTest}
 use Rattle.definitions_close.specs.FullClose.{FullCall, fullTests, settingsOf}
-use Rattle.definitions_orders.specs.declared.Running.{Running}
-use Rattle.definitions_orders.specs.CloseBySteps.{StepCall, StepOutcome, inTurn, soFar, found, stepTests, stepAfter, stepped, amountsBy, steppedAmounts, endedBy, goesOn, runningAfter, unwritten, stepInTurn, closeStep}
+use Rattle.definitions_close.specs.declared.Running.{Running}
+use Rattle.definitions_close.specs.CloseBySteps.{StepCall, StepOutcome, inTurn, soFar, found, stepTests, stepAfter, stepped, amountsBy, steppedAmounts, endedBy, goesOn, runningAfter, unwritten, stepInTurn, closeStep}
 use Rattle.laws.proofs.Checked.{not-value, bound}
 use Rattle.laws.proofs.Encode.{encode-decode}
 use Rattle.laws.proofs.Rules.{by-fork}
 use Rattle.refusals.proofs.Answers.{passed}
-use Rattle.queue_tests.proofs.Queue.{is-queue}
+use Rattle.validator_exit.proofs.queue_tests.Queue.{is-queue}
 use Rattle.close.specs.Worked.{recordTests}
 use Rattle.close.proofs.Lent.{Lent, lent}
-use Rattle.stepwise_theorems.proofs.Tests.{full-passed}
-use Rattle.definitions_orders.specs.declared.RunningAnswer.{RunningAnswer}
-use Rattle.close_steps.specs.Called.{stepCalled, stepOutcome, endedAnswer, firstBy, laterBy, laterOf}
-use Rattle.close_steps.specs.Ready.{Ready}
-use Rattle.later_steps.specs.Later.{soFarState}
+use Rattle.theorems.proofs.CloseBySteps.Tests.{full-passed}
+use Rattle.definitions_close.specs.declared.RunningAnswer.{RunningAnswer}
+use Rattle.close_by_steps.specs.Called.{stepCalled, stepOutcome, endedAnswer, firstBy, laterBy, laterOf}
+use Rattle.close_by_steps.specs.Ready.{Ready}
+use Rattle.close_by_steps.specs.Later.{soFarState}
 use Rattle.close_by_steps.specs.Stepped.{FirstCalled, LaterCalled}
 
 where-true : (t : Bool) → _≡_ {A = Checked (Unit {0})} (cond t (value tt) (refused wrongQueue)) (value tt) → t ≡ true

@@ -1,20 +1,26 @@
 // A close that is run one step a call (R-9): the call that a user makes eight times.
 ghost use mathlib.Core.Path.{_≡_};
 ghost use Prim.Native.Nat.{_≤_};
-ghost use Rattle.definitions_orders.specs.CloseBySteps.{closeStep};
+ghost use Rattle.definitions_close.specs.CloseBySteps.{closeStep};
 ghost use Rattle.full_close.specs.Called.{fullCalled};
-ghost use Rattle.close_steps.specs.Called.{stepCalled, stepOutcome};
+ghost use Rattle.close_by_steps.specs.Called.{stepCalled, stepOutcome};
 ghost use Rattle.close_by_steps.specs.Stepped.{FirstCalled, LaterCalled};
-use close_steps::ended_by;
-use close_steps::first_tested;
-use close_steps::later_tested;
-use close_steps::whole_tests;
-use definitions_orders::Running;
-use definitions_orders::RunningAnswer;
-use rules::settings_under;
-use types::ExitQueue;
-use types::Finality;
-use types::Rules;
+
+pub mod close_steps;
+pub mod later_steps;
+pub mod slashings_amounts;
+pub mod step_amounts;
+
+use crate::close_steps::ended_by;
+use crate::close_steps::first_tested;
+use crate::close_steps::later_tested;
+use crate::close_steps::whole_tests;
+use definitions::ExitQueue;
+use definitions::Finality;
+use definitions::Rules;
+use definitions_close::Running;
+use definitions_close::RunningAnswer;
+use refusals::rules::settings_under;
 
 // A refusal in the tests ends the close as the whole close is refused.
 fn first_call(

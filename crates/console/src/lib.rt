@@ -1,7 +1,10 @@
 // Input and output around the listing of a record file.
 ghost use mathlib.Core.Path.{_≡_};
 ghost use lib.ListN.{length};
-use file_listing::list_file;
+
+pub mod outage_console;
+
+use listing::file_listing::list_file;
 
 // One byte more than a record file may have: input that fills it is too long.
 fn input() -> [u8; 65537]

@@ -2,15 +2,15 @@
 use mathlib.Core.Path.{_≡_}
 use mathlib.Core.Bool.{Bool}
 use Prim.Native.Nat.{ℕ}
-use Rattle.types.specs.declared.Deltas.{Deltas}
-use Rattle.types.specs.declared.Finality.{Finality}
-use Rattle.types.specs.declared.FinalityAnswer.{FinalityAnswer}
-use Rattle.types.specs.declared.Number.{Number}
-use Rattle.types.specs.declared.Number.the-variants.{Value as NumberValue, Refused as NumberRefused}
-use Rattle.types.specs.declared.Truth.{Truth}
-use Rattle.types.specs.declared.Truth.the-variants.{Value as TruthValue, Refused as TruthRefused}
-use Rattle.types.specs.declared.DeltasAnswer.{DeltasAnswer}
-use Rattle.types.specs.declared.DeltasAnswer.the-variants.{Value as DeltasValue, Refused as DeltasRefused}
+use Rattle.definitions.specs.declared.Deltas.{Deltas}
+use Rattle.definitions.specs.declared.Finality.{Finality}
+use Rattle.definitions.specs.declared.FinalityAnswer.{FinalityAnswer}
+use Rattle.definitions.specs.declared.Number.{Number}
+use Rattle.definitions.specs.declared.Number.the-variants.{Value as NumberValue, Refused as NumberRefused}
+use Rattle.definitions.specs.declared.Truth.{Truth}
+use Rattle.definitions.specs.declared.Truth.the-variants.{Value as TruthValue, Refused as TruthRefused}
+use Rattle.definitions.specs.declared.DeltasAnswer.{DeltasAnswer}
+use Rattle.definitions.specs.declared.DeltasAnswer.the-variants.{Value as DeltasValue, Refused as DeltasRefused}
 use Rattle.definitions.specs.Checked.{Checked, value, refused, numberOf, codeOf, settle}
 
 abbrev pub numberFor : Checked ℕ → Number

@@ -4,10 +4,10 @@ use mathlib.Core.List.{List, [], _∷_}
 use Prim.Native.Nat.{ℕ}
 use lib.Dec.{eqb}
 use lib.ListN.{length, take}
-use Rattle.types.specs.declared.Settings.{Settings}
-use Rattle.types.specs.declared.Finality.{Finality}
-use Rattle.types.specs.declared.Raised.{Raised}
-use Rattle.types.specs.declared.Rules.{Rules}
+use Rattle.definitions.specs.declared.Settings.{Settings}
+use Rattle.definitions.specs.declared.Finality.{Finality}
+use Rattle.definitions.specs.declared.Raised.{Raised}
+use Rattle.definitions.specs.declared.Rules.{Rules}
 use Rattle.definitions.specs.Lists.{filter}
 use Rattle.definitions.specs.Record.{Validator, BeaconState, «GENESIS_EPOCH», encode, decode}
 use Rattle.definitions.specs.Updates.{withValidators, withSlashings, withFinality}

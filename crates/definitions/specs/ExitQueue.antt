@@ -3,7 +3,7 @@
 use mathlib.Core.Bool.{Bool, cond, _&&_}
 use mathlib.Core.List.{List}
 use lib.Dec.{eqb}
-use Rattle.types.specs.declared.ExitQueue.{ExitQueue}
+use Rattle.definitions.specs.declared.ExitQueue.{ExitQueue}
 use Rattle.definitions.specs.Lists.{maximum}
 use Rattle.definitions.specs.Record.{Validator}
 use Rattle.definitions.specs.Checked.{Checked, value, refused, wrongQueue}

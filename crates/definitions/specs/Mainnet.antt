@@ -1,6 +1,6 @@
 -- The settings of mainnet. Document 01, "Settings".
-use Rattle.types.specs.declared.Settings.{Settings}
-use Rattle.types.specs.declared.Bellatrix.{Bellatrix}
+use Rattle.definitions.specs.declared.Settings.{Settings}
+use Rattle.definitions.specs.declared.Bellatrix.{Bellatrix}
 
 abbrev pub mainnet : Settings
 mainnet =

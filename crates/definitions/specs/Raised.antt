@@ -3,13 +3,13 @@ use mathlib.Core.Bool.{cond}
 use mathlib.Core.List.{List, map}
 use Prim.Native.Nat.{ℕ, _+_}
 use lib.Dec.{leb, ltb}
-use Rattle.types.specs.declared.Settings.{Settings}
-use Rattle.types.specs.declared.Finality.{Finality}
-use Rattle.types.specs.declared.Total.{Total}
-use Rattle.types.specs.declared.TotalAnswer.{TotalAnswer}
-use Rattle.types.specs.declared.TotalAnswer.the-variants.{Value as TotalValue, Refused as TotalRefused}
-use Rattle.types.specs.declared.Raised.{Raised}
-use Rattle.types.specs.declared.CloseAnswer.{CloseAnswer}
+use Rattle.definitions.specs.declared.Settings.{Settings}
+use Rattle.definitions.specs.declared.Finality.{Finality}
+use Rattle.definitions.specs.declared.Total.{Total}
+use Rattle.definitions.specs.declared.TotalAnswer.{TotalAnswer}
+use Rattle.definitions.specs.declared.TotalAnswer.the-variants.{Value as TotalValue, Refused as TotalRefused}
+use Rattle.definitions.specs.declared.Raised.{Raised}
+use Rattle.definitions.specs.declared.CloseAnswer.{CloseAnswer}
 use Rattle.definitions.specs.Lists.{sum}
 use Rattle.definitions.specs.Record.{Validator, «GENESIS_EPOCH»}
 use Rattle.definitions.specs.Checked.{Checked, value, refused, bind, numberOf, codeOf, settle}

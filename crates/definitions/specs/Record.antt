@@ -4,7 +4,7 @@ use mathlib.Core.List.{List, [], _∷_, _++_}
 use Prim.Native.Nat.{ℕ, zero, suc, _/_}
 use lib.Dec.{eqb}
 use lib.ListN.{length, getD, drop}
-use Rattle.types.specs.declared.Finality.{Finality}
+use Rattle.definitions.specs.declared.Finality.{Finality}
 
 -- phase0/validator.rs without keys and credentials, then the validator's place in the columns of altair/beacon_state.rs
 pub record Validator : Type 0 where

@@ -4,8 +4,8 @@ use mathlib.Core.List.{List, [], _∷_}
 use Prim.Native.Nat.{ℕ, _*_, _/_, _%_, _^_}
 use lib.Dec.{leb, ltb, eqb}
 use lib.ListN.{length}
-use Rattle.types.specs.declared.Settings.{Settings}
-use Rattle.types.specs.declared.Finality.{Finality}
+use Rattle.definitions.specs.declared.Settings.{Settings}
+use Rattle.definitions.specs.declared.Finality.{Finality}
 use Rattle.definitions.specs.Lists.{all}
 use Rattle.definitions.specs.Record.{Validator, decode}
 use Rattle.definitions.specs.Checked.{Checked, value, refused, Refusal, badShape, badSettings, badRecord, bind}

@@ -3,9 +3,9 @@ use mathlib.Core.Bool.{Bool, cond, _&&_, _||_, not}
 use mathlib.Core.List.{List}
 use Prim.Native.Nat.{ℕ}
 use lib.Dec.{leb, eqb}
-use Rattle.types.specs.declared.Settings.{Settings}
-use Rattle.types.specs.declared.Bellatrix.{Bellatrix}
-use Rattle.types.specs.declared.Rules.{Rules}
+use Rattle.definitions.specs.declared.Settings.{Settings}
+use Rattle.definitions.specs.declared.Bellatrix.{Bellatrix}
+use Rattle.definitions.specs.declared.Rules.{Rules}
 use Rattle.definitions.specs.Checked.{Checked}
 use Rattle.definitions.specs.Refusals.{inOrder, isSmall, settingsShaped, goodSettings, registryShaped, slashingsShaped, sameLength, goodRegistry}
 use Rattle.definitions.specs.LeafRefusals.{entryShaped, goodEntry}

@@ -3,10 +3,10 @@
 use mathlib.Core.Bool.{cond}
 use mathlib.Core.List.{List}
 use Prim.Native.Nat.{ℕ}
-use Rattle.types.specs.declared.Settings.{Settings}
-use Rattle.types.specs.declared.Finality.{Finality}
-use Rattle.types.specs.declared.Raised.{Raised}
-use Rattle.types.specs.declared.ExitQueue.{ExitQueue}
+use Rattle.definitions.specs.declared.Settings.{Settings}
+use Rattle.definitions.specs.declared.Finality.{Finality}
+use Rattle.definitions.specs.declared.Raised.{Raised}
+use Rattle.definitions.specs.declared.ExitQueue.{ExitQueue}
 use Rattle.definitions.specs.Record.{Validator, BeaconState, encode, decode}
 use Rattle.definitions.specs.Checked.{Checked, value, refused, badShape, bind, codeOf, settle}
 use Rattle.definitions.specs.Refusals.{afterTests, closingBuffer}
@@ -14,8 +14,8 @@ use Rattle.definitions.specs.Rules.{settingsUnder}
 use Rattle.definitions.specs.Raised.{raisedTotals, raisedUnlessRefused}
 use Rattle.definitions.specs.ExitQueue.{queueOf, queueTest}
 use Rattle.definitions.specs.Close.{Call, stateOf, closeTests, «process_epoch»}
-use Rattle.definitions_amounts.specs.Amounts.{amountsShaped, closingAmounts}
-use Rattle.definitions_amounts.specs.FinalizingTest.{finalizingTest}
+use Rattle.definitions_close.specs.Amounts.{amountsShaped, closingAmounts}
+use Rattle.definitions_close.specs.FinalizingTest.{finalizingTest}
 
 -- All that a close is handed: what `close` is, the pair beside the finality, and a list of any contents for the amounts
 pub record FullCall : Type 0 where

@@ -10,7 +10,7 @@ use native.Mathlib.Nat.{div-mul-le-self}
 use borrow.Author.Tests.{ltb-true, lt-ltb, eq-eqb, ne-eqb}
 use lib.Dec.{leb, ltb, eqb}
 use lib.ListN.{length}
-use Rattle.types.specs.declared.Finality.{Finality}
+use Rattle.definitions.specs.declared.Finality.{Finality}
 use Rattle.definitions.specs.Lists.{all}
 use Rattle.definitions.specs.Checked.{Checked, value, refused, noRoot, overflow}
 use Rattle.definitions.specs.Document.Phase0.EpochProcessing.{bit, justifiedBits, finalizedBy}

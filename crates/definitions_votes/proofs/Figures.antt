@@ -4,9 +4,9 @@ use mathlib.Core.Bool.{Bool, true, false}
 use mathlib.Core.List.{List, [], _∷_, map}
 use Prim.Native.Nat.{ℕ}
 use lib.ListN.{replicate}
-use Rattle.types.specs.declared.Settings.{Settings}
-use Rattle.types.specs.declared.Checkpoint.{Checkpoint}
-use Rattle.types.specs.declared.Finality.{Finality}
+use Rattle.definitions.specs.declared.Settings.{Settings}
+use Rattle.definitions.specs.declared.Checkpoint.{Checkpoint}
+use Rattle.definitions.specs.declared.Finality.{Finality}
 use Rattle.definitions.specs.Lists.{filter, sum, all}
 use Rattle.definitions.specs.Record.{Validator, «FAR_FUTURE_EPOCH»}
 use Rattle.definitions.specs.Checked.{Checked, value, refused, noRoot, overflow, bind, add64, mul64, sum64}

@@ -6,8 +6,8 @@ use Prim.Native.Nat.{ℕ, _+_, _*_, _^_, _≤_, _<_, max}
 use native.Mathlib.Omega.{arith}
 use borrow.Author.Tests.{lt-leb, lt-ltb, ltb-true, leb-true, le-leb}
 use lib.Dec.{leb, ltb}
-use Rattle.types.specs.declared.Settings.{Settings}
-use Rattle.types.specs.declared.Finality.{Finality}
+use Rattle.definitions.specs.declared.Settings.{Settings}
+use Rattle.definitions.specs.declared.Finality.{Finality}
 use Rattle.definitions.specs.Lists.{filter, sum}
 use Rattle.definitions.specs.Record.{Validator}
 use Rattle.definitions.specs.Checked.{Checked, value, refused, Refusal, overflow, bind, mul64, sum64}
@@ -17,7 +17,7 @@ use Rattle.definitions.specs.Rust.Phase0.EpochProcessing.{isJustified, rootWher
 use Rattle.definitions.specs.Rust.Altair.Helpers.{isUnslashedParticipating, «get_unslashed_participating_indices»}
 use Rattle.definitions.specs.Rust.Altair.EpochProcessing.{«process_justification_and_finalization»}
 use Rattle.laws.proofs.Checked.{not-value, value-same}
-use Rattle.loops.proofs.Filtered.{sum-filter}
+use Rattle.laws.proofs.Loops.Filtered.{sum-filter}
 use Rattle.definitions_votes.specs.Exact.{twoThirds}
 use Rattle.definitions_votes.proofs.Filled.{weight}
 

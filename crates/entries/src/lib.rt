@@ -12,6 +12,9 @@ ghost use Rattle.definitions.specs.LeafRefusals.{flagTests, entryTests, finaliz
 ghost use Rattle.definitions.specs.Document.Phase0.Helpers.{«is_active_validator», «is_eligible_for_activation_queue», «is_eligible_for_activation», «get_current_epoch», «get_previous_epoch»};
 ghost use Rattle.definitions.specs.Document.Phase0.EpochProcessing.{isEligible};
 ghost use Rattle.definitions.specs.Document.Altair.Helpers.{«has_flag», «add_flag», isUnslashedParticipating};
+use definitions::Number;
+use definitions::Settings;
+use definitions::Truth;
 use leaf_refusals::current_epoch;
 use leaf_refusals::entry_tests;
 use leaf_refusals::finalized_entry_tests;
@@ -19,9 +22,6 @@ use leaf_refusals::participation_entry_tests;
 use leaf_refusals::previous_epoch;
 use leaf_refusals::settings_entry_tests;
 use leaf_refusals::slot_entry_tests;
-use types::Number;
-use types::Settings;
-use types::Truth;
 
 // On numbers, for the survey too: its compiled loop has then no branch that depends on the validator.
 pub fn is_active(activation_epoch: u64, exit_epoch: u64, epoch: u64) -> bool

@@ -1,7 +1,7 @@
 -- What a leaf answers once its tests' code gave the number `x`: a record, as its contract wants it.
 use mathlib.Core.Path.{_≡_, ap, sym, _∙_}
 use Prim.Native.Nat.{ℕ}
-use Rattle.types.specs.declared.Number.the-variants.{Value, Refused}
+use Rattle.definitions.specs.declared.Number.the-variants.{Value, Refused}
 use Rattle.definitions.specs.Answers.{Answers, Says}
 use Rattle.definitions.specs.Checked.{Checked, value, codeOf}
 use Rattle.definitions.specs.Refusals.{afterTests}

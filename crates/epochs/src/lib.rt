@@ -5,16 +5,19 @@ ghost use Rattle.definitions.specs.Checked.{value, codeOf};
 ghost use Rattle.definitions.specs.Refusals.{afterTests};
 ghost use Rattle.definitions.specs.LeafRefusals.{settingsTests, slotTests};
 ghost use Rattle.definitions.specs.Rust.Phase0.Helpers.{«compute_epoch_at_slot», «compute_start_slot_at_epoch», «compute_activation_exit_epoch», «get_current_epoch», «get_previous_epoch»};
+
+pub mod roots;
+
 use arithmetic::add64;
 use arithmetic::mul64;
+use definitions::Number;
+use definitions::Settings;
 use leaf_refusals::current_epoch;
 use leaf_refusals::previous_epoch;
 use refusals::good_settings;
 use refusals::in_order;
 use refusals::is_small;
 use refusals::settings_shaped;
-use types::Number;
-use types::Settings;
 
 // Tests 1 and 2 on the settings.
 pub fn settings_refusal(s: Settings) -> u64

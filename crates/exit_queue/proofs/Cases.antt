@@ -6,7 +6,7 @@ use borrow.Author.Tests.{le-leb, eq-eqb}
 use Rattle.definitions.specs.Record.{Validator, «FAR_FUTURE_EPOCH»}
 use Rattle.definitions.specs.Updates.{withExit}
 use Rattle.definitions.specs.Checked.{value, refused, overflow, bind, add64}
-use Rattle.types.specs.declared.ExitQueue.{ExitQueue}
+use Rattle.definitions.specs.declared.ExitQueue.{ExitQueue}
 use Rattle.exit_queue.specs.Queue.{lastAfter, numberAfter, joined, nextEpoch, exitBy, moved}
 
 -- churn limit 0: every exit takes the next epoch

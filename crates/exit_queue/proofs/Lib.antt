@@ -2,6 +2,6 @@
 pub mod Latest
 pub mod Tracks
 pub mod QueueOf
-pub mod Exits
+pub mod Exiting
 pub mod Turns
 pub mod Cases

@@ -8,9 +8,9 @@ use Rattle.definitions.specs.Lists.{filter, maximum}
 use Rattle.definitions.specs.Record.{Validator, «FAR_FUTURE_EPOCH», decode}
 use Rattle.definitions.specs.Document.Phase0.Helpers.{exitEpochs, exitQueueChurn}
 use Rattle.definitions.specs.ExitQueue.{queueOf}
-use Rattle.loops.proofs.Entry.{number-at}
-use Rattle.loops.proofs.Reading.{Reading, reading-none, reading-more, reading-is, prefix-all, prefix-more}
-use Rattle.types.specs.declared.ExitQueue.{ExitQueue}
+use Rattle.laws.proofs.Loops.Entry.{number-at}
+use Rattle.laws.proofs.Loops.Reading.{Reading, reading-none, reading-more, reading-is, prefix-all, prefix-more}
+use Rattle.definitions.specs.declared.ExitQueue.{ExitQueue}
 use Rattle.exit_queue.specs.Queue.{Tracks, joined}
 use Rattle.exit_queue.proofs.Latest.{latest, latest-cons}
 use Rattle.exit_queue.proofs.Tracks.{last-real, tracks-none, tracks-last, tracks-few}

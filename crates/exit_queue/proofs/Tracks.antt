@@ -10,9 +10,9 @@ use lib.ListN.{length, getD, set}
 use Rattle.definitions.specs.Lists.{filter, maximum}
 use Rattle.definitions.specs.Record.{Validator, «FAR_FUTURE_EPOCH», nobody}
 use Rattle.definitions.specs.Document.Phase0.Helpers.{exitEpochs, exitQueueChurn}
-use Rattle.loops.proofs.Filtered.{filter-last, filter-le}
-use Rattle.exits.proofs.Counts.{count-kept, none-later}
-use Rattle.types.specs.declared.ExitQueue.{ExitQueue}
+use Rattle.laws.proofs.Loops.Filtered.{filter-last, filter-le}
+use Rattle.exit_queue.proofs.exits.Counts.{count-kept, none-later}
+use Rattle.definitions.specs.declared.ExitQueue.{ExitQueue}
 use Rattle.exit_queue.specs.Queue.{Tracks, lastAfter, numberAfter, joined, startPair, moved}
 use Rattle.exit_queue.proofs.Latest.{latest, latest-last, latest-set, latest-kept, count-set}
 

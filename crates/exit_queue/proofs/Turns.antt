@@ -12,11 +12,11 @@ use Rattle.definitions.specs.Updates.{withExit}
 use Rattle.definitions.specs.Checked.{Checked, value, refused, Refusal, numberOf, codeOf, bind, settle, add64}
 use Rattle.laws.proofs.Checked.{not-value}
 use Rattle.laws.proofs.Encode.{length-decode, decode-encode, ten}
-use Rattle.loops.specs.Ran.{Ran}
-use Rattle.loops.proofs.Entry.{entryAt, putAt, entry-is, entry-back}
-use Rattle.loops.proofs.Ran.{code-value, ran-value}
-use Rattle.loops.proofs.Checking.{settles-value, settles-refused}
-use Rattle.types.specs.declared.ExitQueue.{ExitQueue}
+use Rattle.laws.specs.Ran.{Ran}
+use Rattle.laws.proofs.Loops.Entry.{entryAt, putAt, entry-is, entry-back}
+use Rattle.laws.proofs.Loops.Ran.{code-value, ran-value}
+use Rattle.laws.proofs.Loops.Checking.{settles-value, settles-refused}
+use Rattle.definitions.specs.declared.ExitQueue.{ExitQueue}
 use Rattle.exit_queue.specs.declared.Turn.{Turn}
 use Rattle.exit_queue.specs.Queue.{Tracks, lastAfter, numberAfter, joined, nextEpoch, exitBy, moved}
 use Rattle.exit_queue.specs.Turns.{Exits, Turns}

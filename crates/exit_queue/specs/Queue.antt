@@ -9,7 +9,7 @@ use Rattle.definitions.specs.Record.{Validator, «FAR_FUTURE_EPOCH»}
 use Rattle.definitions.specs.Checked.{Checked, value, bind, add64}
 use Rattle.definitions.specs.Updates.{withExit}
 use Rattle.definitions.specs.Document.Phase0.Helpers.{exitEpochs, exitQueueChurn}
-use Rattle.types.specs.declared.ExitQueue.{ExitQueue}
+use Rattle.definitions.specs.declared.ExitQueue.{ExitQueue}
 
 -- The pair is what a rescan finds: the latest of `least` and the exit epochs that are taken, and how many leave at it. `least` is the
 -- activation exit epoch of the present epoch. FAR is never the last epoch.

@@ -4,8 +4,8 @@ use mathlib.Core.List.{List}
 use Prim.Native.Nat.{ℕ}
 use Rattle.definitions.specs.Record.{Validator, decodeOne, encodeOne}
 use Rattle.definitions.specs.Checked.{Checked, value, codeOf}
-use Rattle.loops.specs.Ran.{settled, Settles}
-use Rattle.types.specs.declared.ExitQueue.{ExitQueue}
+use Rattle.laws.specs.Ran.{settled, Settles}
+use Rattle.definitions.specs.declared.ExitQueue.{ExitQueue}
 use Rattle.exit_queue.specs.declared.Turn.{Turn}
 use Rattle.exit_queue.specs.Queue.{moved}
 

@@ -8,10 +8,13 @@ ghost use Rattle.definitions.specs.ExitQueue.{queueOf};
 ghost use Rattle.definitions.specs.Answers.{Says};
 ghost use Rattle.exit_queue.specs.Queue.{lastAfter, numberAfter, joined, startPair, nextEpoch, exitBy};
 ghost use Rattle.exit_queue.specs.Turns.{Exits};
+
+pub mod exits;
+
+use crate::exits::write_exit;
 use arithmetic::add64;
-use exits::write_exit;
-use types::ExitQueue;
-use types::Number;
+use definitions::ExitQueue;
+use definitions::Number;
 
 const FAR_FUTURE_EPOCH: u64 = 18446744073709551615;
 

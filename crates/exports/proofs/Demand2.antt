@@ -7,21 +7,21 @@ use contract.Lifetimes.{Lfts}
 use borrow.Fn.Kinds.{Dens, resT, endedOf}
 use denote.Triple.Clauses.{AtExit}
 use denote.Ref.{now}
-use Rattle.types.specs.declared.Settings.{Settings}
+use Rattle.definitions.specs.declared.Settings.{Settings}
 use Rattle.definitions.specs.Record.{BeaconState, decode}
 use Rattle.definitions.specs.Refusals.{registryTests, effectiveBalanceTests, slashingsResetTests, rotationTests}
 use Rattle.definitions.specs.Rules.{settingsUnder, rewardsTests, slashingsTests}
 use Rattle.definitions.specs.RegisterOrder.{registryToTests}
 use Rattle.definitions.specs.Close.{Step, inactivityStep, rewardsStep, registryStep, slashingsStep, effectiveBalancesStep, slashingsResetStep, participationFlagsStep, finalizedEpochOf}
 use Rattle.agreement.specs.Agreement.{documentStep, documentStepUnder}
-use Rattle.completeness.specs.Calls.{StepCall, registryOf, slashingsOf, stoppedOf}
-use Rattle.completeness.proofs.StepCalls.{step-calls, rules-calls}
-use Rattle.full_theorems.specs.QueueCalls.{QueueCall, ExitCall}
-use Rattle.store_history.specs.Demand2.{StoreCloseCall}
-use Rattle.store_history.proofs.Demand2.{store-close-call}
-use Rattle.full_theorems.proofs.QueueCalls.{queue-calls, exit-call}
-use Rattle.justification_step.specs.Told.{JustificationTold}
-use Rattle.justification_step.proofs.Told.{justification-tells}
+use Rattle.theorems.specs.Completeness.Calls.{StepCall, registryOf, slashingsOf, stoppedOf}
+use Rattle.theorems.proofs.Completeness.StepCalls.{step-calls, rules-calls}
+use Rattle.theorems.specs.FullClose.QueueCalls.{QueueCall, ExitCall}
+use Rattle.theorems.specs.StoreHistory.Demand2.{StoreCloseCall}
+use Rattle.theorems.proofs.StoreHistory.Demand2.{store-close-call}
+use Rattle.theorems.proofs.FullClose.QueueCalls.{queue-calls, exit-call}
+use Rattle.justification.specs.Told.{JustificationTold}
+use Rattle.justification.proofs.justification_step.Told.{justification-tells}
 use Rattle.exports.proofs.Closes.{Came, called, cameBack}
 use Rattle.exports.proofs.ExitEpochs.{ExitCame}
 use Rattle.exports.proofs.steps.altair_process_justification_and_finalization.Kinds as justificationKinds

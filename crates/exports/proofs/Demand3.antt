@@ -6,14 +6,14 @@ use mathlib.Core.List.{List, [], _∷_, map}
 use Prim.Native.Nat.{ℕ}
 use Rattle.definitions.specs.Record.{BeaconState}
 use Rattle.definitions_close.specs.FullClose.{FullOutcome}
-use Rattle.definitions_store.specs.StoreClose.{callBy}
-use Rattle.definitions_store.specs.StoreSteps.{storeCarryOut}
+use Rattle.definitions_close.specs.StoreClose.{callBy}
+use Rattle.definitions_close.specs.StoreSteps.{storeCarryOut}
 use Rattle.history.specs.Events.{Least, Premises, Claim}
 use Rattle.history.specs.Demand3.{Close, event}
-use Rattle.store_history.specs.Steps.{ninthCall}
-use Rattle.store_history.specs.Demand3 as store
-use Rattle.store_history.specs.Demand3.{rulesUsed, closeWith, outcomeFrom, closeOf}
-use Rattle.store_history.proofs.Demand3.{store-demand3}
+use Rattle.theorems.specs.StoreHistory.Steps.{ninthCall}
+use Rattle.theorems.specs.StoreHistory.Demand3 as store
+use Rattle.theorems.specs.StoreHistory.Demand3.{rulesUsed, closeWith, outcomeFrom, closeOf}
+use Rattle.theorems.proofs.StoreHistory.Demand3.{store-demand3}
 use Rattle.exports.proofs.Closes.{Came, called, cameBack}
 use Rattle.exports.proofs.StepCalls.{actOf, StepsCame, eighth, all-acts, NinthCame, ninthOf, ninthBack}
 

@@ -7,10 +7,10 @@ use borrow.Fn.Kinds.{Dens, resT, endedOf}
 use denote.Triple.Clauses.{AtExit}
 use denote.Ref.{now}
 use Rattle.definitions.specs.Record.{Validator}
-use Rattle.exit_epochs.specs.ExitEpochs.{Premises, Claim}
-use Rattle.exit_calls.specs.ExitCalls.{exiting}
-use Rattle.store_history.specs.ExitEpochs.{Called, storing, stepping, carrying, other, Defined, event}
-use Rattle.store_history.proofs.ExitEpochs.{store-exit-calls}
+use Rattle.history.specs.ExitEpochs.{Premises, Claim}
+use Rattle.theorems.specs.ExitCalls.ExitCalls.{exiting}
+use Rattle.theorems.specs.StoreHistory.ExitEpochs.{Called, storing, stepping, carrying, other, Defined, event}
+use Rattle.theorems.proofs.StoreHistory.ExitEpochs.{store-exit-calls}
 use Rattle.exports.proofs.Closes as closes
 use Rattle.exports.proofs.StepCalls.{actOf, StepsCame, eighth, all-acts, NinthCame, ninthOf, ninthBack}
 use Rattle.exports.proofs.phase0_helpers.altair_initiate_validator_exit.Kinds as exitKinds

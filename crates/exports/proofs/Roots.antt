@@ -6,15 +6,15 @@ use native.Mathlib.Omega.{arith}
 use native.Mathlib.Nat.{mod-lt}
 use borrow.Author.Tests.{eq-eqb}
 use lib.ListN.{length, length-take, length-drop}
-use Rattle.types.specs.declared.Settings.{Settings}
+use Rattle.definitions.specs.declared.Settings.{Settings}
 use Rattle.definitions.specs.Checked.{Checked, value, refused, codeOf}
 use Rattle.definitions.specs.Refusals.{afterTests}
 use Rattle.definitions.specs.LeafRefusals.{rootTests}
 use Rattle.definitions.specs.Document.Phase0.Helpers as document
 use Rattle.definitions.specs.Rust.Phase0.Helpers.{«get_block_root_at_slot», «get_block_root»}
 use Rattle.laws.proofs.Checked.{value-same}
-use Rattle.roots.specs.Bytes.{bytesOf}
-use Rattle.roots.proofs.Lookups.{slot-value, epoch-value, found-after}
+use Rattle.epochs.specs.Bytes.{bytesOf}
+use Rattle.epochs.proofs.roots.Lookups.{slot-value, epoch-value, found-after}
 use Rattle.plain.specs.Plain.{plainRoot, rootGiven}
 use Rattle.plain.specs.declared.PlainRoot.{PlainRoot}
 

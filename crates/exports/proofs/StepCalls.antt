@@ -6,17 +6,17 @@ use contract.Lifetimes.{Lfts}
 use borrow.Fn.Kinds.{Dens, resT, endedOf}
 use denote.Triple.Clauses.{AtExit}
 use denote.Ref.{now}
-use Rattle.definitions_orders.specs.CloseBySteps.{StepOutcome}
-use Rattle.definitions_orders.specs.Orders.{OrderCall, OrderOutcome, takeOrder, NinthOutcome}
-use Rattle.definitions_store.specs.StoreClose.{StoreCall}
-use Rattle.definitions_store.specs.StoreSteps.{StoreStepCall, storeStep, StoreNinthCall}
-use Rattle.stepwise_theorems.specs.Desk.{Desk, Act, stepping, ordering, orderCall, stepsOf, oneToEight}
-use Rattle.close_steps.specs.Called.{stepOutcome}
+use Rattle.definitions_close.specs.CloseBySteps.{StepOutcome}
+use Rattle.definitions_close.specs.Orders.{OrderCall, OrderOutcome, takeOrder, NinthOutcome}
+use Rattle.definitions_close.specs.StoreClose.{StoreCall}
+use Rattle.definitions_close.specs.StoreSteps.{StoreStepCall, storeStep, StoreNinthCall}
+use Rattle.theorems.specs.CloseBySteps.Desk.{Desk, Act, stepping, ordering, orderCall, stepsOf, oneToEight}
+use Rattle.close_by_steps.specs.Called.{stepOutcome}
 use Rattle.orders.specs.Called.{orderCalled, orderOutcome, ninthOutcome}
-use Rattle.store_entries.specs.Lent.{lent}
-use Rattle.store_rules.specs.Called.{storeCalled}
+use Rattle.store.specs.Lent.{lent}
+use Rattle.store.specs.Called.{storeCalled}
 use Rattle.store_steps.specs.Called.{storeStepCalled, storeNinthCalled}
-use Rattle.store_history.specs.Steps.{stepCall, act, acts, NotBegun}
+use Rattle.theorems.specs.StoreHistory.Steps.{stepCall, act, acts, NotBegun}
 use Rattle.exports.proofs.exit_orders.altair_close_step.Kinds as stepKinds
 use Rattle.exports.proofs.exit_orders.altair_close_step.Reads as step
 use Rattle.exports.proofs.exit_orders.altair_take_order.Kinds as orderKinds

@@ -12,6 +12,8 @@ ghost use Rattle.definitions.specs.Document.Altair.Helpers.{«has_flag», «add
 ghost use Rattle.definitions.specs.Rust.Phase0.Helpers.{«get_current_epoch»};
 ghost use Rattle.definitions.specs.Rust.Altair.Helpers.{isUnslashedParticipating, «get_unslashed_participating_indices», «get_base_reward_per_increment», «get_base_reward», «get_flag_index_deltas», «get_inactivity_penalty_deltas»};
 ghost use Rattle.plain.specs.Plain.{plainNumber, plainTruth, plainDeltas, plainTotal};
+use definitions::Rules;
+use definitions::Settings;
 use plain::PlainDeltas;
 use plain::PlainNumber;
 use plain::PlainTotal;
@@ -20,8 +22,6 @@ use plain::plain_deltas;
 use plain::plain_number;
 use plain::plain_total;
 use plain::plain_truth;
-use types::Rules;
-use types::Settings;
 
 // Flags and participation
 
@@ -78,7 +78,7 @@ pub extern "C" fn altair_get_participating_balance(
 pub extern "C" fn altair_get_base_reward_per_increment(s: Settings, total: u64) -> PlainNumber
     ensures { λ r. ⌜ r ≡ plainNumber (numberFor (afterTests (totalTests s total) («get_base_reward_per_increment» s total))) ⌝ }
 {
-    plain_number(base_rewards::get_base_reward_per_increment(s, total))
+    plain_number(rewards::base_rewards::get_base_reward_per_increment(s, total))
 }
 
 #[no_mangle]
@@ -87,7 +87,7 @@ pub extern "C" fn altair_get_base_reward(s: Settings, total: u64, entry: &[u64])
         r
         ≡ plainNumber (numberFor (afterTests (totalEntryTests s total (now (entry .entry))) («get_base_reward» s total (decodeOne (now (entry .entry)))))) ⌝ }
 {
-    plain_number(base_rewards::get_base_reward(s, total, entry))
+    plain_number(rewards::base_rewards::get_base_reward(s, total, entry))
 }
 
 // One validator's deltas
@@ -107,7 +107,7 @@ pub extern "C" fn altair_get_flag_index_deltas(
         («get_flag_index_deltas» s «state_slot» «finalized_epoch» (decode (now (registry .entry))) «flag_index»
         (getD (decode (now (registry .entry))) index nobody)))) ⌝ }
 {
-    plain_deltas(flag_rewards::get_flag_index_deltas(
+    plain_deltas(rewards_step::flag_rewards::get_flag_index_deltas(
         s,
         state_slot,
         finalized_epoch,

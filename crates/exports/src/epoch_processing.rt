@@ -5,13 +5,13 @@ ghost use Rattle.definitions.specs.Refusals.{afterTests};
 ghost use Rattle.definitions.specs.LeafRefusals.{finalizedTests, weighTests};
 ghost use Rattle.definitions.specs.Rust.Phase0.EpochProcessing.{«get_finality_delay», «is_in_inactivity_leak», «weigh_justification_and_finalization»};
 ghost use Rattle.plain.specs.Plain.{plainNumber, plainTruth};
+use definitions::Finality;
+use definitions::FinalityAnswer;
+use definitions::Settings;
 use plain::PlainNumber;
 use plain::PlainTruth;
 use plain::plain_number;
 use plain::plain_truth;
-use types::Finality;
-use types::FinalityAnswer;
-use types::Settings;
 
 #[no_mangle]
 pub extern "C" fn altair_get_finality_delay(

@@ -1,16 +1,16 @@
 // A close that is run one step a call, and the exit orders that are taken meanwhile.
 ghost use mathlib.Core.Path.{_≡_};
-ghost use Rattle.definitions_orders.specs.Orders.{takeOrder};
-ghost use Rattle.definitions_store.specs.StoreSteps.{storeStep, storeCarryOut};
-ghost use Rattle.close_steps.specs.Called.{stepOutcome};
+ghost use Rattle.definitions_close.specs.Orders.{takeOrder};
+ghost use Rattle.definitions_close.specs.StoreSteps.{storeStep, storeCarryOut};
+ghost use Rattle.close_by_steps.specs.Called.{stepOutcome};
 ghost use Rattle.orders.specs.Called.{orderCalled, orderOutcome, ninthOutcome};
-ghost use Rattle.store_entries.specs.Lent.{lent};
-ghost use Rattle.store_rules.specs.Called.{storeCalled};
+ghost use Rattle.store.specs.Lent.{lent};
+ghost use Rattle.store.specs.Called.{storeCalled};
 ghost use Rattle.store_steps.specs.Called.{storeStepCalled, storeNinthCalled};
-use definitions_orders::Running;
-use definitions_orders::RunningAnswer;
-use types::ExitQueue;
-use types::Finality;
+use definitions::ExitQueue;
+use definitions::Finality;
+use definitions_close::Running;
+use definitions_close::RunningAnswer;
 
 #[no_mangle]
 pub extern "C" fn altair_close_step(

@@ -3,11 +3,11 @@ ghost use mathlib.Core.Path.{_≡_};
 ghost use Rattle.definitions.specs.Checked.{codeOf};
 ghost use Rattle.definitions_file.specs.File.{read, writeTests, written};
 ghost use Rattle.record_file.specs.Answers.{headerRead, contentsWith};
+use definitions::ExitQueue;
+use definitions::Finality;
+use definitions::Settings;
 use record_file::Header;
 use record_file::ReadAnswer;
-use types::ExitQueue;
-use types::Finality;
-use types::Settings;
 
 #[no_mangle]
 pub extern "C" fn altair_read_header(bytes: &[u8]) -> Header

@@ -1,14 +1,14 @@
 // What the lines of a listing tell, as numbers.
 ghost use mathlib.Core.Path.{_≡_};
-ghost use Rattle.definitions_listing.specs.Answers.{headOf, lineOf};
-ghost use Rattle.definitions_listing.specs.NetChange.{netChange, changeFor};
+ghost use Rattle.definitions_file.specs.ListingAnswers.{headOf, lineOf};
+ghost use Rattle.definitions_file.specs.NetChange.{netChange, changeFor};
 ghost use Rattle.plain.specs.Plain.{plainChange};
-use definitions_listing::Change;
-use definitions_listing::Head;
-use definitions_listing::Line;
+use definitions::Finality;
+use definitions::Settings;
+use definitions_file::Change;
+use definitions_file::Head;
+use definitions_file::Line;
 use plain::PlainChange;
-use types::Finality;
-use types::Settings;
 
 // Of the opening's slot and registry, and of the finality that the close gave.
 #[no_mangle]

@@ -10,8 +10,11 @@ ghost use Rattle.definitions.specs.Document.Phase0.EpochProcessing.{isEligible}
 ghost use Rattle.definitions.specs.Document.Phase0.Helpers.{«integer_squareroot»};
 ghost use Rattle.definitions.specs.Rust.Phase0.Helpers.{«compute_epoch_at_slot», «compute_start_slot_at_epoch», «compute_activation_exit_epoch», «get_current_epoch», «get_previous_epoch», «is_active_validator», «is_eligible_for_activation_queue», «is_eligible_for_activation», «get_block_root_at_slot», «get_block_root», «get_active_validator_indices», «get_validator_churn_limit», «increase_balance», «decrease_balance», «initiate_validator_exit»};
 ghost use Rattle.definitions_close.specs.QueueCalls.{exitQueueTests, QueueCloses, foundQueue};
-ghost use Rattle.buffers.specs.Closes.{Closes};
+ghost use Rattle.refusals.specs.Closes.{Closes};
 ghost use Rattle.plain.specs.Plain.{plainNumber, plainTruth, plainRoot, plainTotal};
+use definitions::ExitQueue;
+use definitions::QueueAnswer;
+use definitions::Settings;
 use plain::PlainNumber;
 use plain::PlainRoot;
 use plain::PlainTotal;
@@ -20,9 +23,6 @@ use plain::plain_number;
 use plain::plain_root;
 use plain::plain_total;
 use plain::plain_truth;
-use types::ExitQueue;
-use types::QueueAnswer;
-use types::Settings;
 
 // The largest x with x * x at most n.
 #[no_mangle]
@@ -145,10 +145,10 @@ pub extern "C" fn altair_get_block_root_at_slot(
         r
         ≡ plainRoot (afterTests (rootTests s (now (roots .entry)) «state_slot») («get_block_root_at_slot» s (now (roots .entry)) «state_slot» slot)) ⌝ }
 {
-    let refusal = roots::get_block_root_at_slot_refusal(s, roots, state_slot, slot);
+    let refusal = epochs::roots::get_block_root_at_slot_refusal(s, roots, state_slot, slot);
     plain_root(
         refusal,
-        roots::get_block_root_at_slot(s, roots, state_slot, slot),
+        epochs::roots::get_block_root_at_slot(s, roots, state_slot, slot),
     )
 }
 
@@ -161,8 +161,11 @@ pub extern "C" fn altair_get_block_root(
 ) -> PlainRoot
     ensures { λ r. ⌜ r ≡ plainRoot (afterTests (rootTests s (now (roots .entry)) «state_slot») («get_block_root» s (now (roots .entry)) «state_slot» epoch)) ⌝ }
 {
-    let refusal = roots::get_block_root_refusal(s, roots, state_slot, epoch);
-    plain_root(refusal, roots::get_block_root(s, roots, state_slot, epoch))
+    let refusal = epochs::roots::get_block_root_refusal(s, roots, state_slot, epoch);
+    plain_root(
+        refusal,
+        epochs::roots::get_block_root(s, roots, state_slot, epoch),
+    )
 }
 
 // The registry

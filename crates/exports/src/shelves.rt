@@ -1,8 +1,8 @@
 // A shelf of records.
 ghost use mathlib.Core.Path.{_≡_};
-ghost use Rattle.definitions_shelf.specs.Shelf.{shelfRefusal, answersAfter, closingAfter, Working};
+ghost use Rattle.definitions_file.specs.Shelf.{shelfRefusal, answersAfter, closingAfter, Working};
 ghost use Rattle.shelf.specs.Lent.{shelfOf};
-use types::Bellatrix;
+use definitions::Bellatrix;
 
 #[no_mangle]
 pub extern "C" fn altair_close_shelf(

@@ -1,13 +1,13 @@
 // Settings by starting epoch (02, R-10): the rules of an epoch, and one entry more.
 ghost use mathlib.Core.Path.{_≡_};
-ghost use Rattle.definitions_store.specs.Store.{readRules, rulesAnswerFor, added};
-ghost use Rattle.store_entries.specs.Lent.{lent};
+ghost use Rattle.definitions_close.specs.Store.{readRules, rulesAnswerFor, added};
+ghost use Rattle.store.specs.Lent.{lent};
 ghost use Rattle.store.specs.Answers.{newEntry, addOutcome};
-use definitions_store::CountAnswer;
-use definitions_store::RulesAnswer;
+use definitions::Rules;
+use definitions_close::CountAnswer;
+use definitions_close::RulesAnswer;
 use store::add_rules;
 use store::read_rules;
-use types::Rules;
 
 #[no_mangle]
 pub extern "C" fn altair_read_rules(store: &[u64], count: u64, epoch: u64) -> RulesAnswer

@@ -10,15 +10,15 @@ ghost use Rattle.definitions.specs.Rules.{settingsUnder, rewardsTests, slashing
 ghost use Rattle.definitions.specs.RegisterOrder.{registryUpdatesTo};
 ghost use Rattle.definitions.specs.Rust.Phase0.EpochProcessing.{«process_registry_updates», «process_effective_balance_updates», resetSlashings};
 ghost use Rattle.definitions.specs.Rust.Altair.EpochProcessing.{«process_justification_and_finalization», «process_inactivity_updates», «process_rewards_and_penalties», «process_slashings», «process_participation_flag_updates»};
-ghost use Rattle.definitions_justification.specs.Answer.{justificationAnswerFor};
+ghost use Rattle.definitions_close.specs.Justification.{justificationAnswerFor};
 ghost use Rattle.definitions_close.specs.QueueCalls.{registryToQueueTests, registryQueueTests, QueueCloses};
-ghost use Rattle.buffers.specs.Closes.{Closes};
-use types::ExitQueue;
-use types::Finality;
-use types::JustificationAnswer;
-use types::QueueAnswer;
-use types::Rules;
-use types::Settings;
+ghost use Rattle.refusals.specs.Closes.{Closes};
+use definitions::ExitQueue;
+use definitions::Finality;
+use definitions::JustificationAnswer;
+use definitions::QueueAnswer;
+use definitions::Rules;
+use definitions::Settings;
 
 #[no_mangle]
 pub extern "C" fn altair_process_justification_and_finalization(
@@ -33,7 +33,12 @@ pub extern "C" fn altair_process_justification_and_finalization(
         («process_justification_and_finalization» s (now (roots .entry)) finality (decode (now (registry .entry))))) finality
         (raisedTotals s (finality .slot) (decode (now (registry .entry)))) ⌝ }
 {
-    justification_step::process_justification_and_finalization(s, roots, finality, registry)
+    justification::justification_step::process_justification_and_finalization(
+        s,
+        roots,
+        finality,
+        registry,
+    )
 }
 
 #[no_mangle]
@@ -49,7 +54,13 @@ pub extern "C" fn altair_process_inactivity_updates(
         («process_inactivity_updates» s «state_slot» «finalized_epoch» (decode (now (opening .entry)))) (now (opening .entry)) (now (closing .entry))
         (now (closing .exit)) r ⌝ }
 {
-    inactivity::process_inactivity_updates(s, state_slot, finalized_epoch, opening, closing)
+    participation::inactivity::process_inactivity_updates(
+        s,
+        state_slot,
+        finalized_epoch,
+        opening,
+        closing,
+    )
 }
 
 #[no_mangle]
@@ -145,7 +156,7 @@ pub extern "C" fn altair_process_effective_balance_updates(
         Closes encode (effectiveBalanceTests s (now (opening .entry)) (now (closing .entry)))
         («process_effective_balance_updates» s (decode (now (opening .entry)))) (now (opening .entry)) (now (closing .entry)) (now (closing .exit)) r ⌝ }
 {
-    effective_balances::process_effective_balance_updates(s, opening, closing)
+    balances::effective_balances::process_effective_balance_updates(s, opening, closing)
 }
 
 #[no_mangle]
@@ -172,5 +183,5 @@ pub extern "C" fn altair_process_participation_flag_updates(
         (value («process_participation_flag_updates» (decode (now (opening .entry))))) (now (opening .entry)) (now (closing .entry))
         (now (closing .exit)) r ⌝ }
 {
-    participation_flags::process_participation_flag_updates(opening, closing)
+    participation::participation_flags::process_participation_flag_updates(opening, closing)
 }

@@ -3,9 +3,9 @@ ghost use mathlib.Core.Path.{_≡_};
 ghost use Rattle.definitions.specs.Refusals.{afterTests};
 ghost use Rattle.definitions_votes.specs.Votes.{votes as votesOf, votesTests, ballotOf};
 ghost use Rattle.definitions_votes.specs.Answers.{votesAnswerFor};
+use definitions::Finality;
+use definitions::Settings;
 use definitions_votes::VotesAnswer;
-use types::Finality;
-use types::Settings;
 
 #[no_mangle]
 pub extern "C" fn altair_unknown_votes(

@@ -6,18 +6,18 @@ ghost use Rattle.definitions.specs.Record.{decode};
 ghost use Rattle.definitions.specs.Refusals.{afterTests};
 ghost use Rattle.definitions.specs.LeafRefusals.{slotRegistryTests};
 ghost use Rattle.definitions.specs.Close.{charged};
-ghost use Rattle.definitions_store.specs.StoreClose.{storeClose};
+ghost use Rattle.definitions_close.specs.StoreClose.{storeClose};
 ghost use Rattle.full_close.specs.Called.{fullOutcome};
-ghost use Rattle.store_entries.specs.Lent.{lent};
-ghost use Rattle.store_rules.specs.Called.{storeCalled};
+ghost use Rattle.store.specs.Lent.{lent};
+ghost use Rattle.store.specs.Called.{storeCalled};
 ghost use Rattle.definitions.specs.Answers.{numberFor};
 ghost use Rattle.plain.specs.Plain.{plainNumber};
+use definitions::ExitQueue;
+use definitions::Finality;
+use definitions::FullAnswer;
+use definitions::Settings;
 use plain::PlainNumber;
 use plain::plain_number;
-use types::ExitQueue;
-use types::Finality;
-use types::FullAnswer;
-use types::Settings;
 
 #[no_mangle]
 pub extern "C" fn altair_close(
@@ -37,7 +37,7 @@ pub extern "C" fn altair_close(
         ≡ storeClose (storeCalled (lent (now (store .entry)) count) finality queue (now (registry .entry)) (now (slashings .entry)) (now (roots .entry))
         (now («closing_registry» .entry)) (now («closing_slashings» .entry)) (now (amounts .entry))) ⌝ }
 {
-    store_close::store_close(
+    store_steps::store_close::store_close(
         store,
         count,
         finality,

@@ -1,1 +1,3 @@
 -- What a field holds is said by definitions, File.antt.
+-- Text put into lent bytes.
+pub mod Put

@@ -5,10 +5,14 @@ ghost use lib.ListN.{length, drop};
 ghost use lib.Seq.{sets};
 ghost use Rattle.definitions.specs.Refusals.{settingsNumbers};
 ghost use Rattle.definitions_file.specs.File.{littleEndian, numbersToBytes, numbersFromBytes, settingsAt, settingsFrom, checkpointAt, finalityFrom, queueFrom, checkpointToBytes, finalityToBytes, queueToBytes};
-use types::Checkpoint;
-use types::ExitQueue;
-use types::Finality;
-use types::Settings;
+
+pub mod decimals;
+pub mod reader;
+
+use definitions::Checkpoint;
+use definitions::ExitQueue;
+use definitions::Finality;
+use definitions::Settings;
 
 // As many numbers as the buffer holds.
 pub fn read_numbers(bytes: &[u8], at: usize, numbers: &mut [u64])
@@ -17,7 +21,7 @@ pub fn read_numbers(bytes: &[u8], at: usize, numbers: &mut [u64])
 {
     let mut position = at;
     for i in 0..numbers.len() {
-        let next = reader::read_number(bytes, position);
+        let next = crate::reader::read_number(bytes, position);
         numbers[i] = next.number;
         position = next.position;
     }
@@ -89,7 +93,7 @@ fn checkpoint_at(bytes: &[u8], at: usize) -> Checkpoint
     requires { ⌜ at + 40 ≤ length (now bytes) ⌝ }
     ensures { λ r. ⌜ r ≡ checkpointAt at (now (bytes .entry)) ⌝ }
 {
-    let epoch = reader::read_number(bytes, at);
+    let epoch = crate::reader::read_number(bytes, at);
     let from = epoch.position;
     let to = from + 32;
     let mut root = [0u8; 32];
@@ -104,8 +108,8 @@ pub fn read_finality(bytes: &[u8]) -> Finality
     requires { ⌜ 368 ≤ length (now bytes) ⌝ }
     ensures { λ r. ⌜ r ≡ finalityFrom (now (bytes .entry)) ⌝ }
 {
-    let slot = reader::read_number(bytes, 232);
-    let bits = reader::read_number(bytes, slot.position);
+    let slot = crate::reader::read_number(bytes, 232);
+    let bits = crate::reader::read_number(bytes, slot.position);
     let previous = checkpoint_at(bytes, bits.position);
     let current = checkpoint_at(bytes, 288);
     let finalized = checkpoint_at(bytes, 328);
@@ -123,8 +127,8 @@ pub fn read_queue(bytes: &[u8]) -> ExitQueue
     requires { ⌜ 384 ≤ length (now bytes) ⌝ }
     ensures { λ r. ⌜ r ≡ queueFrom (now (bytes .entry)) ⌝ }
 {
-    let last_epoch = reader::read_number(bytes, 368);
-    let number = reader::read_number(bytes, 376);
+    let last_epoch = crate::reader::read_number(bytes, 368);
+    let number = crate::reader::read_number(bytes, 376);
     ExitQueue {
         last_epoch: last_epoch.number,
         number: number.number,

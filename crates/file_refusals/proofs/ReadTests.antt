@@ -6,8 +6,8 @@ use Prim.Native.Nat.{ℕ, _*_, _^_, _≤_, _<_}
 use borrow.Author.Tests.{lt-ltb, le-ltb, le-leb, lt-leb, eq-eqb, ne-eqb}
 use lib.Dec.{leb}
 use lib.ListN.{length, drop}
-use Rattle.types.specs.declared.Settings.{Settings}
-use Rattle.types.specs.declared.ExitQueue.{ExitQueue}
+use Rattle.definitions.specs.declared.Settings.{Settings}
+use Rattle.definitions.specs.declared.ExitQueue.{ExitQueue}
 use Rattle.definitions.specs.Record.{decode}
 use Rattle.definitions.specs.Checked.{bind}
 use Rattle.definitions.specs.Refusals.{inOrder, isVectorLength, settingsShaped, goodSettings, goodFinality, goodRegistry}

@@ -7,11 +7,14 @@ ghost use Rattle.definitions.specs.Checked.{codeOf};
 ghost use Rattle.definitions.specs.ExitQueue.{queueOf};
 ghost use Rattle.definitions_file.specs.File.{numbersFromBytes, validatorsAt, versionOf, countOf, fileShaped, stoppedAt, writeTests};
 ghost use Rattle.file_refusals.specs.Tests.{limitAt, nothingAt, Answered, QueueAnswered, sameQueue, contentsWith, writeShaped};
+
+pub mod file_header;
+
+use definitions::ExitQueue;
+use definitions::Finality;
+use definitions::Settings;
 use exit_queue::exited;
 use exit_queue::queue_of;
-use types::ExitQueue;
-use types::Finality;
-use types::Settings;
 
 // Reading
 
@@ -35,7 +38,7 @@ fn first_bad(bytes: &[u8], from: usize, validators: usize) -> usize
     let mut position: usize = from;
     'validators: for i in 0..validators {
         for k in 0..10 {
-            let next = reader::read_number(bytes, position);
+            let next = fields::reader::read_number(bytes, position);
             if limit(k) < next.number {
                 break 'validators;
             }
@@ -50,7 +53,7 @@ fn file_shaped(bytes: &[u8], registry: &[u64], slashings: &[u64]) -> bool
     requires { ⌜ 368 ≤ length (now bytes) ⌝ }
     ensures { λ r. ⌜ r ≡ fileShaped (now (bytes .entry)) (now (registry .entry)) (now (slashings .entry)) ⌝ }
 {
-    let counts = file_header::read_counts(bytes);
+    let counts = crate::file_header::read_counts(bytes);
     let s = fields::read_settings(bytes);
     if 16777216 < counts.validators {
         return false;
@@ -84,7 +87,7 @@ fn queue_at(bytes: &[u8], from: usize, validators: usize) -> ExitQueue
     };
     for i in 0..validators {
         let at = from + 8 * (10 * i + 4);
-        let next = reader::read_number(bytes, at);
+        let next = fields::reader::read_number(bytes, at);
         queue = exited(queue, next.number);
     }
     queue
@@ -151,7 +154,7 @@ pub fn read_tests(bytes: &[u8], registry: &[u64], slashings: &[u64]) -> Tested
     if bytes.len() < 80 {
         return refused(6, 0);
     }
-    if !file_header::good_header(bytes) {
+    if !crate::file_header::good_header(bytes) {
         return refused(6, 80);
     }
     if !file_shaped(bytes, registry, slashings) {
@@ -163,10 +166,10 @@ pub fn read_tests(bytes: &[u8], registry: &[u64], slashings: &[u64]) -> Tested
     if !refusals::good_finality(fields::read_finality(bytes)) {
         return refused(3, 368);
     }
-    let counts = file_header::read_counts(bytes);
+    let counts = crate::file_header::read_counts(bytes);
     let version = counts.version;
     let validators = counts.validators as usize;
-    let from = file_header::validators_at(version) as usize;
+    let from = crate::file_header::validators_at(version) as usize;
     let stopped = first_bad(bytes, from, validators);
     if stopped != from + 80 * validators {
         return refused(3, stopped as u64);
@@ -200,7 +203,7 @@ fn write_shaped(
     if slashings.len() as u64 != slashing_count {
         return false;
     }
-    file_header::as_long(
+    crate::file_header::as_long(
         file.len() as u64,
         2,
         (registry.len() / 10) as u64,

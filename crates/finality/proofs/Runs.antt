@@ -6,8 +6,8 @@ use native.Mathlib.Omega.{arith}
 use native.Mathlib.Nat.{div-div-eq-div-mul}
 use borrow.Author.Tests.{eq-eqb, ne-eqb, eqb-true, eqb-false}
 use lib.Dec.{eqb}
-use Rattle.types.specs.declared.Checkpoint.{Checkpoint}
-use Rattle.types.specs.declared.Finality.{Finality}
+use Rattle.definitions.specs.declared.Checkpoint.{Checkpoint}
+use Rattle.definitions.specs.declared.Finality.{Finality}
 use Rattle.definitions.specs.Document.Phase0.EpochProcessing.{bit, finalizedBy}
 
 -- one test that holds where two do

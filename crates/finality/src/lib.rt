@@ -9,17 +9,20 @@ ghost use Rattle.definitions.specs.Refusals.{isSmall, afterTests};
 ghost use Rattle.definitions.specs.LeafRefusals.{finalizedTests};
 ghost use Rattle.definitions.specs.Document.Phase0.EpochProcessing.{justifiedBits, finalizedBy, weighed};
 ghost use Rattle.definitions.specs.Rust.Phase0.EpochProcessing.{«get_finality_delay», «is_in_inactivity_leak»};
+
+pub mod finalizing;
+
 use arithmetic::sub64;
+use definitions::Checkpoint;
+use definitions::Finality;
+use definitions::Number;
+use definitions::Settings;
+use definitions::Truth;
 use leaf_refusals::previous_epoch;
 use refusals::good_settings;
 use refusals::in_order;
 use refusals::is_small;
 use refusals::settings_shaped;
-use types::Checkpoint;
-use types::Finality;
-use types::Number;
-use types::Settings;
-use types::Truth;
 
 fn are_small(a: u64, b: u64) -> bool
     ensures { λ r. ⌜ r ≡ (isSmall a && isSmall b) ⌝ }

@@ -1,7 +1,7 @@
 -- What an accepted close did: justification gave its finality, and the steps over the registry its registry.
 use mathlib.Core.Path.{_≡_, refl, sym, subst, _∙_}
-use Rattle.types.specs.declared.Settings.{Settings}
-use Rattle.types.specs.declared.Finality.{Finality}
+use Rattle.definitions.specs.declared.Settings.{Settings}
+use Rattle.definitions.specs.declared.Finality.{Finality}
 use Rattle.definitions.specs.Record.{BeaconState}
 use Rattle.definitions.specs.Checked.{Checked, value, refused, numberOf}
 use Rattle.definitions.specs.Rust.Altair.EpochProcessing.{«process_justification_and_finalization»}

@@ -3,3 +3,4 @@ mod Accepted
 mod Worked
 pub mod Tests
 pub mod Outcome
+pub mod Booking

@@ -2,10 +2,10 @@
 use mathlib.Core.Path.{_≡_, refl, sym, ap, subst, _∙_}
 use mathlib.Core.List.{List}
 use Prim.Native.Nat.{ℕ}
-use Rattle.types.specs.declared.Settings.{Settings}
-use Rattle.types.specs.declared.Rules.{Rules}
-use Rattle.types.specs.declared.Finality.{Finality}
-use Rattle.types.specs.declared.FullAnswer.{FullAnswer}
+use Rattle.definitions.specs.declared.Settings.{Settings}
+use Rattle.definitions.specs.declared.Rules.{Rules}
+use Rattle.definitions.specs.declared.Finality.{Finality}
+use Rattle.definitions.specs.declared.FullAnswer.{FullAnswer}
 use Rattle.definitions.specs.Checked.{Checked, value, refused, codeOf, bind}
 use Rattle.definitions.specs.Refusals.{afterTests, closingBuffer}
 use Rattle.definitions.specs.Raised.{raisedUnlessRefused}
@@ -13,8 +13,8 @@ use Rattle.definitions.specs.Record.{decode}
 use Rattle.definitions.specs.Rules.{settingsUnder}
 use Rattle.definitions.specs.Rust.Phase0.Helpers.{«compute_epoch_at_slot», «get_current_epoch»}
 use Rattle.definitions.specs.Close.{stateOf, «process_epoch»}
-use Rattle.definitions_amounts.specs.Amounts.{closingAmounts}
-use Rattle.definitions_amounts.specs.FinalizingTest.{lastTest, finalizingTest}
+use Rattle.definitions_close.specs.Amounts.{closingAmounts}
+use Rattle.definitions_close.specs.FinalizingTest.{lastTest, finalizingTest}
 use Rattle.definitions_close.specs.FullClose.{FullCall, FullOutcome, fullTests, fullyClosed, closingQueue, fullClose}
 use Rattle.laws.proofs.Rules.{by-fork}
 use Rattle.refusals.proofs.Answers.{passed}

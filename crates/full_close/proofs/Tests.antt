@@ -6,14 +6,14 @@ use Prim.Native.Nat.{ℕ, _*_, _/_}
 use borrow.Author.Tests.{eq-eqb, ne-eqb, eqb-true, eqb-false}
 use lib.Dec.{eqb}
 use lib.ListN.{length}
-use Rattle.types.specs.declared.ExitQueue.{ExitQueue}
+use Rattle.definitions.specs.declared.ExitQueue.{ExitQueue}
 use Rattle.definitions.specs.Record.{decode}
 use Rattle.definitions.specs.Checked.{Checked, value, refused, badShape, codeOf}
 use Rattle.definitions.specs.ExitQueue.{queueOf}
 use Rattle.definitions.specs.Close.{Call, closeTests}
 use Rattle.definitions_close.specs.QueueCalls.{thenQueue}
 use Rattle.definitions_close.specs.FullClose.{FullCall, fullTests}
-use Rattle.queue_tests.proofs.Queue.{refused-sooner, tested-queue}
+use Rattle.validator_exit.proofs.queue_tests.Queue.{refused-sooner, tested-queue}
 
 module _ (c : FullCall) where
   pub amounts-refused : (length (c .amounts) ≡ 9 * (length (c .call .registry) / 10) → ⊥) → 1 ≡ codeOf (fullTests c)

@@ -4,27 +4,27 @@ use mathlib.Core.Bool.{true}
 use mathlib.Core.List.{List}
 use Prim.Native.Nat.{ℕ, _/_, _*_, _<_, _^_}
 use lib.ListN.{length, replicate}
-use Rattle.types.specs.declared.Settings.{Settings}
-use Rattle.types.specs.declared.Finality.{Finality}
-use Rattle.types.specs.declared.ExitQueue.{ExitQueue}
-use Rattle.types.specs.declared.CloseAnswer.{CloseAnswer}
-use Rattle.types.specs.declared.FullAnswer.{FullAnswer}
+use Rattle.definitions.specs.declared.Settings.{Settings}
+use Rattle.definitions.specs.declared.Finality.{Finality}
+use Rattle.definitions.specs.declared.ExitQueue.{ExitQueue}
+use Rattle.definitions.specs.declared.CloseAnswer.{CloseAnswer}
+use Rattle.definitions.specs.declared.FullAnswer.{FullAnswer}
 use Rattle.definitions.specs.Record.{Validator, BeaconState, encode, decode}
 use Rattle.definitions.specs.Checked.{Checked, value, bind, codeOf, settle}
 use Rattle.definitions.specs.Refusals.{closingBuffer}
 use Rattle.definitions.specs.ExitQueue.{queueOf}
 use Rattle.definitions.specs.Close.{«process_epoch»}
-use Rattle.definitions_amounts.specs.Amounts.{amounts, closingAmounts}
-use Rattle.definitions_amounts.specs.FinalizingTest.{finalizingTest}
+use Rattle.definitions_close.specs.Amounts.{amounts, closingAmounts}
+use Rattle.definitions_close.specs.FinalizingTest.{finalizingTest}
 use Rattle.definitions_close.specs.FullClose.{closingQueue}
 use Rattle.laws.proofs.Encode.{decode-encode}
-use Rattle.loops.proofs.Ran.{code-value}
+use Rattle.laws.proofs.Loops.Ran.{code-value}
 use Rattle.registry.proofs.Epochs.{Epochs}
 use Rattle.write_steps.specs.RegistrySteps.{registrySteps}
 use Rattle.write_steps.specs.Numbers.{BookedBy}
-use Rattle.booking.specs.StepAmounts.{stepAmounts}
-use Rattle.booking.proofs.Booked.{steps-booked}
-use Rattle.booking.proofs.Amounts.{amounts-are}
+use Rattle.full_close.specs.StepAmounts.{stepAmounts}
+use Rattle.full_close.proofs.Booking.Booked.{steps-booked}
+use Rattle.full_close.proofs.Booking.Amounts.{amounts-are}
 use Rattle.close.specs.Worked.{StepsClosed}
 use Rattle.registry_close.proofs.Worked.{code-refused}
 use Rattle.full_close.specs.Worked.{FullWorked}

@@ -1,10 +1,10 @@
 -- A call of the close with pair and amounts, and what it came back with, as the definition's records.
 use mathlib.Core.List.{List}
 use Prim.Native.Nat.{ℕ}
-use Rattle.types.specs.declared.Rules.{Rules}
-use Rattle.types.specs.declared.Finality.{Finality}
-use Rattle.types.specs.declared.ExitQueue.{ExitQueue}
-use Rattle.types.specs.declared.FullAnswer.{FullAnswer}
+use Rattle.definitions.specs.declared.Rules.{Rules}
+use Rattle.definitions.specs.declared.Finality.{Finality}
+use Rattle.definitions.specs.declared.ExitQueue.{ExitQueue}
+use Rattle.definitions.specs.declared.FullAnswer.{FullAnswer}
 use Rattle.definitions.specs.Raised.{noneRaised}
 use Rattle.definitions_close.specs.FullClose.{FullCall, FullOutcome}
 use Rattle.close.specs.Called.{called}

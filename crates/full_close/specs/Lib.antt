@@ -1,3 +1,5 @@
 -- What the contracts cite.
 pub mod Called
 pub mod Worked
+-- What the contract cites.
+pub mod StepAmounts

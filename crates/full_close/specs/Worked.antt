@@ -2,19 +2,19 @@
 use mathlib.Core.Path.{_≡_}
 use mathlib.Core.List.{List}
 use Prim.Native.Nat.{ℕ}
-use Rattle.types.specs.declared.Settings.{Settings}
-use Rattle.types.specs.declared.Rules.{Rules}
-use Rattle.types.specs.declared.Finality.{Finality}
-use Rattle.types.specs.declared.ExitQueue.{ExitQueue}
-use Rattle.types.specs.declared.FullAnswer.{FullAnswer}
+use Rattle.definitions.specs.declared.Settings.{Settings}
+use Rattle.definitions.specs.declared.Rules.{Rules}
+use Rattle.definitions.specs.declared.Finality.{Finality}
+use Rattle.definitions.specs.declared.ExitQueue.{ExitQueue}
+use Rattle.definitions.specs.declared.FullAnswer.{FullAnswer}
 use Rattle.definitions.specs.Record.{BeaconState, encode}
 use Rattle.definitions.specs.Checked.{value, bind, codeOf, settle}
 use Rattle.definitions.specs.Raised.{raisedTotals, raisedUnlessRefused}
 use Rattle.definitions.specs.Refusals.{closingBuffer}
 use Rattle.definitions.specs.Rules.{settingsUnder}
 use Rattle.definitions.specs.Close.{«process_epoch»}
-use Rattle.definitions_amounts.specs.Amounts.{closingAmounts}
-use Rattle.definitions_amounts.specs.FinalizingTest.{finalizingTest}
+use Rattle.definitions_close.specs.Amounts.{closingAmounts}
+use Rattle.definitions_close.specs.FinalizingTest.{finalizingTest}
 use Rattle.definitions_close.specs.FullClose.{closingQueue, FullOutcome, fullClose}
 use Rattle.close.specs.Worked.{recordTests}
 use Rattle.full_close.specs.Called.{fullCalled}

@@ -13,21 +13,21 @@ ghost use Rattle.full_close.specs.Called.{fullCalled, fullOutcome, unclo
 ghost use Rattle.full_close.specs.Worked.{FullWorked, FullUnder};
 use close::close_surveyed;
 use close::record_tests;
+use definitions::ExitQueue;
+use definitions::Finality;
+use definitions::FullAnswer;
+use definitions::Rules;
+use definitions::Settings;
 use exit_queue::queue_of;
-use finalizing::finalizing_test;
+use finality::finalizing::finalizing_test;
 use leaf_refusals::current_epoch;
 use leaf_refusals::previous_epoch;
-use queue_tests::queue_refusal;
-use raised::none_raised;
-use rules::settings_under;
-use step_amounts::clear;
+use refusals::buffers::clear;
+use refusals::rules::settings_under;
 use survey::Findings;
 use survey::survey_registry;
-use types::ExitQueue;
-use types::Finality;
-use types::FullAnswer;
-use types::Rules;
-use types::Settings;
+use totals::raising::none_raised;
+use validator_exit::queue_tests::queue_refusal;
 
 // What is handed back where a test refuses.
 fn unclosed(refusal: u64, finality: Finality, queue: ExitQueue) -> FullAnswer

@@ -9,8 +9,8 @@ use native.Mathlib.Omega.{arith}
 use lib.Dec.{T, not-T, ltb, nltb→le}
 use lib.ListN.{length}
 use Rattle.definitions.specs.Lists.{filter, range}
-use Rattle.queue.proofs.Filter.{flag, count-more}
-use Rattle.queue.proofs.Rank.{StrictTotal}
+use Rattle.agreement.proofs.ActivationQueue.Filter.{flag, count-more}
+use Rattle.agreement.proofs.ActivationQueue.Rank.{StrictTotal}
 
 pub and-T : (a b : Bool) → T a → T b → T (a && b)
 and-T true b p q = q

@@ -2,8 +2,8 @@
 use mathlib.Core.Path.{_≡_, refl, sym, ap, _∙_, subst, subst₂}
 use mathlib.Core.List.{List, map}
 use Prim.Native.Nat.{ℕ, _+_}
-use Rattle.types.specs.declared.Settings.{Settings}
-use Rattle.types.specs.declared.Finality.{Finality}
+use Rattle.definitions.specs.declared.Settings.{Settings}
+use Rattle.definitions.specs.declared.Finality.{Finality}
 use Rattle.definitions.specs.Record.{Validator, BeaconState}
 use Rattle.definitions.specs.Updates.{withEffectiveBalance, withBalance, withScore, withParticipation}
 use Rattle.definitions.specs.Checked.{value, foldChecked}
@@ -11,9 +11,9 @@ use Rattle.definitions.specs.Rust.Phase0.Helpers.{«get_current_epoch», «get_
 use Rattle.definitions.specs.Rust.Phase0.EpochProcessing.{«process_registry_updates»}
 use Rattle.definitions.specs.Close.{justificationStep, inactivityStep, rewardsStep, registryStep, slashingsStep, effectiveBalancesStep, slashingsResetStep, participationFlagsStep, step, closeUpTo, «process_epoch»}
 use Rattle.laws.proofs.Checked.{value-same, bound}
-use Rattle.frames.specs.Frames.{each}
-use Rattle.frames.proofs.Entries.{told}
-use Rattle.frames.proofs.Frames.{frames}
+use Rattle.laws.specs.Frames.{each}
+use Rattle.laws.proofs.Frame.Entries.{told}
+use Rattle.laws.proofs.Frame.Frames.{frames}
 use Rattle.history.proofs.Waiting.{finalized}
 use Rattle.history.proofs.Shape.{Moved, Registered}
 use Rattle.history.proofs.Steps.{bare, Still, still-both, still-spared}

@@ -5,9 +5,9 @@ use mathlib.Core.List.{List}
 use Prim.Native.Nat.{ℕ, _+_, _-_, _≤_}
 use native.Mathlib.Omega.{arith}
 use lib.Dec.{T, leb, eqb, eqb→eq}
-use Rattle.types.specs.declared.Settings.{Settings}
-use Rattle.types.specs.declared.Checkpoint.{Checkpoint}
-use Rattle.types.specs.declared.Finality.{Finality}
+use Rattle.definitions.specs.declared.Settings.{Settings}
+use Rattle.definitions.specs.declared.Checkpoint.{Checkpoint}
+use Rattle.definitions.specs.declared.Finality.{Finality}
 use Rattle.definitions.specs.Record.{Validator, «GENESIS_EPOCH»}
 use Rattle.definitions.specs.Checked.{value}
 use Rattle.definitions.specs.Document.Phase0.EpochProcessing.{bit, justifiedBits, finalizedBy, weighed}
@@ -15,7 +15,7 @@ use Rattle.definitions.specs.Rust.Phase0.Helpers.{«get_current_epoch», «get_
 use Rattle.definitions.specs.Rust.Phase0.EpochProcessing.{«weigh_justification_and_finalization»}
 use Rattle.definitions.specs.Rust.Altair.EpochProcessing.{«process_justification_and_finalization»}
 use Rattle.laws.proofs.Checked.{value-same, bound}
-use Rattle.frames.proofs.Entries.{either}
+use Rattle.laws.proofs.Frame.Entries.{either}
 use Rattle.history.proofs.Shape.{CurrentMoved, FinalizedMoved, Moved}
 use Rattle.history.proofs.Counting.{T-right}
 

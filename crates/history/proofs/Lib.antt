@@ -23,3 +23,4 @@ pub mod Example
 pub mod Freedoms
 pub mod Refuses
 pub mod Stored
+pub mod ExitEpochs

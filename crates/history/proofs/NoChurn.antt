@@ -9,7 +9,7 @@ use native.Mathlib.Omega.{arith}
 use borrow.Author.Tests.{lt-leb, le-ltb}
 use lib.Dec.{T, ltb}
 use lib.ListN.{length, replicate}
-use Rattle.types.specs.declared.Settings.{Settings}
+use Rattle.definitions.specs.declared.Settings.{Settings}
 use Rattle.definitions.specs.Lists.{filter}
 use Rattle.definitions.specs.Record.{Validator, BeaconState, «FAR_FUTURE_EPOCH», decode}
 use Rattle.definitions.specs.Rules.{settingsUnder}

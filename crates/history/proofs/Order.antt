@@ -8,8 +8,8 @@ use lib.Dec.{T, leb, ltb, eqb, ltb→lt, lt→ltb, leb→le, le→leb, eqb→eq,
 use lib.ListN.{length}
 use Rattle.definitions.specs.Record.{Validator, «FAR_FUTURE_EPOCH»}
 use Rattle.history.proofs.Waiting.{eligibilityAt, activationAt, waits, earlier}
-use Rattle.queue.proofs.Rank.{StrictTotal}
-use Rattle.queue.proofs.Dequeued.{queue-order}
+use Rattle.agreement.proofs.ActivationQueue.Rank.{StrictTotal}
+use Rattle.agreement.proofs.ActivationQueue.Dequeued.{queue-order}
 use Rattle.history.proofs.Counting.{and-T, T-left, T-right}
 
 -- what waiting says

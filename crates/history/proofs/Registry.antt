@@ -9,7 +9,7 @@ use native.Mathlib.Omega.{arith}
 use lib.Dec.{T, eqb, eqb→eq}
 use lib.ListN.{length, getD, set, length-set}
 use lib.Seq.{getD-set-same, getD-set-other}
-use Rattle.types.specs.declared.Settings.{Settings}
+use Rattle.definitions.specs.declared.Settings.{Settings}
 use Rattle.definitions.specs.Lists.{range}
 use Rattle.definitions.specs.Record.{Validator, nobody, «FAR_FUTURE_EPOCH»}
 use Rattle.definitions.specs.Updates.{withEligibility}
@@ -19,13 +19,13 @@ use Rattle.definitions.specs.Document.Phase0.EpochProcessing.{queueEligible, is
 use Rattle.definitions.specs.Rust.Phase0.Helpers.{«compute_activation_exit_epoch», «get_current_epoch», «get_validator_churn_limit», «initiate_validator_exit»}
 use Rattle.definitions.specs.Rust.Phase0.EpochProcessing.{updateRegistryAt, «process_registry_updates»}
 use Rattle.laws.proofs.Checked.{value-same, bound, add64-value}
-use Rattle.frames.proofs.Entries.{either}
-use Rattle.frames.proofs.Registry.{exit-writes}
+use Rattle.laws.proofs.Frame.Entries.{either}
+use Rattle.laws.proofs.Frame.Registry.{exit-writes}
 use Rattle.history.proofs.Waiting.{eligibilityAt, activationAt}
 use Rattle.history.proofs.Shape.{Marked, Registered}
 use Rattle.history.proofs.Counting.{T-left}
 use Rattle.history.proofs.Steps.{epochs, Spared, spared-given, spared-number, spared-eligibility, spared-activation}
-use Rattle.queue.proofs.Dequeued.{length-dequeued}
+use Rattle.agreement.proofs.ActivationQueue.Dequeued.{length-dequeued}
 use Rattle.history.proofs.Queue.{dequeued-eligibility, dequeued-activation}
 
 -- the loop's turn at i: that entry's eligibility epoch is kept or written

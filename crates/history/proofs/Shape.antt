@@ -5,8 +5,8 @@ use mathlib.Core.List.{List, [], _∷_}
 use Prim.Native.Nat.{ℕ, _+_, _-_, _≤_, _<_}
 use lib.Dec.{T, ltb}
 use lib.ListN.{length}
-use Rattle.types.specs.declared.Checkpoint.{Checkpoint}
-use Rattle.types.specs.declared.Finality.{Finality}
+use Rattle.definitions.specs.declared.Checkpoint.{Checkpoint}
+use Rattle.definitions.specs.declared.Finality.{Finality}
 use Rattle.definitions.specs.Record.{Validator, «FAR_FUTURE_EPOCH»}
 use Rattle.history.specs.Events.{Event, accepts}
 use Rattle.history.proofs.Waiting.{eligibilityAt, activationAt, waits, ahead}

@@ -7,7 +7,7 @@ use Rattle.definitions.specs.Record.{Validator, nobody}
 use Rattle.definitions.specs.Updates.{withEffectiveBalance, withBalance, withScore, withParticipation}
 use Rattle.definitions.specs.Checked.{value}
 use Rattle.laws.proofs.Checked.{value-same}
-use Rattle.frames.proofs.Entries.{told}
+use Rattle.laws.proofs.Frame.Entries.{told}
 use Rattle.history.proofs.Waiting.{eligibilityAt, activationAt}
 
 -- the two epochs of a validator

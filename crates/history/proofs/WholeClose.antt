@@ -7,8 +7,8 @@ use native.Mathlib.Nat.{div-le-self}
 use native.Mathlib.Omega.{arith}
 use lib.Dec.{T, leb, eqb, eqb→eq, ltb→lt}
 use lib.ListN.{length, getD, replicate}
-use Rattle.types.specs.declared.Settings.{Settings}
-use Rattle.types.specs.declared.Finality.{Finality}
+use Rattle.definitions.specs.declared.Settings.{Settings}
+use Rattle.definitions.specs.declared.Finality.{Finality}
 use Rattle.definitions.specs.Lists.{all, filter}
 use Rattle.definitions.specs.Record.{BeaconState, encode, decode}
 use Rattle.definitions.specs.Checked.{Checked, value, refused, numberOf, codeOf, settle}

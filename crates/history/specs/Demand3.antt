@@ -5,7 +5,7 @@ use mathlib.Core.Bool.{Bool}
 use mathlib.Core.List.{List, map}
 use Prim.Native.Nat.{_/_, _≤_}
 use lib.ListN.{length, replicate}
-use Rattle.types.specs.declared.Settings.{Settings}
+use Rattle.definitions.specs.declared.Settings.{Settings}
 use Rattle.definitions.specs.Record.{BeaconState, decode}
 use Rattle.definitions.specs.Updates.{withFinality, withValidators, withSlashings}
 use Rattle.definitions.specs.Close.{Call, Outcome, stateOf, close}

@@ -3,8 +3,8 @@ use mathlib.Core.Path.{_≡_}
 use mathlib.Core.Bool.{_&&_}
 use mathlib.Core.List.{List}
 use Prim.Native.Nat.{ℕ, _<_}
-use Rattle.types.specs.declared.Finality.{Finality}
-use Rattle.types.specs.declared.Settings.{Settings}
+use Rattle.definitions.specs.declared.Finality.{Finality}
+use Rattle.definitions.specs.declared.Settings.{Settings}
 use Rattle.definitions.specs.Checked.{codeOf}
 use Rattle.definitions.specs.Refusals.{inOrder, settingsShaped, rootsShaped, registryShaped, goodSettings, goodFinality, goodRegistry, justificationTests}
 use Rattle.definitions.specs.LeafRefusals.{weighTests}

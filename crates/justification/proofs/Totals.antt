@@ -3,11 +3,11 @@ use mathlib.Core.Path.{_≡_, _∙_}
 use mathlib.Core.List.{List}
 use Prim.Native.Nat.{ℕ, _≤_, _<_}
 use borrow.Author.Tests.{le-leb, lt-leb}
-use Rattle.types.specs.declared.Finality.{Finality}
-use Rattle.types.specs.declared.FinalityAnswer.{FinalityAnswer}
-use Rattle.types.specs.declared.Settings.{Settings}
-use Rattle.types.specs.declared.Number.{Number}
-use Rattle.types.specs.declared.TotalAnswer.{TotalAnswer}
+use Rattle.definitions.specs.declared.Finality.{Finality}
+use Rattle.definitions.specs.declared.FinalityAnswer.{FinalityAnswer}
+use Rattle.definitions.specs.declared.Settings.{Settings}
+use Rattle.definitions.specs.declared.Number.{Number}
+use Rattle.definitions.specs.declared.TotalAnswer.{TotalAnswer}
 use Rattle.definitions.specs.Answers.{Answers, finalityAnswerFor}
 use Rattle.definitions.specs.Record.{Validator}
 use Rattle.definitions.specs.Checked.{Checked, value, bind}
@@ -17,7 +17,7 @@ use Rattle.definitions.specs.Rust.Altair.Helpers.{«TIMELY_TARGET_FLAG_INDEX»,
 use Rattle.definitions.specs.Rust.Altair.EpochProcessing.{«process_justification_and_finalization»}
 use Rattle.totals.specs.Totals.{balanceFor}
 use Rattle.totals.proofs.WithRaised.{says-balance}
-use Rattle.raised.specs.Flags.{ThreeTotals}
+use Rattle.totals.specs.Flags.{ThreeTotals}
 use Rattle.justification.specs.Given.{Given}
 use Rattle.arithmetic.proofs.Operations.{OnlyOverflow, only-bind, only-sum64, only-value}
 

@@ -2,19 +2,19 @@
 use mathlib.Core.Path.{_≡_}
 use mathlib.Core.List.{List}
 use Prim.Native.Nat.{ℕ}
-use Rattle.types.specs.declared.Finality.{Finality}
-use Rattle.types.specs.declared.FinalityAnswer.{FinalityAnswer}
-use Rattle.types.specs.declared.Settings.{Settings}
-use Rattle.types.specs.declared.Number.{Number}
-use Rattle.types.specs.declared.TotalAnswer.{TotalAnswer}
-use Rattle.types.specs.declared.CloseAnswer.{CloseAnswer}
+use Rattle.definitions.specs.declared.Finality.{Finality}
+use Rattle.definitions.specs.declared.FinalityAnswer.{FinalityAnswer}
+use Rattle.definitions.specs.declared.Settings.{Settings}
+use Rattle.definitions.specs.declared.Number.{Number}
+use Rattle.definitions.specs.declared.TotalAnswer.{TotalAnswer}
+use Rattle.definitions.specs.declared.CloseAnswer.{CloseAnswer}
 use Rattle.definitions.specs.Answers.{Says, finalityAnswerFor}
 use Rattle.definitions.specs.Raised.{raisedTotals, closeAnswerFor}
 use Rattle.definitions.specs.Record.{Validator}
 use Rattle.definitions.specs.Rust.Phase0.Helpers.{«get_current_epoch», «get_previous_epoch», «get_total_balance», «get_total_active_balance»}
 use Rattle.definitions.specs.Rust.Altair.Helpers.{«TIMELY_TARGET_FLAG_INDEX», «get_unslashed_participating_indices»}
 use Rattle.definitions.specs.Rust.Altair.EpochProcessing.{«process_justification_and_finalization»}
-use Rattle.raised.specs.Flags.{ThreeTotals}
+use Rattle.totals.specs.Flags.{ThreeTotals}
 
 -- the answers of the validators vs
 pub record Given (s : Settings) (stateSlot : ℕ) (vs : List Validator) (total previousTarget currentTarget : Number) : Type 0 where

@@ -8,25 +8,28 @@ ghost use Rattle.definitions.specs.Record.{decode};
 ghost use Rattle.definitions.specs.Refusals.{afterTests, justificationTests};
 ghost use Rattle.definitions.specs.Rust.Altair.EpochProcessing.{«process_justification_and_finalization»};
 ghost use Rattle.justification.specs.Given.{JustifiesGiven, JustifiesTotals};
+
+pub mod justification_step;
+
+use definitions::CloseAnswer;
+use definitions::Finality;
+use definitions::FinalityAnswer;
+use definitions::Number;
+use definitions::Settings;
+use definitions::TotalAnswer;
+use epochs::roots::roots_shaped;
 use leaf_refusals::current_epoch;
 use leaf_refusals::previous_epoch;
-use raised::answer_with;
-use raised::none_raised;
-use raised::raised_of;
 use refusals::good_finality;
 use refusals::good_registry;
 use refusals::good_settings;
 use refusals::registry_shaped;
-use roots::roots_shaped;
 use totals::active_total;
 use totals::balance_of;
 use totals::participating_total;
-use types::CloseAnswer;
-use types::Finality;
-use types::FinalityAnswer;
-use types::Number;
-use types::Settings;
-use types::TotalAnswer;
+use totals::raising::answer_with;
+use totals::raising::none_raised;
+use totals::raising::raised_of;
 use weighing::weigh;
 
 pub fn justification_refusal(s: Settings, roots: &[u8], finality: Finality, registry: &[u64]) -> u64

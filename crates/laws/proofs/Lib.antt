@@ -2,3 +2,5 @@
 pub mod Encode
 pub mod Checked
 pub mod Rules
+pub mod Loops
+pub mod Frame

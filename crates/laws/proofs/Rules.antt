@@ -5,9 +5,9 @@ use mathlib.Core.List.{List, [], _∷_}
 use Prim.Native.Nat.{ℕ, zero, suc}
 use lib.Dec.{leb, eqb}
 use lib.ListN.{set}
-use Rattle.types.specs.declared.Settings.{Settings}
-use Rattle.types.specs.declared.Bellatrix.{Bellatrix}
-use Rattle.types.specs.declared.Rules.{Rules}
+use Rattle.definitions.specs.declared.Settings.{Settings}
+use Rattle.definitions.specs.declared.Bellatrix.{Bellatrix}
+use Rattle.definitions.specs.declared.Rules.{Rules}
 use Rattle.definitions.specs.Lists.{all}
 use Rattle.definitions.specs.Refusals.{isSmall, settingsShaped, settingsNumbers, divisors, goodSettings}
 use Rattle.definitions.specs.Rules.{isAltair, inPlace, settingsUnder, rulesShaped, goodBellatrix, goodRules}

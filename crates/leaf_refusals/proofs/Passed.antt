@@ -5,7 +5,7 @@ use mathlib.Core.Path.{_≡_, sym, _∙_}
 use Prim.Native.Nat.{ℕ, _^_, _≤_, _<_}
 use borrow.Author.Tests.{leb-true, eqb-true}
 use lib.ListN.{length}
-use Rattle.types.specs.declared.Settings.{Settings}
+use Rattle.definitions.specs.declared.Settings.{Settings}
 use Rattle.definitions.specs.Checked.{codeOf}
 use Rattle.definitions.specs.LeafRefusals.{entryShaped, goodEntry, isFlagIndex, isParticipationEpoch, entryTests, finalizedEntryTests, settingsEntryTests, slotEntryTests, participationEntryTests}
 use Rattle.definitions.specs.Record.{decodeOne}

@@ -4,11 +4,15 @@ ghost use Prim.Native.Nat.{_<_};
 ghost use Rattle.definitions.specs.Checked.{codeOf};
 ghost use Rattle.definitions.specs.Document.Phase0.Helpers.{«get_current_epoch», «get_previous_epoch»};
 ghost use Rattle.definitions.specs.LeafRefusals.{entryTests, finalizedEntryTests, settingsEntryTests, slotEntryTests, isParticipationEpoch, participationEntryTests};
+
+pub mod finalized;
+pub mod registry_refusals;
+
+use definitions::Settings;
 use refusals::good_entry;
 use refusals::good_settings;
 use refusals::is_small;
 use refusals::settings_shaped;
-use types::Settings;
 
 pub fn entry_tests(entry: &[u64]) -> u64
     ensures { λ r. ⌜ r ≡ codeOf (entryTests (now (entry .entry))) ⌝ }

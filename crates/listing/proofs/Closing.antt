@@ -9,7 +9,7 @@ use Rattle.definitions.specs.Refusals.{inOrder, settingsShaped, afterTests, clo
 use Rattle.definitions.specs.Rules.{rulesShaped}
 use Rattle.definitions.specs.Close.{closeTests, closed, close}
 use Rattle.laws.proofs.Checked.{number-not-zero}
-use Rattle.definitions_listing.specs.Listing.{callOf}
+use Rattle.definitions_file.specs.Listing.{callOf}
 
 same-buffer : {A : Type 0} (contents : A → List ℕ) (m : Checked (Unit {0})) (w : Checked A) (opening xs ys : List ℕ) → codeOf (afterTests m w) ≡ 0 → closingBuffer contents m w opening xs ≡ closingBuffer contents m w opening ys
 unfolding afterTests bind closingBuffer

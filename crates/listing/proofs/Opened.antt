@@ -7,7 +7,7 @@ use native.Mathlib.Omega.{arith}
 use lib.ListN.{length}
 use Rattle.definitions.specs.Checked.{Checked, value, refused, bind, codeOf}
 use Rattle.definitions_file.specs.File.{contentsOf, nothing, goodHeader, fileShaped, readTests, readFile, read}
-use Rattle.loops.proofs.Ran.{code-value}
+use Rattle.laws.proofs.Loops.Ran.{code-value}
 use Rattle.round_trip.proofs.Passed.{Passed, read-passed, Accepted, accepted}
 use Rattle.record_file.proofs.Reading as reading
 

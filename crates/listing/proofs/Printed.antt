@@ -3,16 +3,16 @@ use mathlib.Core.List.{List}
 use mathlib.Core.Path.{_≡_, sym, ap, subst, _∙_}
 use Prim.Native.Nat.{ℕ, _≤_}
 use lib.ListN.{length}
-use Rattle.types.specs.declared.Settings.{Settings}
-use Rattle.types.specs.declared.Finality.{Finality}
+use Rattle.definitions.specs.declared.Settings.{Settings}
+use Rattle.definitions.specs.declared.Finality.{Finality}
 use Rattle.definitions.specs.Close.{close}
 use Rattle.definitions_file.specs.File.{Contents, read}
 use Rattle.record_file.specs.Answers.{contentsWith}
-use Rattle.decimals.specs.Put.{Put}
-use Rattle.definitions_listing.specs.Lines.{refusedLine, closePrinted}
-use Rattle.listing_close.specs.Listed.{ListedClose}
-use Rattle.listing_close.proofs.Printed.{or-refused, or-text}
-use Rattle.definitions_listing.specs.Listing.{callOf}
+use Rattle.fields.specs.Put.{Put}
+use Rattle.definitions_file.specs.Lines.{refusedLine, closePrinted}
+use Rattle.listing.specs.Listed.{ListedClose}
+use Rattle.listing.proofs.listing_close.Printed.{or-refused, or-text}
+use Rattle.definitions_file.specs.Listing.{callOf}
 use Rattle.listing.specs.Lent.{Buffers, buffers, Listed, openingOf, closingOf}
 use Rattle.listing.proofs.Opened.{read-accepted, read-refused, alike}
 use Rattle.listing.proofs.Closing.{nothing-registry, nothing-slashings}

@@ -9,8 +9,8 @@ use lib.Dec.{eqb}
 use lib.ListN.{length, length-replicate, replicate}
 use Rattle.definitions_file.specs.File.{Contents, contentsOf, countOf, slashingCountOf, goodHeader}
 use Rattle.definitions.specs.Close.{Call, Outcome, close}
-use Rattle.definitions_listing.specs.Lines.{orRefused, closeText, acceptedText, closePrinted}
-use Rattle.definitions_listing.specs.Listing.{opened, callOf, closing, printed, listing}
+use Rattle.definitions_file.specs.Lines.{orRefused, closeText, acceptedText, closePrinted}
+use Rattle.definitions_file.specs.Listing.{opened, callOf, closing, printed, listing}
 use Rattle.listing.specs.Lent.{Buffers, openingOf, closingOf}
 use Rattle.listing.proofs.Opened.{read-accepted, read-header, read-record, alike, headless}
 use Rattle.listing.proofs.Closing.{same-refusal, same-finality, same-raised, same-registry}

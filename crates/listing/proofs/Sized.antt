@@ -13,9 +13,9 @@ use Rattle.definitions.specs.Close.{Call, close}
 use Rattle.round_trip.proofs.Tests.{tests}
 use Rattle.record_file.specs.declared.Header.{Header}
 use Rattle.record_file.specs.Answers.{noHeader, headerRead}
-use Rattle.decimals.specs.Put.{Put}
-use Rattle.definitions_listing.specs.Lines.{refusedLine}
-use Rattle.definitions_listing.specs.Listing.{callOf, listing}
+use Rattle.fields.specs.Put.{Put}
+use Rattle.definitions_file.specs.Lines.{refusedLine}
+use Rattle.definitions_file.specs.Listing.{callOf, listing}
 use Rattle.listing.specs.Lent.{Buffers, buffers, inFront, openingOf, closingOf, Listed, sizes, fits, fronts, listed, listedLength}
 use Rattle.listing.proofs.Opened.{none-read, read-refused}
 use Rattle.listing.proofs.Closing.{nothing-registry, nothing-slashings}

@@ -9,8 +9,8 @@ use Rattle.definitions_file.specs.File.{ReadOutcome, read}
 use Rattle.definitions.specs.Close.{Call, close}
 use Rattle.record_file.specs.declared.Header.{Header}
 use Rattle.record_file.specs.Answers.{noHeader, headerRead}
-use Rattle.decimals.specs.Put.{Put}
-use Rattle.definitions_listing.specs.Listing.{callOf, printed, listing}
+use Rattle.fields.specs.Put.{Put}
+use Rattle.definitions_file.specs.Listing.{callOf, printed, listing}
 
 pub record Buffers : Type 0 where
   pub registry : List ℕ

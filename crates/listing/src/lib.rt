@@ -3,7 +3,11 @@ ghost use mathlib.Core.Path.{_≡_};
 ghost use Prim.Native.Nat.{_+_, _*_, _/_, _≤_};
 ghost use lib.ListN.{length};
 ghost use Rattle.listing.specs.Lent.{buffers, Listed, sizes as sizesOf, fits as fitsIn, listed, listedLength};
-use listing_close::list_close;
+
+pub mod file_listing;
+pub mod listing_close;
+
+use crate::listing_close::list_close;
 use listing_lines::text::put_refused;
 use record_file::Header;
 use record_file::file_roots;

@@ -10,8 +10,8 @@ use lib.Seq.{drop-cons}
 use Rattle.definitions.specs.Record.{decode, nobody}
 use Rattle.definitions.specs.Checked.{value, refused, signedOverflow, codeOf, bind}
 use Rattle.laws.proofs.Encode.{length-decode}
-use Rattle.loops.proofs.Entry.{number-at}
-use Rattle.definitions_listing.specs.NetChange.{netChange, changeTests}
+use Rattle.laws.proofs.Loops.Entry.{number-at}
+use Rattle.definitions_file.specs.NetChange.{netChange, changeTests}
 
 pub record Fitting (opening closing : List ℕ) (n i : ℕ) : Type 0 where
   pub count : n ≡ length opening / 10

@@ -4,14 +4,14 @@ use mathlib.Core.List.{List}
 use mathlib.Core.Path.{_≡_, refl, sym, ap}
 use Prim.Native.Nat.{ℕ}
 use native.Mathlib.Omega.{arith}
-use Rattle.types.specs.declared.Settings.{Settings}
-use Rattle.types.specs.declared.Finality.{Finality}
+use Rattle.definitions.specs.declared.Settings.{Settings}
+use Rattle.definitions.specs.declared.Finality.{Finality}
 use Rattle.definitions.specs.Checked.{Checked, value, codeOf}
 use Rattle.definitions.specs.LeafRefusals.{slotRegistryTests}
 use Rattle.definitions.specs.Refusals.{settingsShaped, registryShaped, isSmall, goodSettings, goodFinality, goodRegistry}
 use Rattle.refusals.proofs.Answers.{after-passed, after-refused}
 use Rattle.leaf_refusals.proofs.Order.{refused-before, last-failed, last-passed}
-use Rattle.definitions_listing.specs.Answers.{headTests, headNumbers, noHead, headFor, headOf}
+use Rattle.definitions_file.specs.ListingAnswers.{headTests, headNumbers, noHead, headFor, headOf}
 
 module _ (s : Settings) (stateSlot : ℕ) (closing : Finality) (opening : List ℕ) {x : ℕ} (e : x ≡ codeOf (slotRegistryTests s stateSlot opening)) where
   tests : Checked (Unit {0})

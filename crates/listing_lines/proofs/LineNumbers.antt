@@ -13,9 +13,9 @@ use Rattle.definitions.specs.Record.{decode, nobody}
 use Rattle.definitions.specs.Checked.{value, refused, signedOverflow, bind}
 use Rattle.definitions.specs.Refusals.{inOrder, afterTests, registryShaped}
 use Rattle.refusals.proofs.Laws.{registry-shaped}
-use Rattle.loops.proofs.Entry.{number-at}
-use Rattle.definitions_listing.specs.NetChange.{netChange}
-use Rattle.definitions_listing.specs.Answers.{lineTests, noLine, lineOf}
+use Rattle.laws.proofs.Loops.Entry.{number-at}
+use Rattle.definitions_file.specs.NetChange.{netChange}
+use Rattle.definitions_file.specs.ListingAnswers.{lineTests, noLine, lineOf}
 use Rattle.listing_lines.proofs.Change.{signed}
 
 module _ (opening closing : List ℕ) (index : ℕ) where

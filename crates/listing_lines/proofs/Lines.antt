@@ -11,10 +11,10 @@ use Rattle.definitions.specs.Record.{decode, nobody}
 use Rattle.definitions.specs.Refusals.{registryShaped}
 use Rattle.laws.proofs.Encode.{length-decode}
 use Rattle.refusals.proofs.Laws.{registry-shaped}
-use Rattle.decimals.specs.Put.{Put}
-use Rattle.decimals.proofs.Put.{put, put-more, put-length}
-use Rattle.loops.proofs.Entry.{number-at}
-use Rattle.definitions_listing.specs.Lines.{validatorLine, lines}
+use Rattle.fields.specs.Put.{Put}
+use Rattle.fields.proofs.decimals.Put.{put, put-more, put-length}
+use Rattle.laws.proofs.Loops.Entry.{number-at}
+use Rattle.definitions_file.specs.Lines.{validatorLine, lines}
 
 -- the line of the validator i, of its numbers where they stand
 abbrev pub lineAt : List ℕ → List ℕ → ℕ → List ℕ

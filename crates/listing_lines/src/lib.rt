@@ -4,26 +4,26 @@ ghost use Prim.Native.Nat.{_*_, _/_, _<_};
 ghost use lib.ListN.{length};
 ghost use Rattle.definitions.specs.Record.{decode};
 ghost use Rattle.definitions.specs.Checked.{codeOf};
-ghost use Rattle.definitions_listing.specs.NetChange.{changeTests};
-ghost use Rattle.definitions_listing.specs.Answers.{headNumbers, headOf, lineOf};
+ghost use Rattle.definitions_file.specs.NetChange.{changeTests};
+ghost use Rattle.definitions_file.specs.ListingAnswers.{headNumbers, headOf, lineOf};
 
 pub mod numbers;
 pub mod text;
 
-use definitions_listing::Change;
-use definitions_listing::Head;
-use definitions_listing::Line;
+use definitions::Finality;
+use definitions::Settings;
+use definitions_file::Change;
+use definitions_file::Head;
+use definitions_file::Line;
 use leaf_refusals::current_epoch;
+use leaf_refusals::registry_refusals::slot_registry_tests;
 use numbers::net_change;
 use numbers::no_head;
 use numbers::no_line;
-use raised::raised_totals;
 use refusals::good_finality;
 use refusals::registry_shaped;
-use registry_refusals::slot_registry_tests;
 use totals::charged_count;
-use types::Finality;
-use types::Settings;
+use totals::raising::raised_totals;
 
 // Of a record that has passed its tests.
 pub fn head_core(s: Settings, state_slot: u64, closing: Finality, opening: &[u64]) -> Head

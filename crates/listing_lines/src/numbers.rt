@@ -2,12 +2,12 @@
 ghost use mathlib.Core.Path.{_≡_};
 ghost use Prim.Native.Nat.{_<_, _^_};
 ghost use lib.IntN.{pos};
-ghost use Rattle.definitions_listing.specs.NetChange.{netChange, changeFor};
-ghost use Rattle.definitions_listing.specs.Answers.{noHead, noLine};
-use definitions_listing::Change;
-use definitions_listing::Head;
-use definitions_listing::Line;
-use raised::none_raised;
+ghost use Rattle.definitions_file.specs.NetChange.{netChange, changeFor};
+ghost use Rattle.definitions_file.specs.ListingAnswers.{noHead, noLine};
+use definitions_file::Change;
+use definitions_file::Head;
+use definitions_file::Line;
+use totals::raising::none_raised;
 
 pub fn no_head(refusal: u64) -> Head
     ensures { λ r. ⌜ r ≡ noHead refusal ⌝ }

@@ -6,12 +6,12 @@ ghost use Prim.Native.Nat.{_+_, _*_, _/_, _≤_};
 ghost use lib.ListN.{length};
 ghost use Rattle.definitions.specs.Record.{decode};
 ghost use Rattle.definitions.specs.Refusals.{registryShaped};
-ghost use Rattle.decimals.specs.Put.{Put};
-ghost use Rattle.definitions_listing.specs.Lines.{row, raisedFigures, headLine, validatorLine, lines, refusedLine};
-use decimals::put_change;
-use decimals::put_labelled;
-use definitions_listing::Head;
-use types::Raised;
+ghost use Rattle.fields.specs.Put.{Put};
+ghost use Rattle.definitions_file.specs.Lines.{row, raisedFigures, headLine, validatorLine, lines, refusedLine};
+use definitions::Raised;
+use definitions_file::Head;
+use fields::decimals::put_change;
+use fields::decimals::put_labelled;
 
 fn put_end(text: &mut [u8], at: usize) -> usize
     requires { ⌜ at + 1 ≤ length (now text) ⌝ }

@@ -1,10 +1,10 @@
 -- The calls about orders, and what they came back with, as the definition's records.
 use mathlib.Core.List.{List}
 use Prim.Native.Nat.{ℕ}
-use Rattle.types.specs.declared.Rules.{Rules}
-use Rattle.definitions_orders.specs.declared.Running.{Running}
-use Rattle.definitions_orders.specs.declared.RunningAnswer.{RunningAnswer}
-use Rattle.definitions_orders.specs.Orders.{Order, OrderCall, OrderOutcome, NinthCall, NinthOutcome}
+use Rattle.definitions.specs.declared.Rules.{Rules}
+use Rattle.definitions_close.specs.declared.Running.{Running}
+use Rattle.definitions_close.specs.declared.RunningAnswer.{RunningAnswer}
+use Rattle.definitions_close.specs.Orders.{Order, OrderCall, OrderOutcome, NinthCall, NinthOutcome}
 
 abbrev pub order : ℕ → ℕ → Order
 order validator start = record { validator = validator; start = start }

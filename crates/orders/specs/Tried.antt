@@ -5,13 +5,13 @@ use mathlib.Core.List.{List, [], _∷_, _++_}
 use Prim.Native.Nat.{ℕ, _≤_}
 use lib.Dec.{leb, eqb}
 use lib.ListN.{length, getD, drop}
-use Rattle.types.specs.declared.ExitQueue.{ExitQueue}
+use Rattle.definitions.specs.declared.ExitQueue.{ExitQueue}
 use Rattle.definitions.specs.Record.{Validator, nobody, encode, decode, «FAR_FUTURE_EPOCH»}
 use Rattle.definitions.specs.Checked.{Checked, refused, noExit, tooEarly, codeOf, settle}
 use Rattle.definitions.specs.ExitQueue.{queueOf}
 use Rattle.definitions.specs.Rust.Phase0.Helpers.{«is_active_validator»}
-use Rattle.definitions_orders.specs.Orders.{Order, ordersIn, mayExit, isDue}
-use Rattle.exits.specs.Exits.{exitAt}
+use Rattle.definitions_close.specs.Orders.{Order, ordersIn, mayExit, isDue}
+use Rattle.exit_queue.specs.Exits.{exitAt}
 use Rattle.exit_queue.specs.declared.Turn.{Turn}
 
 -- a validator that is known

@@ -6,14 +6,17 @@ ghost use lib.Dec.{leb};
 ghost use lib.ListN.{length, set};
 ghost use Rattle.definitions.specs.Record.{decodeOne, decode};
 ghost use Rattle.definitions.specs.ExitQueue.{queueOf};
-ghost use Rattle.definitions_orders.specs.Orders.{ordersShaped, takeOrder, room};
+ghost use Rattle.definitions_close.specs.Orders.{ordersShaped, takeOrder, room};
 ghost use Rattle.orders.specs.Called.{order, orderCalled, orderOutcome};
 ghost use Rattle.orders.specs.Tried.{entryMayExit, orderBy, Tries, AllTried};
-use definitions_orders::Running;
-use definitions_orders::RunningAnswer;
+
+pub mod ninth_call;
+
+use definitions::ExitQueue;
+use definitions_close::Running;
+use definitions_close::RunningAnswer;
 use entries::entry_is_active;
 use exit_queue::Turn;
-use types::ExitQueue;
 use validator_exit::exit_in_place;
 
 const FAR_FUTURE_EPOCH: u64 = 18446744073709551615;

@@ -5,13 +5,13 @@ use Prim.Native.Nat.{ℕ, _≤_}
 use native.Mathlib.Omega.{arith}
 use lib.ListN.{length}
 use Rattle.definitions_file.specs.File.{Contents}
-use Rattle.decimals.specs.Put.{Put}
-use Rattle.decimals.proofs.Put.{put-more, put-length}
-use Rattle.definitions_listing.specs.Lines.{refusedLine}
-use Rattle.listing_close.proofs.Printed.{or-refused, or-text}
-use Rattle.definitions_outage.specs.Run.{Run}
-use Rattle.definitions_outage.specs.Outage.{linesText, runText}
-use Rattle.outage_run.specs.Went.{Went}
+use Rattle.fields.specs.Put.{Put}
+use Rattle.fields.proofs.decimals.Put.{put-more, put-length}
+use Rattle.definitions_file.specs.Lines.{refusedLine}
+use Rattle.listing.proofs.listing_close.Printed.{or-refused, or-text}
+use Rattle.definitions_file.specs.OutageRun.{Run}
+use Rattle.definitions_file.specs.Outage.{linesText, runText}
+use Rattle.outage.specs.Went.{Went}
 use Rattle.outage.specs.Lent.{Printed}
 
 module _ (c : Contents) {r : Run} {closes : ℕ} {before middle : List ℕ} {x : ℕ} {left : Contents} {last : ℕ} (w : Went r closes before 0 middle x left last) where

@@ -8,20 +8,20 @@ use borrow.Author.Tests.{eq-eqb, le-leb, eqb-true, leb-true, not-true, not-false
 use lib.Dec.{eqb, leb}
 use lib.ListN.{length, take, drop, replicate}
 use lib.Seq.{sets}
-use Rattle.types.specs.declared.Settings.{Settings}
-use Rattle.types.specs.declared.Finality.{Finality}
+use Rattle.definitions.specs.declared.Settings.{Settings}
+use Rattle.definitions.specs.declared.Finality.{Finality}
 use Rattle.definitions.specs.Refusals.{registryShaped, lengthIs}
 use Rattle.definitions_file.specs.File.{Contents, numbersFromBytes, countOf, rootCountOf, slashingCountOf, contentsOf, read}
-use Rattle.definitions_listing.specs.Listing.{opened}
+use Rattle.definitions_file.specs.Listing.{opened}
 use Rattle.file_refusals.specs.Tests.{contentsWith}
 use Rattle.fields.proofs.Stores.{sets-whole}
 use Rattle.refusals.proofs.All.{both}
 use Rattle.refusals.proofs.Laws.{good-settings, good-finality}
 use Rattle.round_trip.proofs.Passed.{Accepted}
 use Rattle.listing.proofs.Opened.{read-accepted, read-record}
-use Rattle.definitions_outage.specs.Input.{epochsIn, planOf, planFrom, goodTail}
-use Rattle.outage_preparation.specs.Ready.{Ready}
-use Rattle.outage_run.specs.Went.{Room}
+use Rattle.definitions_file.specs.OutageInput.{epochsIn, planOf, planFrom, goodTail}
+use Rattle.outage.specs.Ready.{Ready}
+use Rattle.outage.specs.Went.{Room}
 use Rattle.outage.specs.Lent.{Exact, Opened}
 use Rattle.outage.proofs.Text.{opened-same}
 

@@ -7,13 +7,13 @@ use native.Mathlib.Omega.{arith}
 use lib.ListN.{length, length-replicate, replicate}
 use Rattle.definitions.specs.Checked.{bind}
 use Rattle.definitions_file.specs.File.{Contents, goodHeader, countOf, slashingCountOf, contentsOf, readTests, readFile, read}
-use Rattle.definitions_listing.specs.Lines.{refusedLine}
-use Rattle.definitions_listing.specs.Listing.{opened}
-use Rattle.listing_close.proofs.Printed.{or-refused, or-text}
+use Rattle.definitions_file.specs.Lines.{refusedLine}
+use Rattle.definitions_file.specs.Listing.{opened}
+use Rattle.listing.proofs.listing_close.Printed.{or-refused, or-text}
 use Rattle.listing.proofs.Opened.{read-accepted, alike}
-use Rattle.definitions_outage.specs.Input.{Plan, epochsIn, planFrom, goodTail}
-use Rattle.definitions_outage.specs.Run.{run}
-use Rattle.definitions_outage.specs.Outage.{runText, textOf}
+use Rattle.definitions_file.specs.OutageInput.{Plan, epochsIn, planFrom, goodTail}
+use Rattle.definitions_file.specs.OutageRun.{run}
+use Rattle.definitions_file.specs.Outage.{runText, textOf}
 
 -- the buffers into which `opened` reads
 pub opened-same : (file registry slashings : List ℕ) → length registry ≡ 10 * countOf file → length slashings ≡ slashingCountOf file → read file registry slashings .refusal ≡ opened file .refusal

@@ -5,11 +5,11 @@ use mathlib.Core.List.{List}
 use mathlib.Core.Path.{_≡_}
 use Prim.Native.Nat.{ℕ, _*_, _≤_}
 use lib.ListN.{length}
-use Rattle.types.specs.declared.Settings.{Settings}
-use Rattle.types.specs.declared.Finality.{Finality}
+use Rattle.definitions.specs.declared.Settings.{Settings}
+use Rattle.definitions.specs.declared.Finality.{Finality}
 use Rattle.definitions_file.specs.File.{goodHeader, countOf, rootCountOf, slashingCountOf, contentsOf}
-use Rattle.definitions_listing.specs.Listing.{opened}
-use Rattle.decimals.specs.Put.{Put}
+use Rattle.definitions_file.specs.Listing.{opened}
+use Rattle.fields.specs.Put.{Put}
 
 -- a text stands at the front of the lent bytes
 pub record Printed (text before after : List ℕ) (last : ℕ) : Type 0 where

@@ -6,26 +6,31 @@ ghost use lib.ListN.{length};
 ghost use Rattle.definitions.specs.Refusals.{registryShaped};
 ghost use Rattle.definitions_file.specs.File.{countOf};
 ghost use Rattle.file_refusals.specs.Tests.{contentsWith};
-ghost use Rattle.decimals.specs.Put.{Put};
-ghost use Rattle.definitions_outage.specs.Input.{planOf, goodTail};
-ghost use Rattle.definitions_outage.specs.Run.{run};
-ghost use Rattle.definitions_outage.specs.Outage.{linesText, runText, textOf};
-ghost use Rattle.outage_preparation.specs.Ready.{Ready};
-ghost use Rattle.outage_run.specs.Went.{Room};
+ghost use Rattle.fields.specs.Put.{Put};
+ghost use Rattle.definitions_file.specs.OutageInput.{planOf, goodTail};
+ghost use Rattle.definitions_file.specs.OutageRun.{run};
+ghost use Rattle.definitions_file.specs.Outage.{linesText, runText, textOf};
+ghost use Rattle.outage.specs.Ready.{Ready};
+ghost use Rattle.outage.specs.Went.{Room};
 ghost use Rattle.outage.specs.Lent.{Printed, Exact, Opened, Enough};
-use buffers::copy;
+
+pub mod file_outage;
+pub mod outage_preparation;
+pub mod outage_run;
+
+use crate::outage_run::run_epochs;
+use definitions::Finality;
+use definitions::Settings;
 use fields::put_bytes;
 use fields::read_numbers;
+use fields::reader::read_number;
 use listing_lines::changes;
 use listing_lines::text::put_lines;
 use listing_lines::text::put_refused;
-use outage_run::run_epochs;
-use reader::read_number;
 use record_file::file_roots;
 use record_file::read_file;
 use record_file::read_header;
-use types::Finality;
-use types::Settings;
+use refusals::buffers::copy;
 
 // The validator lines, or refusal 7 in place of all of them.
 fn put_rows(text: &mut [u8], at: usize, opening: &[u64], closing: &[u64]) -> usize

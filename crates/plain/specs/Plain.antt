@@ -5,17 +5,17 @@ use Prim.Native.Nat.{ℕ}
 use lib.Dec.{eqb}
 use lib.IntN.{pos}
 use lib.ListN.{length, replicate}
-use Rattle.types.specs.declared.Number.{Number}
-use Rattle.types.specs.declared.Number.the-variants.{Value as NumberValue, Refused as NumberRefused}
-use Rattle.types.specs.declared.Truth.{Truth}
-use Rattle.types.specs.declared.Truth.the-variants.{Value as TruthValue, Refused as TruthRefused}
-use Rattle.types.specs.declared.DeltasAnswer.{DeltasAnswer}
-use Rattle.types.specs.declared.DeltasAnswer.the-variants.{Value as DeltasValue, Refused as DeltasRefused}
-use Rattle.types.specs.declared.TotalAnswer.{TotalAnswer}
-use Rattle.types.specs.declared.TotalAnswer.the-variants.{Value as TotalValue, Refused as TotalRefused}
+use Rattle.definitions.specs.declared.Number.{Number}
+use Rattle.definitions.specs.declared.Number.the-variants.{Value as NumberValue, Refused as NumberRefused}
+use Rattle.definitions.specs.declared.Truth.{Truth}
+use Rattle.definitions.specs.declared.Truth.the-variants.{Value as TruthValue, Refused as TruthRefused}
+use Rattle.definitions.specs.declared.DeltasAnswer.{DeltasAnswer}
+use Rattle.definitions.specs.declared.DeltasAnswer.the-variants.{Value as DeltasValue, Refused as DeltasRefused}
+use Rattle.definitions.specs.declared.TotalAnswer.{TotalAnswer}
+use Rattle.definitions.specs.declared.TotalAnswer.the-variants.{Value as TotalValue, Refused as TotalRefused}
 use Rattle.definitions.specs.Checked.{Checked, codeOf, settle}
-use Rattle.definitions_listing.specs.declared.Change.{Change}
-use Rattle.definitions_listing.specs.declared.Change.the-variants.{Value as ChangeValue, Refused as ChangeRefused}
+use Rattle.definitions_file.specs.declared.Change.{Change}
+use Rattle.definitions_file.specs.declared.Change.the-variants.{Value as ChangeValue, Refused as ChangeRefused}
 use Rattle.plain.specs.declared.PlainNumber.{PlainNumber}
 use Rattle.plain.specs.declared.PlainTruth.{PlainTruth}
 use Rattle.plain.specs.declared.PlainDeltas.{PlainDeltas}

@@ -1,11 +1,11 @@
 // The library's answers as plain numbers, for callers that have no enum: 0 and what was asked for, or a refusal's number and zeros.
 ghost use mathlib.Core.Path.{_≡_};
 ghost use Rattle.plain.specs.Plain.{plainNumber, plainTruth, plainDeltas, plainTotal, rootGiven};
-use roots::root_copy;
-use types::DeltasAnswer;
-use types::Number;
-use types::TotalAnswer;
-use types::Truth;
+use definitions::DeltasAnswer;
+use definitions::Number;
+use definitions::TotalAnswer;
+use definitions::Truth;
+use epochs::roots::root_copy;
 
 #[repr(C)]
 pub struct PlainNumber {

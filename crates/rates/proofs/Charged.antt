@@ -4,9 +4,9 @@ use mathlib.Core.Bool.{Bool, true, false, not, true≢false}
 use Prim.Native.Nat.{ℕ, _*_, _/_, _^_, _≤_, _<_}
 use native.Mathlib.Nat.{mul-zero, zero-mul, div-lt-iff-lt-mul}
 use native.Mathlib.Omega.{arith}
-use Rattle.types.specs.declared.Deltas.{Deltas}
-use Rattle.types.specs.declared.DeltasAnswer.{DeltasAnswer}
-use Rattle.types.specs.declared.DeltasAnswer.the-variants.{Value as DeltasValue, Refused as DeltasRefused}
+use Rattle.definitions.specs.declared.Deltas.{Deltas}
+use Rattle.definitions.specs.declared.DeltasAnswer.{DeltasAnswer}
+use Rattle.definitions.specs.declared.DeltasAnswer.the-variants.{Value as DeltasValue, Refused as DeltasRefused}
 use Rattle.definitions.specs.Answers.{SaysDeltas}
 use Rattle.definitions.specs.Checked.{Checked, value, refused, overflow, bind, mul64}
 use Rattle.definitions.specs.Rust.Altair.Helpers.{noDeltas}

@@ -2,10 +2,10 @@
 use mathlib.Core.Path.{_≡_}
 use mathlib.Core.Bool.{Bool, cond, _&&_, not}
 use Prim.Native.Nat.{ℕ, _*_, _/_, _^_, _≤_, _<_}
-use Rattle.types.specs.declared.Settings.{Settings}
-use Rattle.types.specs.declared.Deltas.{Deltas}
-use Rattle.types.specs.declared.DeltasAnswer.{DeltasAnswer}
-use Rattle.types.specs.declared.Number.{Number}
+use Rattle.definitions.specs.declared.Settings.{Settings}
+use Rattle.definitions.specs.declared.Deltas.{Deltas}
+use Rattle.definitions.specs.declared.DeltasAnswer.{DeltasAnswer}
+use Rattle.definitions.specs.declared.Number.{Number}
 use Rattle.definitions.specs.Checked.{Refusal, overflow, Checked, value, refused, bind, mul64}
 use Rattle.definitions.specs.Answers.{Says, SaysDeltas}
 use Rattle.definitions.specs.Rust.Altair.Helpers.{noDeltas, «get_base_reward_per_increment», hitDeltas, missDeltas}

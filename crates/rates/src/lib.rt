@@ -10,21 +10,24 @@ ghost use Rattle.definitions.specs.Record.{decodeOne};
 ghost use Rattle.definitions.specs.Checked.{mul64};
 ghost use Rattle.definitions.specs.Answers.{Says, SaysDeltas};
 ghost use Rattle.definitions.specs.Rust.Altair.EpochProcessing.{rewardAndPenalize};
-ghost use Rattle.loops.specs.Ran.{Settles};
+ghost use Rattle.laws.specs.Ran.{Settles};
 ghost use Rattle.rewards.specs.Shared.{SharedBy, totalsOf};
-ghost use Rattle.reward_balances.specs.Balances.{rewardedBalance};
+ghost use Rattle.rates.specs.Balances.{rewardedBalance};
 ghost use Rattle.rates.specs.Rated.{baseOf, Hits, Misses, Most, Fits, MemoOf, FlagBy, byScore};
+
+pub mod reward_balances;
+
+use crate::reward_balances::all_applied;
 use arithmetic::mul64;
+use definitions::Deltas;
+use definitions::DeltasAnswer;
+use definitions::Number;
+use definitions::Settings;
 use entries::entry_is_eligible;
 use entries::entry_is_participating;
-use reward_balances::all_applied;
 use rewards::Shared;
 use rewards::hit_deltas;
 use rewards::miss_deltas;
-use types::Deltas;
-use types::DeltasAnswer;
-use types::Number;
-use types::Settings;
 
 // An amount, which is wanted only of some validators: a number where `over` is 0, and else it has left 64 bits.
 pub struct Amount {

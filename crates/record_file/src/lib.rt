@@ -5,10 +5,13 @@ ghost use mathlib.Core.List.{[]};
 ghost use Rattle.definitions.specs.Checked.{codeOf};
 ghost use Rattle.definitions_file.specs.File.{validatorsAt, versionOf, settingsFrom, noFinality, goodHeader, read, fileOf, writeTests, written};
 ghost use Rattle.record_file.specs.Answers.{noHeader, headerRead, Sized, contentsWith};
-use types::Checkpoint;
-use types::ExitQueue;
-use types::Finality;
-use types::Settings;
+
+pub mod file_round_trips;
+
+use definitions::Checkpoint;
+use definitions::ExitQueue;
+use definitions::Finality;
+use definitions::Settings;
 
 // The header
 
@@ -35,10 +38,10 @@ fn no_header() -> Header
 pub fn read_header(bytes: &[u8]) -> Header
     ensures { λ r. ⌜ r ≡ headerRead (now (bytes .entry)) ⌝ }
 {
-    if !file_header::good_header(bytes) {
+    if !file_refusals::file_header::good_header(bytes) {
         return no_header();
     }
-    let counts = file_header::read_counts(bytes);
+    let counts = file_refusals::file_header::read_counts(bytes);
     Header {
         refusal: 0,
         validators: counts.validators,
@@ -105,8 +108,8 @@ fn registry_at(bytes: &[u8]) -> usize
     requires { ⌜ goodHeader (now bytes) ≡ true ⌝ }
     ensures { λ r. ⌜ r ≡ validatorsAt (versionOf (now (bytes .entry))) ⌝ }
 {
-    let counts = file_header::read_counts(bytes);
-    file_header::validators_at(counts.version) as usize
+    let counts = file_refusals::file_header::read_counts(bytes);
+    file_refusals::file_header::validators_at(counts.version) as usize
 }
 
 // The registry and the slashings go into the lent buffers, once every test has passed.
@@ -176,7 +179,7 @@ pub fn put_record(
     let validators = registry.len() / 10;
     let roots_at = 384 + 80 * validators;
     let slashings_at = roots_at + roots.len();
-    let head = file_header::header_of(
+    let head = file_refusals::file_header::header_of(
         2,
         validators as u64,
         settings.slots_per_historical_root,

@@ -4,8 +4,8 @@ use mathlib.Core.List.{List}
 use mathlib.Core.Path.{_≡_, refl, sym, ap, _∙_}
 use Prim.Native.Nat.{ℕ}
 use native.Mathlib.Omega.{arith}
-use Rattle.types.specs.declared.Number.the-variants.{Value as NumberValue, Refused as NumberRefused}
-use Rattle.types.specs.declared.Truth.the-variants.{Value as TruthValue, Refused as TruthRefused}
+use Rattle.definitions.specs.declared.Number.the-variants.{Value as NumberValue, Refused as NumberRefused}
+use Rattle.definitions.specs.declared.Truth.the-variants.{Value as TruthValue, Refused as TruthRefused}
 use Rattle.definitions.specs.Answers.{numberFor, truthFor}
 use Rattle.definitions.specs.Checked.{Checked, value, refused, Refusal, numberOf, codeOf, bind}
 use Rattle.definitions.specs.Refusals.{afterTests, closingBuffer}

@@ -8,8 +8,12 @@ ghost use Rattle.definitions.specs.Lists.{all};
 ghost use Rattle.definitions.specs.Record.{decodeOne};
 ghost use Rattle.definitions.specs.Checked.{codeOf};
 ghost use Rattle.definitions.specs.Refusals.{inOrder, isSmall, isVectorLength, settingsShaped, goodSettings, goodFinality, registryShaped, goodValidator, goodRegistry};
-use types::Finality;
-use types::Settings;
+
+pub mod buffers;
+pub mod rules;
+
+use definitions::Finality;
+use definitions::Settings;
 
 // 0, or the number of the first test that failed.
 pub fn in_order(shaped: bool, settings: bool, recorded: bool) -> u64

@@ -10,7 +10,7 @@ use native.Mathlib.Omega.{arith}
 use borrow.Author.Tests.{lt-ltb}
 use lib.ListN.{length, getD, set, length-map}
 use Rattle.definitions.specs.Lists.{filter}
-use Rattle.types.specs.declared.Settings.{Settings}
+use Rattle.definitions.specs.declared.Settings.{Settings}
 use Rattle.definitions.specs.Record.{Validator, «FAR_FUTURE_EPOCH», nobody}
 use Rattle.definitions.specs.Updates.{withEligibility, withExit}
 use Rattle.definitions.specs.Checked.{Checked, value, refused, bind, foldChecked}
@@ -19,9 +19,9 @@ use Rattle.definitions.specs.Document.Phase0.EpochProcessing.{queueEligible, is
 use Rattle.definitions.specs.Rust.Phase0.Helpers.{«is_active_validator», «get_current_epoch», «compute_activation_exit_epoch», «get_validator_churn_limit»}
 use Rattle.definitions.specs.Rust.Phase0.EpochProcessing.{updateRegistryAt}
 use Rattle.laws.proofs.Checked.{bound, value-same}
-use Rattle.exits.specs.Exits.{exitAt}
-use Rattle.exits.proofs.Counts.{queued-late, Exited, exit-gave}
-use Rattle.exits.proofs.Exits.{exit-by-numbers}
+use Rattle.exit_queue.specs.Exits.{exitAt}
+use Rattle.exit_queue.proofs.exits.Counts.{queued-late, Exited, exit-gave}
+use Rattle.exit_queue.proofs.exits.Exits.{exit-by-numbers}
 use Rattle.registry.specs.Updates.{updateAt}
 
 -- one element is set, to one that p and f tell nothing new of

@@ -8,7 +8,7 @@ use Prim.Native.Nat.{ℕ, suc, _+_, _<_}
 use native.Mathlib.Omega.{arith}
 use lib.ListN.{length, getD, set, length-append}
 use lib.Seq.{getD-append-seam, set-append-seam, getD-set-same, set-set}
-use Rattle.types.specs.declared.Settings.{Settings}
+use Rattle.definitions.specs.declared.Settings.{Settings}
 use Rattle.definitions.specs.Lists.{range}
 use Rattle.definitions.specs.Record.{Validator, encode, decode, nobody}
 use Rattle.definitions.specs.Updates.{withExit}
@@ -16,15 +16,15 @@ use Rattle.definitions.specs.Checked.{Checked, value, refused, bind, foldChecke
 use Rattle.definitions.specs.Document.Phase0.Helpers.{«is_eligible_for_activation»}
 use Rattle.definitions.specs.Document.Phase0.EpochProcessing.{queueEligible, isEjected}
 use Rattle.laws.proofs.Checked.{bound, value-same}
-use Rattle.queue.specs.Cut.{count, queuedBefore, CutAt, eligibleNow}
-use Rattle.queue.proofs.Filter.{flag, count-none, count-more}
-use Rattle.exits.specs.Exits.{exitAt}
-use Rattle.exits.proofs.Counts.{Exited, exit-gave}
-use Rattle.queue.proofs.Cuts.{cut-cuts}
-use Rattle.queue.specs.Queue.{activated}
-use Rattle.queue.specs.Cut.{admitted}
-use Rattle.loops.specs.Ran.{Ran}
-use Rattle.loops.proofs.Ran.{ran-value, ran-gave, ran-next, ran-stop}
+use Rattle.agreement.specs.Cut.{count, queuedBefore, CutAt, eligibleNow}
+use Rattle.agreement.proofs.ActivationQueue.Filter.{flag, count-none, count-more}
+use Rattle.exit_queue.specs.Exits.{exitAt}
+use Rattle.exit_queue.proofs.exits.Counts.{Exited, exit-gave}
+use Rattle.agreement.proofs.ActivationQueue.Cuts.{cut-cuts}
+use Rattle.agreement.specs.Queue.{activated}
+use Rattle.agreement.specs.Cut.{admitted}
+use Rattle.laws.specs.Ran.{Ran}
+use Rattle.laws.proofs.Loops.Ran.{ran-value, ran-gave, ran-next, ran-stop}
 use Rattle.registry.specs.Updates.{leastExit, updateAt, updatesBy}
 
 -- h tells nothing of an exit

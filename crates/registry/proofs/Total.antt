@@ -7,7 +7,7 @@ use native.Mathlib.Omega.{arith}
 use borrow.Author.Tests.{lt-leb, eqb-true}
 use lib.Dec.{leb, ltb, eqb}
 use lib.ListN.{length}
-use Rattle.types.specs.declared.Settings.{Settings}
+use Rattle.definitions.specs.declared.Settings.{Settings}
 use Rattle.definitions.specs.Lists.{filter, range}
 use Rattle.definitions.specs.Record.{Validator, «FAR_FUTURE_EPOCH»}
 use Rattle.definitions.specs.Updates.{withActivation}
@@ -18,8 +18,8 @@ use Rattle.definitions.specs.Rust.Phase0.Helpers.{«get_current_epoch», «get_
 use Rattle.definitions.specs.Rust.Phase0.EpochProcessing.{updateRegistryAt, «process_registry_updates»}
 use Rattle.laws.proofs.Checked.{bound, value-same}
 use Rattle.refusals.proofs.All.{both}
-use Rattle.queue.specs.Queue.{ahead, mapBelow, activatedAt, activated}
-use Rattle.queue.proofs.Dequeued.{dequeued-is}
+use Rattle.agreement.specs.Queue.{ahead, mapBelow, activatedAt, activated}
+use Rattle.agreement.proofs.ActivationQueue.Dequeued.{dequeued-is}
 use Rattle.registry.specs.Updates.{leastExit, updateAt}
 use Rattle.registry.proofs.Epochs.{Epochs}
 use Rattle.registry.proofs.Churn.{activeOf, updates-by-numbers, active-kept}

@@ -7,7 +7,7 @@ use Prim.Native.Nat.{ℕ, _+_, _*_, _≤_, _<_}
 use native.Mathlib.Omega.{arith}
 use lib.ListN.{length, getD, set}
 use lib.Seq.{getD-set-same, set-set}
-use Rattle.types.specs.declared.Settings.{Settings}
+use Rattle.definitions.specs.declared.Settings.{Settings}
 use Rattle.definitions.specs.Lists.{range}
 use Rattle.definitions.specs.Record.{Validator, «FAR_FUTURE_EPOCH», decodeOne, encodeOne, decode, nobody}
 use Rattle.definitions.specs.Updates.{withEligibility}
@@ -16,16 +16,16 @@ use Rattle.definitions.specs.Document.Phase0.Helpers.{«is_eligible_for_activat
 use Rattle.definitions.specs.Document.Phase0.EpochProcessing.{queueEligible, isEjected}
 use Rattle.laws.proofs.Checked.{value-same}
 use Rattle.laws.proofs.Encode.{length-decode}
-use Rattle.loops.specs.Ran.{Ran}
-use Rattle.loops.proofs.Entry.{entryAt, putAt, entry-ten}
-use Rattle.loops.proofs.Iterated.{Iterated, iterated-none, iterated-more, iterated-stop, iterated-all}
-use Rattle.exits.specs.Exits.{exitAt}
-use Rattle.types.specs.declared.ExitQueue.{ExitQueue}
+use Rattle.laws.specs.Ran.{Ran}
+use Rattle.laws.proofs.Loops.Entry.{entryAt, putAt, entry-ten}
+use Rattle.laws.proofs.Loops.Iterated.{Iterated, iterated-none, iterated-more, iterated-stop, iterated-all}
+use Rattle.exit_queue.specs.Exits.{exitAt}
+use Rattle.definitions.specs.declared.ExitQueue.{ExitQueue}
 use Rattle.exit_queue.specs.declared.Turn.{Turn}
 use Rattle.exit_queue.specs.Queue.{Tracks, exitBy, moved}
 use Rattle.exit_queue.specs.Turns.{Exits, Turns}
 use Rattle.exit_queue.proofs.Tracks.{tracks-kept, tracks-few}
-use Rattle.exit_queue.proofs.Exits.{exit-tracked, exit-keeps}
+use Rattle.exit_queue.proofs.Exiting.{exit-tracked, exit-keeps}
 use Rattle.exit_queue.proofs.Turns.{moved-none, moved-from, turn-ran, turn-tracks}
 use Rattle.registry.specs.Updates.{updateAt, turnBy}
 

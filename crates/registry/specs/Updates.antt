@@ -4,14 +4,14 @@ use mathlib.Core.Bool.{cond}
 use mathlib.Core.List.{List}
 use Prim.Native.Nat.{ℕ, _+_}
 use lib.ListN.{length, getD, set}
-use Rattle.types.specs.declared.Settings.{Settings}
+use Rattle.definitions.specs.declared.Settings.{Settings}
 use Rattle.definitions.specs.Lists.{range}
 use Rattle.definitions.specs.Record.{Validator, nobody}
 use Rattle.definitions.specs.Checked.{Checked, value, bind, foldChecked}
 use Rattle.definitions.specs.Document.Phase0.EpochProcessing.{queueEligible, isEjected}
 use Rattle.definitions.specs.RegisterOrder.{activated}
-use Rattle.exits.specs.Exits.{exitAt}
-use Rattle.types.specs.declared.ExitQueue.{ExitQueue}
+use Rattle.exit_queue.specs.Exits.{exitAt}
+use Rattle.definitions.specs.declared.ExitQueue.{ExitQueue}
 use Rattle.exit_queue.specs.Queue.{exitBy}
 
 -- the activation exit epoch of an epoch

@@ -6,12 +6,15 @@ ghost use Rattle.definitions.specs.Record.{decodeOne, encodeOne};
 ghost use Rattle.definitions.specs.Document.Phase0.EpochProcessing.{queueEligible, isEjected};
 ghost use Rattle.exit_queue.specs.Turns.{Turns};
 ghost use Rattle.registry.specs.Updates.{turnBy};
+
+pub mod activation;
+
+use definitions::ExitQueue;
+use definitions::Settings;
 use entries::entry_is_active;
 use entries::entry_is_eligible_for_activation_queue;
 use exit_queue::Turn;
 use exit_queue::exit_entry;
-use types::ExitQueue;
-use types::Settings;
 
 fn entry_queue_eligible(s: Settings, epoch: u64, entry: &mut [u64])
     requires { ⌜ (length (now entry) ≡ 10) × (epoch < 2 ^ 48) ⌝ }

@@ -5,9 +5,9 @@ use mathlib.Core.List.{List}
 use Prim.Native.Nat.{ℕ}
 use borrow.Author.Tests.{eq-eqb, eqb-true}
 use lib.Dec.{eqb}
-use Rattle.types.specs.declared.Settings.{Settings}
-use Rattle.types.specs.declared.TotalAnswer.{TotalAnswer}
-use Rattle.types.specs.declared.TotalAnswer.the-variants.{Value, Refused}
+use Rattle.definitions.specs.declared.Settings.{Settings}
+use Rattle.definitions.specs.declared.TotalAnswer.{TotalAnswer}
+use Rattle.definitions.specs.declared.TotalAnswer.the-variants.{Value, Refused}
 use Rattle.definitions.specs.Lists.{filter}
 use Rattle.definitions.specs.Record.{Validator, decode}
 use Rattle.definitions.specs.Raised.{totalWithRaised, SaysTotal}
@@ -15,7 +15,7 @@ use Rattle.definitions.specs.Rust.Phase0.Helpers.{«get_current_epoch», «get_
 use Rattle.definitions.specs.Rust.Altair.Helpers.{«get_unslashed_participating_indices»}
 use Rattle.totals.specs.Totals.{totalFrom}
 use Rattle.totals.proofs.WithRaised.{total-of-sum, total-over}
-use Rattle.raised.specs.Flags.{ThreeTotals}
+use Rattle.totals.specs.Flags.{ThreeTotals}
 use Rattle.survey.specs.declared.Findings.{Findings}
 use Rattle.survey.specs.Found.{PlainSum, Finds}
 use Rattle.registry_close.specs.Worked.{totalOf}

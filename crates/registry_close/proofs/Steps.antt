@@ -2,8 +2,8 @@
 use mathlib.Core.Path.{_≡_, refl}
 use mathlib.Core.List.{List, [], _∷_}
 use Prim.Native.Nat.{ℕ}
-use Rattle.types.specs.declared.Settings.{Settings}
-use Rattle.types.specs.declared.Finality.{Finality}
+use Rattle.definitions.specs.declared.Settings.{Settings}
+use Rattle.definitions.specs.declared.Finality.{Finality}
 use Rattle.definitions.specs.Record.{Validator, BeaconState}
 use Rattle.definitions.specs.Updates.{withValidators, withFinality, withSlashings}
 use Rattle.definitions.specs.Checked.{Checked, value, refused, bind, foldChecked}

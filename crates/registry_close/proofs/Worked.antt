@@ -4,10 +4,10 @@ use mathlib.Core.Bool.{true}
 use mathlib.Core.List.{List}
 use Prim.Native.Nat.{ℕ, _^_, _<_}
 use borrow.Author.Tests.{ne-eqb}
-use Rattle.types.specs.declared.Settings.{Settings}
-use Rattle.types.specs.declared.Finality.{Finality}
-use Rattle.types.specs.declared.Raised.{Raised}
-use Rattle.types.specs.declared.CloseAnswer.{CloseAnswer}
+use Rattle.definitions.specs.declared.Settings.{Settings}
+use Rattle.definitions.specs.declared.Finality.{Finality}
+use Rattle.definitions.specs.declared.Raised.{Raised}
+use Rattle.definitions.specs.declared.CloseAnswer.{CloseAnswer}
 use Rattle.definitions.specs.Record.{BeaconState, decode, encode}
 use Rattle.definitions.specs.Updates.{withValidators}
 use Rattle.definitions.specs.Checked.{Checked, value, refused, codeOf, bind}
@@ -17,14 +17,14 @@ use Rattle.definitions.specs.Rust.Phase0.EpochProcessing.{resetSlashings}
 use Rattle.definitions.specs.Rust.Altair.EpochProcessing.{«process_justification_and_finalization»}
 use Rattle.definitions.specs.Close.{«process_epoch»}
 use Rattle.laws.proofs.Checked.{number-not-zero, not-value, value-same}
-use Rattle.loops.specs.Ran.{Ran}
-use Rattle.loops.proofs.Ran.{ran-gave, code-value}
+use Rattle.laws.specs.Ran.{Ran}
+use Rattle.laws.proofs.Loops.Ran.{ran-gave, code-value}
 use Rattle.refusals.proofs.Answers.{Refused}
 use Rattle.refusals.proofs.Laws.{GoodFinality, good-finality}
 use Rattle.history.proofs.Shape.{FinalizedMoved, Moved}
 use Rattle.history.proofs.Justification.{justification-moves}
 use Rattle.write_steps.specs.RegistrySteps.{registrySteps}
-use Rattle.raised.specs.Flags.{answerWith}
+use Rattle.totals.specs.Flags.{answerWith}
 use Rattle.registry_close.specs.Worked.{stateNow, Worked}
 use Rattle.registry_close.proofs.Steps.{justification-refused, reset, eight-steps}
 

@@ -5,11 +5,11 @@ use mathlib.Core.List.{List}
 use Prim.Native.Nat.{ℕ, _*_, _/_}
 use lib.Dec.{eqb}
 use lib.ListN.{length}
-use Rattle.types.specs.declared.Settings.{Settings}
-use Rattle.types.specs.declared.Finality.{Finality}
-use Rattle.types.specs.declared.TotalAnswer.{TotalAnswer}
-use Rattle.types.specs.declared.TotalAnswer.the-variants.{Value, Refused}
-use Rattle.types.specs.declared.CloseAnswer.{CloseAnswer}
+use Rattle.definitions.specs.declared.Settings.{Settings}
+use Rattle.definitions.specs.declared.Finality.{Finality}
+use Rattle.definitions.specs.declared.TotalAnswer.{TotalAnswer}
+use Rattle.definitions.specs.declared.TotalAnswer.the-variants.{Value, Refused}
+use Rattle.definitions.specs.declared.CloseAnswer.{CloseAnswer}
 use Rattle.definitions.specs.Record.{BeaconState, encode, decode}
 use Rattle.definitions.specs.Checked.{value, codeOf, settle}
 use Rattle.definitions.specs.Raised.{raisedTotals, raisedUnlessRefused}

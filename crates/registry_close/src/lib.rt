@@ -8,17 +8,17 @@ ghost use Rattle.selection.specs.Keep.{Blank};
 ghost use Rattle.survey.specs.Found.{Finds};
 ghost use Rattle.write_steps.specs.Numbers.{Books};
 ghost use Rattle.registry_close.specs.Worked.{totalOf, stateNow, Tested, Worked};
+use definitions::CloseAnswer;
+use definitions::Finality;
+use definitions::Settings;
+use definitions::TotalAnswer;
 use justification::justification_core;
 use leaf_refusals::current_epoch;
 use leaf_refusals::previous_epoch;
-use raised::answer_with;
 use survey::Findings;
 use survey::survey_registry;
+use totals::raising::answer_with;
 use totals::total_from;
-use types::CloseAnswer;
-use types::Finality;
-use types::Settings;
-use types::TotalAnswer;
 use write_steps::write_registry;
 
 // A total of the survey, refused where the sum has left 64 bits.

@@ -2,16 +2,16 @@
 use mathlib.Core.Path.{_≡_, refl, sym, ap, _∙_}
 use mathlib.Core.List.{List}
 use Prim.Native.Nat.{ℕ}
-use Rattle.types.specs.declared.Settings.{Settings}
-use Rattle.types.specs.declared.ExitQueue.{ExitQueue}
-use Rattle.types.specs.declared.QueueAnswer.{QueueAnswer}
+use Rattle.definitions.specs.declared.Settings.{Settings}
+use Rattle.definitions.specs.declared.ExitQueue.{ExitQueue}
+use Rattle.definitions.specs.declared.QueueAnswer.{QueueAnswer}
 use Rattle.definitions.specs.Record.{Validator, decode}
 use Rattle.definitions.specs.Checked.{Checked, value}
 use Rattle.definitions.specs.ExitQueue.{queueOf}
 use Rattle.definitions_close.specs.QueueCalls.{QueueCloses}
-use Rattle.loops.specs.Ran.{Ran}
-use Rattle.buffers.proofs.Closes.{step-done, step-restored}
-use Rattle.queue_tests.proofs.Closes.{queue-closes}
+use Rattle.laws.specs.Ran.{Ran}
+use Rattle.refusals.proofs.buffers.Closes.{step-done, step-restored}
+use Rattle.validator_exit.proofs.queue_tests.Closes.{queue-closes}
 
 module _ (step : List Validator → Checked (List Validator)) (opening : List ℕ) {queue : ExitQueue} {closing xs : List ℕ} {r : ℕ} (h : Ran (step (decode opening)) xs r) where
   pub run-restored : (r ≡ 0 → ⊥) → {after : List ℕ} → after ≡ opening → QueueCloses (value tt) (step (decode opening)) queue opening closing after (record { refusal = r; queue = queue })

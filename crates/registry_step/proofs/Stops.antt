@@ -4,9 +4,9 @@ use mathlib.Core.List.{List}
 use Prim.Native.Nat.{ℕ, _/_}
 use native.Mathlib.Omega.{arith}
 use lib.ListN.{length}
-use Rattle.types.specs.declared.Settings.{Settings}
-use Rattle.types.specs.declared.ExitQueue.{ExitQueue}
-use Rattle.types.specs.declared.QueueAnswer.{QueueAnswer}
+use Rattle.definitions.specs.declared.Settings.{Settings}
+use Rattle.definitions.specs.declared.ExitQueue.{ExitQueue}
+use Rattle.definitions.specs.declared.QueueAnswer.{QueueAnswer}
 use Rattle.definitions.specs.Record.{Validator, encode, decode}
 use Rattle.definitions.specs.Checked.{Checked, value, refused, bind, codeOf}
 use Rattle.definitions.specs.Refusals.{afterTests, closingBuffer, registryTests}
@@ -14,9 +14,9 @@ use Rattle.definitions.specs.RegisterOrder.{registryUpdatesTo, registryToTests}
 use Rattle.definitions.specs.Rust.Phase0.EpochProcessing.{«process_registry_updates»}
 use Rattle.definitions_close.specs.QueueCalls.{thenQueue, registryToQueueTests, registryQueueTests, queueAfter, QueueCloses}
 use Rattle.laws.proofs.Encode.{length-decode}
-use Rattle.finalized.proofs.Tests.{within, registry-passed}
-use Rattle.queue.proofs.Stopped.{stopped}
-use Rattle.queue_tests.proofs.Queue.{queue-passed}
+use Rattle.leaf_refusals.proofs.finalized.Tests.{within, registry-passed}
+use Rattle.agreement.proofs.ActivationQueue.Stopped.{stopped}
+use Rattle.validator_exit.proofs.queue_tests.Queue.{queue-passed}
 
 -- the work shows only where the tests passed
 other-work : (tests : Checked (Unit {0})) (m n : Checked (List Validator)) → (tests ≡ value tt → m ≡ n) → {queue : ExitQueue} {opening closing after : List ℕ} {r : QueueAnswer} → QueueCloses tests m queue opening closing after r → QueueCloses tests n queue opening closing after r

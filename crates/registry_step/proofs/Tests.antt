@@ -7,9 +7,9 @@ use Prim.Native.Nat.{ℕ, _*_, _/_, _^_, _≤_, _<_}
 use borrow.Author.Tests.{leb-true, eqb-true}
 use lib.Dec.{leb}
 use lib.ListN.{length}
-use Rattle.types.specs.declared.Settings.{Settings}
-use Rattle.types.specs.declared.ExitQueue.{ExitQueue}
-use Rattle.types.specs.declared.QueueAnswer.{QueueAnswer}
+use Rattle.definitions.specs.declared.Settings.{Settings}
+use Rattle.definitions.specs.declared.ExitQueue.{ExitQueue}
+use Rattle.definitions.specs.declared.QueueAnswer.{QueueAnswer}
 use Rattle.definitions.specs.Record.{Validator, encode, decode}
 use Rattle.definitions.specs.Checked.{Checked, value, codeOf}
 use Rattle.definitions.specs.Refusals.{inOrder, settingsShaped, registryShaped, sameLength, goodSettings, isSmall}
@@ -19,12 +19,12 @@ use Rattle.definitions_close.specs.QueueCalls.{registryToQueueTests, QueueClose
 use Rattle.refusals.proofs.All.{both}
 use Rattle.refusals.proofs.Laws.{in-order, good-settings, PositiveDivisors, registry-shaped, small}
 use Rattle.refusals.proofs.Answers.{passed}
-use Rattle.buffers.proofs.Closes.{closes-refused}
+use Rattle.refusals.proofs.buffers.Closes.{closes-refused}
 use Rattle.exit_queue.proofs.QueueOf.{tracks-is}
-use Rattle.queue_tests.specs.Found.{foundTests}
-use Rattle.queue_tests.proofs.Queue.{queue-passed}
-use Rattle.queue_tests.proofs.Found.{early-refused, found-code}
-use Rattle.queue_tests.proofs.Closes.{queue-closes}
+use Rattle.validator_exit.specs.Found.{foundTests}
+use Rattle.validator_exit.proofs.queue_tests.Queue.{queue-passed}
+use Rattle.validator_exit.proofs.queue_tests.Found.{early-refused, found-code}
+use Rattle.validator_exit.proofs.queue_tests.Closes.{queue-closes}
 use Rattle.survey.specs.declared.Findings.{Findings}
 use Rattle.survey.specs.Found.{Finds}
 

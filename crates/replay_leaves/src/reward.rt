@@ -1,6 +1,6 @@
 // Leaves 24 to 29: rewards and penalties, finality, the square root.
-use rules::altair_rules;
-use types::Number;
+use definitions::Number;
+use refusals::rules::altair_rules;
 use vectors::Case;
 use vectors::deltas_agree;
 use vectors::finality;
@@ -13,13 +13,13 @@ use vectors::settings;
 
 fn get_base_reward_per_increment(c: Case, words: &[u64]) -> bool {
     let s = settings(c, words);
-    let answer = base_rewards::get_base_reward_per_increment(s, number(c, words, 0));
+    let answer = rewards::base_rewards::get_base_reward_per_increment(s, number(c, words, 0));
     number_agrees(answer, c, words)
 }
 
 fn get_base_reward(c: Case, words: &[u64]) -> bool {
     let s = settings(c, words);
-    let answer = base_rewards::get_base_reward(s, number(c, words, 0), lent(c, words));
+    let answer = rewards::base_rewards::get_base_reward(s, number(c, words, 0), lent(c, words));
     number_agrees(answer, c, words)
 }
 
@@ -30,7 +30,7 @@ fn get_flag_index_deltas(c: Case, words: &[u64]) -> bool {
     let flag_index = number(c, words, 2);
     let index = number(c, words, 3) as usize;
     let registry = lent(c, words);
-    let answer = flag_rewards::get_flag_index_deltas(
+    let answer = rewards_step::flag_rewards::get_flag_index_deltas(
         s,
         slot,
         finalized_epoch,

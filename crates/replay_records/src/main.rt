@@ -5,11 +5,11 @@ mod read;
 mod steps;
 mod tally;
 
-use record_vectors::Outcome;
-use record_vectors::Record;
-use record_vectors::in_buffers;
-use record_vectors::in_refusal;
-use record_vectors::unwritten;
+use vectors::records::Outcome;
+use vectors::records::Record;
+use vectors::records::in_buffers;
+use vectors::records::in_refusal;
+use vectors::records::unwritten;
 use vectors::word;
 
 // Which part of what comes back differs from the stored answer, or 0.
@@ -65,14 +65,14 @@ fn differs_in_room(operation: u64, r: Record, o: Outcome, words: &[u64], bytes: 
 // False where the answers do not fill the record.
 fn replay_record(words: &[u64], bytes: &[u8], at: usize, end: usize, tally: &mut [u64]) -> bool {
     let number = tally::records(tally);
-    let r = record_vectors::read_record(words, at, end);
+    let r = vectors::records::read_record(words, at, end);
     let answers = r.answers;
     if 10 < answers {
         return print::whole(number, false);
     }
     let mut answer = r.first_answer;
     for operation in 0..answers {
-        let o = record_vectors::read_outcome(words, answer, end, operation);
+        let o = vectors::records::read_outcome(words, answer, end, operation);
         tally::note(
             tally,
             number,
@@ -90,7 +90,7 @@ fn replay_records(words: &[u64], bytes: &[u8], tally: &mut [u64]) -> bool {
     let mut left = word(words, 0, 0);
     let mut at: usize = 1;
     while left > 0 {
-        let end = record_vectors::next_record(words, at);
+        let end = vectors::records::next_record(words, at);
         if !replay_record(words, bytes, at, end, tally) {
             return false;
         }

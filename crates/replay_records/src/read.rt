@@ -1,21 +1,21 @@
 // read_file and file_roots: what they answer is what stands in the file, or zeros and nothing where they refuse.
+use definitions::Finality;
+use definitions::Settings;
 use record_file::ReadAnswer;
-use record_vectors::FINALITY;
-use record_vectors::NOTHING;
-use record_vectors::Outcome;
-use record_vectors::POSITION;
-use record_vectors::REFUSAL;
-use record_vectors::ROOTS;
-use record_vectors::Record;
-use record_vectors::SETTINGS;
-use record_vectors::after;
-use record_vectors::all_roots;
-use record_vectors::finality_place;
-use record_vectors::settings_words;
-use types::Finality;
-use types::Settings;
 use vectors::bytes_part;
 use vectors::finality_stands;
+use vectors::records::FINALITY;
+use vectors::records::NOTHING;
+use vectors::records::Outcome;
+use vectors::records::POSITION;
+use vectors::records::REFUSAL;
+use vectors::records::ROOTS;
+use vectors::records::Record;
+use vectors::records::SETTINGS;
+use vectors::records::after;
+use vectors::records::all_roots;
+use vectors::records::finality_place;
+use vectors::records::settings_words;
 use vectors::word;
 
 fn numbers(s: Settings) -> [u64; 19] {

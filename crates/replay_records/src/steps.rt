@@ -1,18 +1,18 @@
 // The eight steps, each alone, and the close, on what is lent of the file's parts.
-use record_vectors::Outcome;
-use record_vectors::Record;
-use record_vectors::finality;
-use record_vectors::finality_place;
-use record_vectors::finalized_epoch;
-use record_vectors::in_finality;
-use record_vectors::registry;
-use record_vectors::roots;
-use record_vectors::settings;
-use record_vectors::slashings;
-use record_vectors::slot;
-use rules::altair_rules;
-use types::CloseAnswer;
-use types::Settings;
+use definitions::CloseAnswer;
+use definitions::Settings;
+use refusals::rules::altair_rules;
+use vectors::records::Outcome;
+use vectors::records::Record;
+use vectors::records::finality;
+use vectors::records::finality_place;
+use vectors::records::finalized_epoch;
+use vectors::records::in_finality;
+use vectors::records::registry;
+use vectors::records::roots;
+use vectors::records::settings;
+use vectors::records::slashings;
+use vectors::records::slot;
 
 // Which part of what comes back differs. The Rust does not tell the test.
 pub fn process_justification_and_finalization(
@@ -22,7 +22,7 @@ pub fn process_justification_and_finalization(
     bytes: &[u8],
 ) -> u64 {
     let file = r.file;
-    let answer = justification_step::process_justification_and_finalization(
+    let answer = justification::justification_step::process_justification_and_finalization(
         settings(file, words),
         roots(file, words, bytes, r.roots_bytes),
         finality(file, words, bytes),
@@ -69,7 +69,13 @@ fn on_registry(
     closing: &mut [u64],
 ) -> u64 {
     match operation {
-        2 => inactivity::process_inactivity_updates(s, slot, finalized_epoch, opening, closing),
+        2 => participation::inactivity::process_inactivity_updates(
+            s,
+            slot,
+            finalized_epoch,
+            opening,
+            closing,
+        ),
         3 => rewards_step::process_rewards_and_penalties(
             altair_rules(s),
             slot,
@@ -79,8 +85,11 @@ fn on_registry(
         ),
         4 => process_registry_updates(s, slot, finalized_epoch, opening, closing),
         5 => slashings::process_slashings(altair_rules(s), slot, slashings, opening, closing),
-        6 => effective_balances::process_effective_balance_updates(s, opening, closing),
-        _ => participation_flags::process_participation_flag_updates(opening, closing),
+        6 => balances::effective_balances::process_effective_balance_updates(s, opening, closing),
+        _ => participation::participation_flags::process_participation_flag_updates(
+            opening,
+            closing,
+        ),
     }
 }
 

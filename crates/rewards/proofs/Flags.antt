@@ -6,12 +6,12 @@ use native.Mathlib.Nat.{le-div-iff-mul-le}
 use native.Mathlib.Omega.{arith}
 use borrow.Author.Tests.{eq-eqb, ne-eqb}
 use lib.ListN.{getD}
-use Rattle.types.specs.declared.Deltas.{Deltas}
-use Rattle.types.specs.declared.DeltasAnswer.{DeltasAnswer}
-use Rattle.types.specs.declared.DeltasAnswer.the-variants.{Value as DeltasValue, Refused as DeltasRefused}
-use Rattle.types.specs.declared.Number.{Number}
-use Rattle.types.specs.declared.Number.the-variants.{Value, Refused}
-use Rattle.types.specs.declared.Settings.{Settings}
+use Rattle.definitions.specs.declared.Deltas.{Deltas}
+use Rattle.definitions.specs.declared.DeltasAnswer.{DeltasAnswer}
+use Rattle.definitions.specs.declared.DeltasAnswer.the-variants.{Value as DeltasValue, Refused as DeltasRefused}
+use Rattle.definitions.specs.declared.Number.{Number}
+use Rattle.definitions.specs.declared.Number.the-variants.{Value, Refused}
+use Rattle.definitions.specs.declared.Settings.{Settings}
 use Rattle.definitions.specs.Answers.{Says, SaysDeltas}
 use Rattle.definitions.specs.Checked.{value, refused, overflow, bind, mul64}
 use Rattle.definitions.specs.Record.{Validator}
@@ -20,7 +20,7 @@ use Rattle.definitions.specs.Rust.Altair.Helpers.{«PARTICIPATION_FLAG_WEIGHTS�
 use Rattle.laws.proofs.Checked.{mul64-value}
 use Rattle.refusals.proofs.All.{fails, passes}
 use Rattle.arithmetic.proofs.Laws.{says-value, says-overflow}
-use Rattle.base_rewards.proofs.Base.{only-base}
+use Rattle.rewards.proofs.base_rewards.Base.{only-base}
 use Rattle.rewards.specs.declared.Shared.{Shared}
 use Rattle.rewards.specs.Shared.{SharedBy}
 

@@ -4,11 +4,11 @@ use mathlib.Core.Path.{_≡_}
 use Prim.Native.Nat.{ℕ, _*_, _/_, _<_}
 use native.Mathlib.Nat.{mul-pos}
 use native.Mathlib.Omega.{arith}
-use Rattle.types.specs.declared.DeltasAnswer.{DeltasAnswer}
-use Rattle.types.specs.declared.DeltasAnswer.the-variants.{Value as DeltasValue}
-use Rattle.types.specs.declared.Number.{Number}
-use Rattle.types.specs.declared.Number.the-variants.{Value}
-use Rattle.types.specs.declared.Settings.{Settings}
+use Rattle.definitions.specs.declared.DeltasAnswer.{DeltasAnswer}
+use Rattle.definitions.specs.declared.DeltasAnswer.the-variants.{Value as DeltasValue}
+use Rattle.definitions.specs.declared.Number.{Number}
+use Rattle.definitions.specs.declared.Number.the-variants.{Value}
+use Rattle.definitions.specs.declared.Settings.{Settings}
 use Rattle.definitions.specs.Answers.{Says, SaysDeltas}
 use Rattle.definitions.specs.Checked.{value, bind, mul64}
 use Rattle.definitions.specs.Record.{Validator}

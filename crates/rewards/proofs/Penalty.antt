@@ -5,13 +5,13 @@ use mathlib.Core.List.{List}
 use Prim.Native.Nat.{ℕ}
 use borrow.Author.Tests.{eqb-true}
 use lib.ListN.{length}
-use Rattle.types.specs.declared.Rules.{Rules}
+use Rattle.definitions.specs.declared.Rules.{Rules}
 use Rattle.definitions.specs.Checked.{codeOf}
 use Rattle.definitions.specs.Refusals.{isSmall}
 use Rattle.definitions.specs.LeafRefusals.{entryShaped, goodEntry}
 use Rattle.definitions.specs.Rules.{settingsUnder, inactivityPenaltyTests}
 use Rattle.refusals.proofs.Laws.{GoodSettings, good-settings}
-use Rattle.rules.proofs.Tests.{rules-passed}
+use Rattle.refusals.proofs.rules.Tests.{rules-passed}
 
 pub record PenaltyPassed (r : Rules) (entry : List ℕ) : Type 0 where
   pub settings : GoodSettings (settingsUnder r)

@@ -2,7 +2,7 @@
 use mathlib.Core.Path.{_≡_}
 use mathlib.Core.Bool.{Bool}
 use Prim.Native.Nat.{ℕ, _/_, _≤_, _<_}
-use Rattle.types.specs.declared.Settings.{Settings}
+use Rattle.definitions.specs.declared.Settings.{Settings}
 use Rattle.definitions.specs.Checked.{mul64}
 use Rattle.definitions.specs.Answers.{Says}
 use Rattle.definitions.specs.Rust.Altair.Helpers.{«WEIGHT_DENOMINATOR», «get_base_reward_per_increment», FlagTotals}

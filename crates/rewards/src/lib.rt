@@ -10,20 +10,23 @@ ghost use Rattle.definitions.specs.Refusals.{afterTests};
 ghost use Rattle.definitions.specs.Rules.{settingsUnder, inactivityPenaltyTests};
 ghost use Rattle.definitions.specs.Rust.Altair.Helpers.{«PARTICIPATION_FLAG_WEIGHTS», «get_base_reward», hitDeltas, missDeltas, flagIndexDeltas, inactivityPenaltyDeltas, «get_inactivity_penalty_deltas»};
 ghost use Rattle.rewards.specs.Shared.{SharedBy, Shares, totalsOf};
+
+pub mod base_rewards;
+
+use crate::base_rewards::base_reward_per_increment;
 use arithmetic::mul64;
-use base_rewards::base_reward_per_increment;
+use definitions::Deltas;
+use definitions::DeltasAnswer;
+use definitions::Number;
+use definitions::Rules;
+use definitions::Settings;
 use entries::entry_is_eligible;
 use entries::entry_is_participating;
 use leaf_refusals::current_epoch;
 use leaf_refusals::previous_epoch;
 use leaf_refusals::slot_entry_tests;
-use rules::rules_refusal;
-use rules::settings_under;
-use types::Deltas;
-use types::DeltasAnswer;
-use types::Number;
-use types::Rules;
-use types::Settings;
+use refusals::rules::rules_refusal;
+use refusals::rules::settings_under;
 
 // The same for all validators. The base reward of an increment, and 64 times the active increments, are answers: each may have left 64 bits
 // and be wanted by nobody.

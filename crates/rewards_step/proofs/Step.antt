@@ -4,7 +4,7 @@ use mathlib.Core.List.{List}
 use mathlib.Core.Path.{_≡_, refl, _∙_}
 use Prim.Native.Nat.{ℕ}
 use borrow.Author.Tests.{ne-eqb}
-use Rattle.types.specs.declared.Settings.{Settings}
+use Rattle.definitions.specs.declared.Settings.{Settings}
 use Rattle.definitions.specs.Answers.{Answers}
 use Rattle.definitions.specs.Checked.{Checked, value, refused, overflow, bind, mapChecked}
 use Rattle.definitions.specs.Lists.{filter}
@@ -16,10 +16,10 @@ use Rattle.definitions.specs.Rust.Altair.EpochProcessing.{rewardAndPenalize, «
 use Rattle.arithmetic.proofs.Answers.{Tells, answers-value, answers-overflow}
 use Rattle.arithmetic.proofs.Laws.{bind-value, bind-refused}
 use Rattle.arithmetic.proofs.Operations.{OnlyOverflow}
-use Rattle.loops.specs.Ran.{Ran}
-use Rattle.loops.proofs.Ran.{ran-value}
-use Rattle.buffers.proofs.Chained.{ran-overflow}
-use Rattle.flag_rewards.specs.Totals.{flagTotalsOf}
+use Rattle.laws.specs.Ran.{Ran}
+use Rattle.laws.proofs.Loops.Ran.{ran-value}
+use Rattle.refusals.proofs.buffers.Chained.{ran-overflow}
+use Rattle.rewards_step.specs.Totals.{flagTotalsOf}
 
 -- An answer that the step works out before its loop
 module _ {A R : Type 0} {f : Checked A → R} {Yes : A → R} {No : ℕ → R} {m : Checked A} (k : A → Checked (List Validator)) {a : R} {xs : List ℕ} where

@@ -5,7 +5,7 @@ use mathlib.Core.List.{List}
 use Prim.Native.Nat.{ℕ}
 use borrow.Author.Tests.{eqb-true}
 use lib.ListN.{length}
-use Rattle.types.specs.declared.Rules.{Rules}
+use Rattle.definitions.specs.declared.Rules.{Rules}
 use Rattle.definitions.specs.Checked.{codeOf}
 use Rattle.definitions.specs.Refusals.{registryShaped, sameLength, isSmall, goodSettings, goodRegistry}
 use Rattle.definitions.specs.Rules.{settingsUnder, rulesShaped, goodRules, rewardsTests}

@@ -9,27 +9,30 @@ ghost use Rattle.definitions.specs.Answers.{Says};
 ghost use Rattle.definitions.specs.Refusals.{goodSettings};
 ghost use Rattle.definitions.specs.Rules.{settingsUnder, rewardsTests};
 ghost use Rattle.definitions.specs.Rust.Altair.EpochProcessing.{rewardAndPenalize, «process_rewards_and_penalties»};
-ghost use Rattle.loops.specs.Ran.{Ran};
-ghost use Rattle.buffers.specs.Closes.{Closes};
+ghost use Rattle.laws.specs.Ran.{Ran};
+ghost use Rattle.refusals.specs.Closes.{Closes};
 ghost use Rattle.rewards.specs.Shared.{SharedBy, totalsOf};
-ghost use Rattle.flag_rewards.specs.Totals.{flagTotalsOf};
+ghost use Rattle.rewards_step.specs.Totals.{flagTotalsOf};
+
+pub mod flag_rewards;
+
 use arithmetic::mul64;
-use buffers::copy;
+use definitions::Number;
+use definitions::Rules;
+use definitions::Settings;
+use definitions::Truth;
 use finality::inactivity_leak;
-use finalized::finalized_registry_tests;
 use leaf_refusals::current_epoch;
+use leaf_refusals::finalized::finalized_registry_tests;
 use leaf_refusals::previous_epoch;
-use reward_balances::entry_reward;
+use rates::reward_balances::entry_reward;
+use refusals::buffers::copy;
+use refusals::rules::rules_refusal;
+use refusals::rules::settings_under;
 use rewards::Shared;
 use rewards::shared_numbers;
-use rules::rules_refusal;
-use rules::settings_under;
 use totals::total_active;
 use totals::total_participating;
-use types::Number;
-use types::Rules;
-use types::Settings;
-use types::Truth;
 
 fn reward_all(
     s: Settings,

@@ -4,7 +4,7 @@ use mathlib.Core.List.{List, _++_, append-assoc}
 use Prim.Native.Nat.{ℕ, _+_, _^_, _<_}
 use lib.ListN.{length, take, drop, length-append}
 use lib.Seq.{take-at, drop-at, take-add, drop-drop}
-use Rattle.types.specs.declared.Checkpoint.{Checkpoint}
+use Rattle.definitions.specs.declared.Checkpoint.{Checkpoint}
 use Rattle.definitions_file.specs.File.{littleEndian, numbersToBytes, numbersFromBytes, numberAt, checkpointToBytes, checkpointAt}
 use Rattle.round_trip.specs.RoundTrip.{Below, TypedCheckpoint}
 use Rattle.round_trip.proofs.Numbers.{length-little, eight-read, numbers-read}

@@ -7,7 +7,7 @@ use native.Mathlib.Omega.{arith}
 use borrow.Author.Tests.{leb-true, eqb-true, le-leb, eq-eqb}
 use lib.Dec.{leb, eqb}
 use lib.ListN.{length, getD}
-use Rattle.types.specs.declared.ExitQueue.{ExitQueue}
+use Rattle.definitions.specs.declared.ExitQueue.{ExitQueue}
 use Rattle.definitions.specs.Record.{Validator, decode}
 use Rattle.definitions.specs.Checked.{value, refused, wrongQueue, bind}
 use Rattle.definitions.specs.Refusals.{inOrder, isVectorLength, settingsShaped, registryShaped, rootsShaped, slashingsShaped, lengthIs, goodSettings, goodFinality, goodRegistry}

@@ -7,8 +7,8 @@ use native.Mathlib.Omega.{arith}
 use borrow.Author.Tests.{le-leb, eq-eqb}
 use lib.Dec.{lit<}
 use lib.ListN.{length, getD, length-append}
-use Rattle.types.specs.declared.Checkpoint.{Checkpoint}
-use Rattle.types.specs.declared.ExitQueue.{ExitQueue}
+use Rattle.definitions.specs.declared.Checkpoint.{Checkpoint}
+use Rattle.definitions.specs.declared.ExitQueue.{ExitQueue}
 use Rattle.definitions.specs.Record.{decode}
 use Rattle.definitions.specs.Checked.{value, bind}
 use Rattle.definitions.specs.Refusals.{inOrder, settingsNumbers}

@@ -4,7 +4,7 @@ use mathlib.Core.Bool.{true, false}
 use mathlib.Core.List.{List, []}
 use Prim.Native.Nat.{ℕ, _+_, _*_, _≤_, _<_}
 use lib.ListN.{length, getD, replicate}
-use Rattle.types.specs.declared.ExitQueue.{ExitQueue}
+use Rattle.definitions.specs.declared.ExitQueue.{ExitQueue}
 use Rattle.definitions.specs.Lists.{all}
 use Rattle.definitions.specs.Record.{Validator, encodeOne, decode, nobody}
 use Rattle.definitions.specs.Checked.{value, refused, Refusal, badRecord, wrongQueue, numberOf}

@@ -7,13 +7,13 @@ use native.Mathlib.Omega.{arith}
 use borrow.Author.Tests.{le-leb, le-ltb, ltb-true}
 use lib.Dec.{ltb, leb, eqb}
 use lib.ListN.{length}
-use Rattle.types.specs.declared.Settings.{Settings}
+use Rattle.definitions.specs.declared.Settings.{Settings}
 use Rattle.definitions.specs.Record.{Validator, «FAR_FUTURE_EPOCH»}
 use Rattle.definitions.specs.Updates.{withEligibility}
 use Rattle.definitions.specs.Document.Phase0.Helpers.{«is_eligible_for_activation_queue», «is_eligible_for_activation»}
 use Rattle.definitions.specs.Document.Phase0.EpochProcessing.{queueEligible}
-use Rattle.queue.specs.Cut.{count, queuedBefore, CutAt, eligibleNow}
-use Rattle.queue.proofs.Filter.{flag, count-none, count-more}
+use Rattle.agreement.specs.Cut.{count, queuedBefore, CutAt, eligibleNow}
+use Rattle.agreement.proofs.ActivationQueue.Filter.{flag, count-none, count-more}
 use Rattle.selection.specs.Keep.{under, waitingSince, waitingBefore, Smallest, CutOf}
 use Rattle.selection.proofs.Picking.{Picking, picking-all}
 

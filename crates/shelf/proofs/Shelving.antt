@@ -9,12 +9,12 @@ use borrow.Author.Tests.{eqb-true, leb-true}
 use lib.Dec.{eqb}
 use lib.ListN.{length, getD, set, take, drop, length-set, length-append, length-take, length-drop, drop-of-length-le}
 use lib.Seq.{take-at, drop-at, take-all, drop-cons, drop-drop, take-suc-set, length-take-le}
-use Rattle.types.specs.declared.Bellatrix.{Bellatrix}
+use Rattle.definitions.specs.declared.Bellatrix.{Bellatrix}
 use Rattle.definitions.specs.Lists.{sum, maximum}
 use Rattle.definitions.specs.Refusals.{lengthIs}
 use Rattle.refusals.proofs.All.{both}
-use Rattle.definitions_shelf.specs.ClosedFile.{answerFor, partFor}
-use Rattle.definitions_shelf.specs.Shelf.{Shelf, holdsLongest, shelfShaped, answersFor, partsFor}
+use Rattle.definitions_file.specs.ClosedFile.{answerFor, partFor}
+use Rattle.definitions_file.specs.Shelf.{Shelf, holdsLongest, shelfShaped, answersFor, partsFor}
 use Rattle.shelf.proofs.Lengths.{sum-more, sum-none}
 
 module _ (fork : ℕ) (pair : Bellatrix) (lengths files lent : List ℕ) where

@@ -5,10 +5,10 @@ ghost use Prim.Native.Nat.{_*_};
 ghost use lib.Dec.{leb, eqb};
 ghost use lib.ListN.{length};
 ghost use Rattle.definitions.specs.Lists.{sum, maximum};
-ghost use Rattle.definitions_shelf.specs.Shelf.{holdsLongest, shelfShaped, shelfRefusal, answersFor, partsFor, answersAfter, closingAfter, Working};
+ghost use Rattle.definitions_file.specs.Shelf.{holdsLongest, shelfShaped, shelfRefusal, answersFor, partsFor, answersAfter, closingAfter, Working};
 ghost use Rattle.shelf.specs.Lent.{shelfOf};
+use definitions::Bellatrix;
 use shelf_file::close_file;
-use types::Bellatrix;
 
 // Nothing wraps: each length is taken from what is left of the total.
 fn sums_to(lengths: &[u64], total: u64) -> bool

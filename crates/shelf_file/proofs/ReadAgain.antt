@@ -5,8 +5,8 @@ use mathlib.Core.List.{List, [], _∷_}
 use Prim.Native.Nat.{ℕ, _*_, _/_}
 use native.Mathlib.Omega.{arith}
 use lib.ListN.{length}
-use Rattle.types.specs.declared.Settings.{Settings}
-use Rattle.types.specs.declared.Bellatrix.{Bellatrix}
+use Rattle.definitions.specs.declared.Settings.{Settings}
+use Rattle.definitions.specs.declared.Bellatrix.{Bellatrix}
 use Rattle.definitions.specs.Lists.{all}
 use Rattle.definitions.specs.Record.{Validator, BeaconState, encode, decode}
 use Rattle.definitions.specs.Checked.{value, foldChecked}
@@ -15,13 +15,13 @@ use Rattle.definitions.specs.Rules.{settingsUnder}
 use Rattle.definitions.specs.ExitQueue.{queueOf, isQueueOf}
 use Rattle.definitions.specs.Close.{Step, step, closeUpTo, «process_epoch»}
 use Rattle.definitions_file.specs.File.{Contents, countOf, slashingCountOf, contentsOf, fileOf, writeTests}
-use Rattle.definitions_shelf.specs.ClosedFile.{rulesIn, stateIn, fileTests, work, closedContents, partFor}
+use Rattle.definitions_file.specs.ClosedFile.{rulesIn, stateIn, fileTests, work, closedContents, partFor}
 use Rattle.laws.proofs.Checked.{bound, value-same}
 use Rattle.laws.proofs.Encode.{length-encode, decode-encode, encode-decode}
 use Rattle.round_trip.proofs.Tests.{Good, fileLengthOf, queue-own, good-write}
 use Rattle.round_trip.proofs.Passed.{length-registry}
 use Rattle.round_trip.proofs.Written.{is-file, written-read}
-use Rattle.stepwise_theorems.proofs.Kept.{Kept, kept-step}
+use Rattle.theorems.proofs.CloseBySteps.Kept.{Kept, kept-step}
 use Rattle.shelf_file.specs.ReadAgain.{Written, ClosedWritten, ClosedRead}
 use Rattle.shelf_file.proofs.Tests.{passes, length-slashings}
 

@@ -7,11 +7,11 @@ use native.Mathlib.Omega.{arith}
 use borrow.Author.Tests.{le-leb, eq-eqb, eqb-true}
 use lib.Dec.{leb, eqb}
 use lib.ListN.{length, drop}
-use Rattle.types.specs.declared.Settings.{Settings}
-use Rattle.types.specs.declared.Finality.{Finality}
-use Rattle.types.specs.declared.CloseAnswer.{CloseAnswer}
-use Rattle.types.specs.declared.Bellatrix.{Bellatrix}
-use Rattle.types.specs.declared.Rules.{Rules}
+use Rattle.definitions.specs.declared.Settings.{Settings}
+use Rattle.definitions.specs.declared.Finality.{Finality}
+use Rattle.definitions.specs.declared.CloseAnswer.{CloseAnswer}
+use Rattle.definitions.specs.declared.Bellatrix.{Bellatrix}
+use Rattle.definitions.specs.declared.Rules.{Rules}
 use Rattle.definitions.specs.Record.{BeaconState, decode}
 use Rattle.definitions.specs.Checked.{Checked, value, refused, badFile, wrongQueue, bind, codeOf, settle}
 use Rattle.definitions.specs.Refusals.{inOrder, settingsShaped, registryShaped, goodSettings, goodFinality, goodRegistry, afterTests, closingBuffer}
@@ -20,17 +20,17 @@ use Rattle.definitions.specs.ExitQueue.{queueOf, isQueueOf, queueTest}
 use Rattle.definitions.specs.Rust.Phase0.EpochProcessing.{resetSlashings}
 use Rattle.definitions.specs.Close.{Call}
 use Rattle.definitions_file.specs.File.{Contents, versionOf, countOf, rootCountOf, slashingCountOf, slashingsAt, contentsOf, queueIn, goodHeader, fileShaped, readTests, fileLength, fileOf}
-use Rattle.definitions_shelf.specs.ClosedFile.{rulesIn, stateIn, fileTests, work, closedContents, closedFile, answerFor, partFor}
+use Rattle.definitions_file.specs.ClosedFile.{rulesIn, stateIn, fileTests, work, closedContents, closedFile, answerFor, partFor}
 use Rattle.laws.proofs.Checked.{not-value, bound}
 use Rattle.refusals.proofs.All.{both}
-use Rattle.rules.specs.Refusal.{rulesRefusal}
+use Rattle.refusals.specs.Refusal.{rulesRefusal}
 use Rattle.round_trip.proofs.Numbers.{length-from-bytes}
 use Rattle.round_trip.proofs.Tests.{in-order, queue-passed}
 use Rattle.round_trip.proofs.Passed.{Passed, Accepted, accepted, length-registry}
 use Rattle.close.specs.Called.{called}
 use Rattle.registry_close.specs.Worked.{stateNow, Tested, Worked}
 use Rattle.close.specs.Worked.{recordTests}
-use Rattle.loops.proofs.Ran.{code-value}
+use Rattle.laws.proofs.Loops.Ran.{code-value}
 use Rattle.laws.proofs.Encode.{decode-encode}
 use Rattle.record_file.specs.Answers.{Sized, contentsWith}
 use Rattle.registry_close.proofs.Worked.{code-refused}

@@ -4,9 +4,9 @@ use mathlib.Core.Bool.{true}
 use mathlib.Core.List.{List}
 use Prim.Native.Nat.{ℕ, _+_, _-_, _*_, _≤_}
 use lib.ListN.{length, take, drop}
-use Rattle.types.specs.declared.Bellatrix.{Bellatrix}
+use Rattle.definitions.specs.declared.Bellatrix.{Bellatrix}
 use Rattle.definitions_file.specs.File.{versionOf, countOf, slashingCountOf, contentsOf, goodHeader}
-use Rattle.definitions_shelf.specs.ClosedFile.{answerFor, partFor}
+use Rattle.definitions_file.specs.ClosedFile.{answerFor, partFor}
 
 -- the file has a header of version 2, its registry ends at a, and its slashings behind it at b
 pub record Counts (file : List ℕ) (a b : ℕ) : Type 0 where

@@ -4,12 +4,12 @@ use mathlib.Core.Path.{_≡_}
 use mathlib.Core.List.{List}
 use Prim.Native.Nat.{ℕ, _*_}
 use lib.ListN.{length}
-use Rattle.types.specs.declared.Bellatrix.{Bellatrix}
+use Rattle.definitions.specs.declared.Bellatrix.{Bellatrix}
 use Rattle.definitions.specs.Record.{BeaconState}
 use Rattle.definitions.specs.Checked.{value}
 use Rattle.definitions.specs.ExitQueue.{queueOf}
 use Rattle.definitions_file.specs.File.{countOf, slashingCountOf, writeTests, written, read}
-use Rattle.definitions_shelf.specs.ClosedFile.{fileTests, work, closedContents, partFor}
+use Rattle.definitions_file.specs.ClosedFile.{fileTests, work, closedContents, partFor}
 use Rattle.round_trip.specs.RoundTrip.{Typed, TypedQueue}
 
 pub record Written (fork : ℕ) (pair : Bellatrix) (file part : List ℕ) (after : BeaconState) : Type 0 where

@@ -9,28 +9,28 @@ ghost use Rattle.definitions.specs.Rust.Phase0.EpochProcessing.{resetSlashings}
 ghost use Rattle.definitions.specs.Record.{decode};
 ghost use Rattle.definitions.specs.ExitQueue.{queueOf};
 ghost use Rattle.definitions_file.specs.File.{versionOf, contentsOf, goodHeader, fileOf};
-ghost use Rattle.definitions_shelf.specs.ClosedFile.{rulesIn, fileTests, answerFor, partFor};
+ghost use Rattle.definitions_file.specs.ClosedFile.{rulesIn, fileTests, answerFor, partFor};
 ghost use Rattle.record_file.specs.Answers.{Sized, contentsWith};
 ghost use Rattle.registry_close.specs.Worked.{stateNow, Tested, Worked};
 ghost use Rattle.shelf_file.specs.Parts.{Counts, Counted, numbersBehind, Opened, FileClosed};
+use definitions::Bellatrix;
+use definitions::CloseAnswer;
+use definitions::Finality;
+use definitions::Rules;
+use definitions::Settings;
 use exit_queue::queue_of;
 use fields::put_bytes;
 use fields::read_finality;
 use fields::read_numbers;
 use fields::read_settings;
-use file_header::good_header;
-use file_header::read_counts;
+use file_refusals::file_header::good_header;
+use file_refusals::file_header::read_counts;
 use file_refusals::read_tests;
 use record_file::put_record;
+use refusals::rules::rules_refusal;
+use refusals::rules::settings_under;
 use registry_close::close_registry;
-use rules::rules_refusal;
-use rules::settings_under;
 use slashings::slashings_reset_core;
-use types::Bellatrix;
-use types::CloseAnswer;
-use types::Finality;
-use types::Rules;
-use types::Settings;
 
 // Test 6, which version 1 does not pass on a shelf.
 fn on_shelf(file: &[u8]) -> bool
@@ -39,7 +39,7 @@ fn on_shelf(file: &[u8]) -> bool
     if !good_header(file) {
         return false;
     }
-    let version = reader::read_number(file, 0);
+    let version = fields::reader::read_number(file, 0);
     version.number == 2
 }
 

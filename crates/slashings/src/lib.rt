@@ -12,25 +12,25 @@ ghost use Rattle.definitions.specs.Rules.{settingsUnder, slashingsTests};
 ghost use Rattle.definitions.specs.Rust.Phase0.EpochProcessing.{resetSlashings};
 ghost use Rattle.definitions.specs.Rust.Altair.EpochProcessing.{slash, «process_slashings»};
 ghost use Rattle.agreement.specs.Bounds.{Passed};
-ghost use Rattle.loops.specs.Ran.{Settles, Ran};
-ghost use Rattle.buffers.specs.Closes.{Closes};
+ghost use Rattle.laws.specs.Ran.{Settles, Ran};
+ghost use Rattle.refusals.specs.Closes.{Closes};
 ghost use Rattle.slashings.specs.Adjusted.{adjustedBalance};
 use arithmetic::add64;
 use arithmetic::min;
 use arithmetic::mul64;
 use balances::entry_decrease_balance;
-use buffers::copy;
+use definitions::Number;
+use definitions::Rules;
+use definitions::Settings;
 use leaf_refusals::current_epoch;
+use leaf_refusals::registry_refusals::slot_registry_tests;
+use refusals::buffers::copy;
 use refusals::good_settings;
 use refusals::is_small;
+use refusals::rules::rules_refusal;
+use refusals::rules::settings_under;
 use refusals::settings_shaped;
-use registry_refusals::slot_registry_tests;
-use rules::rules_refusal;
-use rules::settings_under;
 use totals::total_active;
-use types::Number;
-use types::Rules;
-use types::Settings;
 
 // What was slashed, over the lent epochs.
 fn slashed_balance(slashings: &[u64]) -> Number

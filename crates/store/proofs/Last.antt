@@ -10,8 +10,8 @@ use lib.ListN.{length, getD, take}
 use lib.Seq.{take-suc, take-all}
 use Rattle.definitions.specs.Lists.{filter}
 use Rattle.definitions.specs.Checked.{value}
-use Rattle.definitions_store.specs.Store.{Entry, entriesFrom, lastOf, entryFor}
-use Rattle.store_entries.proofs.Entries.{blank, length-entries, start-at}
+use Rattle.definitions_close.specs.Store.{Entry, entriesFrom, lastOf, entryFor}
+use Rattle.store.proofs.store_entries.Entries.{blank, length-entries, start-at}
 use Rattle.store.specs.Answers.{Finds}
 
 pub last-append : (es : List Entry) (e : Entry) → lastOf (es ++ (e ∷ [])) ≡ value e

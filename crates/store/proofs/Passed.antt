@@ -10,7 +10,7 @@ use Rattle.definitions.specs.Lists.{all}
 use Rattle.definitions.specs.Checked.{Checked, value, refused, lateStart, codeOf}
 use Rattle.definitions.specs.Refusals.{inOrder, afterTests}
 use Rattle.definitions.specs.Rules.{rulesShaped, goodRules}
-use Rattle.definitions_store.specs.Store.{Entry, Store, entries, room, lastOf, ofLast, keeps, inSequence, storeShaped, goodEntries, storeTests, additionShaped, startTest, additionTests}
+use Rattle.definitions_close.specs.Store.{Entry, Store, entries, room, lastOf, ofLast, keeps, inSequence, storeShaped, goodEntries, storeTests, additionShaped, startTest, additionTests}
 use Rattle.laws.proofs.Checked.{not-value, bound}
 use Rattle.refusals.proofs.All.{both}
 use Rattle.refusals.proofs.Answers.{passed}

@@ -3,12 +3,12 @@ use mathlib.Core.List.{List, []}
 use mathlib.Core.Path.{_≡_}
 use Prim.Native.Nat.{ℕ, _≤_, _<_}
 use lib.ListN.{length, getD}
-use Rattle.types.specs.declared.Rules.{Rules}
+use Rattle.definitions.specs.declared.Rules.{Rules}
 use Rattle.definitions.specs.Checked.{value, refused, noEntry}
-use Rattle.definitions_store.specs.declared.RulesAnswer.{RulesAnswer}
-use Rattle.definitions_store.specs.declared.CountAnswer.{CountAnswer}
-use Rattle.definitions_store.specs.Store.{Entry, entryOf, entryFor, noRules, AddOutcome}
-use Rattle.store_entries.specs.Lent.{lent}
+use Rattle.definitions_close.specs.declared.RulesAnswer.{RulesAnswer}
+use Rattle.definitions_close.specs.declared.CountAnswer.{CountAnswer}
+use Rattle.definitions_close.specs.Store.{Entry, entryOf, entryFor, noRules, AddOutcome}
+use Rattle.store.specs.Lent.{lent}
 
 -- the place r is that of the epoch's entry, or past the end where there is none
 pub record Finds (epoch : ℕ) (es : List Entry) (r : ℕ) : Type 0 where

@@ -4,21 +4,25 @@ ghost use Prim.Native.Nat.{_*_, _≤_};
 ghost use lib.Dec.{ltb};
 ghost use lib.ListN.{length};
 ghost use Rattle.definitions.specs.Checked.{codeOf};
-ghost use Rattle.definitions_store.specs.Store.{entriesFrom, keeps, lastOf, ofLast, storeTests, rulesAt, readRules, rulesAnswerFor, noRules, numbersOf, additionShaped, additionTests, added};
-ghost use Rattle.store_entries.specs.Lent.{lent};
+ghost use Rattle.definitions_close.specs.Store.{entriesFrom, keeps, lastOf, ofLast, storeTests, rulesAt, readRules, rulesAnswerFor, noRules, numbersOf, additionShaped, additionTests, added};
+ghost use Rattle.store.specs.Lent.{lent};
 ghost use Rattle.store.specs.Answers.{Finds, turnedAway, newEntry, addOutcome};
-use buffers::copy;
-use definitions_store::CountAnswer;
-use definitions_store::RulesAnswer;
-use store_entries::entry_rules;
-use store_entries::good_entries;
-use store_entries::good_rules;
-use store_entries::keeps;
-use store_entries::rules_shaped;
-use store_entries::store_shaped;
-use types::Bellatrix;
-use types::Rules;
-use types::Settings;
+
+pub mod store_entries;
+pub mod store_rules;
+
+use crate::store_entries::entry_rules;
+use crate::store_entries::good_entries;
+use crate::store_entries::good_rules;
+use crate::store_entries::keeps;
+use crate::store_entries::rules_shaped;
+use crate::store_entries::store_shaped;
+use definitions::Bellatrix;
+use definitions::Rules;
+use definitions::Settings;
+use definitions_close::CountAnswer;
+use definitions_close::RulesAnswer;
+use refusals::buffers::copy;
 
 // The place of the last of the first n entries whose start is not above the epoch; n where there is none.
 fn find_entry(store: &[u64], n: usize, epoch: u64) -> usize

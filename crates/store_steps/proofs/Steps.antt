@@ -5,18 +5,18 @@ use Prim.Native.Nat.{ℕ, _+_, _≤_, _<_}
 use native.Mathlib.Omega.{arith}
 use borrow.Author.Tests.{eq-eqb, ne-eqb, eqb-true, le-leb, lt-leb}
 use lib.Dec.{leb, eqb}
-use Rattle.types.specs.declared.Rules.{Rules}
+use Rattle.definitions.specs.declared.Rules.{Rules}
 use Rattle.definitions.specs.Checked.{Checked}
-use Rattle.definitions_orders.specs.declared.RunningAnswer.{RunningAnswer}
-use Rattle.definitions_orders.specs.CloseBySteps.{inTurn, endedBy, unwritten, closeStep}
-use Rattle.definitions_orders.specs.Orders.{carryOut}
-use Rattle.definitions_store.specs.declared.RulesAnswer.{RulesAnswer}
-use Rattle.definitions_store.specs.Store.{rulesAnswerFor}
-use Rattle.definitions_store.specs.StoreClose.{rulesFor}
-use Rattle.definitions_store.specs.StoreSteps.{StoreStepCall, stepBy, stepOf, storeSoFar, storeFound, stepRefused, storeStepBy, storeStep, StoreNinthCall, ninthBy, ninthRules, carryBy, storeCarryOut}
-use Rattle.close_steps.specs.Called.{stepOutcome, endedAnswer}
+use Rattle.definitions_close.specs.declared.RunningAnswer.{RunningAnswer}
+use Rattle.definitions_close.specs.CloseBySteps.{inTurn, endedBy, unwritten, closeStep}
+use Rattle.definitions_close.specs.Orders.{carryOut}
+use Rattle.definitions_close.specs.declared.RulesAnswer.{RulesAnswer}
+use Rattle.definitions_close.specs.Store.{rulesAnswerFor}
+use Rattle.definitions_close.specs.StoreClose.{rulesFor}
+use Rattle.definitions_close.specs.StoreSteps.{StoreStepCall, stepBy, stepOf, storeSoFar, storeFound, stepRefused, storeStepBy, storeStep, StoreNinthCall, ninthBy, ninthRules, carryBy, storeCarryOut}
+use Rattle.close_by_steps.specs.Called.{stepOutcome, endedAnswer}
 use Rattle.orders.specs.Called.{ninthOutcome}
-use Rattle.store_rules.proofs.Given.{rules-given, rules-turned}
+use Rattle.store.proofs.store_rules.Given.{rules-given, rules-turned}
 use Rattle.store_steps.specs.Called.{firstStep, laterStep, ninthRulesWith}
 
 -- the first eight calls

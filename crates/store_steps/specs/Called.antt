@@ -2,15 +2,15 @@
 use mathlib.Core.Bool.{true, _&&_}
 use mathlib.Core.List.{List}
 use Prim.Native.Nat.{ℕ}
-use Rattle.types.specs.declared.Rules.{Rules}
+use Rattle.definitions.specs.declared.Rules.{Rules}
 use Rattle.definitions.specs.Checked.{Checked}
 use Rattle.definitions.specs.Refusals.{inOrder, afterTests, isSmall, registryShaped}
-use Rattle.definitions_orders.specs.declared.Running.{Running}
-use Rattle.definitions_orders.specs.CloseBySteps.{StepOutcome}
-use Rattle.definitions_store.specs.Store.{Store, entries, storeShaped, goodEntries}
-use Rattle.definitions_store.specs.StoreClose.{StoreCall, rulesAtSlot, rulesFor}
-use Rattle.definitions_store.specs.StoreSteps.{StoreStepCall, storeSoFar, storeStepBy, StoreNinthCall}
-use Rattle.ninth_call.specs.Ninth.{listsShaped}
+use Rattle.definitions_close.specs.declared.Running.{Running}
+use Rattle.definitions_close.specs.CloseBySteps.{StepOutcome}
+use Rattle.definitions_close.specs.Store.{Store, entries, storeShaped, goodEntries}
+use Rattle.definitions_close.specs.StoreClose.{StoreCall, rulesAtSlot, rulesFor}
+use Rattle.definitions_close.specs.StoreSteps.{StoreStepCall, storeSoFar, storeStepBy, StoreNinthCall}
+use Rattle.orders.specs.Ninth.{listsShaped}
 
 abbrev pub storeStepCalled : ℕ → Running → StoreCall → StoreStepCall
 storeStepCalled number running whole = record { number = number; running = running; whole = whole }

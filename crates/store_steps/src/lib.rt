@@ -3,29 +3,32 @@ ghost use mathlib.Core.Path.{_≡_};
 ghost use mathlib.Core.Bool.{_&&_};
 ghost use Prim.Native.Nat.{_+_, _≤_};
 ghost use lib.Dec.{leb, eqb};
-ghost use Rattle.definitions_store.specs.Store.{rulesAnswerFor};
-ghost use Rattle.definitions_store.specs.StoreSteps.{storeStep, storeCarryOut};
-ghost use Rattle.close_steps.specs.Called.{stepOutcome};
+ghost use Rattle.definitions_close.specs.Store.{rulesAnswerFor};
+ghost use Rattle.definitions_close.specs.StoreSteps.{storeStep, storeCarryOut};
+ghost use Rattle.close_by_steps.specs.Called.{stepOutcome};
 ghost use Rattle.orders.specs.Called.{ninthOutcome};
-ghost use Rattle.store_entries.specs.Lent.{lent};
-ghost use Rattle.store_rules.specs.Called.{storeCalled};
+ghost use Rattle.store.specs.Lent.{lent};
+ghost use Rattle.store.specs.Called.{storeCalled};
 ghost use Rattle.store_steps.specs.Called.{storeStepCalled, firstStep, laterStep, storeNinthCalled, ninthRulesWith};
+
+pub mod store_close;
+
 use close_by_steps::close_step;
-use close_steps::ended_by;
-use definitions_orders::Running;
-use definitions_orders::RunningAnswer;
-use definitions_store::RulesAnswer;
-use ninth_call::carry_out;
-use ninth_call::lists_shaped;
+use close_by_steps::close_steps::ended_by;
+use definitions::ExitQueue;
+use definitions::Finality;
+use definitions_close::RulesAnswer;
+use definitions_close::Running;
+use definitions_close::RunningAnswer;
+use orders::ninth_call::carry_out;
+use orders::ninth_call::lists_shaped;
 use refusals::is_small;
 use refusals::registry_shaped;
+use store::store_entries::good_entries;
+use store::store_entries::store_shaped;
+use store::store_rules::rules_at_slot;
+use store::store_rules::rules_for;
 use store::turned_away;
-use store_entries::good_entries;
-use store_entries::store_shaped;
-use store_rules::rules_at_slot;
-use store_rules::rules_for;
-use types::ExitQueue;
-use types::Finality;
 
 // The first call, by the opening's epoch. Where the store has no rules for it the close ends as the whole close is refused.
 fn first_step(

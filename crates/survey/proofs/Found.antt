@@ -7,7 +7,7 @@ use native.Mathlib.Omega.{arith}
 use borrow.Author.Tests.{lt-ltb, le-ltb, ltb-true, ltb-false, eqb-true, eqb-false, eq-eqb}
 use lib.Dec.{ltb, eqb}
 use lib.ListN.{length, getD, take, length-take, length-map, List·getD-map}
-use Rattle.types.specs.declared.Settings.{Settings}
+use Rattle.definitions.specs.declared.Settings.{Settings}
 use Rattle.definitions.specs.Lists.{filter, all, sum}
 use Rattle.definitions.specs.Checked.{value, refused, overflow, sum64}
 use Rattle.definitions.specs.Record.{Validator, decodeOne, decode, nobody}
@@ -16,10 +16,10 @@ use Rattle.definitions.specs.Rust.Phase0.Helpers.{«get_active_validator_indice
 use Rattle.definitions.specs.Rust.Altair.Helpers.{isUnslashedParticipating}
 use Rattle.laws.proofs.Encode.{length-decode}
 use Rattle.refusals.proofs.All.{both}
-use Rattle.loops.proofs.Entry.{entryAt}
-use Rattle.loops.proofs.Filtered.{filter-last, filter-le, sum64-filter}
-use Rattle.loops.proofs.Reading.{Reading, reading-none, reading-more, reading-is, prefix-all, prefix-more}
-use Rattle.loops.proofs.Summed.{sum-append, sum64-given, sum64-refused}
+use Rattle.laws.proofs.Loops.Entry.{entryAt}
+use Rattle.laws.proofs.Loops.Filtered.{filter-last, filter-le, sum64-filter}
+use Rattle.laws.proofs.Loops.Reading.{Reading, reading-none, reading-more, reading-is, prefix-all, prefix-more}
+use Rattle.laws.proofs.Loops.Summed.{sum-append, sum64-given, sum64-refused}
 use Rattle.selection.specs.Keep.{Blank, Kept, waitingSince}
 use Rattle.selection.proofs.Picking.{Picking, picking-none, picking-more}
 use Rattle.selection.proofs.Waiting.{smallest-kept}

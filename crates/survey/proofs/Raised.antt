@@ -2,7 +2,7 @@
 use mathlib.Core.Path.{_≡_}
 use mathlib.Core.List.{List, map}
 use Prim.Native.Nat.{ℕ, max}
-use Rattle.types.specs.declared.Settings.{Settings}
+use Rattle.definitions.specs.declared.Settings.{Settings}
 use Rattle.definitions.specs.Checked.{value, bind, sum64}
 use Rattle.definitions.specs.Record.{Validator}
 use Rattle.definitions.specs.Rust.Phase0.Helpers.{«get_active_validator_indices», «get_total_balance»}

@@ -5,13 +5,13 @@ use mathlib.Core.List.{List}
 use Prim.Native.Nat.{ℕ, _+_, _%_, _^_}
 use lib.Dec.{ltb, eqb}
 use lib.ListN.{length}
-use Rattle.types.specs.declared.Settings.{Settings}
+use Rattle.definitions.specs.declared.Settings.{Settings}
 use Rattle.definitions.specs.Checked.{value, refused, overflow}
 use Rattle.definitions.specs.Record.{Validator, decode}
 use Rattle.definitions.specs.Refusals.{goodValidator, goodRegistry}
 use Rattle.definitions.specs.Rust.Phase0.Helpers.{«get_active_validator_indices»}
 use Rattle.definitions.specs.Rust.Altair.Helpers.{«TIMELY_SOURCE_FLAG_INDEX», «TIMELY_TARGET_FLAG_INDEX», «TIMELY_HEAD_FLAG_INDEX», isUnslashedParticipating}
-use Rattle.queue.specs.Cut.{eligibleNow}
+use Rattle.agreement.specs.Cut.{eligibleNow}
 use Rattle.selection.specs.Keep.{Smallest}
 use Rattle.exit_queue.specs.Queue.{Tracks, joined}
 use Rattle.survey.specs.declared.Sums.{Sums}

@@ -8,6 +8,8 @@ ghost use Rattle.definitions.specs.Record.{decodeOne};
 ghost use Rattle.selection.specs.Keep.{Blank};
 ghost use Rattle.survey.specs.Sums.{sumsOf, raisedTo};
 ghost use Rattle.survey.specs.Found.{overAfter, sumsAfter, oversAfter, foundAfter, allFit, Finds};
+use definitions::ExitQueue;
+use definitions::Settings;
 use entries::flags_at;
 use entries::is_active;
 use entries::participates;
@@ -17,8 +19,6 @@ use selection::keep;
 use selection::waiting_since;
 use std::num::wrapping_add_u64;
 use totals::raised;
-use types::ExitQueue;
-use types::Settings;
 
 // Sums over those active at the current epoch, over those that participate by the previous epoch's source, target and head flag, and over
 // those that do by the current epoch's target flag.

@@ -4,8 +4,8 @@ use mathlib.Core.Bool.{Bool, cond}
 use mathlib.Core.List.{List, map}
 use Prim.Native.Nat.{ℕ, _+_, _^_, _≤_, _<_, max}
 use native.Mathlib.Omega.{arith}
-use Rattle.types.specs.declared.Settings.{Settings}
-use Rattle.types.specs.declared.Number.the-variants.{Value, Refused}
+use Rattle.definitions.specs.declared.Settings.{Settings}
+use Rattle.definitions.specs.declared.Number.the-variants.{Value, Refused}
 use Rattle.definitions.specs.Lists.{filter}
 use Rattle.definitions.specs.Record.{Validator, decodeOne, decode}
 use Rattle.definitions.specs.Checked.{Checked, value, sum64, bind}
@@ -13,9 +13,9 @@ use Rattle.definitions.specs.Answers.{numberFor, Says}
 use Rattle.definitions.specs.Rust.Phase0.Helpers.{«get_total_balance»}
 use Rattle.laws.proofs.Checked.{bound, value-same}
 use Rattle.arithmetic.proofs.Operations.{OnlyOverflow, only-value, only-sum64, only-bind}
-use Rattle.loops.proofs.Entry.{entryAt}
-use Rattle.loops.proofs.Filtered.{sum64-filter}
-use Rattle.loops.proofs.Summed.{Summed, summed-all, summed-over}
+use Rattle.laws.proofs.Loops.Entry.{entryAt}
+use Rattle.laws.proofs.Loops.Filtered.{sum64-filter}
+use Rattle.laws.proofs.Loops.Summed.{Summed, summed-all, summed-over}
 
 module _ (p : Validator → Bool) where
   -- nothing where the test fails

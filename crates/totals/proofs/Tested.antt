@@ -1,8 +1,8 @@
 -- An answer after tests. `x` is the number that the tests' code gave.
 use mathlib.Core.Path.{_≡_, sym, ap, _∙_}
 use Prim.Native.Nat.{ℕ}
-use Rattle.types.specs.declared.Number.{Number}
-use Rattle.types.specs.declared.Number.the-variants.{Value, Refused}
+use Rattle.definitions.specs.declared.Number.{Number}
+use Rattle.definitions.specs.declared.Number.the-variants.{Value, Refused}
 use Rattle.definitions.specs.Checked.{Checked, value, codeOf}
 use Rattle.definitions.specs.Answers.{numberFor, Says}
 use Rattle.definitions.specs.Refusals.{afterTests}

@@ -2,11 +2,11 @@
 use mathlib.Core.Path.{_≡_, refl, sym, ap, _∙_}
 use mathlib.Core.List.{List, map}
 use Prim.Native.Nat.{ℕ}
-use Rattle.types.specs.declared.Settings.{Settings}
-use Rattle.types.specs.declared.Number.{Number}
-use Rattle.types.specs.declared.Total.{Total}
-use Rattle.types.specs.declared.TotalAnswer.{TotalAnswer}
-use Rattle.types.specs.declared.TotalAnswer.the-variants.{Value as TotalValue, Refused as TotalRefused}
+use Rattle.definitions.specs.declared.Settings.{Settings}
+use Rattle.definitions.specs.declared.Number.{Number}
+use Rattle.definitions.specs.declared.Total.{Total}
+use Rattle.definitions.specs.declared.TotalAnswer.{TotalAnswer}
+use Rattle.definitions.specs.declared.TotalAnswer.the-variants.{Value as TotalValue, Refused as TotalRefused}
 use Rattle.definitions.specs.Lists.{sum}
 use Rattle.definitions.specs.Record.{Validator}
 use Rattle.definitions.specs.Checked.{Checked, value, refused, overflow, bind, sum64, codeOf}

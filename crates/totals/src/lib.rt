@@ -18,18 +18,21 @@ ghost use Rattle.definitions.specs.Rust.Altair.Helpers.{isUnslashedParticipatin
 ghost use Rattle.definitions.specs.Close.{charged};
 ghost use Rattle.totals.specs.Members.{isMember, flagOf};
 ghost use Rattle.totals.specs.Totals.{totalFrom, balanceFor};
+
+pub mod raising;
+
 use arithmetic::max;
+use definitions::Number;
+use definitions::Settings;
+use definitions::Total;
+use definitions::TotalAnswer;
 use entries::entry_is_active;
 use entries::entry_is_eligible;
 use entries::entry_is_participating;
 use leaf_refusals::current_epoch;
 use leaf_refusals::previous_epoch;
-use registry_refusals::participation_tests;
-use registry_refusals::slot_registry_tests;
-use types::Number;
-use types::Settings;
-use types::Total;
-use types::TotalAnswer;
+use leaf_refusals::registry_refusals::participation_tests;
+use leaf_refusals::registry_refusals::slot_registry_tests;
 
 // Whom a total or a count is over. At `Participating` the flag's index is at most 7.
 enum Members {

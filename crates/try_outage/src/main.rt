@@ -1,5 +1,5 @@
 // Reads a record file, a number of epochs, a root and each validator's absence from standard input, and prints the closes of those epochs.
 
 fn main() {
-    outage_console::try_from(0);
+    console::outage_console::try_from(0);
 }

@@ -4,8 +4,8 @@ use mathlib.Core.Bool.{Bool, true, false, cond}
 use mathlib.Core.List.{List}
 use Prim.Native.Nat.{ℕ}
 use native.Mathlib.Omega.{arith}
-use Rattle.types.specs.declared.ExitQueue.{ExitQueue}
-use Rattle.types.specs.declared.QueueAnswer.{QueueAnswer}
+use Rattle.definitions.specs.declared.ExitQueue.{ExitQueue}
+use Rattle.definitions.specs.declared.QueueAnswer.{QueueAnswer}
 use Rattle.definitions.specs.Record.{decode}
 use Rattle.definitions.specs.Checked.{bind}
 use Rattle.definitions.specs.Refusals.{inOrder, registryShaped, goodRegistry, afterTests}

@@ -11,17 +11,17 @@ use Rattle.definitions.specs.Checked.{Checked, value, refused, Refusal, bind, c
 use Rattle.definitions.specs.ExitQueue.{queueOf}
 use Rattle.laws.proofs.Checked.{not-value, number-not-zero}
 use Rattle.laws.proofs.Encode.{length-decode, decode-encode, encode-decode}
-use Rattle.loops.specs.Ran.{Settles}
-use Rattle.loops.proofs.Entry.{entryAt, putAt, entry-is, entry-back, number-at}
-use Rattle.loops.proofs.Ran.{code-value, ran-entry, ran-gave}
-use Rattle.types.specs.declared.ExitQueue.{ExitQueue}
-use Rattle.exits.specs.Exits.{exitAt, Leaves}
-use Rattle.exits.proofs.Exits.{exit-known}
+use Rattle.laws.specs.Ran.{Settles}
+use Rattle.laws.proofs.Loops.Entry.{entryAt, putAt, entry-is, entry-back, number-at}
+use Rattle.laws.proofs.Loops.Ran.{code-value, ran-entry, ran-gave}
+use Rattle.definitions.specs.declared.ExitQueue.{ExitQueue}
+use Rattle.exit_queue.specs.Exits.{exitAt, Leaves}
+use Rattle.exit_queue.proofs.exits.Exits.{exit-known}
 use Rattle.exit_queue.specs.declared.Turn.{Turn}
 use Rattle.exit_queue.specs.Queue.{Tracks, joined, startPair, exitBy, moved}
 use Rattle.exit_queue.specs.Turns.{Exits}
 use Rattle.exit_queue.proofs.Tracks.{tracks-set, tracks-few, tracks-start}
-use Rattle.exit_queue.proofs.Exits.{exit-tracked}
+use Rattle.exit_queue.proofs.Exiting.{exit-tracked}
 use Rattle.exit_queue.proofs.Turns.{moved-far}
 use Rattle.exit_queue.proofs.QueueOf.{tracks-is, tracks-queue}
 use Rattle.validator_exit.specs.Exits.{ExitsAt}

@@ -9,11 +9,11 @@ use Rattle.definitions.specs.Lists.{filter}
 use Rattle.definitions.specs.Record.{Validator, decodeOne, decode}
 use Rattle.definitions.specs.Refusals.{goodValidator, goodRegistry}
 use Rattle.definitions.specs.Rust.Phase0.Helpers.{«is_active_validator», «get_active_validator_indices»}
-use Rattle.loops.proofs.Entry.{entryAt}
-use Rattle.loops.proofs.Filtered.{filter-last, filter-le}
-use Rattle.loops.proofs.Reading.{prefix-all, prefix-more}
-use Rattle.loops.proofs.Tested.{Tested, tested-none, tested-more, tested-stop, tested-all}
-use Rattle.types.specs.declared.ExitQueue.{ExitQueue}
+use Rattle.laws.proofs.Loops.Entry.{entryAt}
+use Rattle.laws.proofs.Loops.Filtered.{filter-last, filter-le}
+use Rattle.laws.proofs.Loops.Reading.{prefix-all, prefix-more}
+use Rattle.laws.proofs.Loops.Tested.{Tested, tested-none, tested-more, tested-stop, tested-all}
+use Rattle.definitions.specs.declared.ExitQueue.{ExitQueue}
 use Rattle.exit_queue.specs.Queue.{joined}
 use Rattle.exit_queue.proofs.QueueOf.{Tracking, tracking-none, tracking-more, tracking-all}
 use Rattle.validator_exit.specs.Exits.{Sees}

@@ -7,8 +7,8 @@ use Prim.Native.Nat.{ℕ, _+_, _*_, _/_, max, _<_}
 use native.Mathlib.Omega.{arith}
 use native.Mathlib.Nat.{div-le-self}
 use lib.ListN.{length}
-use Rattle.types.specs.declared.Settings.{Settings}
-use Rattle.types.specs.declared.ExitQueue.{ExitQueue}
+use Rattle.definitions.specs.declared.Settings.{Settings}
+use Rattle.definitions.specs.declared.ExitQueue.{ExitQueue}
 use Rattle.definitions.specs.Record.{Validator, encode, decode, «FAR_FUTURE_EPOCH»}
 use Rattle.definitions.specs.Checked.{Checked, value, refused, bind, codeOf}
 use Rattle.definitions.specs.LeafRefusals.{isIndex, exitTests}
@@ -18,17 +18,17 @@ use Rattle.definitions.specs.Rust.Phase0.Helpers.{«compute_epoch_at_slot», «
 use Rattle.refusals.proofs.All.{both}
 use Rattle.refusals.proofs.Laws.{InOrder, in-order, PositiveDivisors, good-settings, registry-shaped, small}
 use Rattle.refusals.proofs.Answers.{passed}
-use Rattle.buffers.specs.Closes.{Closes}
-use Rattle.buffers.proofs.Closes.{closes-refused}
-use Rattle.exits.specs.Exits.{Leaves}
-use Rattle.exits.proofs.Exits.{exit-by-numbers}
-use Rattle.exits.proofs.Passed.{ExitPassed, exit-passed}
+use Rattle.refusals.specs.Closes.{Closes}
+use Rattle.refusals.proofs.buffers.Closes.{closes-refused}
+use Rattle.exit_queue.specs.Exits.{Leaves}
+use Rattle.exit_queue.proofs.exits.Exits.{exit-by-numbers}
+use Rattle.exit_queue.proofs.exits.Passed.{ExitPassed, exit-passed}
 use Rattle.exit_queue.specs.declared.Turn.{Turn}
 use Rattle.definitions_close.specs.QueueCalls.{exitQueueTests, QueueCloses}
-use Rattle.queue_tests.specs.Found.{foundTests}
-use Rattle.queue_tests.proofs.Queue.{QueuePassed, queue-passed}
-use Rattle.queue_tests.proofs.Found.{early-refused, found-code}
-use Rattle.queue_tests.proofs.Closes.{queue-closes}
+use Rattle.validator_exit.specs.Found.{foundTests}
+use Rattle.validator_exit.proofs.queue_tests.Queue.{QueuePassed, queue-passed}
+use Rattle.validator_exit.proofs.queue_tests.Found.{early-refused, found-code}
+use Rattle.validator_exit.proofs.queue_tests.Closes.{queue-closes}
 use Rattle.validator_exit.specs.declared.Seen.{Seen}
 use Rattle.validator_exit.specs.Exits.{Sees, ExitsAt}
 

@@ -8,7 +8,7 @@ use Rattle.definitions.specs.Record.{decode}
 use Rattle.definitions.specs.Refusals.{goodRegistry}
 use Rattle.definitions.specs.ExitQueue.{queueOf}
 use Rattle.definitions.specs.Rust.Phase0.Helpers.{«get_active_validator_indices»}
-use Rattle.exits.specs.Exits.{exitAt, Leaves}
+use Rattle.exit_queue.specs.Exits.{exitAt, Leaves}
 use Rattle.exit_queue.specs.declared.Turn.{Turn}
 use Rattle.validator_exit.specs.declared.Seen.{Seen}
 

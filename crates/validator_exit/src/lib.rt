@@ -12,22 +12,25 @@ ghost use Rattle.definitions.specs.ExitQueue.{queueOf};
 ghost use Rattle.definitions.specs.Rust.Phase0.Helpers.{«initiate_validator_exit»};
 ghost use Rattle.definitions_close.specs.QueueCalls.{exitQueueTests, QueueCloses, foundQueue};
 ghost use Rattle.validator_exit.specs.Exits.{Sees, ExitsAt};
+
+pub mod queue_tests;
+
+use crate::queue_tests::found_refusal;
+use definitions::ExitQueue;
+use definitions::QueueAnswer;
+use definitions::Settings;
 use entries::entry_is_active;
 use exit_queue::Turn;
 use exit_queue::exit_entry;
 use exit_queue::exited;
 use exit_queue::start_pair;
 use leaf_refusals::current_epoch;
-use queue_tests::found_refusal;
 use refusals::good_entry;
 use refusals::good_settings;
 use refusals::is_small;
 use refusals::registry_shaped;
 use refusals::settings_shaped;
 use totals::churn_by;
-use types::ExitQueue;
-use types::QueueAnswer;
-use types::Settings;
 
 const FAR_FUTURE_EPOCH: u64 = 18446744073709551615;
 

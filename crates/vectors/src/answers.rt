@@ -4,15 +4,15 @@ use crate::words::bytes_part;
 use crate::words::part;
 use crate::words::past;
 use crate::words::word;
-use types::Checkpoint;
-use types::Deltas;
-use types::DeltasAnswer;
-use types::Finality;
-use types::FinalityAnswer;
-use types::Number;
-use types::Total;
-use types::TotalAnswer;
-use types::Truth;
+use definitions::Checkpoint;
+use definitions::Deltas;
+use definitions::DeltasAnswer;
+use definitions::Finality;
+use definitions::FinalityAnswer;
+use definitions::Number;
+use definitions::Total;
+use definitions::TotalAnswer;
+use definitions::Truth;
 
 fn is_refused(c: Case, refusal: u64) -> bool {
     if refusal == 0 {

@@ -7,9 +7,9 @@ use crate::words::bytes_part;
 use crate::words::part;
 use crate::words::past;
 use crate::words::word;
-use types::Checkpoint;
-use types::Finality;
-use types::Settings;
+use definitions::Checkpoint;
+use definitions::Finality;
+use definitions::Settings;
 
 fn settings_of(w: &[u64]) -> Settings
     requires { ⌜ length (now w) ≡ 19 ⌝ }

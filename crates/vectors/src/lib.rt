@@ -1,8 +1,10 @@
 // The stored list in blocks of words, and its leaf cases: reference/vectors/README.md has its form. Nothing here trusts a
 // block: what would lie outside it reads as 0 or as empty, and a case whose parts do not fill it is refused.
+
 mod answers;
 mod case;
 mod inputs;
+pub mod records;
 mod shape;
 mod words;
 

@@ -8,17 +8,17 @@ use Rattle.definitions.specs.Checked.{Checked, value, refused, codeOf, overflow
 use Rattle.definitions.specs.Record.{Validator}
 use Rattle.definitions.specs.Refusals.{afterTests}
 use Rattle.definitions.specs.Rust.Phase0.Helpers.{«get_block_root»}
-use Rattle.roots.proofs.Codes.{given}
+use Rattle.epochs.proofs.roots.Codes.{given}
 use Rattle.refusals.proofs.Answers.{after-passed, after-refused}
 use Rattle.definitions_votes.specs.Exact.{Ballot, currentOf, previousOf, isFound, rootFound, rootsFound, Outcome}
 use Rattle.definitions_votes.specs.Votes.{votes}
-use Rattle.vote_sums.specs.declared.VoteSums.{VoteSums}
-use Rattle.vote_sums.specs.declared.VoteSumsAnswer.{VoteSumsAnswer}
-use Rattle.vote_sums.specs.declared.VoteSumsAnswer.the-variants.{Value, Refused}
+use Rattle.votes.specs.declared.vote_sums.VoteSums.{VoteSums}
+use Rattle.votes.specs.declared.vote_sums.VoteSumsAnswer.{VoteSumsAnswer}
+use Rattle.votes.specs.declared.vote_sums.VoteSumsAnswer.the-variants.{Value, Refused}
 use Rattle.definitions_votes.specs.declared.VotesAnswer.{VotesAnswer}
 use Rattle.definitions_votes.specs.Answers.{verdictNumber, firstThree, turnedAway, votesAnswerFor}
-use Rattle.vote_sums.specs.Sums.{Counted}
-use Rattle.vote_outcome.specs.Weighed.{weighedSums}
+use Rattle.votes.specs.Sums.{Counted}
+use Rattle.votes.specs.Weighed.{weighedSums}
 use Rattle.votes.proofs.Weighed.{votes-early, votes-missing, votes-by-sums, votes-over}
 
 found : (m : Checked (List ℕ)) {x : ℕ} → x ≡ codeOf m → x ≡ 0 → isFound m ≡ true

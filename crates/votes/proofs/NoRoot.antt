@@ -7,12 +7,12 @@ use native.Mathlib.Omega.{arith}
 use native.Mathlib.Decide.{decLe}
 use native.Mathlib.Nat.{div-mul-le-self, mul-le-mul-right}
 use lib.Dec.{eqb}
-use Rattle.types.specs.declared.Settings.{Settings}
+use Rattle.definitions.specs.declared.Settings.{Settings}
 use Rattle.definitions.specs.Checked.{value, refused, noRoot}
 use Rattle.definitions.specs.Rust.Phase0.Helpers.{«compute_epoch_at_slot», «compute_start_slot_at_epoch», «get_current_epoch», «get_previous_epoch», «get_block_root», «get_block_root_at_slot»}
 use Rattle.arithmetic.proofs.Operations.{add64-given, mul64-given}
 use Rattle.arithmetic.proofs.Laws.{bind-value}
-use Rattle.roots.proofs.Lookups as lookups
+use Rattle.epochs.proofs.roots.Lookups as lookups
 use Rattle.definitions_votes.specs.Exact.{isFound}
 use Rattle.votes.specs.Laws.{FourIsNoRoot}
 use Rattle.votes.proofs.Passed.{votes-passed}

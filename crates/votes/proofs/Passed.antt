@@ -6,8 +6,8 @@ use Prim.Native.Nat.{ℕ, _-_, _/_, _^_, _<_}
 use native.Mathlib.Omega.{arith}
 use borrow.Author.Tests.{eqb-true, ne-eqb}
 use lib.ListN.{length}
-use Rattle.types.specs.declared.Finality.{Finality}
-use Rattle.types.specs.declared.Settings.{Settings}
+use Rattle.definitions.specs.declared.Finality.{Finality}
+use Rattle.definitions.specs.declared.Settings.{Settings}
 use Rattle.definitions.specs.Checked.{codeOf}
 use Rattle.definitions.specs.Lists.{all}
 use Rattle.definitions.specs.Refusals.{settingsShaped, rootsShaped, registryShaped, lengthIs, goodSettings, goodFinality, goodRegistry}

@@ -11,16 +11,16 @@ use Rattle.definitions.specs.Checked.{Checked, value, refused, noRoot, overflow
 use Rattle.definitions.specs.Lists.{sum}
 use Rattle.definitions.specs.Rust.Phase0.EpochProcessing.{isJustified}
 use Rattle.laws.proofs.Checked.{not-value, value-same}
-use Rattle.loops.proofs.Summed.{sum64-given}
+use Rattle.laws.proofs.Loops.Summed.{sum64-given}
 use Rattle.definitions_votes.specs.Filling.{Filling, noneSet, allSet, filled}
 use Rattle.definitions_votes.specs.Exact.{Ballot, currentOf, previousOf, testOf, rootsFound, Outcome, nothingOpen}
 use Rattle.definitions_votes.specs.Votes.{weighedVotes, votes}
 use Rattle.definitions_votes.proofs.Filled.{active-kept}
 use Rattle.definitions_votes.proofs.Tests.{testBy, test-plain, test-fits}
 use Rattle.definitions_votes.proofs.Exact.{activeSum, test-sums, Given, Over, either, later}
-use Rattle.vote_sums.specs.declared.VoteSums.{VoteSums}
-use Rattle.vote_sums.specs.Sums.{weight, activeAt, hitsTarget, PlainSums}
-use Rattle.vote_outcome.specs.Weighed.{weighedBy, weighedSums}
+use Rattle.votes.specs.declared.vote_sums.VoteSums.{VoteSums}
+use Rattle.votes.specs.Sums.{weight, activeAt, hitsTarget, PlainSums}
+use Rattle.votes.specs.Weighed.{weighedBy, weighedSums}
 
 record Plain (xs : List ℕ) (x : ℕ) : Type 0 where
   pub is : sum xs ≡ x

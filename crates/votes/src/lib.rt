@@ -7,21 +7,25 @@ ghost use Rattle.definitions.specs.Refusals.{afterTests};
 ghost use Rattle.definitions_votes.specs.Filling.{goodMark};
 ghost use Rattle.definitions_votes.specs.Votes.{votes, votesTests, ballotOf};
 ghost use Rattle.definitions_votes.specs.Answers.{votesAnswerFor};
+
+pub mod vote_outcome;
+pub mod vote_sums;
+
+use crate::vote_outcome::refused;
+use crate::vote_outcome::weigh_votes;
+use crate::vote_sums::VoteSumsAnswer;
+use crate::vote_sums::count_votes;
+use definitions::Finality;
+use definitions::Settings;
 use definitions_votes::VotesAnswer;
+use epochs::roots::epoch_lookup;
+use epochs::roots::roots_shaped;
 use leaf_refusals::current_epoch;
 use leaf_refusals::previous_epoch;
 use refusals::good_finality;
 use refusals::good_registry;
 use refusals::good_settings;
 use refusals::registry_shaped;
-use roots::epoch_lookup;
-use roots::roots_shaped;
-use types::Finality;
-use types::Settings;
-use vote_outcome::refused;
-use vote_outcome::weigh_votes;
-use vote_sums::VoteSumsAnswer;
-use vote_sums::count_votes;
 
 fn good_marks(marks: &[u64]) -> bool
     ensures { λ r. ⌜ r ≡ all goodMark (now (marks .entry)) ⌝ }

@@ -1,8 +1,8 @@
 -- The finality that comes back, and its number. `old` is the one that was handed in.
 use mathlib.Core.Path.{_≡_, sym, ap, _∙_}
 use Prim.Native.Nat.{ℕ}
-use Rattle.types.specs.declared.Finality.{Finality}
-use Rattle.types.specs.declared.FinalityAnswer.{FinalityAnswer}
+use Rattle.definitions.specs.declared.Finality.{Finality}
+use Rattle.definitions.specs.declared.FinalityAnswer.{FinalityAnswer}
 use Rattle.definitions.specs.Answers.{finalityAnswerFor}
 use Rattle.definitions.specs.Checked.{Refusal, Checked, value, refused, numberOf, codeOf}
 use Rattle.definitions.specs.Refusals.{afterTests}

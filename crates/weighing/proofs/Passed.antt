@@ -5,8 +5,8 @@ use mathlib.Core.List.{List}
 use Prim.Native.Nat.{ℕ, _*_}
 use borrow.Author.Tests.{eqb-true}
 use lib.ListN.{length}
-use Rattle.types.specs.declared.Finality.{Finality}
-use Rattle.types.specs.declared.Settings.{Settings}
+use Rattle.definitions.specs.declared.Finality.{Finality}
+use Rattle.definitions.specs.declared.Settings.{Settings}
 use Rattle.definitions.specs.Checked.{codeOf}
 use Rattle.definitions.specs.Refusals.{settingsShaped, rootsShaped, goodSettings, goodFinality}
 use Rattle.definitions.specs.LeafRefusals.{weighTests}

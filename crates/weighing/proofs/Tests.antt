@@ -6,7 +6,7 @@ use Prim.Native.Nat.{ℕ, _*_, _<_}
 use native.Mathlib.Omega.{arith}
 use native.Mathlib.Nat.{mod-lt}
 use lib.ListN.{length, length-take, length-drop}
-use Rattle.types.specs.declared.Settings.{Settings}
+use Rattle.definitions.specs.declared.Settings.{Settings}
 use Rattle.definitions.specs.Answers.{Answers}
 use Rattle.definitions.specs.Checked.{Refusal, overflow, Checked, value, refused, numberOf, codeOf, bind}
 use Rattle.definitions.specs.Document.Phase0.Helpers as document

@@ -3,9 +3,9 @@ use mathlib.Core.Path.{_≡_, refl, ap, _∙_, fun-ext}
 use mathlib.Core.Bool.{Bool, true, false}
 use mathlib.Core.List.{List}
 use Prim.Native.Nat.{ℕ}
-use Rattle.types.specs.declared.Finality.{Finality}
-use Rattle.types.specs.declared.FinalityAnswer.{FinalityAnswer}
-use Rattle.types.specs.declared.Settings.{Settings}
+use Rattle.definitions.specs.declared.Finality.{Finality}
+use Rattle.definitions.specs.declared.FinalityAnswer.{FinalityAnswer}
+use Rattle.definitions.specs.declared.Settings.{Settings}
 use Rattle.definitions.specs.Answers.{Answers, finalityAnswerFor}
 use Rattle.definitions.specs.Checked.{Checked, value, refused, bind}
 use Rattle.definitions.specs.Document.Phase0.EpochProcessing.{weighed}

@@ -3,7 +3,7 @@ use mathlib.Core.Bool.{Bool, false, cond}
 use mathlib.Core.List.{List}
 use Prim.Native.Nat.{ℕ}
 use lib.ListN.{replicate}
-use Rattle.types.specs.declared.Settings.{Settings}
+use Rattle.definitions.specs.declared.Settings.{Settings}
 use Rattle.definitions.specs.Checked.{Checked, value, refused, numberOf, bind}
 use Rattle.definitions.specs.Rust.Phase0.EpochProcessing.{isJustified, rootWhere}
 use Rattle.weighing.specs.declared.EpochTest.{EpochTest}

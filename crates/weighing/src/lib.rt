@@ -9,22 +9,22 @@ ghost use Rattle.definitions.specs.LeafRefusals.{weighTests};
 ghost use Rattle.definitions.specs.Rust.Phase0.EpochProcessing.{isJustified, «weigh_justification_and_finalization»};
 ghost use Rattle.weighing.specs.Tests.{testEpoch, epochTestFor};
 use arithmetic::mul64;
+use definitions::Checkpoint;
+use definitions::Finality;
+use definitions::FinalityAnswer;
+use definitions::Number;
+use definitions::Settings;
+use definitions::Truth;
+use epochs::roots::epoch_lookup;
+use epochs::roots::epoch_root;
+use epochs::roots::root_copy;
+use epochs::roots::roots_shaped;
 use finality::weighed;
 use leaf_refusals::current_epoch;
 use leaf_refusals::previous_epoch;
 use refusals::good_finality;
 use refusals::good_settings;
 use refusals::in_order;
-use roots::epoch_lookup;
-use roots::epoch_root;
-use roots::root_copy;
-use roots::roots_shaped;
-use types::Checkpoint;
-use types::Finality;
-use types::FinalityAnswer;
-use types::Number;
-use types::Settings;
-use types::Truth;
 
 // Whether a target balance is two thirds of the total or more.
 pub fn is_justified(target: u64, total: u64) -> Truth

@@ -5,7 +5,7 @@ use Prim.Native.Nat.{ℕ, _+_, _-_, _≤_}
 use native.Mathlib.Omega.{arith}
 use borrow.Author.Tests.{ltb-true, ltb-false}
 use lib.Dec.{ltb, eqb}
-use Rattle.types.specs.declared.Settings.{Settings}
+use Rattle.definitions.specs.declared.Settings.{Settings}
 use Rattle.definitions.specs.Record.{Validator, «FAR_FUTURE_EPOCH»}
 use Rattle.definitions.specs.Updates.{withEffectiveBalance, withEligibility, withActivation, withExit, withBalance}
 use Rattle.definitions.specs.Checked.{Checked, value, refused, bind, add64}
@@ -16,11 +16,11 @@ use Rattle.definitions.specs.Rust.Phase0.Helpers.{«decrease_balance»}
 use Rattle.definitions.specs.Rust.Phase0.EpochProcessing.{updateEffectiveBalance}
 use Rattle.definitions.specs.Rust.Altair.EpochProcessing.{isSlashingDue, slashingPenalty, slash}
 use Rattle.laws.proofs.Checked.{value-same, bound}
-use Rattle.types.specs.declared.ExitQueue.{ExitQueue}
+use Rattle.definitions.specs.declared.ExitQueue.{ExitQueue}
 use Rattle.exit_queue.specs.Queue.{nextEpoch, exitBy}
-use Rattle.queue.specs.Cut.{queuedBefore, queuedAt, admitOne}
+use Rattle.agreement.specs.Cut.{queuedBefore, queuedAt, admitOne}
 use Rattle.registry.specs.Updates.{turnBy}
-use Rattle.sweeps.specs.Sweep.{Moved}
+use Rattle.write_turn.specs.Sweep.{Moved}
 use Rattle.write_turn.specs.declared.Plan.{Plan}
 use Rattle.write_turn.specs.declared.Course.{Course}
 use Rattle.write_turn.specs.Planned.{lastBy}

@@ -7,31 +7,31 @@ use native.Mathlib.Omega.{arith}
 use borrow.Author.Tests.{eq-eqb, ne-eqb, ltb-true, ltb-false}
 use lib.Dec.{ltb, eqb}
 use lib.ListN.{replicate}
-use Rattle.types.specs.declared.Settings.{Settings}
-use Rattle.types.specs.declared.Deltas.{Deltas}
+use Rattle.definitions.specs.declared.Settings.{Settings}
+use Rattle.definitions.specs.declared.Deltas.{Deltas}
 use Rattle.definitions.specs.Record.{Validator}
 use Rattle.definitions.specs.Updates.{withScore, withBalance}
 use Rattle.definitions.specs.Checked.{Checked, value, refused, overflow, bind, settle, add64, foldChecked}
 use Rattle.definitions.specs.Rust.Phase0.EpochProcessing.{isEligible}
 use Rattle.definitions.specs.Rust.Altair.Helpers.{FlagTotals, isUnslashedParticipating, flagIndexDeltas, inactivityPenaltyDeltas}
 use Rattle.definitions.specs.Rust.Altair.EpochProcessing.{movedScore, recoveredScore, updateInactivityScore, rewardAndPenalize}
-use Rattle.definitions_amounts.specs.Amounts.{pairs, booked}
+use Rattle.definitions_close.specs.Amounts.{pairs, booked}
 use Rattle.arithmetic.proofs.Laws.{bind-value}
 use Rattle.laws.proofs.Checked.{not-value, value-same, bound, add64-value}
-use Rattle.reward_balances.specs.Balances.{appliedBalance, rewardedBalance}
-use Rattle.reward_balances.proofs.Rewarded.{rewarded, not-rewarded}
+use Rattle.rates.specs.Balances.{appliedBalance, rewardedBalance}
+use Rattle.rates.proofs.reward_balances.Rewarded.{rewarded, not-rewarded}
 use Rattle.rewards.specs.Shared.{totalsOf}
 use Rattle.write_turn.specs.declared.Plan.{Plan}
 use Rattle.write_turn.specs.Planned.{scoredBy, rewardedBy, paidBy}
 use Rattle.write_turn.specs.Written.{payOf}
 use Rattle.write_pass.specs.declared.Booking.{Booking}
 use Rattle.write_pass.specs.declared.Pairs.{Pairs}
-use Rattle.write_pass.specs.Filled.{Gives, Books, four, left, Fits, eightBy, nineBy, Between}
+use Rattle.write_pass.specs.Filled.{Gives, BooksPair, four, left, Fits, eightBy, nineBy, Between}
 
 -- From a balance on
 
 -- what the code puts, pair by pair
-pub nine-booked : {r : Pairs} {balance : ℕ} (closing : ℕ) {w x y z : Booking} → Books balance (r .source) w → Books (w .left) (r .target) x → Books (x .left) (r .head) y → Books (y .left) (r .inactivity) z → (r .source .reward ∷ w .taken ∷ r .target .reward ∷ x .taken ∷ r .head .reward ∷ y .taken ∷ r .inactivity .reward ∷ z .taken ∷ (z .left - closing) ∷ []) ≡ booked balance (four r) ++ ((left balance (four r) - closing) ∷ [])
+pub nine-booked : {r : Pairs} {balance : ℕ} (closing : ℕ) {w x y z : Booking} → BooksPair balance (r .source) w → BooksPair (w .left) (r .target) x → BooksPair (x .left) (r .head) y → BooksPair (y .left) (r .inactivity) z → (r .source .reward ∷ w .taken ∷ r .target .reward ∷ x .taken ∷ r .head .reward ∷ y .taken ∷ r .inactivity .reward ∷ z .taken ∷ (z .left - closing) ∷ []) ≡ booked balance (four r) ++ ((left balance (four r) - closing) ∷ [])
 unfolding booked left
 nine-booked closing a b c d = rw (d .taken, d .left, c .taken, c .left, b .taken, b .left, a .taken, a .left)
 

@@ -6,16 +6,16 @@ use native.Mathlib.Omega.{arith}
 use borrow.Author.Count.{below-more}
 use lib.ListN.{length, getD, set, length-append, length-take, length-drop}
 use lib.Seq.{getD-set-same, getD-set-other}
-use Rattle.types.specs.declared.Settings.{Settings}
-use Rattle.types.specs.declared.ExitQueue.{ExitQueue}
+use Rattle.definitions.specs.declared.Settings.{Settings}
+use Rattle.definitions.specs.declared.ExitQueue.{ExitQueue}
 use Rattle.definitions.specs.Record.{Validator, decodeOne, decode, nobody}
 use Rattle.laws.proofs.Encode.{ten, decode-encode, length-decode}
-use Rattle.loops.specs.Ran.{Ran}
-use Rattle.loops.proofs.Entry.{entryAt, putAt, entry-ten, entry-is, entry-back}
+use Rattle.laws.specs.Ran.{Ran}
+use Rattle.laws.proofs.Loops.Entry.{entryAt, putAt, entry-ten, entry-is, entry-back}
 use Rattle.rates.specs.declared.Memo.{Memo}
-use Rattle.sweeps.specs.Sweep.{sweep, dropped}
-use Rattle.sweeps.proofs.Steps.{steps-gave}
-use Rattle.sweeps.proofs.Writing.{Writing, writing-none, writing-from, writing-to, writing-more, writing-stop, writing-all, swept-ran}
+use Rattle.write_turn.specs.Sweep.{sweep, dropped}
+use Rattle.write_turn.proofs.Sweeps.Steps.{steps-gave}
+use Rattle.write_turn.proofs.Sweeps.Writing.{Writing, writing-none, writing-from, writing-to, writing-more, writing-stop, writing-all, swept-ran}
 use Rattle.write_turn.specs.declared.Plan.{Plan}
 use Rattle.write_turn.specs.declared.Course.{Course}
 use Rattle.write_turn.specs.declared.Written.{Written}

@@ -4,10 +4,10 @@ use mathlib.Core.Bool.{Bool, true, false, cond, not, true≢false}
 use Prim.Native.Nat.{ℕ}
 use borrow.Author.Tests.{eqb-true, eqb-false}
 use lib.Dec.{eqb}
-use Rattle.types.specs.declared.Settings.{Settings}
-use Rattle.types.specs.declared.Deltas.{Deltas}
-use Rattle.types.specs.declared.DeltasAnswer.{DeltasAnswer}
-use Rattle.types.specs.declared.DeltasAnswer.the-variants.{Value, Refused}
+use Rattle.definitions.specs.declared.Settings.{Settings}
+use Rattle.definitions.specs.declared.Deltas.{Deltas}
+use Rattle.definitions.specs.declared.DeltasAnswer.{DeltasAnswer}
+use Rattle.definitions.specs.declared.DeltasAnswer.the-variants.{Value, Refused}
 use Rattle.definitions.specs.Record.{Validator}
 use Rattle.definitions.specs.Updates.{withScore}
 use Rattle.definitions.specs.Checked.{Checked, value}

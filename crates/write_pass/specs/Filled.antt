@@ -5,15 +5,15 @@ use mathlib.Core.List.{List, [], _∷_, _++_}
 use Prim.Native.Nat.{ℕ, _+_, _-_, _*_, _/_, _^_, _≤_, _<_, min}
 use lib.Dec.{eqb}
 use lib.ListN.{length, getD, take, drop, replicate}
-use Rattle.types.specs.declared.Settings.{Settings}
-use Rattle.types.specs.declared.Deltas.{Deltas}
-use Rattle.types.specs.declared.DeltasAnswer.{DeltasAnswer}
-use Rattle.types.specs.declared.DeltasAnswer.the-variants.{Value, Refused}
+use Rattle.definitions.specs.declared.Settings.{Settings}
+use Rattle.definitions.specs.declared.Deltas.{Deltas}
+use Rattle.definitions.specs.declared.DeltasAnswer.{DeltasAnswer}
+use Rattle.definitions.specs.declared.DeltasAnswer.the-variants.{Value, Refused}
 use Rattle.definitions.specs.Record.{Validator, decode, nobody}
 use Rattle.definitions.specs.Updates.{withScore}
 use Rattle.definitions.specs.Checked.{Checked, value, bind, settle}
 use Rattle.definitions.specs.Rust.Altair.Helpers.{noDeltas, flagIndexDeltas, inactivityPenaltyDeltas}
-use Rattle.definitions_amounts.specs.Amounts.{pairs, booked}
+use Rattle.definitions_close.specs.Amounts.{pairs, booked}
 use Rattle.rewards.specs.Shared.{totalsOf}
 use Rattle.rates.specs.declared.Amount.{Amount}
 use Rattle.rates.specs.Rated.{rewardOf, penaltyOf, byScore}
@@ -47,7 +47,7 @@ pub record Gives (s : Settings) (p : Plan) (score : ℕ) (v : Validator) (r : Pa
   pub inactivity : (d : Deltas) → inactivityPenaltyDeltas s (p .quotient) (p .shared .«current_epoch») (p .shared .«previous_epoch») (withScore score v) ≡ value d → r .inactivity ≡ d
 
 -- a reward and then a penalty, from a balance on
-pub record Books (balance : ℕ) (d : Deltas) (r : Booking) : Type 0 where
+pub record BooksPair (balance : ℕ) (d : Deltas) (r : Booking) : Type 0 where
   pub taken : r .taken ≡ min (balance + d .reward) (d .penalty)
   pub left : r .left ≡ balance + d .reward - min (balance + d .reward) (d .penalty)
 

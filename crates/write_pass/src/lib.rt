@@ -6,24 +6,24 @@ ghost use mathlib.Core.List.{[], _∷_, _++_};
 ghost use Prim.Native.Nat.{_+_, _-_, _*_, _/_, _^_, _≤_, _<_};
 ghost use lib.ListN.{length, getD};
 ghost use Rattle.definitions.specs.Record.{decodeOne, decode};
-ghost use Rattle.definitions_amounts.specs.Amounts.{booked};
+ghost use Rattle.definitions_close.specs.Amounts.{booked};
 ghost use Rattle.definitions.specs.Checked.{mul64};
 ghost use Rattle.definitions.specs.Answers.{Says};
-ghost use Rattle.loops.specs.Ran.{Ran};
+ghost use Rattle.laws.specs.Ran.{Ran};
 ghost use Rattle.rates.specs.Rated.{Most, Fits as FitsRates};
-ghost use Rattle.sweeps.specs.Sweep.{sweep, dropped};
+ghost use Rattle.write_turn.specs.Sweep.{sweep, dropped};
 ghost use Rattle.write_turn.specs.Planned.{Planned};
 ghost use Rattle.write_turn.specs.Written.{RatesFor, writtenWith};
-ghost use Rattle.write_pass.specs.Filled.{Given, flagAnswer, Charges, Gives, Books, four, left, Fits, nineBy, Between, PutAt, Fills};
+ghost use Rattle.write_pass.specs.Filled.{Given, flagAnswer, Charges, Gives, BooksPair, four, left, Fits, nineBy, Between, PutAt, Fills};
+use definitions::Deltas;
+use definitions::ExitQueue;
+use definitions::Number;
+use definitions::Settings;
 use entries::entry_is_eligible;
 use entries::entry_is_participating;
 use rates::Amount;
 use rates::Rates;
 use rates::no_memo;
-use types::Deltas;
-use types::ExitQueue;
-use types::Number;
-use types::Settings;
 use write_turn::Course;
 use write_turn::Plan;
 use write_turn::write_entry;
@@ -150,7 +150,7 @@ fn pairs_by(s: Settings, p: Plan, rates: Rates, score: u64, entry: &[u64]) -> Pa
 // A reward, then its penalty as far as there is balance.
 fn book(balance: u64, deltas: Deltas) -> Booking
     requires { ⌜ balance + deltas .reward < 2 ^ 64 ⌝ }
-    ensures { λ r. ⌜ Books balance deltas r ⌝ }
+    ensures { λ r. ⌜ BooksPair balance deltas r ⌝ }
 {
     let raised = balance + deltas.reward;
     let penalty = deltas.penalty;

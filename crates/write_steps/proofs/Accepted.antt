@@ -8,8 +8,8 @@ use native.Mathlib.Omega.{arith}
 use borrow.Author.Tests.{lt-ltb, eq-eqb, ne-eqb, eqb-true, ltb-true}
 use lib.Dec.{ltb, eqb}
 use lib.ListN.{length, replicate}
-use Rattle.types.specs.declared.Settings.{Settings}
-use Rattle.types.specs.declared.Checkpoint.{Checkpoint}
+use Rattle.definitions.specs.declared.Settings.{Settings}
+use Rattle.definitions.specs.declared.Checkpoint.{Checkpoint}
 use Rattle.definitions.specs.Lists.{sum, filter}
 use Rattle.definitions.specs.Record.{Validator, BeaconState, «GENESIS_EPOCH»}
 use Rattle.definitions.specs.Checked.{Refusal, overflow, Checked, value, refused, bind, mul64, sum64, mapChecked}
@@ -28,13 +28,13 @@ use Rattle.agreement.proofs.EffectiveBalances.{effective-balances}
 use Rattle.arithmetic.proofs.Operations.{OnlyOverflow, only-value, only-bind}
 use Rattle.arithmetic.proofs.Laws.{bind-value}
 use Rattle.refusals.proofs.All.{both}
-use Rattle.loops.proofs.Filtered.{sum-filter, sum64-filter}
+use Rattle.laws.proofs.Loops.Filtered.{sum-filter, sum64-filter}
 use Rattle.registry.proofs.Epochs.{Epochs}
 use Rattle.registry.proofs.Total.{total-kept}
 use Rattle.slashings.specs.Adjusted.{adjustedBalance}
 use Rattle.slashings.proofs.Adjusted.{slashings-by}
-use Rattle.effective_balances.specs.Thresholds.{thresholdsOf}
-use Rattle.effective_balances.proofs.Step.{updates-by}
+use Rattle.balances.specs.Thresholds.{thresholdsOf}
+use Rattle.balances.proofs.effective_balances.Step.{updates-by}
 use Rattle.survey.specs.declared.Sums.{Sums}
 use Rattle.survey.specs.Sums.{weight, activeAt, balanceOf, PlainSums}
 use Rattle.write_steps.specs.RegistrySteps.{registrySteps}

@@ -4,7 +4,7 @@ use mathlib.Core.Bool.{Bool, true, false, cond}
 use mathlib.Core.List.{List, [], _∷_, map}
 use Prim.Native.Nat.{ℕ}
 use lib.ListN.{length}
-use Rattle.types.specs.declared.Settings.{Settings}
+use Rattle.definitions.specs.declared.Settings.{Settings}
 use Rattle.definitions.specs.Checked.{Checked, value, refused, bind, mapChecked}
 use Rattle.definitions.specs.Lists.{sum, filter}
 use Rattle.definitions.specs.Record.{Validator}
@@ -14,9 +14,9 @@ use Rattle.definitions.specs.Rust.Phase0.Helpers.{«is_active_validator», «ge
 use Rattle.definitions.specs.Rust.Altair.Helpers.{isUnslashedParticipating, FlagTotals}
 use Rattle.definitions.specs.Rust.Altair.EpochProcessing.{movedScore, recoveredScore, updateInactivityScore, rewardAndPenalize}
 use Rattle.laws.proofs.Checked.{not-value, value-same, bound}
-use Rattle.loops.proofs.Filtered.{sum64-filter}
-use Rattle.reward_balances.specs.Balances.{rewardedBalance}
-use Rattle.reward_balances.proofs.Rewarded.{rewarded, not-rewarded}
+use Rattle.laws.proofs.Loops.Filtered.{sum64-filter}
+use Rattle.rates.specs.Balances.{rewardedBalance}
+use Rattle.rates.proofs.reward_balances.Rewarded.{rewarded, not-rewarded}
 use Rattle.survey.specs.declared.Sums.{Sums}
 use Rattle.survey.specs.Sums.{weight, activeAt, Totals}
 

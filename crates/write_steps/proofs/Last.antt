@@ -2,7 +2,7 @@
 use mathlib.Core.Path.{_≡_, refl, sym, ap, _∙_}
 use mathlib.Core.List.{List, map}
 use Prim.Native.Nat.{ℕ}
-use Rattle.types.specs.declared.Settings.{Settings}
+use Rattle.definitions.specs.declared.Settings.{Settings}
 use Rattle.definitions.specs.Record.{Validator}
 use Rattle.definitions.specs.Checked.{Checked, value, refused, bind, mapChecked}
 use Rattle.definitions.specs.Rust.Phase0.Helpers.{«get_current_epoch», «get_total_active_balance»}
@@ -12,11 +12,11 @@ use Rattle.definitions.specs.Rust.Altair.EpochProcessing.{slash, «process_part
 use Rattle.arithmetic.proofs.Operations.{OnlyOverflow, only-value, only-bind}
 use Rattle.slashings.specs.Adjusted.{adjustedBalance}
 use Rattle.slashings.proofs.Adjusted.{slashings-by}
-use Rattle.effective_balances.specs.declared.Thresholds.{Thresholds}
-use Rattle.effective_balances.specs.Thresholds.{thresholdsOf}
-use Rattle.effective_balances.proofs.Step.{only-thresholds, updates-by}
-use Rattle.sweeps.specs.Runs.{both}
-use Rattle.sweeps.proofs.Pure.{only-map, map-value, refused-after, fused}
+use Rattle.balances.specs.declared.effective_balances.Thresholds.{Thresholds}
+use Rattle.balances.specs.Thresholds.{thresholdsOf}
+use Rattle.balances.proofs.effective_balances.Step.{only-thresholds, updates-by}
+use Rattle.write_turn.specs.Runs.{both}
+use Rattle.write_turn.proofs.Sweeps.Pure.{only-map, map-value, refused-after, fused}
 use Rattle.write_turn.specs.Planned.{lastOf}
 use Rattle.write_steps.specs.RegistrySteps.{lastSteps}
 use Rattle.write_steps.proofs.Only.{only-slash, only-update}

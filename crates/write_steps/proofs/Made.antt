@@ -7,21 +7,21 @@ use native.Mathlib.Omega.{arith}
 use borrow.Author.Tests.{eq-eqb}
 use lib.Dec.{eqb}
 use lib.ListN.{length}
-use Rattle.types.specs.declared.Settings.{Settings}
+use Rattle.definitions.specs.declared.Settings.{Settings}
 use Rattle.definitions.specs.Record.{Validator, decode}
 use Rattle.definitions.specs.Checked.{value, sum64}
 use Rattle.definitions.specs.Rust.Phase0.Helpers.{«get_current_epoch», «get_previous_epoch», «get_total_balance», «get_validator_churn_limit»}
 use Rattle.laws.proofs.Checked.{bound, not-value, value-same}
 use Rattle.laws.proofs.Encode.{length-decode}
-use Rattle.queue.specs.Cut.{CutAt, eligibleNow}
-use Rattle.types.specs.declared.ExitQueue.{ExitQueue}
+use Rattle.agreement.specs.Cut.{CutAt, eligibleNow}
+use Rattle.definitions.specs.declared.ExitQueue.{ExitQueue}
 use Rattle.exit_queue.specs.Queue.{Tracks, startPair}
 use Rattle.exit_queue.proofs.Tracks.{tracks-few, tracks-start}
 use Rattle.registry.specs.Updates.{leastExit}
 use Rattle.registry.proofs.Epochs.{Epochs}
 use Rattle.slashings.specs.Adjusted.{adjustedBalance}
-use Rattle.effective_balances.specs.declared.Thresholds.{Thresholds}
-use Rattle.effective_balances.specs.Thresholds.{thresholdsOf}
+use Rattle.balances.specs.declared.effective_balances.Thresholds.{Thresholds}
+use Rattle.balances.specs.Thresholds.{thresholdsOf}
 use Rattle.survey.specs.declared.Sums.{Sums}
 use Rattle.survey.specs.declared.Findings.{Findings}
 use Rattle.survey.specs.Sums.{balanceOf, PlainSums, raisedTo}

@@ -3,7 +3,7 @@ use mathlib.Core.Path.{_≡_, refl}
 use mathlib.Core.Bool.{Bool}
 use Prim.Native.Nat.{ℕ}
 use lib.Dec.{ltb, eqb}
-use Rattle.types.specs.declared.Settings.{Settings}
+use Rattle.definitions.specs.declared.Settings.{Settings}
 use Rattle.definitions.specs.Record.{Validator, «FAR_FUTURE_EPOCH», isSlashed}
 use Rattle.definitions.specs.Checked.{Checked, value, refused}
 use Rattle.definitions.specs.Document.Phase0.EpochProcessing.{queueEligible, isEjected}
@@ -13,14 +13,14 @@ use Rattle.definitions.specs.Rust.Altair.Helpers.{FlagTotals}
 use Rattle.definitions.specs.Rust.Altair.EpochProcessing.{updateInactivityScore, rewardAndPenalize, isSlashingDue, slashingPenalty, slash}
 use Rattle.arithmetic.proofs.Operations.{OnlyOverflow, only-value, only-add64, only-mul64, only-bind}
 use Rattle.finality.proofs.Passed as finality
-use Rattle.inactivity.proofs.Scores.{only-moved}
-use Rattle.reward_balances.specs.Balances.{rewardedBalance}
-use Rattle.reward_balances.proofs.Only.{only-rewarded}
-use Rattle.reward_balances.proofs.Rewarded.{rewarded, not-rewarded}
-use Rattle.sweeps.proofs.Pure.{only-either}
-use Rattle.types.specs.declared.ExitQueue.{ExitQueue}
+use Rattle.participation.proofs.inactivity.Scores.{only-moved}
+use Rattle.rates.specs.Balances.{rewardedBalance}
+use Rattle.rates.proofs.reward_balances.Only.{only-rewarded}
+use Rattle.rates.proofs.reward_balances.Rewarded.{rewarded, not-rewarded}
+use Rattle.write_turn.proofs.Sweeps.Pure.{only-either}
+use Rattle.definitions.specs.declared.ExitQueue.{ExitQueue}
 use Rattle.exit_queue.specs.Queue.{exitBy}
-use Rattle.exit_queue.proofs.Exits.{only-nextEpoch}
+use Rattle.exit_queue.proofs.Exiting.{only-nextEpoch}
 use Rattle.registry.specs.Updates.{turnBy}
 use Rattle.write_turn.specs.declared.Plan.{Plan}
 use Rattle.write_turn.specs.Planned.{lastBy}

@@ -3,19 +3,19 @@ use mathlib.Core.Path.{_≡_, refl, sym, ap, _∙_}
 use mathlib.Core.List.{List, map}
 use Prim.Native.Nat.{ℕ}
 use lib.ListN.{length}
-use Rattle.types.specs.declared.Settings.{Settings}
+use Rattle.definitions.specs.declared.Settings.{Settings}
 use Rattle.definitions.specs.Lists.{range}
 use Rattle.definitions.specs.Record.{Validator}
 use Rattle.definitions.specs.Checked.{Checked, value, refused, bind, mapChecked, foldChecked}
 use Rattle.definitions.specs.Document.Phase0.EpochProcessing.{dequeued}
-use Rattle.queue.specs.Cut.{CutAt, eligibleNow}
-use Rattle.queue.proofs.Dequeued.{dequeued-is}
-use Rattle.types.specs.declared.ExitQueue.{ExitQueue}
+use Rattle.agreement.specs.Cut.{CutAt, eligibleNow}
+use Rattle.agreement.proofs.ActivationQueue.Dequeued.{dequeued-is}
+use Rattle.definitions.specs.declared.ExitQueue.{ExitQueue}
 use Rattle.exit_queue.specs.Queue.{Tracks}
 use Rattle.registry.specs.Updates.{updateAt}
-use Rattle.sweeps.specs.Sweep.{Moved, sweep, last, dropped}
-use Rattle.sweeps.proofs.Fused.{swept-first}
-use Rattle.sweeps.proofs.Follows.{followed}
+use Rattle.write_turn.specs.Sweep.{Moved, sweep, last, dropped}
+use Rattle.write_turn.proofs.Sweeps.Fused.{swept-first}
+use Rattle.write_turn.proofs.Sweeps.Follows.{followed}
 use Rattle.arithmetic.proofs.Operations.{only-value, only-bind}
 use Rattle.write_turn.specs.declared.Plan.{Plan}
 use Rattle.write_turn.specs.Planned.{lastBy}

@@ -7,22 +7,22 @@ use Prim.Native.Nat.{ℕ, zero, suc, _+_, _-_, _<_}
 use native.Mathlib.Omega.{arith}
 use lib.Dec.{eqb}
 use lib.ListN.{length, getD, set, take}
-use Rattle.types.specs.declared.Settings.{Settings}
+use Rattle.definitions.specs.declared.Settings.{Settings}
 use Rattle.definitions.specs.Lists.{range, filter}
 use Rattle.definitions.specs.Record.{Validator, «FAR_FUTURE_EPOCH», nobody}
 use Rattle.definitions.specs.Checked.{Refusal, Checked, value, refused, bind, mapChecked, foldChecked}
 use Rattle.laws.proofs.Checked.{Bound, bound, value-same}
 use Rattle.arithmetic.proofs.Operations.{OnlyOverflow, only-value, only-bind}
-use Rattle.queue.specs.Queue.{mapBelow}
-use Rattle.queue.specs.Cut.{count, queuedAt, admitOne, admittedAt, admitted}
-use Rattle.types.specs.declared.ExitQueue.{ExitQueue}
+use Rattle.agreement.specs.Queue.{mapBelow}
+use Rattle.agreement.specs.Cut.{count, queuedAt, admitOne, admittedAt, admitted}
+use Rattle.definitions.specs.declared.ExitQueue.{ExitQueue}
 use Rattle.exit_queue.specs.Queue.{Tracks, moved}
 use Rattle.exit_queue.proofs.Tracks.{tracks-set}
 use Rattle.registry.specs.Updates.{updateAt, turnBy}
 use Rattle.registry.proofs.Turns.{turn-tracked, turn-keeps}
-use Rattle.sweeps.specs.Sweep.{Moved, sweep, after, last, dropped}
-use Rattle.sweeps.proofs.Fused.{swept-both, swept-first, swept-last, paired, keeping}
-use Rattle.sweeps.proofs.Follows.{Follows, followed}
+use Rattle.write_turn.specs.Sweep.{Moved, sweep, after, last, dropped}
+use Rattle.write_turn.proofs.Sweeps.Fused.{swept-both, swept-first, swept-last, paired, keeping}
+use Rattle.write_turn.proofs.Sweeps.Follows.{Follows, followed}
 use Rattle.write_turn.specs.declared.Plan.{Plan}
 use Rattle.write_turn.specs.Planned.{lastBy}
 use Rattle.write_turn.specs.declared.Course.{Course}

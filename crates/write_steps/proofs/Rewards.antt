@@ -4,16 +4,16 @@ use mathlib.Core.Bool.{Bool}
 use mathlib.Core.List.{List}
 use Prim.Native.Nat.{ℕ}
 use borrow.Author.Tests.{ne-eqb}
-use Rattle.types.specs.declared.Settings.{Settings}
+use Rattle.definitions.specs.declared.Settings.{Settings}
 use Rattle.definitions.specs.Checked.{Checked, value, refused, bind, mapChecked}
 use Rattle.definitions.specs.Record.{Validator}
 use Rattle.definitions.specs.Rust.Phase0.EpochProcessing.{«is_in_inactivity_leak»}
 use Rattle.definitions.specs.Rust.Phase0.Helpers.{«get_current_epoch», «get_previous_epoch», «get_total_active_balance»}
 use Rattle.definitions.specs.Rust.Altair.Helpers.{«get_unslashed_participating_indices», flagTotals}
 use Rattle.definitions.specs.Rust.Altair.EpochProcessing.{updateInactivityScore, rewardAndPenalize, «process_inactivity_updates», «process_rewards_and_penalties»}
-use Rattle.flag_rewards.specs.Totals.{flagTotalsOf}
-use Rattle.sweeps.specs.Runs.{both}
-use Rattle.sweeps.proofs.Pure.{fused}
+use Rattle.rewards_step.specs.Totals.{flagTotalsOf}
+use Rattle.write_turn.specs.Runs.{both}
+use Rattle.write_turn.proofs.Sweeps.Pure.{fused}
 use Rattle.survey.specs.declared.Sums.{Sums}
 use Rattle.survey.specs.Sums.{Totals}
 use Rattle.write_steps.proofs.Kept.{score-keeps, totals-kept}

@@ -6,7 +6,7 @@ use mathlib.Core.List.{List, [], _∷_, map}
 use Prim.Native.Nat.{ℕ, zero, suc, _+_}
 use native.Mathlib.Omega.{arith}
 use lib.Dec.{ltb, eqb}
-use Rattle.types.specs.declared.Settings.{Settings}
+use Rattle.definitions.specs.declared.Settings.{Settings}
 use Rattle.definitions.specs.Lists.{filter}
 use Rattle.definitions.specs.Record.{Validator, «FAR_FUTURE_EPOCH»}
 use Rattle.definitions.specs.Updates.{withEligibility, withExit}
@@ -14,13 +14,13 @@ use Rattle.definitions.specs.Checked.{value, bind, add64}
 use Rattle.definitions.specs.Document.Phase0.Helpers.{«is_eligible_for_activation», «is_eligible_for_activation_queue»}
 use Rattle.definitions.specs.Document.Phase0.EpochProcessing.{queueEligible, isEjected}
 use Rattle.laws.proofs.Checked.{bound, value-same}
-use Rattle.queue.specs.Cut.{count, queuedBefore, Cuts, CutAt, eligibleNow}
-use Rattle.queue.proofs.Filter.{flag, count-more}
-use Rattle.queue.proofs.Cuts.{cut-cuts}
-use Rattle.types.specs.declared.ExitQueue.{ExitQueue}
+use Rattle.agreement.specs.Cut.{count, queuedBefore, Cuts, CutAt, eligibleNow}
+use Rattle.agreement.proofs.ActivationQueue.Filter.{flag, count-more}
+use Rattle.agreement.proofs.ActivationQueue.Cuts.{cut-cuts}
+use Rattle.definitions.specs.declared.ExitQueue.{ExitQueue}
 use Rattle.exit_queue.specs.Queue.{exitBy, nextEpoch}
 use Rattle.registry.specs.Updates.{turnBy}
-use Rattle.sweeps.specs.Sweep.{Moved, Turning, sweep}
+use Rattle.write_turn.specs.Sweep.{Moved, Turning, sweep}
 use Rattle.write_turn.specs.declared.Plan.{Plan}
 use Rattle.write_turn.specs.Written.{payOf, turnWith}
 use Rattle.write_steps.proofs.Kept.{bare}

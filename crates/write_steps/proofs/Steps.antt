@@ -7,8 +7,8 @@ use native.Mathlib.Omega.{arith}
 use borrow.Author.Tests.{eqb-true, eq-eqb, ne-eqb}
 use lib.Dec.{eqb}
 use lib.ListN.{length}
-use Rattle.types.specs.declared.Settings.{Settings}
-use Rattle.types.specs.declared.Number.{Number}
+use Rattle.definitions.specs.declared.Settings.{Settings}
+use Rattle.definitions.specs.declared.Number.{Number}
 use Rattle.definitions.specs.Lists.{range, sum}
 use Rattle.definitions.specs.Record.{Validator, «FAR_FUTURE_EPOCH»}
 use Rattle.definitions.specs.Checked.{Checked, value, refused, bind, mapChecked, foldChecked}
@@ -16,21 +16,21 @@ use Rattle.definitions.specs.Document.Phase0.EpochProcessing.{dequeued}
 use Rattle.definitions.specs.Rust.Phase0.Helpers.{«get_current_epoch», «get_previous_epoch», «is_active_validator», «get_active_validator_indices», «get_total_active_balance», «get_validator_churn_limit»}
 use Rattle.definitions.specs.Rust.Phase0.EpochProcessing.{«is_in_inactivity_leak», «process_registry_updates»}
 use Rattle.definitions.specs.Rust.Altair.EpochProcessing.{«process_inactivity_updates», «process_rewards_and_penalties»}
-use Rattle.loops.specs.Ran.{Ran}
-use Rattle.loops.proofs.Filtered.{length-filter}
+use Rattle.laws.specs.Ran.{Ran}
+use Rattle.laws.proofs.Loops.Filtered.{length-filter}
 use Rattle.registry.specs.Updates.{leastExit, updateAt}
 use Rattle.registry.proofs.Epochs.{Epochs}
 use Rattle.registry.proofs.Churn.{updates-by-numbers, limit-kept}
 use Rattle.registry.proofs.Total.{total-kept}
-use Rattle.queue.specs.Cut.{CutAt, eligibleNow}
-use Rattle.types.specs.declared.ExitQueue.{ExitQueue}
+use Rattle.agreement.specs.Cut.{CutAt, eligibleNow}
+use Rattle.definitions.specs.declared.ExitQueue.{ExitQueue}
 use Rattle.exit_queue.specs.Queue.{Tracks}
 use Rattle.slashings.specs.Adjusted.{adjustedBalance}
-use Rattle.effective_balances.specs.declared.Thresholds.{Thresholds}
-use Rattle.effective_balances.specs.Thresholds.{thresholdsOf}
+use Rattle.balances.specs.declared.effective_balances.Thresholds.{Thresholds}
+use Rattle.balances.specs.Thresholds.{thresholdsOf}
 use Rattle.survey.specs.declared.Sums.{Sums}
 use Rattle.survey.specs.Sums.{Totals}
-use Rattle.sweeps.specs.Sweep.{sweep, dropped}
+use Rattle.write_turn.specs.Sweep.{sweep, dropped}
 use Rattle.write_turn.specs.declared.Plan.{Plan}
 use Rattle.write_turn.specs.Planned.{paidBy, lastBy}
 use Rattle.write_turn.specs.declared.Course.{Course}

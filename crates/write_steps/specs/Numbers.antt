@@ -5,21 +5,21 @@ use mathlib.Core.List.{List}
 use Prim.Native.Nat.{ℕ, _*_, _/_}
 use lib.Dec.{eqb}
 use lib.ListN.{length}
-use Rattle.types.specs.declared.Settings.{Settings}
-use Rattle.types.specs.declared.Number.{Number}
+use Rattle.definitions.specs.declared.Settings.{Settings}
+use Rattle.definitions.specs.declared.Number.{Number}
 use Rattle.definitions.specs.Record.{Validator, decode}
 use Rattle.definitions.specs.Checked.{Checked, value, refused, overflow}
 use Rattle.definitions.specs.Rust.Phase0.Helpers.{«get_current_epoch», «get_previous_epoch», «get_validator_churn_limit»}
 use Rattle.definitions.specs.Rust.Phase0.EpochProcessing.{«is_in_inactivity_leak»}
-use Rattle.queue.specs.Cut.{CutAt, eligibleNow}
-use Rattle.types.specs.declared.ExitQueue.{ExitQueue}
+use Rattle.agreement.specs.Cut.{CutAt, eligibleNow}
+use Rattle.definitions.specs.declared.ExitQueue.{ExitQueue}
 use Rattle.exit_queue.specs.Queue.{Tracks}
 use Rattle.registry.specs.Updates.{leastExit}
 use Rattle.survey.specs.declared.Sums.{Sums}
 use Rattle.survey.specs.Sums.{Totals}
 use Rattle.slashings.specs.Adjusted.{adjustedBalance}
-use Rattle.effective_balances.specs.declared.Thresholds.{Thresholds}
-use Rattle.effective_balances.specs.Thresholds.{thresholdsOf}
+use Rattle.balances.specs.declared.effective_balances.Thresholds.{Thresholds}
+use Rattle.balances.specs.Thresholds.{thresholdsOf}
 use Rattle.write_turn.specs.declared.Plan.{Plan}
 use Rattle.write_turn.specs.Planned.{Planned}
 use Rattle.write_pass.specs.Filled.{Filled}

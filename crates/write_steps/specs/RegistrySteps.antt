@@ -1,7 +1,7 @@
 -- The steps over the registry once justification is done. The slashings' reset, between the last two, reads nothing of it.
 use mathlib.Core.List.{List}
 use Prim.Native.Nat.{ℕ}
-use Rattle.types.specs.declared.Settings.{Settings}
+use Rattle.definitions.specs.declared.Settings.{Settings}
 use Rattle.definitions.specs.Record.{Validator}
 use Rattle.definitions.specs.Checked.{Checked, value, bind}
 use Rattle.definitions.specs.Rust.Phase0.EpochProcessing.{«process_registry_updates», «process_effective_balance_updates»}

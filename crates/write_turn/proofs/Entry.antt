@@ -7,7 +7,7 @@ use native.Mathlib.Omega.{arith}
 use borrow.Author.Tests.{eq-eqb, ne-eqb}
 use lib.Dec.{eqb, ltb}
 use lib.ListN.{length, getD}
-use Rattle.types.specs.declared.Settings.{Settings}
+use Rattle.definitions.specs.declared.Settings.{Settings}
 use Rattle.definitions.specs.Record.{Validator, «FAR_FUTURE_EPOCH», decodeOne, encodeOne}
 use Rattle.definitions.specs.Checked.{Checked, value, refused, bind, codeOf, settle}
 use Rattle.definitions.specs.Updates.{withScore}
@@ -16,19 +16,19 @@ use Rattle.definitions.specs.Rust.Altair.Helpers.{isUnslashedParticipating}
 use Rattle.definitions.specs.Rust.Altair.EpochProcessing.{movedScore, recoveredScore, updateInactivityScore}
 use Rattle.laws.proofs.Checked.{value-same}
 use Rattle.laws.proofs.Encode.{ten}
-use Rattle.loops.specs.Ran.{Settles}
-use Rattle.loops.proofs.Ran.{code-value}
-use Rattle.queue.specs.Cut.{queuedAt, admitOne}
-use Rattle.types.specs.declared.ExitQueue.{ExitQueue}
+use Rattle.laws.specs.Ran.{Settles}
+use Rattle.laws.proofs.Loops.Ran.{code-value}
+use Rattle.agreement.specs.Cut.{queuedAt, admitOne}
+use Rattle.definitions.specs.declared.ExitQueue.{ExitQueue}
 use Rattle.exit_queue.specs.declared.Turn.{Turn}
 use Rattle.exit_queue.specs.Queue.{moved, lastAfter, numberAfter}
 use Rattle.exit_queue.specs.Turns.{Turns}
 use Rattle.registry.specs.Updates.{turnBy}
 use Rattle.rates.specs.declared.Rates.{Rates}
-use Rattle.sweeps.specs.Runs.{Runs}
-use Rattle.sweeps.proofs.Runs.{plain-runs}
-use Rattle.sweeps.specs.Steps.{Steps}
-use Rattle.sweeps.proofs.Steps.{steps-value, steps-refused}
+use Rattle.write_turn.specs.Runs.{Runs}
+use Rattle.write_turn.proofs.Sweeps.Runs.{plain-runs}
+use Rattle.write_turn.specs.Steps.{Steps}
+use Rattle.write_turn.proofs.Sweeps.Steps.{steps-value, steps-refused}
 use Rattle.write_turn.specs.declared.Plan.{Plan}
 use Rattle.write_turn.specs.Planned.{paidBy}
 use Rattle.write_turn.specs.Written.{RatesFor, payOf, turnWith, admitWith}

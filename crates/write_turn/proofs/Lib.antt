@@ -1,3 +1,4 @@
 -- The functions on one entry.
 mod Copied
 mod Entry
+pub mod Sweeps

@@ -1,7 +1,7 @@
 -- The shared numbers of a pass, and what scores, rewards and the last three steps do to one validator by them.
 use mathlib.Core.Path.{_≡_}
 use Prim.Native.Nat.{ℕ, _<_}
-use Rattle.types.specs.declared.Settings.{Settings}
+use Rattle.definitions.specs.declared.Settings.{Settings}
 use Rattle.definitions.specs.Record.{Validator}
 use Rattle.definitions.specs.Checked.{Checked, value, mul64}
 use Rattle.definitions.specs.Answers.{Says}
@@ -9,7 +9,7 @@ use Rattle.definitions.specs.Document.Altair.EpochProcessing.{rotateParticipati
 use Rattle.definitions.specs.Rust.Phase0.EpochProcessing.{updateEffectiveBalance}
 use Rattle.definitions.specs.Rust.Altair.EpochProcessing.{updateInactivityScore, rewardAndPenalize, slash}
 use Rattle.rewards.specs.Shared.{SharedBy, totalsOf}
-use Rattle.sweeps.specs.Runs.{both}
+use Rattle.write_turn.specs.Runs.{both}
 use Rattle.write_turn.specs.declared.Plan.{Plan}
 
 pub record Planned (s : Settings) (p : Plan) : Type 0 where

@@ -5,19 +5,19 @@ use mathlib.Core.List.{List}
 use Prim.Native.Nat.{ℕ, _+_, _-_, _≤_}
 use lib.Dec.{eqb}
 use lib.ListN.{getD}
-use Rattle.types.specs.declared.Settings.{Settings}
+use Rattle.definitions.specs.declared.Settings.{Settings}
 use Rattle.definitions.specs.Record.{Validator}
 use Rattle.definitions.specs.Checked.{Checked, value, bind}
-use Rattle.queue.specs.Cut.{queuedAt, admitOne}
-use Rattle.types.specs.declared.ExitQueue.{ExitQueue}
+use Rattle.agreement.specs.Cut.{queuedAt, admitOne}
+use Rattle.definitions.specs.declared.ExitQueue.{ExitQueue}
 use Rattle.exit_queue.specs.Queue.{moved}
 use Rattle.registry.specs.Updates.{turnBy}
 use Rattle.rates.specs.declared.Memo.{Memo}
 use Rattle.rates.specs.declared.Rates.{Rates}
 use Rattle.rates.specs.Rated.{MemoOf, Fits}
-use Rattle.sweeps.specs.Runs.{Runs}
-use Rattle.sweeps.specs.Sweep.{Turning, after, first, last}
-use Rattle.sweeps.specs.Steps.{Steps}
+use Rattle.write_turn.specs.Runs.{Runs}
+use Rattle.write_turn.specs.Sweep.{Turning, after, first, last}
+use Rattle.write_turn.specs.Steps.{Steps}
 use Rattle.write_turn.specs.declared.Plan.{Plan}
 use Rattle.write_turn.specs.Planned.{paidBy, lastBy}
 use Rattle.write_turn.specs.declared.Course.{Course}

@@ -4,22 +4,22 @@
 ghost use mathlib.Core.Path.{_≡_};
 ghost use Prim.Native.Nat.{_^_, _<_};
 ghost use lib.ListN.{length};
-ghost use Rattle.sweeps.specs.Runs.{Runs};
+ghost use Rattle.write_turn.specs.Runs.{Runs};
 ghost use Rattle.write_turn.specs.Planned.{Planned, lastBy};
 ghost use Rattle.write_turn.specs.Written.{MemoFor, Pays, Moves, Writes};
-use activation::admit_entry;
-use effective_balances::entry_update;
-use inactivity::entry_update_score;
-use participation_flags::entry_rotate;
+use balances::effective_balances::entry_update;
+use definitions::ExitQueue;
+use definitions::Number;
+use definitions::Settings;
+use participation::inactivity::entry_update_score;
+use participation::participation_flags::entry_rotate;
 use rates::Memo;
 use rates::entry_reward_by;
 use rates::rates_for;
+use registry::activation::admit_entry;
 use registry::update_entry;
 use rewards::Shared;
 use slashings::entry_slash;
-use types::ExitQueue;
-use types::Number;
-use types::Settings;
 
 // The numbers that all validators share. Of rewards: the increments of the three flags' participants, and the bias times the quotient. Of
 // slashings: the adjusted balance. Of effective balances: the thresholds.

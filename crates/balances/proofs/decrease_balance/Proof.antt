@@ -1,7 +1,7 @@
 use borrow.Author.Needs.{needs}
 use Rattle.definitions.specs.Record.{encodeOne}
 use Rattle.leaf_refusals.proofs.Passed.{entry-passed}
-use Rattle.buffers.proofs.Closes.{closes-refused, closes-plain}
+use Rattle.refusals.proofs.buffers.Closes.{closes-refused, closes-plain}
 use Rattle.balances.proofs.decrease_balance.Statement.{statement}
 use Rattle.balances.proofs.decrease_balance.Tie as tie
 

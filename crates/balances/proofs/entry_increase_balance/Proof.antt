@@ -3,7 +3,7 @@ use Rattle.definitions.specs.Rust.Phase0.Helpers.{«increase_balance»}
 use Rattle.laws.proofs.Encode.{ten}
 use Rattle.arithmetic.proofs.Operations.{only-add64}
 use Rattle.arithmetic.proofs.Laws.{says-value, says-overflow, bind-value, bind-refused}
-use Rattle.loops.proofs.Checking.{settles-value, settles-refused}
+use Rattle.laws.proofs.Loops.Checking.{settles-value, settles-refused}
 use Rattle.balances.proofs.entry_increase_balance.Statement.{statement}
 use Rattle.balances.proofs.entry_increase_balance.Tie as tie
 

@@ -1,7 +1,7 @@
 use borrow.Author.Needs.{needs}
 use Rattle.definitions.specs.Record.{encodeOne}
 use Rattle.leaf_refusals.proofs.Passed.{entry-passed}
-use Rattle.buffers.proofs.Closes.{closes-refused, entry-closes}
+use Rattle.refusals.proofs.buffers.Closes.{closes-refused, entry-closes}
 use Rattle.balances.proofs.increase_balance.Statement.{statement}
 use Rattle.balances.proofs.increase_balance.Tie as tie
 

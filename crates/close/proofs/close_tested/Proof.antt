@@ -1,7 +1,7 @@
 use mathlib.Core.Path.{_≡_, refl, sym}
 use native.Mathlib.Omega.{arith}
 use borrow.Author.Needs.{needs}
-use Rattle.types.specs.declared.Rules.{Rules}
+use Rattle.definitions.specs.declared.Rules.{Rules}
 use Rattle.definitions.specs.Close.{Call, closeTests}
 use Rattle.definitions.specs.Checked.{codeOf}
 use Rattle.refusals.proofs.Laws.{small, good-settings}

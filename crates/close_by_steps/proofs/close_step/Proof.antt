@@ -1,8 +1,8 @@
 use Rattle.full_close.specs.Called.{fullCalled}
 use mathlib.Core.Path.{_∙_}
 use borrow.Author.Tests.{eq-eqb}
-use Rattle.definitions_orders.specs.CloseBySteps.{unwritten, closeStep}
-use Rattle.close_steps.specs.Called.{stepCalled}
+use Rattle.definitions_close.specs.CloseBySteps.{unwritten, closeStep}
+use Rattle.close_by_steps.specs.Called.{stepCalled}
 use Rattle.close_by_steps.proofs.Stepped.{in-turn, too-late, another}
 use borrow.Author.Needs.{needs}
 use Rattle.close_by_steps.proofs.close_step.Statement.{statement}

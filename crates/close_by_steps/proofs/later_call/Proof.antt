@@ -1,6 +1,6 @@
 use Rattle.full_close.specs.Called.{fullCalled}
 use native.Mathlib.Omega.{arith}
-use Rattle.definitions_orders.specs.CloseBySteps.{soFar}
+use Rattle.definitions_close.specs.CloseBySteps.{soFar}
 use Rattle.close_by_steps.proofs.Stepped.{ready, later-away, later-called}
 use borrow.Author.Needs.{needs}
 use Rattle.close_by_steps.proofs.later_call.Statement.{statement}

@@ -2,9 +2,9 @@
 -- is Altair's, as the document says.
 use mathlib.Core.List.{List}
 use Prim.Native.Nat.{ℕ}
-use Rattle.types.specs.declared.Settings.{Settings}
-use Rattle.types.specs.declared.Deltas.{Deltas}
-use Rattle.types.specs.declared.Bellatrix.{Bellatrix}
+use Rattle.definitions.specs.declared.Settings.{Settings}
+use Rattle.definitions.specs.declared.Deltas.{Deltas}
+use Rattle.definitions.specs.declared.Bellatrix.{Bellatrix}
 use Rattle.definitions.specs.Record.{Validator, BeaconState}
 use Rattle.definitions.specs.Document.Phase0.EpochProcessing.{«process_registry_updates», «process_effective_balance_updates», «process_slashings_reset»}
 use Rattle.definitions.specs.Document.Altair.Helpers as altair

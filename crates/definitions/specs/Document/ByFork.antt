@@ -1,6 +1,6 @@
 -- The document that a fork goes by. 02, R-3: "A Bellatrix close is held to Bellatrix beacon-chain.md as an Altair one to Altair's".
 use mathlib.Core.Bool.{cond}
-use Rattle.types.specs.declared.Rules.{Rules}
+use Rattle.definitions.specs.declared.Rules.{Rules}
 use Rattle.definitions.specs.Record.{BeaconState}
 use Rattle.definitions.specs.Rules.{isAltair}
 use Rattle.definitions.specs.Document.Altair.EpochProcessing as Altair

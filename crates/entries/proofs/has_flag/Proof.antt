@@ -1,7 +1,7 @@
 use mathlib.Core.Path.{ap}
 use borrow.Author.Needs.{needs}
 use borrow.Author.Tests.{le-leb, lt-leb}
-use Rattle.types.specs.declared.Truth.the-variants.{Value}
+use Rattle.definitions.specs.declared.Truth.the-variants.{Value}
 use Rattle.definitions.specs.Checked.{bind}
 use Rattle.definitions.specs.LeafRefusals.{flagTests}
 use Rattle.definitions.specs.Refusals.{afterTests, inOrder}

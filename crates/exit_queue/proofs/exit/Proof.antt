@@ -39,9 +39,9 @@ use denote.Triple.Table.{entered, cited}
 use denote.Triple.Walked.{says, needs, Stays, stay-ref, stay-none, walkOf, goes-none, goes-ref, Walks, ends-at, walked, walk-meets}
 use denote.Exit.{yes}
 use Rattle.exit_queue.specs.Queue.{lastAfter, numberAfter}
-use Rattle.types.specs.declared.ExitQueue.{ExitQueue}
-use Rattle.types.proofs.ExitQueue as T
-use Rattle.types.proofs.ExitQueue.Laws as T′
+use Rattle.definitions.specs.declared.ExitQueue.{ExitQueue}
+use Rattle.definitions.proofs.ExitQueue as T
+use Rattle.definitions.proofs.ExitQueue.Laws as T′
 use Rattle.exit_queue.proofs.number_after as number
 use Rattle.exit_queue.proofs.number_after.Symbol as number-def
 use Rattle.exit_queue.proofs.number_after.Symbol.{name as #number-after}

@@ -1,7 +1,7 @@
 use borrow.Author.Needs.{needs}
 use Rattle.arithmetic.proofs.Operations.{only-add64}
 use Rattle.arithmetic.proofs.Laws.{says-value, says-overflow}
-use Rattle.exit_queue.proofs.Exits.{only-nextEpoch}
+use Rattle.exit_queue.proofs.Exiting.{only-nextEpoch}
 use Rattle.exit_queue.proofs.Turns.{exit-known, exit-full, exit-over, exit-written}
 use Rattle.exit_queue.proofs.exit_entry.Statement.{statement}
 use Rattle.exit_queue.proofs.exit_entry.Tie as tie

@@ -39,9 +39,9 @@ use denote.Triple.Walked.{says, needs, Stays, stay-none, walkOf, goes-none, Walk
 use denote.Exit.{yes}
 use borrow.Table.OneValue.{part-in, part-out}
 use Rattle.exit_queue.specs.Queue.{joined}
-use Rattle.types.specs.declared.ExitQueue.{ExitQueue}
-use Rattle.types.proofs.ExitQueue as T
-use Rattle.types.proofs.ExitQueue.Laws as T′
+use Rattle.definitions.specs.declared.ExitQueue.{ExitQueue}
+use Rattle.definitions.proofs.ExitQueue as T
+use Rattle.definitions.proofs.ExitQueue.Laws as T′
 use Rattle.exit_queue.proofs.exit as inner
 use Rattle.exit_queue.proofs.exit.Symbol as inner-def
 use Rattle.exit_queue.proofs.exit.Symbol.{name as #exit}

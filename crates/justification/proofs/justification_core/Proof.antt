@@ -3,9 +3,9 @@ use Prim.Native.Nat.{_^_, _<_}
 use native.Mathlib.Omega.{arith}
 use borrow.Author.Needs.{needs}
 use Rattle.weighing.proofs.Passed.{weigh-passed}
-use Rattle.raised.specs.Flags.{answerWith}
-use Rattle.raised.proofs.Three.{three-raised}
-use Rattle.raised.proofs.Answered.{answered-with}
+use Rattle.totals.specs.Flags.{answerWith}
+use Rattle.totals.proofs.raising.Three.{three-raised}
+use Rattle.totals.proofs.raising.Answered.{answered-with}
 use Rattle.justification.proofs.Totals.{given}
 use Rattle.justification.proofs.justification_core.Statement.{statement}
 use Rattle.justification.proofs.justification_core.Tie as tie

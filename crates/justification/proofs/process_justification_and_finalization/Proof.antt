@@ -2,8 +2,8 @@ use mathlib.Core.Path.{sym, _∙_}
 use native.Mathlib.Omega.{arith}
 use borrow.Author.Needs.{needs}
 use Rattle.definitions.specs.Record.{decode}
-use Rattle.raised.proofs.Three.{three-totals}
-use Rattle.raised.proofs.Answered.{close-refused-first, close-then-works}
+use Rattle.totals.proofs.raising.Three.{three-totals}
+use Rattle.totals.proofs.raising.Answered.{close-refused-first, close-then-works}
 use Rattle.justification.proofs.Passed.{JustificationPassed, justification-passed}
 use Rattle.justification.proofs.process_justification_and_finalization.Statement.{statement}
 use Rattle.justification.proofs.process_justification_and_finalization.Tie as tie

@@ -1,7 +1,7 @@
 use mathlib.Core.Path.{_∙_}
 use borrow.Author.Needs.{needs}
 use Rattle.refusals.proofs.All.{fails, passes}
-use Rattle.registry_refusals.proofs.Passed.{slot-registry-passed}
+use Rattle.leaf_refusals.proofs.registry_refusals.Passed.{slot-registry-passed}
 use Rattle.listing_lines.proofs.HeadNumbers.{head-refused, finality-refused, head-passed}
 use Rattle.listing_lines.proofs.head.Statement.{statement}
 use Rattle.listing_lines.proofs.head.Tie as tie

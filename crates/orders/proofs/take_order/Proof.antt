@@ -1,5 +1,5 @@
 use borrow.Author.Tests.{eq-eqb, ne-eqb, le-ltb, lt-ltb}
-use Rattle.definitions_orders.specs.Orders.{appended, takeOrder}
+use Rattle.definitions_close.specs.Orders.{appended, takeOrder}
 use Rattle.refusals.proofs.All.{fails, passes}
 use borrow.Author.Needs.{needs}
 use Rattle.orders.proofs.take_order.Statement.{statement}

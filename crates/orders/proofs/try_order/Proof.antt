@@ -1,6 +1,6 @@
 use mathlib.Core.Path.{sym, ap, _∙_}
 use Rattle.refusals.proofs.All.{fails, passes}
-use Rattle.loops.proofs.Entry.{entry-is}
+use Rattle.laws.proofs.Loops.Entry.{entry-is}
 use Rattle.orders.specs.Tried.{entryMayExit}
 use Rattle.orders.proofs.Tried.{unknown, cannot, early, exits, may-part, since-part, due-part}
 use borrow.Author.Needs.{needs}

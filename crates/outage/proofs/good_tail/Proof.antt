@@ -3,7 +3,7 @@ use Prim.Native.Nat.{ℕ}
 use native.Mathlib.Omega.{arith}
 use borrow.Author.Tests.{eq-eqb, ne-eqb}
 use lib.Dec.{leb}
-use Rattle.definitions_outage.specs.Input.{goodTail}
+use Rattle.definitions_file.specs.OutageInput.{goodTail}
 use borrow.Author.Needs.{needs}
 use Rattle.outage.proofs.good_tail.Statement.{statement}
 use Rattle.outage.proofs.good_tail.Tie as tie

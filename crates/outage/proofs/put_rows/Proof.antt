@@ -1,9 +1,9 @@
 use mathlib.Core.Path.{sym, _∙_}
 use native.Mathlib.Omega.{arith}
 use Rattle.refusals.proofs.Laws.{registry-shaped}
-use Rattle.decimals.proofs.Put.{put-length}
-use Rattle.listing_close.proofs.Printed.{or-refused, or-text}
-use Rattle.definitions_outage.specs.Outage.{linesText}
+use Rattle.fields.proofs.decimals.Put.{put-length}
+use Rattle.listing.proofs.listing_close.Printed.{or-refused, or-text}
+use Rattle.definitions_file.specs.Outage.{linesText}
 use borrow.Author.Needs.{needs}
 use Rattle.outage.proofs.put_rows.Statement.{statement}
 use Rattle.outage.proofs.put_rows.Tie as tie

@@ -3,13 +3,13 @@ use native.Mathlib.Omega.{arith}
 use borrow.Author.Needs.{needs}
 use Rattle.arithmetic.proofs.Laws.{next-told, stop-told}
 use Rattle.arithmetic.proofs.Answers.{tells-deltas}
-use Rattle.types.specs.declared.DeltasAnswer.{DeltasAnswer}
+use Rattle.definitions.specs.declared.DeltasAnswer.{DeltasAnswer}
 use Rattle.definitions.specs.Answers.{SaysDeltas}
 use Rattle.definitions.specs.Record.{decodeOne}
 use Rattle.definitions.specs.Rust.Altair.Helpers.{flagIndexDeltas, inactivityPenaltyDeltas}
 use Rattle.rewards.specs.Shared.{totalsOf}
-use Rattle.reward_balances.specs.Balances.{rewardedBalance}
-use Rattle.reward_balances.proofs.Only.{only-flag, only-penalty}
+use Rattle.rates.specs.Balances.{rewardedBalance}
+use Rattle.rates.proofs.reward_balances.Only.{only-flag, only-penalty}
 use Rattle.rates.proofs.Rated.{source-says, target-says, head-says, penalty-says}
 use Rattle.rates.proofs.balance_by.Statement.{statement}
 use Rattle.rates.proofs.balance_by.Tie as tie

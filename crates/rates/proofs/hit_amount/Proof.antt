@@ -1,11 +1,11 @@
 use mathlib.Core.Path.{refl}
 use borrow.Author.Needs.{needs}
-use Rattle.types.specs.declared.Deltas.{Deltas}
+use Rattle.definitions.specs.declared.Deltas.{Deltas}
 use Rattle.definitions.specs.Rust.Altair.Helpers.{hitDeltas}
 use Rattle.arithmetic.proofs.Operations.{OnlyOverflow}
 use Rattle.arithmetic.proofs.Laws.{says-value, says-overflow}
 use Rattle.arithmetic.proofs.Answers.{tells-deltas, answers-value, answers-overflow}
-use Rattle.reward_balances.proofs.Only.{only-hit}
+use Rattle.rates.proofs.reward_balances.Only.{only-hit}
 use Rattle.rates.specs.Rated.{rewardOf, penaltyOf}
 use Rattle.rates.proofs.Rated.{told-past, told-fits, no-base, not-fits, hit-reward}
 use Rattle.rates.proofs.hit_amount.Statement.{statement}

@@ -1,7 +1,7 @@
 use mathlib.Core.Path.{refl}
 use borrow.Author.Needs.{needs}
 use Rattle.arithmetic.proofs.Operations.{OnlyOverflow, only-bind, only-mul64}
-use Rattle.base_rewards.proofs.Base.{only-per-increment}
+use Rattle.rewards.proofs.base_rewards.Base.{only-per-increment}
 use Rattle.rates.specs.Rated.{baseOf}
 use Rattle.rates.proofs.rates_of.Statement.{statement}
 use Rattle.rates.proofs.rates_of.Tie as tie

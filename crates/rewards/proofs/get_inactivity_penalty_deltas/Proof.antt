@@ -1,7 +1,7 @@
 use Rattle.definitions.specs.Rust.Altair.Helpers.{«get_inactivity_penalty_deltas»}
 use Rattle.rewards.proofs.Penalty.{penalty-passed}
 use Rattle.arithmetic.proofs.Answers.{tells-deltas}
-use Rattle.base_rewards.proofs.After.{tests-refused, tests-passed}
+use Rattle.rewards.proofs.base_rewards.After.{tests-refused, tests-passed}
 use borrow.Author.Needs.{needs}
 use Rattle.rewards.proofs.get_inactivity_penalty_deltas.Statement.{statement}
 use Rattle.rewards.proofs.get_inactivity_penalty_deltas.Tie as tie

@@ -1,7 +1,7 @@
 use borrow.Author.Needs.{needs}
 use Rattle.definitions.specs.LeafRefusals.{slotEntryTests}
 use Rattle.definitions.specs.Rules.{inactivityPenaltyTests}
-use Rattle.rules.proofs.Tests.{rules-tested}
+use Rattle.refusals.proofs.rules.Tests.{rules-tested}
 use Rattle.rewards.proofs.penalty_tests.Statement.{statement}
 use Rattle.rewards.proofs.penalty_tests.Tie as tie
 

@@ -5,7 +5,7 @@ use Rattle.definitions.specs.Record.{encode}
 use Rattle.definitions.specs.Rules.{settingsUnder}
 use Rattle.definitions.specs.Rust.Altair.EpochProcessing.{«process_rewards_and_penalties»}
 use Rattle.refusals.proofs.Laws.{good-settings}
-use Rattle.buffers.proofs.Closes.{closes-refused, step-done, step-restored}
+use Rattle.refusals.proofs.buffers.Closes.{closes-refused, step-done, step-restored}
 use Rattle.rewards_step.proofs.Tests.{rewards-passed}
 use borrow.Author.Needs.{needs}
 use Rattle.rewards_step.proofs.process_rewards_and_penalties.Statement.{statement}

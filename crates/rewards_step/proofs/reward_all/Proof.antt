@@ -1,6 +1,6 @@
 use Prim.Native.Nat.{_-_}
 use Rattle.definitions.specs.Rust.Altair.EpochProcessing.{rewardAndPenalize}
-use Rattle.loops.proofs.Checking.{Checking, checking-none, checking-ten, checking-more, checking-stop, checking-all}
+use Rattle.laws.proofs.Loops.Checking.{Checking, checking-none, checking-ten, checking-more, checking-stop, checking-all}
 use native.Mathlib.Omega.{arith}
 use Rattle.rewards.specs.Shared.{totalsOf}
 use Rattle.rewards_step.proofs.reward_all.Statement.{statement}

@@ -6,7 +6,7 @@ use Rattle.arithmetic.proofs.Answers.{tells-number, tells-truth}
 use Rattle.arithmetic.proofs.Laws.{says-value}
 use Rattle.totals.proofs.Sums.{only-total}
 use Rattle.finality.proofs.Passed.{only-leak}
-use Rattle.flag_rewards.proofs.Totals.{total-least}
+use Rattle.rewards_step.proofs.flag_rewards.Totals.{total-least}
 use Rattle.rewards_step.proofs.Step.{ran-next, ran-stop, rewards-genesis, rewards-from}
 use borrow.Author.Needs.{needs}
 use Rattle.rewards_step.proofs.rewards_core.Statement.{statement}

@@ -3,7 +3,7 @@ use borrow.Author.Tests.{eq-eqb, ne-eqb}
 use Rattle.definitions.specs.Refusals.{inOrder}
 use Rattle.definitions.specs.Rules.{rewardsTests}
 use Rattle.leaf_refusals.proofs.Order.{and-true, and-false}
-use Rattle.rules.proofs.Tests.{rules-tested}
+use Rattle.refusals.proofs.rules.Tests.{rules-tested}
 use Rattle.rewards_step.proofs.rewards_tests.Statement.{statement}
 use Rattle.rewards_step.proofs.rewards_tests.Tie as tie
 

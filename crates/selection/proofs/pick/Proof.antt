@@ -1,4 +1,4 @@
-use Rattle.loops.proofs.Filtered.{filter-le}
+use Rattle.laws.proofs.Loops.Filtered.{filter-le}
 use Rattle.selection.specs.Keep.{under}
 use mathlib.Core.Path.{refl}
 use borrow.Author.Needs.{needs}

@@ -1,7 +1,7 @@
 use mathlib.Core.Path.{_≡_, refl, _∙_}
 use mathlib.Core.Bool.{true}
 use borrow.Author.Needs.{needs}
-use Rattle.definitions_shelf.specs.Shelf.{shelfShaped, shelfRefusal, answersAfter, closingAfter}
+use Rattle.definitions_file.specs.Shelf.{shelfShaped, shelfRefusal, answersAfter, closingAfter}
 use Rattle.refusals.proofs.All.{fails, passes}
 use Rattle.shelf.specs.Lent.{shelfOf}
 use Rattle.shelf.proofs.close_shelf.Statement.{statement}

@@ -5,7 +5,7 @@ use borrow.Author.Tests.{le-leb}
 use lib.Dec.{leb}
 use lib.ListN.{length, drop}
 use Rattle.definitions.specs.Lists.{maximum}
-use Rattle.definitions_shelf.specs.Shelf.{holdsLongest}
+use Rattle.definitions_file.specs.Shelf.{holdsLongest}
 use Rattle.shelf.proofs.Lengths.{within-more, beyond, longest-none}
 use Rattle.shelf.proofs.holds_longest.Statement.{statement}
 use Rattle.shelf.proofs.holds_longest.Tie as tie

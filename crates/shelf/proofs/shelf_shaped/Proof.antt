@@ -3,7 +3,7 @@ use native.Mathlib.Omega.{arith}
 use borrow.Author.Tests.{eq-eqb, ne-eqb}
 use borrow.Author.Needs.{needs}
 use lib.ListN.{length}
-use Rattle.definitions_shelf.specs.Shelf.{shelfShaped}
+use Rattle.definitions_file.specs.Shelf.{shelfShaped}
 use Rattle.refusals.proofs.All.{fails, passes}
 use Rattle.shelf.proofs.shelf_shaped.Statement.{statement}
 use Rattle.shelf.proofs.shelf_shaped.Tie as tie

@@ -6,7 +6,7 @@ use borrow.Author.Needs.{needs}
 use lib.ListN.{length, take, drop}
 use Rattle.definitions.specs.Rules.{settingsUnder}
 use Rattle.definitions_file.specs.File.{slashingCountOf, contentsOf}
-use Rattle.definitions_shelf.specs.ClosedFile.{rulesIn}
+use Rattle.definitions_file.specs.ClosedFile.{rulesIn}
 use Rattle.fields.proofs.Stores.{sets-whole}
 use Rattle.shelf_file.specs.Parts.{numbersBehind}
 use Rattle.shelf_file.proofs.Parts.{counts-long, behind-put}

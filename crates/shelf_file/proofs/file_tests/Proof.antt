@@ -3,8 +3,8 @@ use Prim.Native.Nat.{ℕ}
 use native.Mathlib.Omega.{arith}
 use borrow.Author.Needs.{needs}
 use lib.ListN.{length-take}
-use Rattle.types.specs.declared.Rules.{Rules}
-use Rattle.rules.specs.Refusal.{rulesRefusal}
+use Rattle.definitions.specs.declared.Rules.{Rules}
+use Rattle.refusals.specs.Refusal.{rulesRefusal}
 use Rattle.shelf_file.proofs.Parts.{front-length, behind-length}
 use Rattle.shelf_file.proofs.Tests.{same-rules, tested}
 use Rattle.shelf_file.proofs.file_tests.Statement.{statement}

@@ -1,7 +1,7 @@
 use mathlib.Core.Path.{ap}
 use native.Mathlib.Omega.{arith}
 use borrow.Author.Needs.{needs}
-use Rattle.types.specs.declared.Number.the-variants.{Value}
+use Rattle.definitions.specs.declared.Number.the-variants.{Value}
 use Rattle.arithmetic.proofs.Laws.{next, chain}
 use Rattle.slashings.specs.Adjusted.{adjustedBalance}
 use Rattle.slashings.proofs.adjusted_balance.Statement.{statement}

@@ -2,7 +2,7 @@ use borrow.Author.Needs.{needs}
 use Rattle.laws.proofs.Encode.{ten}
 use Rattle.arithmetic.proofs.Operations.{only-add64, only-mul64}
 use Rattle.arithmetic.proofs.Laws.{says-value, says-overflow}
-use Rattle.loops.proofs.Checking.{settles-value, settles-refused}
+use Rattle.laws.proofs.Loops.Checking.{settles-value, settles-refused}
 use Rattle.slashings.proofs.Slash.{unslashed, due-refused, not-due, numerator-refused, penalty-refused, penalized}
 use Rattle.slashings.proofs.entry_slash.Statement.{statement}
 use Rattle.slashings.proofs.entry_slash.Tie as tie

@@ -3,7 +3,7 @@ use borrow.Author.Needs.{needs}
 use Rattle.definitions.specs.Record.{encode}
 use Rattle.definitions.specs.Rules.{settingsUnder}
 use Rattle.definitions.specs.Rust.Altair.EpochProcessing.{«process_slashings»}
-use Rattle.buffers.proofs.Closes.{closes-refused, step-done, step-restored}
+use Rattle.refusals.proofs.buffers.Closes.{closes-refused, step-done, step-restored}
 use Rattle.slashings.proofs.Passed.{slashings-passed}
 use Rattle.slashings.proofs.process_slashings.Statement.{statement}
 use Rattle.slashings.proofs.process_slashings.Tie as tie

@@ -1,5 +1,5 @@
 use borrow.Author.Needs.{needs}
-use Rattle.buffers.proofs.Closes.{closes-refused, closes-plain}
+use Rattle.refusals.proofs.buffers.Closes.{closes-refused, closes-plain}
 use Rattle.slashings.proofs.Passed.{reset-passed}
 use Rattle.slashings.proofs.process_slashings_reset.Statement.{statement}
 use Rattle.slashings.proofs.process_slashings_reset.Tie as tie

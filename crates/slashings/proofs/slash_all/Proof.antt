@@ -1,7 +1,7 @@
 use Prim.Native.Nat.{_-_}
 use native.Mathlib.Omega.{arith}
 use Rattle.definitions.specs.Rust.Altair.EpochProcessing.{slash}
-use Rattle.loops.proofs.Checking.{Checking, checking-none, checking-ten, checking-more, checking-stop, checking-all}
+use Rattle.laws.proofs.Loops.Checking.{Checking, checking-none, checking-ten, checking-more, checking-stop, checking-all}
 use Rattle.slashings.proofs.slash_all.Statement.{statement}
 use Rattle.slashings.proofs.slash_all.Tie as tie
 

@@ -2,7 +2,7 @@ use mathlib.Core.Path.{refl, sym, ap}
 use Prim.Native.Nat.{_-_}
 use native.Mathlib.Omega.{arith}
 use Rattle.definitions.specs.Answers.{numberFor}
-use Rattle.loops.proofs.Summed.{Added, added-none, added-more, added-over, added-all}
+use Rattle.laws.proofs.Loops.Summed.{Added, added-none, added-more, added-over, added-all}
 use Rattle.slashings.proofs.slashed_balance.Statement.{statement}
 use Rattle.slashings.proofs.slashed_balance.Tie as tie
 

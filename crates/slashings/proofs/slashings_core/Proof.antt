@@ -3,7 +3,7 @@ use Rattle.definitions.specs.Rust.Phase0.Helpers.{«get_total_active_balance»}
 use Rattle.refusals.proofs.Laws.{good-settings}
 use Rattle.arithmetic.proofs.Laws.{says-value}
 use Rattle.totals.proofs.Sums.{only-total, total-positive}
-use Rattle.buffers.proofs.Chained.{ran-given, ran-over}
+use Rattle.refusals.proofs.buffers.Chained.{ran-given, ran-over}
 use Rattle.slashings.proofs.Adjusted.{only-adjusted, slashings-by}
 use Rattle.slashings.proofs.slashings_core.Statement.{statement}
 use Rattle.slashings.proofs.slashings_core.Tie as tie

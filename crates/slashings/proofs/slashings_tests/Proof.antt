@@ -4,7 +4,7 @@ use Rattle.definitions.specs.Refusals.{inOrder}
 use Rattle.definitions.specs.Rules.{slashingsTests}
 use Rattle.definitions.specs.LeafRefusals.{slotRegistryTests}
 use Rattle.leaf_refusals.proofs.Order.{and-true, and-false}
-use Rattle.rules.proofs.Tests.{rules-tested}
+use Rattle.refusals.proofs.rules.Tests.{rules-tested}
 use Rattle.slashings.proofs.slashings_tests.Statement.{statement}
 use Rattle.slashings.proofs.slashings_tests.Tie as tie
 

@@ -1,6 +1,6 @@
 use borrow.Author.Tests.{lt-ltb, le-ltb}
 use borrow.Author.Needs.{needs}
-use Rattle.definitions_store.specs.Store.{additionShaped}
+use Rattle.definitions_close.specs.Store.{additionShaped}
 use Rattle.refusals.proofs.All.{fails, passes}
 use Rattle.store.proofs.Passed.{store-shaped}
 use Rattle.store.proofs.addition_shaped.Statement.{statement}

@@ -1,7 +1,7 @@
 use borrow.Author.Needs.{needs}
 use Rattle.definitions.specs.Checked.{bind}
 use Rattle.definitions.specs.Refusals.{inOrder, afterTests}
-use Rattle.definitions_store.specs.Store.{additionTests, startTest}
+use Rattle.definitions_close.specs.Store.{additionTests, startTest}
 use Rattle.refusals.proofs.All.{fails, passes}
 use Rattle.store.proofs.Passed.{store-shaped, addition-shaped}
 use Rattle.store.proofs.addition_tests.Statement.{statement}

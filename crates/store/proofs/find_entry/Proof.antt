@@ -1,7 +1,7 @@
 use Prim.Native.Nat.{_-_, _≤_}
 use native.Mathlib.Omega.{arith}
-use Rattle.definitions_store.specs.Store.{entriesFrom}
-use Rattle.store_entries.proofs.Entries.{length-entries, start-at}
+use Rattle.definitions_close.specs.Store.{entriesFrom}
+use Rattle.store.proofs.store_entries.Entries.{length-entries, start-at}
 use Rattle.store.proofs.Last.{Looking, looking-all, looking-found, looking-less, looking-none}
 use Rattle.store.proofs.find_entry.Statement.{statement}
 use Rattle.store.proofs.find_entry.Tie as tie

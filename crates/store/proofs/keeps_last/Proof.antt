@@ -2,9 +2,9 @@ use mathlib.Core.Path.{ap, _∙_}
 use Prim.Native.Nat.{_-_, _*_, _<_}
 use native.Mathlib.Omega.{arith}
 use borrow.Author.Needs.{needs}
-use Rattle.types.specs.declared.Rules.{Rules}
-use Rattle.definitions_store.specs.Store.{Entry, entriesFrom, keeps, lastOf, ofLast}
-use Rattle.store_entries.proofs.Entries.{part-length, part-is}
+use Rattle.definitions.specs.declared.Rules.{Rules}
+use Rattle.definitions_close.specs.Store.{Entry, entriesFrom, keeps, lastOf, ofLast}
+use Rattle.store.proofs.store_entries.Entries.{part-length, part-is}
 use Rattle.store.proofs.Last.{last-entry}
 use Rattle.store.proofs.keeps_last.Statement.{statement}
 use Rattle.store.proofs.keeps_last.Tie as tie

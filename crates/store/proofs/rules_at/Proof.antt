@@ -2,11 +2,11 @@ use mathlib.Core.Path.{refl, ap, _∙_}
 use Prim.Native.Nat.{_+_, _*_}
 use native.Mathlib.Omega.{arith}
 use borrow.Author.Needs.{needs}
-use Rattle.types.specs.declared.Rules.{Rules}
+use Rattle.definitions.specs.declared.Rules.{Rules}
 use Rattle.definitions.specs.Checked.{bind}
-use Rattle.definitions_store.specs.declared.RulesAnswer.{RulesAnswer}
-use Rattle.definitions_store.specs.Store.{Entry, rulesAt}
-use Rattle.store_entries.proofs.Entries.{length-entries, part-is}
+use Rattle.definitions_close.specs.declared.RulesAnswer.{RulesAnswer}
+use Rattle.definitions_close.specs.Store.{Entry, rulesAt}
+use Rattle.store.proofs.store_entries.Entries.{length-entries, part-is}
 use Rattle.store.proofs.rules_at.Statement.{statement}
 use Rattle.store.proofs.rules_at.Tie as tie
 

@@ -1,7 +1,7 @@
 use Prim.Native.Nat.{_<_}
 use native.Mathlib.Omega.{arith}
 use borrow.Author.Needs.{needs}
-use Rattle.definitions_store.specs.Store.{entriesFrom, lastOf, ofLast}
+use Rattle.definitions_close.specs.Store.{entriesFrom, lastOf, ofLast}
 use Rattle.store.proofs.Last.{last-entry, last-start}
 use Rattle.store.proofs.starts_after.Statement.{statement}
 use Rattle.store.proofs.starts_after.Tie as tie

@@ -1,6 +1,6 @@
 use borrow.Author.Needs.{needs}
 use Rattle.definitions.specs.Refusals.{inOrder}
-use Rattle.definitions_store.specs.Store.{storeTests}
+use Rattle.definitions_close.specs.Store.{storeTests}
 use Rattle.refusals.proofs.All.{fails, passes}
 use Rattle.store.proofs.Passed.{store-shaped}
 use Rattle.store.proofs.store_tests.Statement.{statement}

@@ -1,10 +1,10 @@
 use mathlib.Core.Path.{_≡_, ap, _∙_}
-use Rattle.definitions_store.specs.Store.{rulesAnswerFor}
-use Rattle.definitions_store.specs.StoreClose.{rulesFor}
-use Rattle.definitions_store.specs.StoreSteps.{StoreStepCall}
-use Rattle.store_entries.specs.Lent.{lent}
-use Rattle.store_rules.specs.Called.{storeCalled}
-use Rattle.store_rules.proofs.Given.{rules-with}
+use Rattle.definitions_close.specs.Store.{rulesAnswerFor}
+use Rattle.definitions_close.specs.StoreClose.{rulesFor}
+use Rattle.definitions_close.specs.StoreSteps.{StoreStepCall}
+use Rattle.store.specs.Lent.{lent}
+use Rattle.store.specs.Called.{storeCalled}
+use Rattle.store.proofs.store_rules.Given.{rules-with}
 use Rattle.store_steps.specs.Called.{storeStepCalled}
 use Rattle.store_steps.proofs.Steps.{first-by, first-turned}
 use borrow.Author.Needs.{needs}

@@ -1,10 +1,10 @@
 use mathlib.Core.Path.{_∙_}
 use borrow.Author.Tests.{eq-eqb}
-use Rattle.definitions_orders.specs.CloseBySteps.{unwritten}
-use Rattle.definitions_store.specs.StoreSteps.{StoreStepCall, storeStep}
+use Rattle.definitions_close.specs.CloseBySteps.{unwritten}
+use Rattle.definitions_close.specs.StoreSteps.{StoreStepCall, storeStep}
 use Rattle.refusals.proofs.All.{fails, passes}
-use Rattle.store_entries.specs.Lent.{lent}
-use Rattle.store_rules.specs.Called.{storeCalled}
+use Rattle.store.specs.Lent.{lent}
+use Rattle.store.specs.Called.{storeCalled}
 use Rattle.store_steps.specs.Called.{storeStepCalled}
 use Rattle.store_steps.proofs.Steps.{out-of-turn, first, later}
 use borrow.Author.Needs.{needs}

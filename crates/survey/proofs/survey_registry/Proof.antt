@@ -1,6 +1,6 @@
 use Prim.Native.Nat.{_-_}
 use borrow.Author.Needs.{needs}
-use Rattle.loops.proofs.Reading.{reading-ten}
+use Rattle.laws.proofs.Loops.Reading.{reading-ten}
 use Rattle.selection.proofs.Kept.{kept-same}
 use Rattle.survey.proofs.Found.{Seeing, seeing-none, room-active, room-queue, seeing-more, seeing-all}
 use native.Mathlib.Omega.{arith}

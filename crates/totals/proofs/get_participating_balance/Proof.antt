@@ -1,7 +1,7 @@
 use native.Mathlib.Omega.{arith}
 use borrow.Author.Needs.{needs}
 use Rattle.definitions.specs.Rust.Altair.Helpers.{«get_unslashed_participating_indices»}
-use Rattle.registry_refusals.proofs.Passed.{participation-passed}
+use Rattle.leaf_refusals.proofs.registry_refusals.Passed.{participation-passed}
 use Rattle.totals.proofs.WithRaised.{total-refused, total-after}
 use Rattle.totals.proofs.get_participating_balance.Statement.{statement}
 use Rattle.totals.proofs.get_participating_balance.Tie as tie

@@ -1,5 +1,5 @@
 use borrow.Author.Needs.{needs}
-use Rattle.registry_refusals.proofs.Passed.{slot-registry-passed}
+use Rattle.leaf_refusals.proofs.registry_refusals.Passed.{slot-registry-passed}
 use Rattle.totals.proofs.WithRaised.{total-refused, total-after}
 use Rattle.totals.proofs.get_total_active_balance.Statement.{statement}
 use Rattle.totals.proofs.get_total_active_balance.Tie as tie

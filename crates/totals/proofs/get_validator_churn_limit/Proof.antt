@@ -1,5 +1,5 @@
 use borrow.Author.Needs.{needs}
-use Rattle.registry_refusals.proofs.Passed.{slot-registry-passed}
+use Rattle.leaf_refusals.proofs.registry_refusals.Passed.{slot-registry-passed}
 use Rattle.totals.proofs.Tested.{says-refused, says-plain}
 use Rattle.totals.proofs.get_validator_churn_limit.Statement.{statement}
 use Rattle.totals.proofs.get_validator_churn_limit.Tie as tie

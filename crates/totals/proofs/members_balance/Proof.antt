@@ -1,8 +1,8 @@
 use Prim.Native.Nat.{_-_}
 use native.Mathlib.Omega.{arith}
 use Rattle.totals.specs.Members.{isMember}
-use Rattle.loops.proofs.Reading.{reading-ten}
-use Rattle.loops.proofs.Summed.{Summed, summed-none, summed-more}
+use Rattle.laws.proofs.Loops.Reading.{reading-ten}
+use Rattle.laws.proofs.Loops.Summed.{Summed, summed-none, summed-more}
 use Rattle.totals.proofs.Sums.{weight, balance-summed, balance-over}
 use Rattle.totals.proofs.members_balance.Statement.{statement}
 use Rattle.totals.proofs.members_balance.Tie as tie

@@ -2,8 +2,8 @@ use Prim.Native.Nat.{_-_}
 use native.Mathlib.Omega.{arith}
 use borrow.Author.Tests.{not-true, not-false}
 use Rattle.totals.specs.Members.{isMember}
-use Rattle.loops.proofs.Counted.{Counted, counted-none, counted-yes, counted-no, counted-all}
-use Rattle.loops.proofs.Reading.{reading-ten}
+use Rattle.laws.proofs.Loops.Counted.{Counted, counted-none, counted-yes, counted-no, counted-all}
+use Rattle.laws.proofs.Loops.Reading.{reading-ten}
 use Rattle.totals.proofs.members_count.Statement.{statement}
 use Rattle.totals.proofs.members_count.Tie as tie
 

@@ -1,6 +1,6 @@
 use native.Mathlib.Omega.{arith}
 use borrow.Author.Needs.{needs}
-use Rattle.loops.proofs.Entry.{entry-ten}
+use Rattle.laws.proofs.Loops.Entry.{entry-ten}
 use Rattle.validator_exit.proofs.InPlace.{starts-few, pair-few, leaves-known, leaves-refused, leaves-written}
 use Rattle.validator_exit.proofs.exit_in_place.Statement.{statement}
 use Rattle.validator_exit.proofs.exit_in_place.Tie as tie

@@ -1,6 +1,6 @@
 use native.Mathlib.Omega.{arith}
 use borrow.Author.Needs.{needs}
-use Rattle.queue_tests.proofs.Found.{found-passed}
+use Rattle.validator_exit.proofs.queue_tests.Found.{found-passed}
 use Rattle.validator_exit.proofs.Tests.{turned-away, shape-refused, positive, long, seen-code, both-passed, all-passed, least-real, exit-done}
 use Rattle.validator_exit.proofs.initiate_validator_exit.Statement.{statement}
 use Rattle.validator_exit.proofs.initiate_validator_exit.Tie as tie

@@ -1,7 +1,7 @@
 use Prim.Native.Nat.{_-_}
 use native.Mathlib.Omega.{arith}
 use borrow.Author.Tests.{not-true, not-false}
-use Rattle.loops.proofs.Reading.{reading-ten}
+use Rattle.laws.proofs.Loops.Reading.{reading-ten}
 use Rattle.exit_queue.proofs.QueueOf.{tracking-few}
 use Rattle.validator_exit.proofs.Seeing.{Seeing, seeing-none, seeing-few, seeing-more, seeing-stop, seeing-all}
 use Rattle.validator_exit.proofs.see_registry.Statement.{statement}

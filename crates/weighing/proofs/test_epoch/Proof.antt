@@ -3,8 +3,8 @@ use borrow.Author.Tests.{not-true, not-false}
 use Rattle.definitions.specs.Checked.{value}
 use Rattle.definitions.specs.Rust.Phase0.Helpers.{«get_block_root»}
 use Rattle.arithmetic.proofs.Answers.{tells-truth, answers-value, answers-overflow}
-use Rattle.roots.proofs.Codes.{given}
-use Rattle.roots.proofs.Lookups.{epoch-value}
+use Rattle.epochs.proofs.roots.Codes.{given}
+use Rattle.epochs.proofs.roots.Lookups.{epoch-value}
 use Rattle.weighing.proofs.Tests.{only-justified, root-long, test-over, test-failed, test-refused, test-passed}
 use borrow.Author.Needs.{needs}
 use Rattle.weighing.proofs.test_epoch.Statement.{statement}

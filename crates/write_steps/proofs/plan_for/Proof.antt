@@ -3,7 +3,7 @@ use Rattle.refusals.proofs.Laws.{good-settings}
 use Rattle.arithmetic.proofs.Laws.{says-value, says-overflow}
 use Rattle.arithmetic.proofs.Answers.{tells-truth, answers-value, answers-overflow}
 use Rattle.slashings.proofs.Adjusted.{only-adjusted}
-use Rattle.effective_balances.proofs.Step.{tells-thresholds, only-thresholds}
+use Rattle.balances.proofs.effective_balances.Step.{tells-thresholds, only-thresholds}
 use Rattle.write_steps.specs.Numbers.{noLeak, noAdjusted, noThresholds}
 use Rattle.write_steps.proofs.Only.{only-leak}
 use Rattle.write_steps.proofs.Made.{plan-made, plan-lacks}

@@ -4,7 +4,7 @@ use native.Mathlib.Omega.{arith}
 use borrow.Author.Needs.{needs}
 use Rattle.definitions.specs.Record.{decode}
 use Rattle.refusals.proofs.Laws.{good-settings}
-use Rattle.buffers.proofs.Chained.{ran-overflow}
+use Rattle.refusals.proofs.buffers.Chained.{ran-overflow}
 use Rattle.registry.proofs.Epochs.{Epochs, epochs}
 use Rattle.write_steps.proofs.Accepted.{Accepted, none-lacks, not-accepted}
 use Rattle.write_steps.proofs.Made.{queue-few, total-least}

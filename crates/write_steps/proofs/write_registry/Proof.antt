@@ -6,7 +6,7 @@ use borrow.Author.Needs.{needs}
 use Rattle.definitions.specs.Record.{decode}
 use Rattle.refusals.proofs.All.{fails, passes}
 use Rattle.refusals.proofs.Laws.{good-settings}
-use Rattle.buffers.proofs.Chained.{ran-overflow}
+use Rattle.refusals.proofs.buffers.Chained.{ran-overflow}
 use Rattle.registry.proofs.Epochs.{Epochs, epochs}
 use Rattle.write_steps.proofs.Accepted.{Accepted, not-accepted}
 use Rattle.write_steps.proofs.Made.{plain-fit, found-all}

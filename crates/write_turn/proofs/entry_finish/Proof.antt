@@ -1,5 +1,5 @@
 use Rattle.definitions.specs.Document.Altair.EpochProcessing.{rotateParticipation}
-use Rattle.sweeps.proofs.Runs.{in-turn, plain-runs}
+use Rattle.write_turn.proofs.Sweeps.Runs.{in-turn, plain-runs}
 use borrow.Author.Needs.{needs}
 use Rattle.write_turn.proofs.entry_finish.Statement.{statement}
 use Rattle.write_turn.proofs.entry_finish.Tie as tie

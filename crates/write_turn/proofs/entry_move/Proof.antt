@@ -1,5 +1,5 @@
 use Rattle.write_turn.proofs.Entry.{turn-steps, turn-few, admit-steps}
-use Rattle.sweeps.proofs.Steps.{after-then, after-stop}
+use Rattle.write_turn.proofs.Sweeps.Steps.{after-then, after-stop}
 use native.Mathlib.Omega.{arith}
 use borrow.Author.Needs.{needs}
 use Rattle.write_turn.proofs.entry_move.Statement.{statement}

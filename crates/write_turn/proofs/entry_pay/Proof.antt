@@ -1,7 +1,7 @@
 use mathlib.Core.Path.{_∙_}
 use native.Mathlib.Omega.{arith}
 use Rattle.write_turn.proofs.Entry.{pays-none, pays-some, rates-none, balance-scored}
-use Rattle.sweeps.proofs.Runs.{settles-runs, runs-then, runs-stop}
+use Rattle.write_turn.proofs.Sweeps.Runs.{settles-runs, runs-then, runs-stop}
 use borrow.Author.Needs.{needs}
 use Rattle.write_turn.proofs.entry_pay.Statement.{statement}
 use Rattle.write_turn.proofs.entry_pay.Tie as tie

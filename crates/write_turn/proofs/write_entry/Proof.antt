@@ -1,5 +1,5 @@
 use mathlib.Core.Path.{_∙_}
-use Rattle.sweeps.proofs.Steps.{steps-copied, first-then, first-stop, last-then, last-stop}
+use Rattle.write_turn.proofs.Sweeps.Steps.{steps-copied, first-then, first-stop, last-then, last-stop}
 use native.Mathlib.Omega.{arith}
 use borrow.Author.Needs.{needs}
 use Rattle.write_turn.proofs.write_entry.Statement.{statement}

@@ -3,8 +3,8 @@ use mathlib.Core.Bool.{Bool, cond, _&&_}
 use mathlib.Core.List.{List, [], _∷_, map, foldl, zipWith}
 use Prim.Native.Nat.{ℕ, _+_, _-_, _*_, _/_, min}
 use lib.Dec.{leb, eqb}
-use Rattle.types.specs.declared.Settings.{Settings}
-use Rattle.types.specs.declared.Deltas.{Deltas}
+use Rattle.definitions.specs.declared.Settings.{Settings}
+use Rattle.definitions.specs.declared.Deltas.{Deltas}
 use Rattle.definitions.specs.Lists.{sum}
 use Rattle.definitions.specs.Record.{Validator, BeaconState, «GENESIS_EPOCH», isSlashed}
 use Rattle.definitions.specs.Updates.{withScore, withParticipation, withValidators, withFinality}

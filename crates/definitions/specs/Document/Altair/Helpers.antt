@@ -4,8 +4,8 @@ use mathlib.Core.List.{List, [], _∷_, map}
 use Prim.Native.Nat.{ℕ, _+_, _*_, _/_, _%_, _^_}
 use lib.Dec.{eqb}
 use lib.ListN.{getD}
-use Rattle.types.specs.declared.Settings.{Settings}
-use Rattle.types.specs.declared.Deltas.{Deltas}
+use Rattle.definitions.specs.declared.Settings.{Settings}
+use Rattle.definitions.specs.declared.Deltas.{Deltas}
 use Rattle.definitions.specs.Lists.{filter}
 use Rattle.definitions.specs.Record.{Validator, isSlashed}
 use Rattle.definitions.specs.Document.Phase0.Helpers.{«integer_squareroot», «is_active_validator», «get_current_epoch», «get_previous_epoch», «get_total_balance», «get_total_active_balance»}

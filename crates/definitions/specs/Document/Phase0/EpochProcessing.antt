@@ -4,9 +4,9 @@ use mathlib.Core.List.{List, [], _∷_, map, foldl}
 use Prim.Native.Nat.{ℕ, _+_, _-_, _*_, _/_, _%_, _^_, min}
 use lib.Dec.{leb, ltb, eqb}
 use lib.ListN.{length, getD, take, set}
-use Rattle.types.specs.declared.Settings.{Settings}
-use Rattle.types.specs.declared.Checkpoint.{Checkpoint}
-use Rattle.types.specs.declared.Finality.{Finality}
+use Rattle.definitions.specs.declared.Settings.{Settings}
+use Rattle.definitions.specs.declared.Checkpoint.{Checkpoint}
+use Rattle.definitions.specs.declared.Finality.{Finality}
 use Rattle.definitions.specs.Lists.{filter, range, sorted}
 use Rattle.definitions.specs.Record.{Validator, BeaconState, isSlashed, nobody}
 use Rattle.definitions.specs.Updates.{withEffectiveBalance, withEligibility, withActivation, withValidators, withSlashings}

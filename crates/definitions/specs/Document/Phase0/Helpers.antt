@@ -4,7 +4,7 @@ use mathlib.Core.List.{List, map}
 use Prim.Native.Nat.{ℕ, zero, suc, _+_, _-_, _*_, _/_, _%_, max}
 use lib.Dec.{leb, ltb, eqb}
 use lib.ListN.{length, getD, take, drop, set}
-use Rattle.types.specs.declared.Settings.{Settings}
+use Rattle.definitions.specs.declared.Settings.{Settings}
 use Rattle.definitions.specs.Lists.{filter, sum, maximum}
 use Rattle.definitions.specs.Record.{Validator, «FAR_FUTURE_EPOCH», «GENESIS_EPOCH», nobody}
 use Rattle.definitions.specs.Updates.{withBalance, withExit}

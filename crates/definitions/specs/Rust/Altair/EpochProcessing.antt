@@ -3,9 +3,9 @@ use mathlib.Core.Bool.{Bool, false, cond}
 use mathlib.Core.List.{List, [], _∷_, map}
 use Prim.Native.Nat.{ℕ, _+_, _-_, _/_, min}
 use lib.Dec.{leb, eqb}
-use Rattle.types.specs.declared.Settings.{Settings}
-use Rattle.types.specs.declared.Deltas.{Deltas}
-use Rattle.types.specs.declared.Finality.{Finality}
+use Rattle.definitions.specs.declared.Settings.{Settings}
+use Rattle.definitions.specs.declared.Deltas.{Deltas}
+use Rattle.definitions.specs.declared.Finality.{Finality}
 use Rattle.definitions.specs.Record.{Validator, «GENESIS_EPOCH», isSlashed}
 use Rattle.definitions.specs.Updates.{withScore}
 use Rattle.definitions.specs.Checked.{Checked, value, bind, add64, mul64, sum64, mapChecked, foldChecked}

@@ -4,7 +4,7 @@ use mathlib.Core.List.{List, map}
 use Prim.Native.Nat.{ℕ, max}
 use lib.Dec.{leb, ltb, eqb}
 use lib.ListN.{getD, set}
-use Rattle.types.specs.declared.Settings.{Settings}
+use Rattle.definitions.specs.declared.Settings.{Settings}
 use Rattle.definitions.specs.Lists.{maximum}
 use Rattle.definitions.specs.Record.{Validator, «FAR_FUTURE_EPOCH», nobody}
 use Rattle.definitions.specs.Updates.{withBalance, withExit}

@@ -5,7 +5,7 @@ use mir.Syntax.{w64}
 use mir.Val.{toZ, ofZ}
 use borrow.Author.Needs.{needs}
 use Rattle.definitions.specs.Checked.{value}
-use Rattle.definitions_listing.specs.NetChange.{netChange, changeFor}
+use Rattle.definitions_file.specs.NetChange.{netChange, changeFor}
 use Rattle.listing_lines.proofs.Change.{given, signed}
 use Rattle.plain.specs.Plain.{plainChange}
 use Rattle.exports.proofs.listing.altair_net_change.Statement.{statement}

@@ -3,7 +3,7 @@ use native.Mathlib.Omega.{arith}
 use borrow.Author.Needs.{needs}
 use mir.Syntax.{w64}
 use mir.Facts.{toZ-pos}
-use Rattle.definitions_listing.specs.declared.Change.the-variants.{Value}
+use Rattle.definitions_file.specs.declared.Change.the-variants.{Value}
 use Rattle.listing_lines.proofs.Change.{lost-fits, lost-told, gain, gain-wide, loses, loses-wide}
 use Rattle.listing_lines.proofs.numbers.net_change.Statement.{statement}
 use Rattle.listing_lines.proofs.numbers.net_change.Tie as tie

@@ -1,6 +1,6 @@
 use native.Mathlib.Omega.{arith}
 use borrow.Author.Needs.{needs}
-use Rattle.decimals.proofs.Put.{put-more}
+use Rattle.fields.proofs.decimals.Put.{put-more}
 use Rattle.listing_lines.proofs.text.put_refused.Statement.{statement}
 use Rattle.listing_lines.proofs.text.put_refused.Tie as tie
 

@@ -1,3 +1,0 @@
--- From tests and work to what a closing buffer holds.
-pub mod Closes
-pub mod Chained

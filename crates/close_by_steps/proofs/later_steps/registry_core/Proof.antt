@@ -1,0 +1,62 @@
+use Rattle.refusals.proofs.Laws.{good-settings}
+use Rattle.exit_queue.proofs.Tracks.{tracks-start}
+use Rattle.registry.proofs.Epochs.{epochs}
+use Rattle.registry.proofs.Step.{counted-limit, step-by}
+use Rattle.close_by_steps.proofs.later_steps.Later.{ran-whole}
+use native.Mathlib.Omega.{arith}
+use borrow.Author.Needs.{needs}
+use Rattle.close_by_steps.proofs.later_steps.registry_core.Statement.{statement}
+use Rattle.close_by_steps.proofs.later_steps.registry_core.Tie as tie
+
+current-epoch-requires : tie.Need-current-epoch-requires
+current-epoch-requires c κs =
+    good-settings _ (c .before .before .pre .0) .positive .«slots_per_epoch»
+
+previous-epoch-requires : tie.Need-previous-epoch-requires
+previous-epoch-requires c κs =
+    good-settings _ (c .before .before .before .pre .0) .positive .«slots_per_epoch»
+
+survey-registry-requires : tie.Need-survey-registry-requires
+survey-registry-requires c κs =
+    let p = epochs _ _ (c .before .before .before .before .before .before .pre .0) (c .before .before .before .before .before .before .pre .1 .0 .0) in (c .before .before .before .before .before .before .pre .1 .1 .0, (omega (arith, p .small, c .before .before .before .current-epoch .ensures), c .before .before .before .before .before .before .pre .1 .1 .1))
+
+churn-by-requires : tie.Need-churn-by-requires
+churn-by-requires c κs =
+    good-settings _ (c .before .before .before .before .before .before .before .before .before .pre .0) .positive .«churn_limit_quotient»
+
+cut-queue-requires : tie.Need-cut-queue-requires
+cut-queue-requires c κs =
+    let p = epochs _ _ (c .before .before .before .before .before .before .before .before .before .before .before .before .pre .0) (c .before .before .before .before .before .before .before .before .before .before .before .before .pre .1 .0 .0) in (c .before .before .before .before .before .before .before .before .before .before .before .before .pre .1 .1 .0, ((omega (arith, p .small, c .before .before .before .before .before .before .before .before .before .current-epoch .ensures), omega (arith, c .before .before .before .before .before .before .before .before .before .before .before .before .pre .1 .0 .1)), c .before .before .before .before .before .survey-registry .ensures .waiting))
+
+add-least : tie.Need-add-least
+add-least c =
+    let p = epochs _ _ (c .before .before .before .before .before .before .before .before .before .before .before .before .before .pre .0) (c .before .before .before .before .before .before .before .before .before .before .before .before .before .pre .1 .0 .0) in omega (arith, p .fits, c .before .before .before .before .before .before .before .before .before .before .current-epoch .ensures)
+
+add-least-2 : tie.Need-add-least-2
+add-least-2 c =
+    let p = epochs _ _ (c .before .before .before .before .before .before .before .before .before .before .before .before .before .before .pre .0) (c .before .before .before .before .before .before .before .before .before .before .before .before .before .before .pre .1 .0 .0) in omega (arith, p .fits, c .before .before .before .before .before .before .before .before .before .before .before .current-epoch .ensures)
+
+update-by-requires : tie.Need-update-by-requires
+update-by-requires c κs =
+    let p = epochs _ _ (c .before .before .before .before .before .before .before .before .before .before .before .before .before .before .before .before .pre .0) (c .before .before .before .before .before .before .before .before .before .before .before .before .before .before .before .before .pre .1 .0 .0) in let q = good-settings _ (c .before .before .before .before .before .before .before .before .before .before .before .before .before .before .before .before .pre .0) .small .«max_seed_lookahead» in ((c .before .before .before .before .before .before .before .before .before .before .before .before .before .before .before .before .pre .1 .1 .0, omega (arith, p .small, c .before .before .before .before .before .before .before .before .before .before .before .before .before .current-epoch .ensures), q), (omega arith, (rw (c .before .start-pair .ensures) (tracks-start (omega (arith, p .fits, c .before .before .before .before .before .before .before .before .before .before .before .before .before .current-epoch .ensures)) (c .before .before .before .before .before .before .before .before .before .survey-registry .ensures .queue)), c .before .before .before .cut-queue .ensures)))
+
+returns : tie.Need-returns
+returns c =
+    let limit = counted-limit _ _ _ (c .before .before .before .before .before .before .before .before .before .before .before .before .before .before .before .before .current-epoch .ensures) (c .before .before .before .before .before .before .before .before .before .before .before .before .survey-registry .ensures .number) (c .before .before .before .before .before .before .before .before .before .churn-by .ensures) in ran-whole _ _ _ _ (c .before .before .before .before .before .before .before .before .before .before .before .before .before .before .before .before .before .before .before .pre .1 .1 .0) (rw (step-by _ _ _ _ _ (epochs _ _ (c .before .before .before .before .before .before .before .before .before .before .before .before .before .before .before .before .before .before .before .pre .0) (c .before .before .before .before .before .before .before .before .before .before .before .before .before .before .before .before .before .before .before .pre .1 .0 .0)) (c .before .before .before .before .before .before .before .before .before .before .before .before .before .before .before .before .current-epoch .ensures) limit) (c .before .before .update-by .ensures))
+
+pub registry-core-spec : {M : Type 1} → statement M
+registry-core-spec =
+    tie.close
+    (tie.spec
+    current-epoch-requires
+    previous-epoch-requires
+    survey-registry-requires
+    churn-by-requires
+    cut-queue-requires
+    add-least
+    add-least-2
+    (λ c κs. search needs)
+    update-by-requires
+    (λ c. search needs)
+    (λ c. search needs)
+    returns)

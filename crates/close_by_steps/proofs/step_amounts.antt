@@ -1,0 +1,3 @@
+-- A list of zeros
+-- Rewards that book as they go
+mod Rewards

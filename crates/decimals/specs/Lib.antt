@@ -1,2 +1,0 @@
--- Text put into lent bytes.
-pub mod Put

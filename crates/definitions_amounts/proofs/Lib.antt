@@ -1,2 +1,0 @@
--- Figures of the amounts and of the test's number.
-pub mod Figures

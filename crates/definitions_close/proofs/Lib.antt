@@ -1,0 +1,4 @@
+-- Figures of the amounts and of the test's number.
+pub mod AmountsFigures
+-- Figures of a store.
+pub mod StoreFigures

@@ -1,2 +1,0 @@
--- What a reader must believe of the justification step's answer.
-pub mod Answer

@@ -1,1 +1,0 @@
-// Definitions alone: what the justification step answers.

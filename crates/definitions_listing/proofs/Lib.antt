@@ -1,2 +1,0 @@
--- The net change's figures.
-pub mod Figures

@@ -1,2 +1,0 @@
--- The figures of a tried outage.
-pub mod Figures

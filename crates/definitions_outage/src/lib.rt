@@ -1,1 +1,0 @@
-// What a reader must believe of trying an outage: its specs.

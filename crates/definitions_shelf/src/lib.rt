@@ -1,1 +1,0 @@
-// Definitions alone: what a reader must believe of a shelf of records. See specs/.

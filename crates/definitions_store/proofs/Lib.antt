@@ -1,2 +1,0 @@
--- Figures of a store.
-pub mod Figures

@@ -1,0 +1,18 @@
+use Rattle.definitions.specs.LeafRefusals.{rootTests}
+use borrow.Author.Needs.{needs}
+use Rattle.epochs.proofs.roots.root_refusal.Statement.{statement}
+use Rattle.epochs.proofs.roots.root_refusal.Tie as tie
+
+returns : tie.Need-returns
+unfolding rootTests
+returns c = rw (← c .before .before .before .roots-shaped .ensures, ← c .before .before .good-settings .ensures, ← c .before .is-small .ensures) (c .in-order .ensures)
+
+pub root-refusal-spec : {M : Type 1} → statement M
+root-refusal-spec =
+    tie.close
+    (tie.spec
+    (λ c κs. search needs)
+    (λ c κs. search needs)
+    (λ c κs. search needs)
+    (λ c κs. search needs)
+    returns)

@@ -1,0 +1,29 @@
+use mathlib.Core.Path.{_≡_}
+use Prim.Native.Nat.{_+_, _-_, _*_, _%_}
+use native.Mathlib.Nat.{mod-lt}
+use Rattle.definitions.specs.Document.Phase0.Helpers.{«get_block_root_at_slot»}
+use native.Mathlib.Omega.{arith}
+use borrow.Author.Needs.{needs}
+use Rattle.epochs.proofs.roots.slot_root.Statement.{statement}
+use Rattle.epochs.proofs.roots.slot_root.Tie as tie
+
+mul-a : tie.Need-mul-a
+mul-a c = omega (arith, mod-lt (c .before .args .slot) (c .before .pre .1))
+
+add-b : tie.Need-add-b
+add-b c = omega (arith, mod-lt (c .before .args .slot) (c .before .pre .1))
+
+part-result-end : tie.Need-part-result-end
+part-result-end c = omega (arith, mod-lt (c .before .args .slot) (c .before .pre .1))
+
+returns : tie.Need-returns
+unfolding «get_block_root_at_slot»
+returns c =
+    let a = c .before .before .args in
+    let start = 32 * (a .slot % a .s .«slots_per_historical_root») in
+    let k : start + 32 - start ≡ 32 = omega arith in
+    rw k
+
+pub slot-root-spec : {M : Type 1} → statement M
+slot-root-spec =
+    tie.close (tie.spec (λ c. search needs) mul-a add-b (λ c. search needs) (λ c. search needs) part-result-end returns)

@@ -1,2 +1,0 @@
--- What contracts of exits cite.
-pub mod Exits

@@ -1,0 +1,72 @@
+use mathlib.Core.Path.{_≡_, refl, _∙_}
+use Prim.Native.Nat.{_≤_, _<_, _+_, _-_, _^_}
+use native.Mathlib.Omega.{arith}
+use lib.ListN.{take, drop}
+use Rattle.definitions_file.specs.File.{fromLittleEndian}
+use Rattle.fields.proofs.reader.Bytes.{field-back, field-whole, field-small}
+use Rattle.fields.proofs.reader.number_at.Statement.{statement}
+use Rattle.fields.proofs.reader.number_at.Tie as tie
+
+abbrev Inv-loop : tie.InvT-loop
+Inv-loop bytes at n₀ k₀ n k = (k ≤ 8) × (n ≡ fromLittleEndian (take (8 - k) (drop (at + k) bytes)))
+
+abbrev μ-loop : tie.MeasureT-loop
+μ-loop bytes at n₀ k₀ n k = k
+
+loop-holds : tie.Need-loop-holds Inv-loop μ-loop
+unfolding fromLittleEndian
+loop-holds c = (omega arith, refl)
+
+sub-k : tie.Need-sub-k Inv-loop μ-loop
+sub-k c = omega arith
+
+add-i : tie.Need-add-i Inv-loop μ-loop
+add-i c = omega arith
+
+shared-slice-read-wide : tie.Need-shared-slice-read-wide Inv-loop μ-loop
+shared-slice-read-wide c = omega arith
+
+wide-requires : tie.Need-wide-requires Inv-loop μ-loop
+wide-requires c κs = tt
+
+-- what is read so far leaves room for one byte more
+small : (c : tie.After-wide Inv-loop μ-loop) → c .before .before .before .loop .n < 2 ^ 56
+small c =
+    let a = c .before .before .before .before .before .args in
+    let l = c .before .before .before .loop in
+    rw (l .inv .1) (field-small (a .bytes .now) (λ i. c .before .shared-slice-known2 .given i .fits) (8 - l .k) (a .at + l .k) (omega arith) (omega arith))
+
+mul-n : tie.Need-mul-n Inv-loop μ-loop
+mul-n c = omega (arith, small c)
+
+add-n : tie.Need-add-n Inv-loop μ-loop
+add-n c = omega (arith, small c)
+
+loop-less : tie.Need-loop-less Inv-loop μ-loop
+loop-less c = omega arith
+
+loop-again : tie.Need-loop-again Inv-loop μ-loop
+loop-again c =
+    let a = c .before .before .before .before .before .args in
+    let l = c .before .before .before .loop in
+    (omega arith, rw (c .wide .ensures .0, l .inv .1) (field-back (a .bytes .now) (a .at) (l .k) (omega arith) (omega arith) (omega arith)))
+
+returns : tie.Need-returns Inv-loop μ-loop
+returns c = let a = c .before .before .before .args in c .before .loop .inv .1 ∙ field-whole (a .bytes .now) (a .at) (c .before .loop .k) (omega arith)
+
+pub number-at-spec : {M : Type 1} → statement M
+number-at-spec =
+    tie.close
+    (tie.spec
+    Inv-loop
+    μ-loop
+    loop-holds
+    sub-k
+    add-i
+    shared-slice-read-wide
+    wide-requires
+    mul-n
+    add-n
+    loop-less
+    loop-again
+    returns)

@@ -1,2 +1,0 @@
--- What the contract of listing a file cites.
-pub mod Printed

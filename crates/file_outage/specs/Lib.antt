@@ -1,2 +1,0 @@
--- What the contract of trying an outage cites.
-pub mod Text

@@ -1,2 +1,0 @@
--- Both round trips.
-pub mod RoundTrips

@@ -1,0 +1,34 @@
+use mathlib.Core.Path.{sym, _∙_}
+use Rattle.finality.proofs.finalizing.Runs.{last-test-by-runs}
+use borrow.Author.Needs.{needs}
+use Rattle.finality.proofs.finalizing.last_test.Statement.{statement}
+use Rattle.finality.proofs.finalizing.last_test.Tie as tie
+
+returns : tie.Need-returns
+returns c = rw (last-test-by-runs, sym (c .before .is-linked .ensures) ∙ c .if1 .taken)
+
+returns-2 : tie.Need-returns-2
+returns-2 c = rw (last-test-by-runs, sym (c .before .before .before .is-linked .ensures) ∙ c .before .before .if1 .left, sym (c .before .is-linked2 .ensures) ∙ c .if2 .taken)
+
+returns-3 : tie.Need-returns-3
+returns-3 c = rw (last-test-by-runs, sym (c .before .before .before .before .before .is-linked .ensures) ∙ c .before .before .before .before .if1 .left, sym (c .before .before .before .is-linked2 .ensures) ∙ c .before .before .if2 .left, sym (c .before .is-linked3 .ensures) ∙ c .if3 .taken)
+
+returns-4 : tie.Need-returns-4
+returns-4 c = rw (last-test-by-runs, sym (c .before .before .before .before .before .before .before .is-linked .ensures) ∙ c .before .before .before .before .before .before .if1 .left, sym (c .before .before .before .before .before .is-linked2 .ensures) ∙ c .before .before .before .before .if2 .left, sym (c .before .before .before .is-linked3 .ensures) ∙ c .before .before .if3 .left, sym (c .before .is-linked4 .ensures) ∙ c .if4 .taken)
+
+returns-5 : tie.Need-returns-5
+returns-5 c = rw (last-test-by-runs, sym (c .before .before .before .before .before .before .before .is-linked .ensures) ∙ c .before .before .before .before .before .before .if1 .left, sym (c .before .before .before .before .before .is-linked2 .ensures) ∙ c .before .before .before .before .if2 .left, sym (c .before .before .before .is-linked3 .ensures) ∙ c .before .before .if3 .left, sym (c .before .is-linked4 .ensures) ∙ c .if4 .left)
+
+pub last-test-spec : {M : Type 1} → statement M
+last-test-spec =
+    tie.close
+    (tie.spec
+    (λ c κs. search needs)
+    returns
+    (λ c κs. search needs)
+    returns-2
+    (λ c κs. search needs)
+    returns-3
+    (λ c κs. search needs)
+    returns-4
+    returns-5)

@@ -1,2 +1,0 @@
--- What each step writes.
-pub mod Frames

@@ -1,0 +1,148 @@
+-- The nine numbers that the pass fills are those of the steps, by the plan of an accepted close.
+use mathlib.Core.Path.{_≡_, refl, sym, ap, subst, _∙_}
+use mathlib.Core.Bool.{Bool, true, false, cond, true≢false}
+use mathlib.Core.List.{List, [], _∷_, _++_, map}
+use Prim.Native.Nat.{ℕ, _+_, _-_, _*_, _/_, _<_}
+use native.Mathlib.Omega.{arith}
+use borrow.Author.Tests.{eqb-true, eq-eqb, ne-eqb}
+use lib.Dec.{eqb}
+use lib.ListN.{length, getD, take, drop, replicate}
+use Rattle.definitions.specs.declared.Settings.{Settings}
+use Rattle.definitions.specs.declared.Number.{Number}
+use Rattle.definitions.specs.Record.{Validator, decode, nobody}
+use Rattle.definitions.specs.Checked.{Checked, value, bind, settle, mapChecked}
+use Rattle.definitions.specs.Rust.Phase0.Helpers.{«get_current_epoch», «get_previous_epoch», «get_total_active_balance»}
+use Rattle.definitions.specs.Rust.Phase0.EpochProcessing.{«is_in_inactivity_leak»}
+use Rattle.definitions.specs.Rust.Altair.Helpers.{«get_unslashed_participating_indices», flagTotals}
+use Rattle.definitions.specs.Rust.Altair.EpochProcessing.{updateInactivityScore}
+use Rattle.laws.proofs.Checked.{value-same}
+use Rattle.laws.proofs.Encode.{length-decode}
+use Rattle.arithmetic.proofs.Laws.{bind-value}
+use Rattle.definitions_close.specs.Amounts.{eachChecked, pairs, booked, bookedByRewards, nines}
+use Rattle.theorems.specs.Amounts.Laws.{nineOf, balanceAt}
+use Rattle.theorems.proofs.Amounts.Lists.{each-length, each-at, each-map, at-map}
+use Rattle.theorems.proofs.Amounts.Nines.{Eights, nine-at, nines-long, nine-ext}
+use Rattle.theorems.proofs.Amounts.Accounted.{Way, by-rewards, by-slashings, filled-ninth}
+use Rattle.rewards.specs.Shared.{totalsOf}
+use Rattle.balances.specs.declared.effective_balances.Thresholds.{Thresholds}
+use Rattle.registry.proofs.Epochs.{Epochs}
+use Rattle.survey.specs.declared.Sums.{Sums}
+use Rattle.survey.specs.Sums.{Totals}
+use Rattle.write_turn.specs.declared.Plan.{Plan}
+use Rattle.write_turn.specs.Planned.{scoredBy}
+use Rattle.write_turn.specs.Written.{payOf}
+use Rattle.write_pass.specs.Filled.{eightBy, nineBy, nineAt, Filled}
+use Rattle.write_steps.specs.Numbers.{planOf, leakOf, BookedBy}
+use Rattle.write_steps.specs.RegistrySteps.{registrySteps}
+use Rattle.write_steps.proofs.Leak.{leak-some}
+use Rattle.write_steps.proofs.Kept.{score-keeps, totals-kept}
+use Rattle.write_steps.proofs.Rewards.{scores}
+use Rattle.write_steps.proofs.Steps.{pays}
+use Rattle.full_close.specs.StepAmounts.{stepAmounts}
+use Rattle.full_close.proofs.Booking.Way.{way, updated-long}
+
+module _ {s : Settings} {slot fin : ℕ} {ys : List ℕ} {vs ws : List Validator} (w : Way s slot fin ys vs ws) where
+  -- the nine numbers of the steps
+  abbrev pub nineLists : List ℕ
+  nineLists = nines (by-rewards w .eights) (by-slashings w .ninths)
+
+  pub step-amounts : stepAmounts s slot fin ys vs ≡ value nineLists
+  unfolding stepAmounts
+  step-amounts = bind-value _ (w .scores) ∙ bind-value _ (by-rewards w .are) ∙ bind-value _ (w .pays) ∙ bind-value _ (w .registers) ∙ bind-value _ (by-slashings w .are)
+
+  eights : Eights (by-rewards w .eights) (by-slashings w .ninths)
+  eights =
+      record {
+        long = omega (arith, by-rewards w .long, by-slashings w .long, by-rewards w .same, updated-long w);
+        eight = λ i l. by-rewards w .eight i (omega (arith, l, by-rewards w .long));
+      }
+
+  module _ (ep : Epochs s slot) {t : Sums} (totals : Totals s («get_current_epoch» s slot) («get_previous_epoch» s slot) vs t) (leaking : Bool) (leak : leakOf s slot fin ≡ value leaking) (a b c : Number) (adjusted : ℕ) (thresholds : Thresholds) where
+    abbrev current : ℕ
+    current = «get_current_epoch» s slot
+
+    abbrev previous : ℕ
+    previous = «get_previous_epoch» s slot
+
+    abbrev plan : Plan
+    plan = planOf s current previous leaking t a b c adjusted (thresholds .downward) (thresholds .upward)
+
+    leaks : (current ≡ 0 → ⊥) → «is_in_inactivity_leak» s slot fin ≡ value leaking
+    leaks n = sym (leak-some s slot fin n) ∙ leak
+
+    paid-all : eachChecked (payOf s plan) vs ≡ value (w .paid)
+    paid-all = sym (each-map (payOf s plan) vs) ∙ sym (pays s slot fin ep t leaking a b c adjusted thresholds vs totals leaks) ∙ bind-value _ (w .scores) ∙ w .pays
+
+    paid-long : length (w .paid) ≡ length vs
+    paid-long = each-length (payOf s plan) vs paid-all
+
+    scored-long : length (w .scored) ≡ length vs
+    scored-long = sym (by-rewards w .same) ∙ paid-long
+
+    module _ (i : ℕ) (l : i < length vs) where
+      abbrev v : Validator
+      v = getD vs i nobody
+
+      paid-at : payOf s plan v ≡ value (getD (w .paid) i nobody)
+      paid-at = each-at (payOf s plan) nobody nobody vs paid-all i l
+
+      eight-first : current ≡ 0 → eightBy s plan v ≡ value (getD (by-rewards w .eights) i [])
+      unfolding eightBy bookedByRewards
+      eight-first z =
+          let zeros : List ℕ = replicate 8 0 in
+          let are : map (λ v. zeros) (w .scored) ≡ by-rewards w .eights = value-same (rw (eq-eqb current 0 z) at (by-rewards w .are)) in
+          rw (eq-eqb current 0 z) (ap value (sym (at-map (λ v. zeros) nobody [] (w .scored) i (omega (arith, l, scored-long))) ∙ ap (λ (es : List (List ℕ)). getD es i []) are))
+
+      module _ (n : current ≡ 0 → ⊥) where
+        scored-all : mapChecked (scoredBy s plan) vs ≡ value (w .scored)
+        scored-all = sym (scores s (s .«inactivity_penalty_quotient_altair») slot fin refl n refl (leaks n) vs) ∙ w .scores
+
+        -- the eight numbers of a validator as the scores left it
+        eightOf : Validator → Checked (List ℕ)
+        eightOf u = bind (pairs s (plan .quotient) current previous (totalsOf (plan .shared) (plan .source)) (totalsOf (plan .shared) (plan .target)) (totalsOf (plan .shared) (plan .head)) u) (λ ds. value (booked (u .balance) ds))
+
+        -- the rewards read the totals of the registry that the scores left, which are the opening's
+        booked-all : bookedByRewards s (s .«inactivity_penalty_quotient_altair») slot fin (w .scored) ≡ eachChecked eightOf (w .scored)
+        unfolding bookedByRewards flagTotals «get_unslashed_participating_indices» «get_total_active_balance» bind eightOf
+        booked-all =
+            let h = totals-kept (scoredBy s plan) vs scored-all (score-keeps s current previous leaking) s current previous totals in
+            rw (ne-eqb current 0 n, h .source, h .active, leaks n, h .target, h .head)
+
+        eight-later : eightBy s plan v ≡ value (getD (by-rewards w .eights) i [])
+        unfolding eightBy bind eightOf
+        eight-later =
+            let scored-at = each-at (scoredBy s plan) nobody nobody vs (sym (each-map (scoredBy s plan) vs) ∙ scored-all) i l in
+            let booked-at = each-at eightOf nobody [] (w .scored) (sym booked-all ∙ by-rewards w .are) i (omega (arith, l, scored-long)) in
+            rw (ne-eqb current 0 n, scored-at) booked-at
+
+      eight-is : eightBy s plan v ≡ value (getD (by-rewards w .eights) i [])
+      eight-is = go (eqb current 0) refl
+        where
+          go : (q : Bool) → eqb current 0 ≡ q → eightBy s plan v ≡ value (getD (by-rewards w .eights) i [])
+          go true q = eight-first (eqb-true current 0 q)
+          go false q = eight-later (λ z. true≢false (sym (eq-eqb current 0 z) ∙ q))
+
+      nine-is : nineBy s plan v (getD ws i nobody) ≡ nineOf nineLists i
+      unfolding nineBy
+      nine-is =
+          rw (eight-is, paid-at)
+          (ap (λ (x : ℕ). getD (by-rewards w .eights) i [] ++ (x ∷ [])) (sym (filled-ninth w i l))
+          ∙ sym (nine-at (by-rewards w .eights) (by-slashings w .ninths) eights i (omega (arith, l, by-rewards w .long, scored-long))))
+
+    nine-long : (i : ℕ) → 9 * i + 9 - 9 * i ≡ 9
+    nine-long i = omega arith
+
+    -- a list that has the nine numbers of each
+    pub filled : (n : ℕ) → length vs ≡ n → {xs : List ℕ} → length xs ≡ 9 * n → ((i : ℕ) → i < n → nineAt xs i ≡ nineBy s plan (getD vs i nobody) (getD ws i nobody)) → stepAmounts s slot fin ys vs ≡ value xs
+    filled n e {xs} long nine =
+        step-amounts
+        ∙ ap value (sym (nine-ext n xs nineLists long (nines-long (by-rewards w .eights) (by-slashings w .ninths) eights ∙ ap (λ (k : ℕ). 9 * k) (by-rewards w .long ∙ scored-long ∙ e))
+        (λ i l. ap (λ (k : ℕ). take k (drop (9 * i) xs)) (sym (nine-long i)) ∙ nine i l ∙ nine-is i (omega (arith, l, e)))))
+
+-- By a plan as the code has it
+pub steps-booked : (s : Settings) (slot fin : ℕ) (ys opening closing : List ℕ) → Epochs s slot → length opening ≡ 10 * (length opening / 10) → registrySteps s slot fin ys (decode opening) ≡ value (decode closing) → {xs : List ℕ} → BookedBy s slot fin ys opening closing xs → stepAmounts s slot fin ys (decode opening) ≡ value xs
+steps-booked s slot fin ys opening closing ep long gave {xs} h =
+    let by = h .planned in
+    let p = h .plan in
+    filled (way s slot fin ys (decode opening) gave) ep (h .summed) (by .leaking) (by .leak) (p .shared .«per_increment») (p .shared .denominator) (p .product) (by .adjusted) (by .thresholds) (length opening / 10) (length-decode (length opening / 10) opening long) (h .filled .long)
+    (subst (λ (k : Plan). Filled s k opening closing xs) (by .makes .is) (h .filled) .nine)

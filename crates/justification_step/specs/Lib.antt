@@ -1,2 +1,0 @@
--- What is told of every call.
-pub mod Told

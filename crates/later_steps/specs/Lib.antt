@@ -1,2 +1,0 @@
--- What contracts of the later steps cite.
-pub mod Later

@@ -1,0 +1,47 @@
+use mathlib.Core.Path.{sym, _∙_}
+use native.Mathlib.Omega.{arith}
+use borrow.Author.Needs.{needs}
+use Rattle.refusals.proofs.Laws.{registry-shaped}
+use Rattle.fields.proofs.decimals.Put.{put-more, put-length}
+use Rattle.listing.proofs.listing_close.Printed.{or-refused, or-text}
+use Rattle.listing.proofs.listing_close.put_close.Statement.{statement}
+use Rattle.listing.proofs.listing_close.put_close.Tie as tie
+
+changes-requires : tie.Need-changes-requires
+changes-requires c κs =
+    let s = c .before .before .before in
+    (registry-shaped _ (s .pre .1 .0 .0) .long, s .pre .1 .0 .1)
+
+returns : tie.Need-returns
+returns c =
+    let p = c .before .before .put-refused .ensures in
+    let k = c .before .before .before .before in
+    (rw (or-refused _ (k .before .changes .ensures) (k .if1 .taken)) (p .0), omega (arith, p .1, put-length (p .0)))
+
+head-core-requires : tie.Need-head-core-requires
+head-core-requires c κs =
+    let s = c .before .before .before .before .before in
+    (s .pre .0, registry-shaped _ (s .pre .1 .0 .0) .long)
+
+returns-2 : tie.Need-returns-2
+returns-2 c =
+    let q = c .before .before .put-lines .ensures in
+    let k = c .before .before .before .before .before .before in
+    let p = k .put-head .ensures .0 in
+    let h = k .before .before .head-core .ensures in
+    let t = k .before .before .before in
+    (rw (or-text _ (sym (t .before .changes .ensures) ∙ t .if1 .left)) (put-more (rw h at p) (q .0)), omega (arith, q .1, put-length p))
+
+pub put-close-spec : {M : Type 1} → statement M
+put-close-spec =
+    tie.close
+    (tie.spec
+    changes-requires
+    (λ c κs. search needs)
+    (λ c. search needs)
+    returns
+    head-core-requires
+    (λ c κs. search needs)
+    (λ c κs. search needs)
+    (λ c. search needs)
+    returns-2)

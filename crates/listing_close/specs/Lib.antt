@@ -1,2 +1,0 @@
--- What the contract of a listed close cites.
-pub mod Listed

@@ -1,2 +1,0 @@
--- What contracts of loops over the registry cite.
-pub mod Ran

@@ -1,1 +1,0 @@
-// Laws alone: the loops over the registry, once for each shape, for any function on one entry.

@@ -1,2 +1,0 @@
--- What contracts of the ninth call cite.
-pub mod Ninth

@@ -1,0 +1,44 @@
+use native.Mathlib.Omega.{arith}
+use borrow.Author.Needs.{needs}
+use Rattle.definitions_file.specs.OutageInput.{planOf}
+use Rattle.outage.proofs.outage_preparation.Prepared.{prepares}
+use Rattle.outage.proofs.outage_preparation.prepare.Statement.{statement}
+use Rattle.outage.proofs.outage_preparation.prepare.Tie as tie
+
+last-slot-of-next-requires : tie.Need-last-slot-of-next-requires
+last-slot-of-next-requires c κs = let r = c .before .before .before .before .pre in (r .positive, r .short, r .small)
+
+sub-put-roots : tie.Need-sub-put-roots
+sub-put-roots c = omega (arith, c .before .last-slot-of-next .ensures)
+
+put-roots-requires : tie.Need-put-roots-requires
+put-roots-requires c κs = let r = c .before .before .before .before .before .before .pre in ((r .some-roots, r .few-roots, r .small), (r .places, r .bytes))
+
+current-epoch-requires : tie.Need-current-epoch-requires
+current-epoch-requires c κs = c .before .before .before .before .before .before .before .before .before .pre .positive
+
+set-flags-requires : tie.Need-set-flags-requires
+set-flags-requires c κs = let r = c .before .before .before .before .before .before .before .before .before .before .before .pre in (r .entries, r .pairs)
+
+returns : tie.Need-returns
+returns c =
+    let f = c .before .before .before in
+    let e = c .before .before .before .before .before in
+    let r = c .before .before .before .before .before .before .before .before in
+    let l = c .before .before .before .before .before .before .before .before .before .before in
+    let a = c .before .before .before .before .before .before .before .before .before .before .before .before .before .before .before .args in
+    prepares (a .s) (planOf (a .root .now) (a .absences .now)) (a .finality) (a .registry .now) (a .roots .now) (l .last-slot-of-next .ensures .0) (c .with-slot .ensures) (e .current-epoch .ensures) (f .set-flags .ensures) (r .put-roots .ensures)
+
+pub prepare-spec : {M : Type 1} → statement M
+prepare-spec =
+    tie.close
+    (tie.spec
+    last-slot-of-next-requires
+    sub-put-roots
+    put-roots-requires
+    current-epoch-requires
+    set-flags-requires
+    (λ c κs. search needs)
+    (λ c. search needs)
+    (λ c. search needs)
+    returns)

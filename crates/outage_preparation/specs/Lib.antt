@@ -1,2 +1,0 @@
--- What the contracts of a preparation cite.
-pub mod Ready

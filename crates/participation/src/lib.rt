@@ -1,0 +1,2 @@
+pub mod inactivity;
+pub mod participation_flags;

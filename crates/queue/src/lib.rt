@@ -1,1 +1,0 @@
-// Laws alone: the activation queue decided validator by validator, and the cut by which passes in register order find it.

@@ -1,2 +1,0 @@
--- The bracket of a bisection.
-pub mod Bracket

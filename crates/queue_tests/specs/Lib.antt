@@ -1,2 +1,0 @@
--- What contracts of test 8 cite.
-pub mod Found

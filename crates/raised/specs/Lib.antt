@@ -1,2 +1,0 @@
--- What the contracts of the raised totals cite.
-pub mod Flags

@@ -1,2 +1,0 @@
--- What the contracts of the rules' code cite.
-pub mod Refusal

@@ -1,2 +1,0 @@
--- What contracts of the slashings step that books cite.
-pub mod Taken

@@ -1,2 +1,0 @@
--- What contracts of the rewards step that books cite.
-pub mod Booked

@@ -1,0 +1,170 @@
+// The entries of a store of settings by starting epoch (02, R-10), 23 numbers each: tests 1 and 2 of those in use.
+ghost use mathlib.Core.Path.{_≡_};
+ghost use Prim.Native.Nat.{_*_, _≤_};
+ghost use lib.ListN.{length};
+ghost use Rattle.definitions.specs.Lists.{all};
+ghost use Rattle.definitions.specs.Rules.{rulesShaped, goodRules};
+ghost use Rattle.definitions_close.specs.Store.{entryOf, entriesFrom, keeps, follows, inSequence, storeShaped, goodEntries};
+ghost use Rattle.store.specs.Lent.{lent};
+use definitions::Bellatrix;
+use definitions::Rules;
+use definitions::Settings;
+use refusals::good_settings;
+use refusals::rules::rules_refusal;
+use refusals::settings_shaped;
+
+// One entry's rules.
+pub fn entry_rules(entry: &[u64]) -> Rules
+    requires { ⌜ length (now entry) ≡ 23 ⌝ }
+    ensures { λ r. ⌜ r ≡ entryOf (now (entry .entry)) .rules ⌝ }
+{
+    let settings = Settings {
+        slots_per_epoch: entry[2],
+        slots_per_historical_root: entry[3],
+        epochs_per_slashings_vector: entry[4],
+        effective_balance_increment: entry[5],
+        max_effective_balance: entry[6],
+        hysteresis_quotient: entry[7],
+        hysteresis_downward_multiplier: entry[8],
+        hysteresis_upward_multiplier: entry[9],
+        base_reward_factor: entry[10],
+        min_epochs_to_inactivity_penalty: entry[11],
+        inactivity_score_bias: entry[12],
+        inactivity_score_recovery_rate: entry[13],
+        inactivity_penalty_quotient_altair: entry[14],
+        proportional_slashing_multiplier_altair: entry[15],
+        max_seed_lookahead: entry[16],
+        min_validator_withdrawability_delay: entry[17],
+        ejection_balance: entry[18],
+        min_per_epoch_churn_limit: entry[19],
+        churn_limit_quotient: entry[20],
+    };
+    let bellatrix = Bellatrix {
+        inactivity_penalty_quotient_bellatrix: entry[21],
+        proportional_slashing_multiplier_bellatrix: entry[22],
+    };
+    Rules {
+        settings,
+        fork: entry[1],
+        bellatrix,
+    }
+}
+
+pub fn rules_shaped(rules: Rules) -> bool
+    ensures { λ r. ⌜ r ≡ rulesShaped rules ⌝ }
+{
+    if !settings_shaped(rules.settings) {
+        return false;
+    }
+    rules.fork <= 1
+}
+
+// The pair is asked under any fork but Altair's, as fork 1 asks it.
+pub fn good_rules(rules: Rules) -> bool
+    ensures { λ r. ⌜ r ≡ goodRules rules ⌝ }
+{
+    let settings = rules.settings;
+    let bellatrix = rules.bellatrix;
+    if !good_settings(settings) {
+        return false;
+    }
+    if rules.fork == 0 {
+        return true;
+    }
+    let asked = Rules {
+        settings,
+        fork: 1,
+        bellatrix,
+    };
+    rules_refusal(asked, 0) == 0
+}
+
+// What may not change from one entry to the next.
+pub fn keeps(s: Settings, t: Settings) -> bool
+    ensures { λ r. ⌜ r ≡ keeps s t ⌝ }
+{
+    if s.slots_per_epoch != t.slots_per_epoch {
+        return false;
+    }
+    if s.slots_per_historical_root != t.slots_per_historical_root {
+        return false;
+    }
+    s.epochs_per_slashings_vector == t.epochs_per_slashings_vector
+}
+
+// Two entries, one behind the other.
+fn follows(entry: &[u64], next: &[u64]) -> bool
+    requires { ⌜ (length (now entry) ≡ 23) × (length (now next) ≡ 23) ⌝ }
+    ensures { λ r. ⌜ r ≡ follows (entryOf (now (entry .entry))) (entryOf (now (next .entry))) ⌝ }
+{
+    if next[0] <= entry[0] {
+        return false;
+    }
+    let before = entry_rules(entry);
+    let after = entry_rules(next);
+    keeps(before.settings, after.settings)
+}
+
+// Test 1 of each of the first n entries.
+fn entries_shaped(store: &[u64], n: usize) -> bool
+    requires { ⌜ 23 * n ≤ length (now store) ⌝ }
+    ensures { λ r. ⌜ r ≡ all (λ e. rulesShaped (e .rules)) (entriesFrom n (now (store .entry))) ⌝ }
+{
+    for i in 0..n {
+        let a = 23 * i;
+        let b = a + 23;
+        if !rules_shaped(entry_rules(&store[a..b])) {
+            return false;
+        }
+    }
+    true
+}
+
+// Each of the first n entries behind the one before it.
+fn in_sequence(store: &[u64], n: usize) -> bool
+    requires { ⌜ 23 * n ≤ length (now store) ⌝ }
+    ensures { λ r. ⌜ r ≡ inSequence (entriesFrom n (now (store .entry))) ⌝ }
+{
+    for i in 1..n {
+        let a = 23 * i - 23;
+        let m = 23 * i;
+        let b = m + 23;
+        if !follows(&store[a..m], &store[m..b]) {
+            return false;
+        }
+    }
+    true
+}
+
+// Test 1 of a store: entries behind those in use are not looked at.
+pub fn store_shaped(store: &[u64], count: u64) -> bool
+    ensures { λ r. ⌜ r ≡ storeShaped (lent (now (store .entry)) count) ⌝ }
+{
+    let long = store.len();
+    let n = count as usize;
+    if long % 23 != 0 {
+        return false;
+    }
+    if long / 23 < n {
+        return false;
+    }
+    if !entries_shaped(store, n) {
+        return false;
+    }
+    in_sequence(store, n)
+}
+
+// Test 2 of each of the first n entries.
+pub fn good_entries(store: &[u64], n: usize) -> bool
+    requires { ⌜ 23 * n ≤ length (now store) ⌝ }
+    ensures { λ r. ⌜ r ≡ goodEntries (entriesFrom n (now (store .entry))) ⌝ }
+{
+    for i in 0..n {
+        let a = 23 * i;
+        let b = a + 23;
+        if !good_rules(entry_rules(&store[a..b])) {
+            return false;
+        }
+    }
+    true
+}

@@ -1,2 +1,0 @@
--- What the contracts of a store's code cite.
-pub mod Lent

@@ -1,4 +1,0 @@
--- What a pass with a carried state is, and what functions on one entry promise their callers.
-pub mod Runs
-pub mod Sweep
-pub mod Steps

@@ -1,0 +1,142 @@
+-- A record that passed the tests of the whole close passes them after each step, so that no later call is turned away.
+use mathlib.Core.Path.{_≡_, refl, sym, ap, _∙_}
+use mathlib.Core.Bool.{Bool, true, false, cond, _&&_}
+use mathlib.Core.List.{List}
+use Prim.Native.Nat.{ℕ, _+_, _*_, _/_, _%_, _^_}
+use native.Mathlib.Omega.{arith}
+use borrow.Author.Tests.{eqb-true, eq-eqb}
+use lib.Dec.{leb, eqb}
+use lib.ListN.{length}
+use Rattle.definitions.specs.declared.Settings.{Settings}
+use Rattle.definitions.specs.declared.FullAnswer.{FullAnswer}
+use Rattle.definitions.specs.Lists.{all}
+use Rattle.definitions.specs.Record.{Validator, BeaconState, encode, decode}
+use Rattle.definitions.specs.Checked.{Checked, value, refused, badShape, bind, codeOf}
+use Rattle.definitions.specs.Refusals.{inOrder, rootsShaped, slashingsShaped, registryShaped, sameLength, goodFinality, goodValidator, goodRegistry}
+use Rattle.definitions.specs.Rules.{rulesShaped, goodRules}
+use Rattle.definitions.specs.ExitQueue.{queueOf, isQueueOf, queueTest}
+use Rattle.definitions.specs.Close.{Step, step, Call, stateOf, closeTests}
+use Rattle.definitions_close.specs.Amounts.{amountsShaped}
+use Rattle.definitions_close.specs.FullClose.{FullCall, fullTests}
+use Rattle.laws.proofs.Checked.{not-value, bound}
+use Rattle.laws.proofs.Encode.{length-encode, decode-encode, length-decode}
+use Rattle.refusals.proofs.Laws.{InOrder, in-order, RegistryShape, registry-shaped}
+use Rattle.refusals.proofs.All.{both}
+use Rattle.theorems.proofs.CloseBySteps.Kept.{Kept, kept-step}
+
+-- the record of a state as a later call tests it: the opening stands in the place of the closing buffers
+abbrev pub recordAt : FullCall → BeaconState → List ℕ → FullCall
+recordAt c st amounts =
+    record {
+      call = record {
+        rules = c .call .rules;
+        finality = st .finality;
+        registry = encode (st .validators);
+        slashings = st .slashings;
+        roots = c .call .roots;
+        closingRegistry = c .call .registry;
+        closingSlashings = c .call .slashings;
+      };
+      queue = queueOf (st .validators);
+      amounts = amounts;
+    }
+
+-- What the tests tell once passed
+
+pub record Passed (c : FullCall) : Type 0 where
+  pub rules : rulesShaped (c .call .rules) ≡ true
+  pub registry : RegistryShape (c .call .registry)
+  pub registryShape : registryShaped (c .call .registry) ≡ true
+  pub roots : rootsShaped (c .call .rules .settings) (c .call .roots) ≡ true
+  pub slashings : slashingsShaped (c .call .rules .settings) (c .call .slashings) ≡ true
+  pub goodRules : goodRules (c .call .rules) ≡ true
+  pub finality : goodFinality (c .call .finality) ≡ true
+  pub validators : all goodValidator (decode (c .call .registry)) ≡ true
+  pub amounts : length (c .amounts) ≡ 9 * (length (c .call .registry) / 10)
+
+close-passed : (c : FullCall) → length (c .amounts) ≡ 9 * (length (c .call .registry) / 10) → closeTests (c .call) ≡ value tt → Passed c
+unfolding closeTests goodRegistry
+close-passed c l p =
+    let s = c .call .rules .settings in
+    let t = in-order _ _ _ (ap codeOf p) in
+    let a = both (opening && sameLength (c .call .registry) (c .call .closingRegistry)) (sameLength (c .call .slashings) (c .call .closingSlashings)) (t .first) in
+    let b = both opening (sameLength (c .call .registry) (c .call .closingRegistry)) (a .first) in
+    let d = both (rulesShaped (c .call .rules) && registryShaped (c .call .registry) && rootsShaped s (c .call .roots)) (slashingsShaped s (c .call .slashings)) (b .first) in
+    let e = both (rulesShaped (c .call .rules) && registryShaped (c .call .registry)) (rootsShaped s (c .call .roots)) (d .first) in
+    let f = both (rulesShaped (c .call .rules)) (registryShaped (c .call .registry)) (e .first) in
+    let g = both (goodFinality (c .call .finality)) (goodRegistry (c .call .registry)) (t .third) in
+    record {
+      rules = f .first;
+      registry = registry-shaped (c .call .registry) (f .second);
+      registryShape = f .second;
+      roots = e .second;
+      slashings = d .second;
+      goodRules = t .second;
+      finality = g .first;
+      validators = g .second;
+      amounts = l;
+    }
+  where
+    opening : Bool
+    opening = rulesShaped (c .call .rules) && registryShaped (c .call .registry) && rootsShaped (c .call .rules .settings) (c .call .roots) && slashingsShaped (c .call .rules .settings) (c .call .slashings)
+
+where-shaped : (t : Bool) {m : Checked (Unit {0})} → cond t m (refused badShape) ≡ value tt → (t ≡ true) × (m ≡ value tt)
+where-shaped true p = (refl, p)
+where-shaped false p = absurd (not-value p)
+
+pub full-passed : (c : FullCall) → fullTests c ≡ value tt → Passed c
+unfolding fullTests
+full-passed c p =
+    let a = where-shaped (amountsShaped (c .call .registry) (c .amounts)) p in
+    let b = bound (closeTests (c .call)) _ (a .1) in
+    close-passed c (eqb-true (length (c .amounts)) (9 * (length (c .call .registry) / 10)) (a .0)) (b .gave)
+
+-- A state on the way
+
+pub record Sound (c : FullCall) (st : BeaconState) : Type 0 where
+  pub finality : goodFinality (st .finality) ≡ true
+  pub validators : all goodValidator (st .validators) ≡ true
+  pub many : length (st .validators) ≡ length (c .call .registry) / 10
+  pub slashings : length (st .slashings) ≡ length (c .call .slashings)
+  pub roots : st .«block_roots» ≡ c .call .roots
+
+pub sound-opening : (c : FullCall) → Passed c → Sound c (stateOf (c .call))
+sound-opening c p =
+    record {
+      finality = p .finality;
+      validators = p .validators;
+      many = length-decode (length (c .call .registry) / 10) (c .call .registry) (p .registry .long);
+      slashings = refl;
+      roots = refl;
+    }
+
+pub sound-step : (c : FullCall) (s : Settings) (k : Step) (a b : BeaconState) → Sound c a → step s a k ≡ value b → Sound c b
+sound-step c s k a b h p =
+    let e = kept-step s k a b p in
+    record {
+      finality = e .finality (h .finality);
+      validators = e .validators (h .validators);
+      many = e .many ∙ h .many;
+      slashings = e .slashings ∙ h .slashings;
+      roots = e .roots ∙ h .roots;
+    }
+
+-- It passes them again
+
+pub shaped-as : (xs ys : List ℕ) → length ys ≡ length xs → registryShaped ys ≡ registryShaped xs
+unfolding registryShaped
+shaped-as xs ys e = ap (λ (n : ℕ). eqb (n % 10) 0 && leb (n / 10) (2 ^ 24)) e
+
+pub long-as : (c : FullCall) (st : BeaconState) → Passed c → Sound c st → length (encode (st .validators)) ≡ length (c .call .registry)
+long-as c st p h = omega (arith, length-encode (st .validators), h .many, p .registry .long)
+
+module _ (c : FullCall) (st : BeaconState) (xs : List ℕ) (p : Passed c) (h : Sound c st) where
+  close-again : closeTests (recordAt c st xs .call) ≡ value tt
+  unfolding closeTests inOrder goodRegistry
+  close-again =
+      rw (p .rules, shaped-as (c .call .registry) (encode (st .validators)) (long-as c st p h) ∙ p .registryShape, p .roots, ap (λ (n : ℕ). eqb n (c .call .rules .settings .«epochs_per_slashings_vector»)) (h .slashings) ∙ p .slashings, eq-eqb (length (c .call .registry)) (length (encode (st .validators))) (sym (long-as c st p h)), eq-eqb (length (c .call .slashings)) (length (st .slashings)) (sym (h .slashings)), p .goodRules, h .finality, decode-encode (st .validators), h .validators)
+
+  pub tested-again : length xs ≡ length (c .amounts) → fullTests (recordAt c st xs) ≡ value tt
+  unfolding fullTests bind queueTest isQueueOf
+  tested-again l =
+      rw (eq-eqb (length xs) (9 * (length (encode (st .validators)) / 10)) (l ∙ p .amounts ∙ ap (λ (n : ℕ). 9 * (n / 10)) (sym (long-as c st p h))), close-again, decode-encode (st .validators), eq-eqb (queueOf (st .validators) .«last_epoch») _ refl, eq-eqb (queueOf (st .validators) .number) _ refl)

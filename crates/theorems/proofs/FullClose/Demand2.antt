@@ -1,0 +1,34 @@
+-- Demand 2 of a full close: where its tests passed it is a close, of which completeness has it.
+use mathlib.Core.Path.{_≡_, refl, sym, ap, _∙_, subst}
+use mathlib.Core.Logic.{_⊎_, inl, inr, ⊎-elim}
+use Rattle.definitions.specs.Record.{BeaconState}
+use Rattle.definitions.specs.Checked.{Refusal, Checked, value, refused, bind}
+use Rattle.definitions.specs.Refusals.{afterTests, closingBuffer}
+use Rattle.definitions.specs.Raised.{raisedUnlessRefused}
+use Rattle.definitions.specs.Close.{Call, Outcome, stateOf, closeTests, close, «process_epoch»}
+use Rattle.definitions_close.specs.FullClose.{FullCall, settingsOf, fullTests, fullClose}
+use Rattle.theorems.specs.Completeness.DocumentIn64Bits as in64
+use Rattle.theorems.specs.Completeness.Complete.{CloseParts}
+use Rattle.theorems.specs.Completeness.Calls.{DocumentClosed}
+use Rattle.theorems.proofs.Completeness.CloseCalls.{close-call}
+use Rattle.theorems.specs.FullClose.ByNumber.{plainOutcome, Lent, FullAccepted}
+use Rattle.theorems.specs.FullClose.Demand2.{outcomeBy, FullCloseCall}
+use Rattle.theorems.proofs.FullClose.ByNumber.{Tests, passed, turned, tests, lent-tests, plain-by, lent-same, full-by-number}
+
+-- the work shows only where the tests passed
+after-refusal : (r : Refusal) (c : Call) (m n : Checked BeaconState) → outcomeBy (refused r) c m ≡ outcomeBy (refused r) c n
+unfolding afterTests bind closingBuffer raisedUnlessRefused
+after-refusal r c m n = refl
+
+full-complete : (c : FullCall) → Tests c → (plainOutcome (fullClose c) ≡ outcomeBy (fullTests c) (c .call) (in64.«process_epoch» (settingsOf c) (stateOf (c .call)))) ⊎ ((fullTests c ≡ value tt) × CloseParts (settingsOf c) (stateOf (c .call)))
+full-complete c (turned r n t) = inl (plain-by c ∙ rw t (after-refusal r (c .call) _ _))
+full-complete c (passed l t) = ⊎-elim (λ e. inl (lent-same c l ∙ e ∙ sym (ap by (lent-tests c l)))) (λ p. inr (t, p .1)) (close-call (c .call) .complete)
+  where
+    by : Checked (Unit {0}) → Outcome
+    by tests = outcomeBy tests (c .call) (in64.«process_epoch» (settingsOf c) (stateOf (c .call)))
+
+pub full-close-call : (c : FullCall) → FullCloseCall c (fullClose c)
+full-close-call c = record { accepted = λ z. document (full-by-number c .accepted z) z; complete = full-complete c (tests c) }
+  where
+    document : FullAccepted c → fullClose c .refusal ≡ 0 → DocumentClosed (c .call) (plainOutcome (fullClose c))
+    document a z = rw (a .same) (close-call (c .call) .accepted (sym (ap (λ (o : Outcome). o .refusal) (a .same)) ∙ z))

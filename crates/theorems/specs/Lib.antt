@@ -1,0 +1,7 @@
+pub mod Completeness
+pub mod Amounts
+pub mod FullClose
+pub mod CloseBySteps
+pub mod ExitCalls
+pub mod Store
+pub mod StoreHistory

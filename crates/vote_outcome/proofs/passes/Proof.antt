@@ -1,9 +1,0 @@
-use borrow.Author.Needs.{needs}
-use Rattle.vote_outcome.proofs.passes.Statement.{statement}
-use Rattle.vote_outcome.proofs.passes.Tie as tie
-
-returns : tie.Need-returns
-returns c = rw (← c .before .raised .ensures) (c .is-justified .ensures)
-
-pub passes-spec : {M : Type 1} → statement M
-passes-spec = tie.close (tie.spec (λ c κs. search needs) (λ c κs. search needs) returns)

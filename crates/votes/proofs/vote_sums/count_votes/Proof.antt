@@ -1,0 +1,90 @@
+use Prim.Native.Nat.{_-_}
+use native.Mathlib.Omega.{arith}
+use borrow.Author.Needs.{needs}
+use Rattle.arithmetic.proofs.Answers.{answers-value, answers-refused}
+use Rattle.laws.proofs.Loops.Reading.{reading-ten}
+use Rattle.votes.proofs.vote_sums.Counting.{Counting, tells-sums, counting-none, counting-at, counting-more, counting-over, counting-all, counted-value, counted-refused}
+use Rattle.votes.proofs.vote_sums.count_votes.Statement.{statement}
+use Rattle.votes.proofs.vote_sums.count_votes.Tie as tie
+
+abbrev Inv-loop : tie.InvT-loop
+Inv-loop current-epoch previous-epoch registry marks n sums₀ i₀ sums i = Counting current-epoch previous-epoch n registry marks i sums
+
+abbrev μ-loop : tie.MeasureT-loop
+μ-loop current-epoch previous-epoch registry marks n sums₀ i₀ sums i = n - i
+
+loop-holds : tie.Need-loop-holds Inv-loop μ-loop
+loop-holds c = counting-none _ _ _ (c .before .before .pre .0)
+
+mul-a : tie.Need-mul-a Inv-loop μ-loop
+mul-a c = omega arith
+
+add-b : tie.Need-add-b Inv-loop μ-loop
+add-b c = omega arith
+
+mul-mark : tie.Need-mul-mark Inv-loop μ-loop
+mul-mark c = omega arith
+
+shared-slice-read-mark : tie.Need-shared-slice-read-mark Inv-loop μ-loop
+shared-slice-read-mark c = omega arith
+
+mul-entry-sums : tie.Need-mul-entry-sums Inv-loop μ-loop
+mul-entry-sums c = omega arith
+
+sub-entry-sums : tie.Need-sub-entry-sums Inv-loop μ-loop
+sub-entry-sums c = omega arith
+
+part-entry-sums-start : tie.Need-part-entry-sums-start Inv-loop μ-loop
+part-entry-sums-start c = omega arith
+
+part-entry-sums-end : tie.Need-part-entry-sums-end Inv-loop μ-loop
+part-entry-sums-end c = omega arith
+
+entry-sums-requires : tie.Need-entry-sums-requires Inv-loop μ-loop
+entry-sums-requires c κs = (reading-ten (counting-at (c .before .before .before .loop .inv)) (c .before .before .loop-test .taken), c .before .before .before .before .before .before .pre .1 .1)
+
+returns : tie.Need-returns Inv-loop μ-loop
+returns c =
+    let d = c .before .before in
+    let l = d .before .before .before .before in
+    counted-refused (counting-over (l .before .loop .inv) (l .loop-test .taken) (d .before .entry-sums .ensures) (answers-refused tells-sums (d .added .ensures) (c .enum-told .given .1) .gave))
+
+add-i : tie.Need-add-i Inv-loop μ-loop
+add-i c = omega arith
+
+loop-less : tie.Need-loop-less Inv-loop μ-loop
+loop-less c = omega arith
+
+loop-again : tie.Need-loop-again Inv-loop μ-loop
+loop-again c =
+    let d = c .before .before .before in
+    let l = d .before .before .before .before in
+    counting-more (l .before .loop .inv) (l .loop-test .taken) (d .before .entry-sums .ensures) (answers-value tells-sums (d .added .ensures) (c .before .more .given .1))
+
+returns-2 : tie.Need-returns-2 Inv-loop μ-loop
+returns-2 c = counted-value (counting-all (c .before .loop .inv) (c .loop-test .left))
+
+pub count-votes-spec : {M : Type 1} → statement M
+count-votes-spec =
+    tie.close
+    (tie.spec
+    Inv-loop
+    μ-loop
+    loop-holds
+    mul-a
+    add-b
+    mul-mark
+    shared-slice-read-mark
+    mul-entry-sums
+    sub-entry-sums
+    part-entry-sums-start
+    part-entry-sums-end
+    entry-sums-requires
+    (λ c κs. search needs)
+    (λ c. search needs)
+    (λ c. search needs)
+    returns
+    add-i
+    loop-less
+    loop-again
+    returns-2)

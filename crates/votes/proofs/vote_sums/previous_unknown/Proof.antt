@@ -1,0 +1,12 @@
+use borrow.Author.Tests.{eq-eqb, ne-eqb}
+use Rattle.votes.proofs.vote_sums.previous_unknown.Statement.{statement}
+use Rattle.votes.proofs.vote_sums.previous_unknown.Tie as tie
+
+returns : tie.Need-returns
+returns c = rw (eq-eqb _ _ (c .if1 .taken))
+
+returns-2 : tie.Need-returns-2
+returns-2 c = rw (ne-eqb _ _ (c .if1 .left))
+
+pub previous-unknown-spec : {M : Type 1} → statement M
+previous-unknown-spec = tie.close (tie.spec returns returns-2)
