@@ -15,7 +15,7 @@ use Rattle.definitions.specs.Document.Altair.EpochProcessing as altair
 use Rattle.definitions.specs.Document.Bellatrix as bellatrix
 use Rattle.definitions.specs.Document.ByFork.{documentUnder}
 use Rattle.definitions.specs.Close.{Step, justificationStep, inactivityStep, rewardsStep, registryStep, slashingsStep, effectiveBalancesStep, slashingsResetStep, participationFlagsStep}
-use Rattle.agreement.specs.Agreement.{documentStep, bellatrixStep, documentStepUnder, InPlace, Under}
+use Rattle.agreement.specs.Agreement.{documentStep, bellatrixStep, InPlace, Under}
 
 -- each function reads none of the two numbers of the settings: what it computes is the same
 module _ (s : Settings) (b : Bellatrix) where

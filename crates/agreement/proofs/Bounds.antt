@@ -5,7 +5,7 @@ use mathlib.Core.List.{List, [], _∷_}
 use Prim.Native.Nat.{ℕ, zero, suc, _-_, _*_, _^_, _≤_, _<_}
 use native.Mathlib.Omega.{arith}
 use native.Mathlib.Nat.{div-le-self, div-mul-le-self, mul-le-mul-right, le-trans}
-use borrow.Author.Tests.{ltb-true, leb-true, eqb-false, not-true}
+use borrow.Author.Tests.{ltb-true, leb-true}
 use lib.Dec.{leb, eqb}
 use lib.ListN.{length, getD}
 use Rattle.definitions.specs.declared.Settings.{Settings}
@@ -23,12 +23,9 @@ use Rattle.laws.proofs.Checked.{not-value}
 use Rattle.laws.proofs.Rules.{shaped-under, good-under}
 use Rattle.agreement.specs.Bounds.{Passed, FinalityPassed, TestsPassed, RulesPassed, Bounds, Given}
 use Rattle.agreement.proofs.Fits.{add64-fits, mul64-fits}
+use Rattle.laws.proofs.Tests.{both}
 
 -- Tests
-
-both : (a b : Bool) → (a && b) ≡ true → (a ≡ true) × (b ≡ true)
-both true b p = (refl, p)
-both false b p = absurd (false≢true p)
 
 -- every setting is below 2^48, and no divisor is 0
 
@@ -45,19 +42,13 @@ good-parts s h = both (all (λ n. not (eqb n 0)) (divisors s)) (all isSmall (set
 pub setting-small : (s : Settings) → goodSettings s ≡ true → (i : ℕ) → i < 19 → getD (settingsNumbers s) i 0 < 2 ^ 48
 setting-small s h i l = ltb-true _ _ (all-at isSmall (settingsNumbers s) (good-parts s h .1) i l)
 
-pub divisor-positive : (s : Settings) → goodSettings s ≡ true → (i : ℕ) → i < 6 → 0 < getD (divisors s) i 0
-divisor-positive s h i l =
-    let n = getD (divisors s) i 0 in
-    let t : n ≡ 0 → ⊥ = eqb-false n 0 (not-true (eqb n 0) (all-at (λ n. not (eqb n 0)) (divisors s) (good-parts s h .0) i l)) in
-    omega arith
-
 -- Epochs
 
-current-epoch : (s : Settings) (stateSlot : ℕ) → «get_current_epoch» s stateSlot ≤ stateSlot
+pub current-epoch : (s : Settings) (stateSlot : ℕ) → «get_current_epoch» s stateSlot ≤ stateSlot
 unfolding «get_current_epoch» «compute_epoch_at_slot»
 current-epoch s stateSlot = div-le-self _ _
 
-previous-epoch : (s : Settings) (stateSlot : ℕ) → «get_previous_epoch» s stateSlot ≤ «get_current_epoch» s stateSlot
+pub previous-epoch : (s : Settings) (stateSlot : ℕ) → «get_previous_epoch» s stateSlot ≤ «get_current_epoch» s stateSlot
 unfolding «get_previous_epoch»
 previous-epoch s stateSlot = go (eqb («get_current_epoch» s stateSlot) 0)
   where
@@ -65,7 +56,7 @@ previous-epoch s stateSlot = go (eqb («get_current_epoch» s stateSlot) 0)
     go true = omega arith
     go false = omega arith
 
-current-start : (s : Settings) (stateSlot : ℕ) → «get_current_epoch» s stateSlot * s .«slots_per_epoch» ≤ stateSlot
+pub current-start : (s : Settings) (stateSlot : ℕ) → «get_current_epoch» s stateSlot * s .«slots_per_epoch» ≤ stateSlot
 unfolding «get_current_epoch» «compute_epoch_at_slot»
 current-start s stateSlot = div-mul-le-self _ _
 

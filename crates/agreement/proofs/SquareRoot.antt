@@ -1,7 +1,7 @@
 -- The definition's square root is the largest number whose square is at most n, and the only one between the squares.
 use mathlib.Core.Path.{_≡_, refl}
 use mathlib.Core.Bool.{Bool, true, false, cond}
-use Prim.Native.Nat.{ℕ, zero, suc, _+_, _*_, _/_, _≤_, _<_}
+use Prim.Native.Nat.{ℕ, zero, suc, _+_, _*_, _/_, _≤_}
 use native.Mathlib.Omega.{arith}
 use native.Mathlib.Nat.{mul-assoc, mul-left-comm, mul-le-mul, le-antisymm}
 use native.Mathlib.Decide.{decLe}

@@ -5,19 +5,11 @@ use mathlib.Core.List.{List}
 use Prim.Native.Nat.{ℕ, _+_, _-_, _*_, _/_, _^_, _≤_, _<_}
 use native.Mathlib.Omega.{arith}
 use native.Mathlib.Nat.{le-div-iff-mul-le, div-lt-iff-lt-mul, mul-comm, mul-le-mul}
-use borrow.Author.Tests.{lt-ltb, le-ltb, le-leb, lt-leb, ltb-true}
+use borrow.Author.Tests.{le-ltb, le-leb, lt-leb, ltb-true}
 use lib.Dec.{ltb, leb}
 use Rattle.definitions.specs.Checked.{Refusal, overflow, Checked, value, refused, bind, add64, sub64, mul64, sum64}
 use Rattle.definitions.specs.Lists.{sum}
 use Rattle.laws.proofs.Checked.{not-value}
-
-pub add64-given : (a b : ℕ) → a + b < 2 ^ 64 → add64 a b ≡ value (a + b)
-unfolding add64
-add64-given a b h = rw (lt-ltb (a + b) (2 ^ 64) h)
-
-pub add64-refused : (a b : ℕ) → 2 ^ 64 ≤ a + b → add64 a b ≡ refused overflow
-unfolding add64
-add64-refused a b h = rw (le-ltb (a + b) (2 ^ 64) h)
 
 pub sub64-given : (a b : ℕ) → b ≤ a → sub64 a b ≡ value (a - b)
 unfolding sub64
@@ -26,10 +18,6 @@ sub64-given a b h = rw (le-leb b a h)
 pub sub64-refused : (a b : ℕ) → a < b → sub64 a b ≡ refused overflow
 unfolding sub64
 sub64-refused a b h = rw (lt-leb b a h)
-
-pub mul64-given : (a b : ℕ) → a * b < 2 ^ 64 → mul64 a b ≡ value (a * b)
-unfolding mul64
-mul64-given a b h = rw (lt-ltb (a * b) (2 ^ 64) h)
 
 pub mul64-refused : (a b : ℕ) → 2 ^ 64 ≤ a * b → mul64 a b ≡ refused overflow
 unfolding mul64

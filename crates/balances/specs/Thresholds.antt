@@ -1,5 +1,5 @@
 -- The thresholds of the hysteresis.
-use Prim.Native.Nat.{ℕ, _/_}
+use Prim.Native.Nat.{_/_}
 use Rattle.definitions.specs.declared.Settings.{Settings}
 use Rattle.definitions.specs.Checked.{Checked, value, refused, numberOf, bind, mul64}
 use Rattle.definitions.specs.Answers.{Answers}

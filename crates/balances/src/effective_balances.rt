@@ -8,7 +8,7 @@ ghost use Rattle.definitions.specs.Checked.{codeOf, mapChecked};
 ghost use Rattle.definitions.specs.Refusals.{goodSettings, effectiveBalanceTests};
 ghost use Rattle.definitions.specs.Rust.Phase0.EpochProcessing.{updateEffectiveBalance, «process_effective_balance_updates»};
 ghost use Rattle.laws.specs.Ran.{Settles, Ran};
-ghost use Rattle.refusals.specs.Closes.{Closes};
+ghost use Rattle.definitions.specs.Closes.{Closes};
 ghost use Rattle.balances.specs.Thresholds.{thresholdsOf, SaysThresholds};
 use arithmetic::add64;
 use arithmetic::min;

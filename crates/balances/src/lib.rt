@@ -6,7 +6,7 @@ ghost use Rattle.definitions.specs.Checked.{value};
 ghost use Rattle.definitions.specs.LeafRefusals.{entryTests};
 ghost use Rattle.definitions.specs.Rust.Phase0.Helpers.{«increase_balance», «decrease_balance»};
 ghost use Rattle.laws.specs.Ran.{Settles};
-ghost use Rattle.refusals.specs.Closes.{Closes};
+ghost use Rattle.definitions.specs.Closes.{Closes};
 
 pub mod effective_balances;
 

@@ -6,7 +6,7 @@ use native.Mathlib.Omega.{arith}
 use native.Mathlib.Nat.{div-add-mod'}
 use borrow.Author.Tests.{ltb-false, eqb-true, eqb-false, eq-eqb, ne-eqb}
 use lib.Dec.{ltb, eqb}
-use Rattle.definitions.specs.Checked.{Checked, value, refused, beforeGenesis, codeOf}
+use Rattle.definitions.specs.Checked.{value, refused, beforeGenesis, codeOf}
 use Rattle.definitions.specs.Refusals.{afterTests}
 use Rattle.laws.proofs.Checked.{not-value, bound}
 use Rattle.refusals.proofs.Answers.{passed}

@@ -1,7 +1,7 @@
 // process_epoch, the eight steps of it: the close. One survey of the opening, justification by its sums, one pass that writes the closing
 // registry, and the slashings' reset.
 ghost use mathlib.Core.Path.{_≡_};
-ghost use mathlib.Core.Bool.{true, _&&_};
+ghost use mathlib.Core.Bool.{_&&_};
 ghost use lib.ListN.{length};
 ghost use Rattle.definitions.specs.Checked.{codeOf};
 ghost use Rattle.definitions.specs.Refusals.{settingsShaped, registryShaped, rootsShaped, slashingsShaped, sameLength};

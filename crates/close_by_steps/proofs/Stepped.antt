@@ -5,22 +5,22 @@ use mathlib.Core.List.{List}
 use Prim.Native.Nat.{ℕ, _+_, _*_, _/_, _≤_, _<_}
 use native.Mathlib.Omega.{arith}
 use borrow.Author.Tests.{eq-eqb, ne-eqb, eqb-true, le-leb, lt-leb}
-use lib.Dec.{leb, eqb}
+use lib.Dec.{eqb}
 use lib.ListN.{length, replicate}
 use Rattle.definitions.specs.declared.Settings.{Settings}
 use Rattle.definitions.specs.declared.Finality.{Finality}
 use Rattle.definitions.specs.declared.FullAnswer.{FullAnswer}
 use Rattle.definitions.specs.Lists.{all}
-use Rattle.definitions.specs.Record.{BeaconState, encode, decode}
+use Rattle.definitions.specs.Record.{BeaconState, decode}
 use Rattle.definitions.specs.Checked.{Refusal, badShape, wrongQueue, numberOf, Checked, value, refused, bind, codeOf, settle}
 use Rattle.definitions.specs.ExitQueue.{queueOf, isQueueOf, queueTest}
 use Rattle.definitions.specs.Raised.{wasRaised, raisedTotals}
 use Rattle.definitions.specs.Refusals.{inOrder, settingsShaped, goodSettings, goodValidator, registryShaped, rootsShaped, goodFinality, goodRegistry, justificationTests, afterTests, closingBuffer}
-use Rattle.definitions.specs.Rules.{settingsUnder, goodRules}
+use Rattle.definitions.specs.Rules.{goodRules}
 use Rattle.definitions.specs.Rust.Altair.EpochProcessing.{«process_justification_and_finalization»}
 use Rattle.definitions.specs.Rust.Phase0.Helpers.{«compute_epoch_at_slot», «get_current_epoch», «get_previous_epoch»}
 use Rattle.definitions.specs.Rust.Altair.Helpers.{«get_unslashed_participating_indices»}
-use Rattle.definitions.specs.Close.{step, Call, stateOf, closeTests}
+use Rattle.definitions.specs.Close.{step, Call, closeTests}
 use Rattle.definitions_close.specs.Amounts.{amountsShaped}
 use Rattle.definitions_close.specs.FinalizingTest.{finalizingTest}
 use Rattle.definitions_close.specs.FullClose.{FullCall, fullTests, settingsOf}
@@ -30,15 +30,17 @@ use Rattle.laws.proofs.Checked.{not-value, bound}
 use Rattle.laws.proofs.Encode.{encode-decode}
 use Rattle.laws.proofs.Rules.{by-fork}
 use Rattle.refusals.proofs.Answers.{passed}
-use Rattle.validator_exit.proofs.queue_tests.Queue.{is-queue}
 use Rattle.close.specs.Worked.{recordTests}
-use Rattle.close.proofs.Lent.{Lent, lent}
+use Rattle.close.proofs.Lent.{lent}
 use Rattle.theorems.proofs.CloseBySteps.Tests.{full-passed}
 use Rattle.definitions_close.specs.declared.RunningAnswer.{RunningAnswer}
-use Rattle.close_by_steps.specs.Called.{stepCalled, stepOutcome, endedAnswer, firstBy, laterBy, laterOf}
+use Rattle.close_by_steps.specs.Called.{stepCalled, endedAnswer, firstBy, laterBy, laterOf}
+use Rattle.definitions_close.specs.Calls.{stepOutcome}
 use Rattle.close_by_steps.specs.Ready.{Ready}
 use Rattle.close_by_steps.specs.Later.{soFarState}
 use Rattle.close_by_steps.specs.Stepped.{FirstCalled, LaterCalled}
+use Rattle.theorems.proofs.CloseBySteps.Turns.{settled-buffer}
+use Rattle.laws.proofs.Queue.{is-queue}
 
 where-true : (t : Bool) → _≡_ {A = Checked (Unit {0})} (cond t (value tt) (refused wrongQueue)) (value tt) → t ≡ true
 where-true true e = refl
@@ -89,11 +91,6 @@ ready c {x} e z =
       amounts = p .amounts;
       queue = pair-is c (b .1);
     }
-
-settled-buffer : (xs : Checked (List ℕ)) (zeros lent : List ℕ) → closingBuffer (λ filled. filled) (value tt) xs zeros lent ≡ settle xs zeros
-unfolding closingBuffer
-settled-buffer (value ys) zeros lent = refl
-settled-buffer (refused r) zeros lent = refl
 
 -- The first call
 

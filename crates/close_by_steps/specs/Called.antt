@@ -16,14 +16,11 @@ use Rattle.definitions_close.specs.declared.Running.{Running}
 use Rattle.definitions_close.specs.declared.RunningAnswer.{RunningAnswer}
 use Rattle.definitions.specs.Close.{step}
 use Rattle.definitions_close.specs.CloseBySteps.{StepCall, StepOutcome, stepAfter, amountsBy}
+use Rattle.definitions_close.specs.Calls.{stepOutcome}
 use Rattle.close_by_steps.specs.Later.{soFarState}
 
 abbrev pub stepCalled : ℕ → Running → FullCall → StepCall
 stepCalled number running whole = record { number = number; running = running; whole = whole }
-
-abbrev pub stepOutcome : RunningAnswer → List ℕ → List ℕ → List ℕ → StepOutcome
-stepOutcome answer closingRegistry closingSlashings amounts =
-    record { answer = answer; closingRegistry = closingRegistry; closingSlashings = closingSlashings; amounts = amounts }
 
 -- ended as the whole close is refused
 abbrev pub endedAnswer : ℕ → Finality → ExitQueue → ℕ → RunningAnswer

@@ -3,7 +3,8 @@ ghost use mathlib.Core.Path.{_≡_};
 ghost use Prim.Native.Nat.{_≤_};
 ghost use Rattle.definitions_close.specs.CloseBySteps.{closeStep};
 ghost use Rattle.full_close.specs.Called.{fullCalled};
-ghost use Rattle.close_by_steps.specs.Called.{stepCalled, stepOutcome};
+ghost use Rattle.close_by_steps.specs.Called.{stepCalled};
+ghost use Rattle.definitions_close.specs.Calls.{stepOutcome};
 ghost use Rattle.close_by_steps.specs.Stepped.{FirstCalled, LaterCalled};
 
 pub mod close_steps;

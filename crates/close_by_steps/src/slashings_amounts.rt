@@ -3,7 +3,7 @@ ghost use mathlib.Core.Path.{_≡_};
 ghost use mathlib.Core.Bool.{true};
 ghost use mathlib.Core.List.{[], _∷_, _++_};
 ghost use Prim.Native.Nat.{_-_, _*_, _/_};
-ghost use lib.ListN.{length, getD, take};
+ghost use lib.ListN.{length, take};
 ghost use Rattle.definitions.specs.Refusals.{goodSettings};
 ghost use Rattle.close_by_steps.specs.Taken.{SlashingsBooked, NinthsPut, NinthsTaken};
 use definitions::Settings;

@@ -1,20 +1,18 @@
 -- The figures of document 01, "Figures to meet", that are marked [P], as one table about the definitions that contracts cite; then
 -- three of its other figures, four more, which hold the definitions to what the marked ones leave open, and those of 02, R-3.
 use mathlib.Core.Path.{_≡_, refl, ap}
-use mathlib.Core.Bool.{Bool, true, false, cond, _&&_, _||_, not}
+use mathlib.Core.Bool.{true, false, not}
 use mathlib.Core.List.{List, [], _∷_, map}
-use Prim.Native.Nat.{ℕ, zero, suc, _+_, _-_, _*_, _/_, _%_, _^_, min, max}
-use lib.Dec.{leb, ltb, eqb}
+use Prim.Native.Nat.{ℕ, zero, suc, _+_, _-_, _*_, _/_, _^_, min, max}
 use lib.ListN.{length, replicate, getD}
 use Rattle.definitions.specs.declared.Settings.{Settings}
 use Rattle.definitions.specs.declared.Deltas.{Deltas}
 use Rattle.definitions.specs.declared.Checkpoint.{Checkpoint}
 use Rattle.definitions.specs.declared.Finality.{Finality}
-use Rattle.definitions.specs.declared.Rules.{Rules}
-use Rattle.definitions.specs.Lists.{filter, sum, range, insert, sorted, maximum}
+use Rattle.definitions.specs.Lists.{filter, sum}
 use Rattle.definitions.specs.Record.{Validator, «FAR_FUTURE_EPOCH», nobody}
-use Rattle.definitions.specs.Updates.{withBalance, withParticipation}
-use Rattle.definitions.specs.Checked.{Checked, value, refused, Refusal, noRoot, overflow, bind, add64, sub64, mul64, sum64, mapChecked, foldChecked}
+use Rattle.definitions.specs.Updates.{withParticipation}
+use Rattle.definitions.specs.Checked.{Checked, value, refused, noRoot, overflow, bind, add64, sub64, mul64, sum64, mapChecked, foldChecked}
 use Rattle.definitions.specs.Mainnet.{mainnet, mainnetBellatrix}
 use Rattle.definitions.specs.Rules.{settingsUnder, «ALTAIR», «BELLATRIX»}
 use Rattle.definitions.specs.Document.Phase0.Helpers.{«integer_squareroot», rootWithin}
@@ -22,7 +20,7 @@ use Rattle.definitions.specs.Document.Phase0.Helpers as document
 use Rattle.definitions.specs.Document.Phase0.EpochProcessing.{justifiedBits, finalizedBy, weighed, roundedBalance}
 use Rattle.definitions.specs.Rust.Phase0.Helpers.{«is_active_validator», «compute_epoch_at_slot», «get_current_epoch», «get_previous_epoch», «compute_start_slot_at_epoch», «get_block_root», «get_block_root_at_slot», «get_active_validator_indices», «get_validator_churn_limit», «get_total_balance», «get_total_active_balance», «increase_balance», «decrease_balance»}
 use Rattle.definitions.specs.Rust.Phase0.EpochProcessing.{isJustified, rootWhere, «weigh_justification_and_finalization», «get_finality_delay», «is_in_inactivity_leak», isEligible, updateEffectiveBalance, «process_effective_balance_updates»}
-use Rattle.definitions.specs.Rust.Altair.Helpers.{noDeltas, «has_flag», isUnslashedParticipating, «get_unslashed_participating_indices», «get_base_reward_per_increment», «get_base_reward», flagTotals, hitDeltas, missDeltas, flagIndexDeltas, «get_flag_index_deltas», inactivityPenaltyDeltas, «get_inactivity_penalty_deltas»}
+use Rattle.definitions.specs.Rust.Altair.Helpers.{«has_flag», isUnslashedParticipating, «get_unslashed_participating_indices», «get_base_reward_per_increment», «get_base_reward», flagTotals, hitDeltas, missDeltas, flagIndexDeltas, «get_flag_index_deltas», inactivityPenaltyDeltas, «get_inactivity_penalty_deltas»}
 use Rattle.definitions.specs.Rust.Altair.EpochProcessing.{movedScore, recoveredScore, updateInactivityScore, «process_inactivity_updates», applyDelta, rewardAndPenalize, «process_rewards_and_penalties», isSlashingDue, slashingPenalty, slash, «process_slashings», «process_justification_and_finalization»}
 
 -- "five validators of 32×10^9, all active": balance, both epochs' flags and score are given

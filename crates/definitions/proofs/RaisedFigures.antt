@@ -1,7 +1,6 @@
 -- Figures of request R-7, by computing. The increment is mainnet's, 10^9.
 use mathlib.Core.Path.{_≡_, refl}
 use mathlib.Core.List.{[], _∷_}
-use Rattle.definitions.specs.declared.Raised.{Raised}
 use Rattle.definitions.specs.Lists.{filter, sum}
 use Rattle.definitions.specs.Checked.{value, bind, sum64}
 use Rattle.definitions.specs.Mainnet.{mainnet}

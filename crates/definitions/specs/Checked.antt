@@ -1,5 +1,5 @@
 -- A value, or a refusal: the numbers of document 01, "What is returned", and of document 02; and 64-bit arithmetic that refuses.
-use mathlib.Core.Bool.{Bool, true, false, cond}
+use mathlib.Core.Bool.{cond}
 use mathlib.Core.List.{List, [], _∷_}
 use Prim.Native.Nat.{ℕ, _+_, _-_, _*_, _^_}
 use lib.Dec.{ltb, leb}

@@ -11,7 +11,7 @@ use Rattle.definitions.specs.declared.Rules.{Rules}
 use Rattle.definitions.specs.Lists.{filter}
 use Rattle.definitions.specs.Record.{Validator, BeaconState, «GENESIS_EPOCH», encode, decode}
 use Rattle.definitions.specs.Updates.{withValidators, withSlashings, withFinality}
-use Rattle.definitions.specs.Checked.{Checked, value, refused, bind, foldChecked, codeOf, settle}
+use Rattle.definitions.specs.Checked.{Checked, value, bind, foldChecked, codeOf, settle}
 use Rattle.definitions.specs.Refusals.{inOrder, rootsShaped, slashingsShaped, registryShaped, sameLength, goodFinality, goodRegistry, afterTests, closingBuffer}
 use Rattle.definitions.specs.Rules.{settingsUnder, rulesShaped, goodRules}
 use Rattle.definitions.specs.Raised.{raisedTotals, raisedUnlessRefused}

@@ -19,3 +19,5 @@ pub mod RegisterOrder
 pub mod LeafRefusals
 pub mod Rules
 pub mod Close
+pub mod Closes
+pub mod Plain

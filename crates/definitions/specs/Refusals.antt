@@ -1,5 +1,5 @@
 -- Tests 1, 2 and 3 of document 01, "What is returned", in their order, and what the closing buffers then hold.
-use mathlib.Core.Bool.{Bool, true, cond, _&&_, _||_, not}
+use mathlib.Core.Bool.{Bool, true, cond, _&&_, not}
 use mathlib.Core.List.{List, [], _∷_}
 use Prim.Native.Nat.{ℕ, _*_, _/_, _%_, _^_}
 use lib.Dec.{leb, ltb, eqb}
@@ -8,7 +8,7 @@ use Rattle.definitions.specs.declared.Settings.{Settings}
 use Rattle.definitions.specs.declared.Finality.{Finality}
 use Rattle.definitions.specs.Lists.{all}
 use Rattle.definitions.specs.Record.{Validator, decode}
-use Rattle.definitions.specs.Checked.{Checked, value, refused, Refusal, badShape, badSettings, badRecord, bind}
+use Rattle.definitions.specs.Checked.{Checked, value, refused, badShape, badSettings, badRecord, bind}
 
 -- 1, then 2, then 3; a call that is lent nothing which a test asks about passes that test
 unfoldable pub inOrder : Bool → Bool → Bool → Checked (Unit {0})

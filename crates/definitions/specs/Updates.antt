@@ -1,7 +1,6 @@
 -- A validator, a record of finality or a state with some fields set: `state.x = y` of the two texts.
 use mathlib.Core.List.{List}
 use Prim.Native.Nat.{ℕ}
-use Rattle.definitions.specs.declared.Checkpoint.{Checkpoint}
 use Rattle.definitions.specs.declared.Finality.{Finality}
 use Rattle.definitions.specs.Record.{Validator, BeaconState}
 

@@ -1,4 +1,4 @@
-// Definitions alone: what the contracts of every crate above mean. See specs/.
+// What the contracts of every crate above mean: the definitions in specs/, and here the types by value.
 
 // What goes in and comes back by value: the settings of a network, and the finality part of a record.
 
@@ -149,4 +149,40 @@ pub struct FullAnswer {
     pub queue: ExitQueue,
     pub raised: Raised,
     pub test: u64,
+}
+
+// The answers as plain numbers, for C and whoever has no enum: 0 and what was asked for, or a refusal's number and zeros.
+
+#[repr(C)]
+pub struct PlainNumber {
+    pub refusal: u64,
+    pub value: u64,
+}
+
+// value is 1 for true and 0 for false
+#[repr(C)]
+pub struct PlainTruth {
+    pub refusal: u64,
+    pub value: u64,
+}
+
+#[repr(C)]
+pub struct PlainDeltas {
+    pub refusal: u64,
+    pub reward: u64,
+    pub penalty: u64,
+}
+
+// raised is 1 where the plain sum was below one increment
+#[repr(C)]
+pub struct PlainTotal {
+    pub refusal: u64,
+    pub balance: u64,
+    pub raised: u64,
+}
+
+#[repr(C)]
+pub struct PlainRoot {
+    pub refusal: u64,
+    pub root: [u8; 32],
 }

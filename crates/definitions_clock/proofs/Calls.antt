@@ -3,14 +3,14 @@ use mathlib.Core.Path.{_≡_, refl, sym, ap, _∙_}
 use mathlib.Core.Bool.{Bool, true, false, cond, not, _||_}
 use Prim.Native.Nat.{ℕ, _≤_, _<_}
 use native.Mathlib.Omega.{arith}
-use borrow.Author.Tests.{eqb-false, le-ltb, not-true}
+use borrow.Author.Tests.{eqb-false, le-ltb}
 use lib.Dec.{eqb}
-use Rattle.definitions.specs.Checked.{Checked, value, refused, badSettings, overflow, noSeconds, bind}
+use Rattle.definitions.specs.Checked.{value, refused, badSettings, overflow, noSeconds, bind}
 use Rattle.definitions.specs.Refusals.{isSmall, afterTests}
 use Rattle.laws.proofs.Checked.{not-value, value-same, bound}
 use Rattle.definitions_clock.specs.declared.Clock.{Clock}
-use Rattle.definitions_clock.specs.Clock.{slotAt, epochAt, lastSlotOf, firstSecondOfSlot, lastSecondOfSlot, firstSecondOfEpoch, lastSecondOfEpoch, inClosingWindow}
-use Rattle.definitions_clock.specs.Calls.{goodSlots, clockTests, notBeforeGenesis, secondTests, is64, fits64, «slot_at_time», «epoch_at_time», «is_in_closing_window», «first_second_of_slot», «last_second_of_slot», «first_second_of_epoch», «last_second_of_epoch»}
+use Rattle.definitions_clock.specs.Clock.{slotAt, epochAt, firstSecondOfSlot, lastSecondOfSlot, firstSecondOfEpoch, lastSecondOfEpoch, inClosingWindow}
+use Rattle.definitions_clock.specs.Calls.{clockTests, notBeforeGenesis, secondTests, is64, fits64, «slot_at_time», «epoch_at_time», «is_in_closing_window», «first_second_of_slot», «last_second_of_slot», «first_second_of_epoch», «last_second_of_epoch»}
 use Rattle.definitions_clock.specs.Laws.{ThereAndBack}
 use Rattle.definitions_clock.proofs.Numbers.{slot-laws, epoch-laws, window-laws, epoch-span}
 

@@ -1,12 +1,11 @@
 -- Slots, epochs and the closing window, of the numbers.
-use mathlib.Core.Path.{_≡_, refl, sym, ap, _∙_}
-use mathlib.Core.Bool.{true}
-use Prim.Native.Nat.{ℕ, _+_, _-_, _*_, _/_, _%_, _≤_, _<_}
+use mathlib.Core.Path.{_≡_, sym, ap, _∙_}
+use Prim.Native.Nat.{ℕ, _+_, _-_, _*_, _/_, _≤_, _<_}
 use native.Mathlib.Omega.{arith}
 use native.Mathlib.Nat.{mul-comm, add-mul, one-mul, mul-le-mul-right, div-mul-le-self, lt-mul-div-succ, le-div-iff-mul-le, div-lt-iff-lt-mul}
 use borrow.Author.Tests.{eq-eqb, eqb-true}
 use Rattle.definitions_clock.specs.declared.Clock.{Clock}
-use Rattle.definitions_clock.specs.Clock.{slotAt, epochAt, firstSlotOf, lastSlotOf, firstSecondOfSlot, lastSecondOfSlot, firstSecondOfEpoch, lastSecondOfEpoch, inClosingWindow}
+use Rattle.definitions_clock.specs.Clock.{slotAt, epochAt, firstSlotOf, lastSlotOf, firstSecondOfSlot, lastSecondOfSlot, firstSecondOfEpoch, lastSecondOfEpoch}
 use Rattle.definitions_clock.specs.Laws.{SlotLaws, EpochLaws, WindowLaws}
 
 -- a quotient, by its two bounds

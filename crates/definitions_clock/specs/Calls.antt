@@ -2,7 +2,7 @@
 use mathlib.Core.Bool.{Bool, cond, _||_, not}
 use Prim.Native.Nat.{ℕ, _^_}
 use lib.Dec.{ltb, eqb}
-use Rattle.definitions.specs.Checked.{Checked, value, refused, badSettings, overflow, beforeGenesis, noSeconds, bind}
+use Rattle.definitions.specs.Checked.{Checked, value, refused, badSettings, overflow, beforeGenesis, noSeconds}
 use Rattle.definitions.specs.Refusals.{isSmall, afterTests}
 use Rattle.definitions_clock.specs.declared.Clock.{Clock}
 use Rattle.definitions_clock.specs.Clock.{slotAt, epochAt, firstSecondOfSlot, lastSecondOfSlot, firstSecondOfEpoch, lastSecondOfEpoch, inClosingWindow}

@@ -6,8 +6,7 @@ use Prim.Native.Nat.{ℕ, zero, suc, _+_, _/_}
 use lib.Dec.{leb, eqb}
 use lib.ListN.{length, getD, take, drop, replicate}
 use Rattle.definitions.specs.declared.Settings.{Settings}
-use Rattle.definitions.specs.declared.FullAnswer.{FullAnswer}
-use Rattle.definitions.specs.Record.{BeaconState, encode, decode}
+use Rattle.definitions.specs.Record.{BeaconState, encode}
 use Rattle.definitions.specs.Checked.{Refusal, badShape, numberOf, Checked, value, refused, bind, codeOf}
 use Rattle.definitions.specs.Refusals.{afterTests, closingBuffer}
 use Rattle.definitions.specs.Raised.{noneRaised, raisedTotals}

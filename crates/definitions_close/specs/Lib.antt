@@ -13,3 +13,5 @@ pub mod Orders
 pub mod Store
 pub mod StoreClose
 pub mod StoreSteps
+-- How the contracts put what is lent into these records.
+pub mod Calls

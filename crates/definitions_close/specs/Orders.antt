@@ -7,7 +7,6 @@ use lib.Dec.{leb, ltb, eqb}
 use lib.ListN.{length, getD, drop, set}
 use Rattle.definitions.specs.declared.Settings.{Settings}
 use Rattle.definitions.specs.declared.Rules.{Rules}
-use Rattle.definitions.specs.declared.FullAnswer.{FullAnswer}
 use Rattle.definitions.specs.Record.{Validator, nobody, encode, decode, «FAR_FUTURE_EPOCH»}
 use Rattle.definitions.specs.Checked.{badShape, fullList, noExit, tooEarly, Checked, value, refused, bind, codeOf, settle}
 use Rattle.definitions.specs.Refusals.{inOrder, lengthIs, isSmall, registryShaped, goodFinality, goodRegistry}

@@ -1,4 +1,5 @@
-// Definitions alone: what a reader must believe of a close that is lent the exit queue's pair and a list of amounts. See specs/.
+// What a reader must believe of the close that a user calls, whole and by steps, with its pair, amounts and store: the definitions in specs/, and
+// here the types by value.
 use definitions::FullAnswer;
 use definitions::Rules;
 

@@ -1,14 +1,13 @@
 -- Figures of a tried outage, by computing: what comes before a close, and the text. A record of two validators, in epochs of 8 slots, with 16
 -- roots, at slot 31.
-use mathlib.Core.Bool.{cond}
 use mathlib.Core.List.{List, [], _∷_, _++_, map}
 use mathlib.Core.Path.{_≡_, refl}
 use Prim.Native.Nat.{ℕ, _+_, _*_, _-_, _^_}
-use lib.ListN.{length, getD, replicate}
+use lib.ListN.{getD, replicate}
 use Rattle.definitions.specs.Lists.{range}
-use Rattle.definitions.specs.Record.{Validator, decodeOne, encodeOne, encode, decode, decodeFirst}
+use Rattle.definitions.specs.Record.{Validator, encode, decode, decodeFirst}
 use Rattle.definitions.specs.Checked.{bind}
-use Rattle.definitions_file.specs.File.{Contents, settingsFrom, noFinality, littleEndian, fromLittleEndian, numbersFromBytes, goodHeader, readTests, readFile, read}
+use Rattle.definitions_file.specs.File.{Contents, settingsFrom, noFinality, fromLittleEndian, numbersFromBytes, goodHeader, readTests, readFile, read}
 use Rattle.definitions.specs.RegisterOrder.{mapBelow}
 use Rattle.definitions.specs.Document.Phase0.Helpers.{«compute_epoch_at_slot», «get_current_epoch», «compute_start_slot_at_epoch»}
 use Rattle.definitions_file.specs.Decimal.{digits, decimal, signedDecimal}

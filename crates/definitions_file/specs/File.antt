@@ -8,8 +8,9 @@ use Rattle.definitions.specs.declared.Settings.{Settings}
 use Rattle.definitions.specs.declared.Checkpoint.{Checkpoint}
 use Rattle.definitions.specs.declared.Finality.{Finality}
 use Rattle.definitions.specs.declared.ExitQueue.{ExitQueue}
+use Rattle.definitions_file.specs.declared.Header.{Header}
 use Rattle.definitions.specs.Record.{Validator, decode}
-use Rattle.definitions.specs.Checked.{Checked, value, refused, Refusal, badFile, bind, codeOf, settle}
+use Rattle.definitions.specs.Checked.{Checked, value, refused, badFile, numberOf, bind, codeOf, settle}
 use Rattle.definitions.specs.Refusals.{inOrder, isVectorLength, settingsShaped, registryShaped, rootsShaped, slashingsShaped, lengthIs, settingsNumbers, goodSettings, goodFinality, goodValidator, goodRegistry}
 use Rattle.definitions.specs.ExitQueue.{queueOf, isQueueOf, queueTest}
 
@@ -303,3 +304,19 @@ read bytes registry slashings =
       contents = settle (readFile bytes registry slashings) (nothing registry slashings);
       queue = settle (bind (readTests bytes registry slashings) (λ _. value (queueIn bytes))) noQueue;
     }
+
+-- What the calls are handed and answer by value
+
+abbrev pub contentsWith : Settings → Finality → List ℕ → List ℕ → List ℕ → Contents
+contentsWith s f registry roots slashings =
+    record { settings = s; finality = f; registry = registry; roots = roots; slashings = slashings }
+
+-- test 6 alone: N, S and L, or refusal 6 and zeros
+abbrev pub noHeader : Header
+noHeader = record { refusal = numberOf badFile; validators = 0; roots = 0; slashings = 0 }
+
+unfoldable pub headerRead : List ℕ → Header
+headerRead bytes =
+    cond (goodHeader bytes)
+    (record { refusal = 0; validators = countOf bytes; roots = rootCountOf bytes; slashings = slashingCountOf bytes })
+    noHeader

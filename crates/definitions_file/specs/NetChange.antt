@@ -8,6 +8,7 @@ use Rattle.definitions.specs.Record.{Validator}
 use Rattle.definitions.specs.Checked.{Checked, value, refused, signedOverflow, numberOf, bind}
 use Rattle.definitions_file.specs.declared.Change.{Change}
 use Rattle.definitions_file.specs.declared.Change.the-variants.{Value, Refused}
+use Rattle.definitions_file.specs.declared.PlainChange.{PlainChange}
 
 -- `negsuc n` is -(n + 1): from -2^63 to 2^63 - 1
 unfoldable pub fitsSigned : ℤ → Bool
@@ -29,3 +30,8 @@ unfoldable pub changeTests : List Validator → List Validator → Checked (Unit
 changeTests [] closing = value tt
 changeTests (before ∷ opening) [] = value tt
 changeTests (before ∷ opening) (after ∷ closing) = bind (netChange (before .balance) (after .balance)) (λ _. changeTests opening closing)
+
+-- as plain numbers
+unfoldable pub plainChange : Change → PlainChange
+plainChange (Value x) = record { refusal = 0; value = x }
+plainChange (Refused n) = record { refusal = n; value = pos 0 }

@@ -61,3 +61,15 @@ closingAfter fork pair s = cond (shelfShaped s) (partsFor fork pair (s .lengths)
 pub record Working (refusal : ℕ) (before after : List ℕ) : Type 0 where
   pub long : length after ≡ length before
   pub unwritten : (refusal ≡ 0 → ⊥) → after ≡ before
+
+-- all that a shelf is lent
+abbrev pub shelfOf : List ℕ → List ℕ → List ℕ → List ℕ → List ℕ → List ℕ → Shelf
+shelfOf files lengths closing openingNumbers closingNumbers answers =
+    record {
+      files = files;
+      lengths = lengths;
+      closing = closing;
+      openingNumbers = openingNumbers;
+      closingNumbers = closingNumbers;
+      answers = answers;
+    }

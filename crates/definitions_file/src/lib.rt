@@ -1,5 +1,30 @@
-// Definitions alone: what a reader must believe of record files. See specs/.
+// What a reader must believe of record files, their listing, a shelf of them and a tried outage: the definitions in specs/, and here the types by
+// value.
+use definitions::ExitQueue;
+use definitions::Finality;
 use definitions::Raised;
+use definitions::Settings;
+
+// What reading a record file answers.
+
+// How long the buffers of a read must be: ten numbers a validator, one a slashing. Or refusal 6, and zeros.
+#[repr(C)]
+pub struct Header {
+    pub refusal: u64,
+    pub validators: u64,
+    pub roots: u64,
+    pub slashings: u64,
+}
+
+// What a read answers by value: 0 or the refusal's number, where it stopped, and zeros where it is refused.
+#[repr(C)]
+pub struct ReadAnswer {
+    pub refusal: u64,
+    pub position: u64,
+    pub settings: Settings,
+    pub finality: Finality,
+    pub queue: ExitQueue,
+}
 
 // What the lines of a listing tell, by value.
 
@@ -31,4 +56,11 @@ pub struct Line {
 pub enum Change {
     Value(i64),
     Refused(u64),
+}
+
+// The same as plain numbers, for C. `value` is from -2^63 to 2^63 - 1; the call that answers it makes it
+#[repr(C)]
+pub struct PlainChange {
+    pub refusal: u64,
+    pub value: i64,
 }

@@ -2,15 +2,15 @@
 use mathlib.Core.Path.{_≡_, refl, sym, ap, _∙_}
 use mathlib.Core.Logic.{_⊎_, inl, inr}
 use mathlib.Core.Bool.{Bool, true, false, cond, _||_}
-use mathlib.Core.List.{List, [], _∷_}
+use mathlib.Core.List.{[], _∷_}
 use Prim.Native.Nat.{ℕ}
 use native.Mathlib.Omega.{arith}
 use borrow.Author.Tests.{eq-eqb, eqb-true}
 use lib.Dec.{eqb}
-use Rattle.definitions.specs.Checked.{Checked, value, refused, overflow}
+use Rattle.definitions.specs.Checked.{Checked, value}
 use Rattle.laws.proofs.Checked.{value-same}
-use Rattle.definitions_votes.specs.Filling.{Vote, Filling, uniform, noneSet, allSet}
-use Rattle.definitions_votes.specs.Exact.{Verdict, none, some, every, Holds, among}
+use Rattle.definitions_votes.specs.Filling.{Vote, Filling, noneSet, allSet}
+use Rattle.definitions_votes.specs.Exact.{none, some, every, Holds, among}
 use Rattle.definitions_votes.specs.Votes.{verdict}
 use Rattle.definitions_votes.proofs.Tests.{Rises}
 

@@ -1,25 +1,26 @@
 -- The theorem: what is worked out from two registries is what is asked for of all fillings.
 use mathlib.Core.Path.{_≡_, refl, sym, ap, _∙_}
 use mathlib.Core.Logic.{_⊎_, inl, inr}
-use mathlib.Core.Bool.{Bool, true, false, cond, _&&_}
-use mathlib.Core.List.{List, [], _∷_, map}
-use Prim.Native.Nat.{ℕ, _-_, _≤_, _<_}
+use mathlib.Core.Bool.{Bool, true, false}
+use mathlib.Core.List.{List, map}
+use Prim.Native.Nat.{ℕ, _-_, _<_}
 use native.Mathlib.Omega.{arith}
 use borrow.Author.Tests.{le-leb, lt-leb, ne-eqb}
 use Rattle.definitions.specs.declared.Finality.{Finality}
 use Rattle.definitions.specs.Lists.{sum}
-use Rattle.definitions.specs.Checked.{Checked, value, refused, noRoot, overflow, bind}
+use Rattle.definitions.specs.Checked.{Checked, value, refused, overflow, bind}
 use Rattle.definitions.specs.Document.Phase0.EpochProcessing.{weighed}
-use Rattle.definitions.specs.Rust.Phase0.Helpers.{«is_active_validator», «get_current_epoch», «get_previous_epoch», «get_block_root»}
+use Rattle.definitions.specs.Rust.Phase0.Helpers.{«is_active_validator», «get_previous_epoch», «get_block_root»}
 use Rattle.definitions.specs.Rust.Altair.Helpers.{isUnslashedParticipating}
 use Rattle.laws.proofs.Checked.{not-value, value-same}
-use Rattle.definitions_votes.specs.Filling.{Vote, Filling, uniform, noneSet, allSet}
-use Rattle.definitions_votes.specs.Exact.{Ballot, currentOf, previousOf, stepOf, testOf, twoThirds, isFound, rootFound, rootsFound, Outcome, among, Reaches, Lists, Told, nothingOpen, Exact}
-use Rattle.definitions_votes.specs.Votes.{finalizedAfter, verdict, sortedOnce, outcomeOf, weighedVotes, votes}
+use Rattle.definitions_votes.specs.Filling.{Filling, uniform, noneSet, allSet}
+use Rattle.definitions_votes.specs.Exact.{Ballot, currentOf, previousOf, stepOf, testOf, isFound, rootFound, rootsFound, Outcome, Reaches, Lists, Told, Exact}
+use Rattle.definitions_votes.specs.Votes.{finalizedAfter, outcomeOf, weighedVotes, votes}
 use Rattle.definitions_votes.proofs.Listing.{sorted-rising, sorted-among}
-use Rattle.definitions_votes.proofs.Filled.{balanceIn, weight, currentTarget, current-below, previous-below, active-kept}
+use Rattle.definitions_votes.proofs.Filled.{balanceIn, weight, current-below, previous-below, active-kept}
 use Rattle.definitions_votes.proofs.Tests.{Ends, gave, over, testBy, test-ends, Rises, test-rises, two-thirds-by, afterTests, step-by-tests}
 use Rattle.definitions_votes.proofs.Core.{never, same-test, between, one-of, holds, among-four, four-among}
+use Rattle.laws.proofs.Tests.{both}
 
 -- the previous epoch is another one
 pub previous-other : (b : Ballot) → 1 < currentOf b → previousOf b ≡ currentOf b → ⊥
@@ -56,13 +57,9 @@ found (refused r) h = never h
 abbrev lookup : Ballot → ℕ → Checked (List ℕ)
 lookup b epoch = «get_block_root» (b .settings) (b .roots) (b .finality .slot) epoch
 
-and-parts : (x y : Bool) → (x && y) ≡ true → (x ≡ true) × (y ≡ true)
-and-parts true y h = (refl, h)
-and-parts false y h = never h
-
 module _ (b : Ballot) (l : 1 < currentOf b) (r : rootsFound b ≡ true) where
   after : Bool → Bool → Finality
-  after x y = let p = and-parts (rootFound b (previousOf b)) (rootFound b (currentOf b)) r in afterTests (b .settings) (b .roots) (b .finality) (b .validators) (found (lookup b (previousOf b)) (p .0) .0) (found (lookup b (currentOf b)) (p .1) .0) x y
+  after x y = let p = both (rootFound b (previousOf b)) (rootFound b (currentOf b)) r in afterTests (b .settings) (b .roots) (b .finality) (b .validators) (found (lookup b (previousOf b)) (p .0) .0) (found (lookup b (currentOf b)) (p .1) .0) x y
 
   after-epoch : (x y : Bool) → after x y .«finalized_checkpoint» .epoch ≡ finalizedAfter (currentOf b) (b .finality) x y
   unfolding after finalizedAfter weighed
@@ -71,7 +68,7 @@ module _ (b : Ballot) (l : 1 < currentOf b) (r : rootsFound b ≡ true) where
   step-tests : (f : Filling) → stepOf b f ≡ bind (testOf b (previousOf b) f) (λ x. bind (testOf b (currentOf b) f) (λ y. value (after x y)))
   unfolding after
   step-tests f =
-      let p = and-parts (rootFound b (previousOf b)) (rootFound b (currentOf b)) r in
+      let p = both (rootFound b (previousOf b)) (rootFound b (currentOf b)) r in
       step-by-tests (b .settings) (b .roots) (b .finality) _ _ _ l (found (lookup b (previousOf b)) (p .0) .1) (found (lookup b (currentOf b)) (p .1) .1)
 
   step-value : (f : Filling) {x y : Bool} → testOf b (previousOf b) f ≡ value x → testOf b (currentOf b) f ≡ value y → stepOf b f ≡ value (after x y)

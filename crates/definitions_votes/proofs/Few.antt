@@ -1,27 +1,23 @@
 -- The step finalizes the finalized epoch, the previous justified or the current justified one: no list is longer than three.
 use mathlib.Core.Path.{_≡_, refl, sym, ap, _∙_}
 use mathlib.Core.Logic.{_⊎_, inl, inr}
-use mathlib.Core.Bool.{Bool, true, false, cond, _&&_, _||_}
+use mathlib.Core.Bool.{Bool, true, false, cond, _&&_}
 use mathlib.Core.List.{List, [], _∷_}
-use Prim.Native.Nat.{ℕ, suc, _+_, _*_, _^_, _≤_, _<_}
+use Prim.Native.Nat.{ℕ, _+_, _≤_, _<_}
 use native.Mathlib.Omega.{arith}
 use native.Mathlib.Decide.{decLe}
-use native.Mathlib.Nat.{div-mul-le-self}
-use borrow.Author.Tests.{ltb-true, lt-ltb, eq-eqb, ne-eqb}
-use lib.Dec.{leb, ltb, eqb}
+use lib.Dec.{eqb}
 use lib.ListN.{length}
 use Rattle.definitions.specs.declared.Finality.{Finality}
-use Rattle.definitions.specs.Lists.{all}
-use Rattle.definitions.specs.Checked.{Checked, value, refused, noRoot, overflow}
 use Rattle.definitions.specs.Document.Phase0.EpochProcessing.{bit, justifiedBits, finalizedBy}
 use Rattle.laws.proofs.Checked.{not-value, value-same}
-use Rattle.definitions_votes.specs.Exact.{Ballot, currentOf, previousOf, rootsFound, Outcome, among, rising, nothingOpen}
-use Rattle.definitions_votes.specs.Votes.{finalizedAfter, sortedOnce, outcomeOf, votes}
+use Rattle.definitions_votes.specs.Exact.{currentOf, rootsFound, among, rising, nothingOpen}
+use Rattle.definitions_votes.specs.Votes.{finalizedAfter, sortedOnce, outcomeOf}
 use Rattle.definitions_votes.specs.Laws.{AtMostThree}
 use Rattle.definitions_votes.proofs.Core.{four-among}
 use Rattle.definitions_votes.proofs.Listing.{sorted-rising, sorted-among}
 use Rattle.definitions_votes.proofs.One.{among-first, among-later, above, rising-parts}
-use Rattle.definitions_votes.proofs.Exact.{exact, Given, Over, either, result, work-is, later}
+use Rattle.definitions_votes.proofs.Exact.{exact, Given, Over, either, work-is, later}
 
 -- the three, by number
 abbrev pick : Finality → ℕ → ℕ

@@ -1,7 +1,6 @@
 -- Small ballots, worked out: five validators of 32×10^9, all active, slot 31 of epochs of 8 slots.
 use mathlib.Core.Path.{_≡_, refl}
-use mathlib.Core.Bool.{Bool, true, false}
-use mathlib.Core.List.{List, [], _∷_, map}
+use mathlib.Core.List.{List, [], _∷_}
 use Prim.Native.Nat.{ℕ}
 use lib.ListN.{replicate}
 use Rattle.definitions.specs.declared.Settings.{Settings}
@@ -16,7 +15,7 @@ use Rattle.definitions.specs.Rust.Phase0.Helpers.{«is_active_validator», «co
 use Rattle.definitions.specs.Rust.Phase0.EpochProcessing.{isJustified}
 use Rattle.definitions.specs.Rust.Altair.Helpers.{«add_flag», «has_flag», isUnslashedParticipating, «get_unslashed_participating_indices»}
 use Rattle.definitions_votes.specs.Filling.{withTarget, filledOne, filled}
-use Rattle.definitions_votes.specs.Exact.{Ballot, twoThirds, Verdict, none, some, every, Outcome, among, rising}
+use Rattle.definitions_votes.specs.Exact.{Ballot, twoThirds, Verdict, none, some, every, Outcome}
 use Rattle.definitions_votes.specs.Votes.{finalizedAfter, verdict, insertRising, sortedOnce, outcomeOf, weighedVotes, votes}
 
 abbrev validator : ℕ → ℕ → ℕ → Validator

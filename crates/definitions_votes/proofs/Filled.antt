@@ -1,18 +1,17 @@
 -- A filled registry: who is active stays, and the weight of a target lies between that with no unknown flag set and that with all set.
-use mathlib.Core.Path.{_≡_, refl, sym, ap, _∙_}
-use mathlib.Core.Bool.{Bool, true, false, cond, _&&_, _||_, not}
+use mathlib.Core.Path.{_≡_, refl, ap, _∙_}
+use mathlib.Core.Bool.{Bool, true, false, cond, _&&_, not}
 use mathlib.Core.List.{List, [], _∷_, map}
-use Prim.Native.Nat.{ℕ, zero, suc, _+_, _-_, _/_, _%_, _^_, _≤_, _<_}
+use Prim.Native.Nat.{ℕ, zero, suc, _+_, _-_, _/_, _%_, _≤_, _<_}
 use native.Mathlib.Omega.{arith}
 use borrow.Author.Tests.{eq-eqb, ne-eqb, eqb-true, eqb-false}
-use lib.Dec.{eqb}
 use lib.ListN.{length, getD, drop}
-use Rattle.definitions.specs.Lists.{filter, sum}
+use Rattle.definitions.specs.Lists.{sum}
 use Rattle.definitions.specs.Record.{Validator, isSlashed, nobody}
 use Rattle.definitions.specs.Rust.Phase0.Helpers.{«is_active_validator»}
 use Rattle.definitions.specs.Rust.Altair.Helpers.{«add_flag», «has_flag», isUnslashedParticipating}
 use Rattle.definitions.specs.Document.Phase0.EpochProcessing.{bit}
-use Rattle.definitions_votes.specs.Filling.{previousUnknown, currentUnknown, Vote, Filling, uniform, noneSet, allSet, withTarget, filledFlags, filledOne, filled}
+use Rattle.definitions_votes.specs.Filling.{previousUnknown, currentUnknown, Vote, Filling, withTarget, filledFlags, filledOne, filled}
 
 -- the target flag of filled flags
 pub target-of : (hit : Bool) (flags : ℕ) → «has_flag» (withTarget hit flags) 1 ≡ hit

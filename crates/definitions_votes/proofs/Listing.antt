@@ -1,32 +1,19 @@
 -- A rising list: what is inserted is listed, nothing else comes in, and it stays rising.
-use mathlib.Core.Path.{_≡_, refl, sym, ap, _∙_}
-use mathlib.Core.Bool.{Bool, true, false, cond, _&&_, _||_}
+use mathlib.Core.Path.{_≡_, refl, ap, _∙_}
+use mathlib.Core.Bool.{Bool, true, false, cond, _||_}
 use mathlib.Core.List.{List, [], _∷_}
-use Prim.Native.Nat.{ℕ, _≤_, _<_}
+use Prim.Native.Nat.{ℕ, _<_}
 use native.Mathlib.Omega.{arith}
-use borrow.Author.Tests.{ltb-true, ltb-false, eqb-true, eqb-false, lt-ltb, eq-eqb, ne-eqb}
+use borrow.Author.Tests.{ltb-true, ltb-false, eqb-true, eqb-false, lt-ltb}
 use lib.Dec.{ltb, eqb}
-use lib.ListN.{length}
 use Rattle.definitions.specs.Lists.{all}
 use Rattle.definitions_votes.specs.Exact.{among, rising}
 use Rattle.definitions_votes.specs.Votes.{insertRising, sortedOnce}
-
-or-swap : (a b c : Bool) → (a || (b || c)) ≡ (b || (a || c))
-or-swap true true c = refl
-or-swap true false c = refl
-or-swap false true c = refl
-or-swap false false c = refl
+use Rattle.laws.proofs.Tests.{or-swap, and-both, both}
 
 or-same : (a c : Bool) → (a || c) ≡ (a || (a || c))
 or-same true c = refl
 or-same false c = refl
-
-and-parts : (a b : Bool) → (a && b) ≡ true → (a ≡ true) × (b ≡ true)
-and-parts true b h = (refl, h)
-and-parts false b h = absurd (let z : _≡_ {A = ℕ} 0 1 = cc in omega arith)
-
-and-both : {a b : Bool} → a ≡ true → b ≡ true → (a && b) ≡ true
-and-both h k = rw (h, k)
 
 pub among-insert : (z e : ℕ) (xs : List ℕ) → among z (insertRising e xs) ≡ (eqb z e || among z xs)
 unfolding among insertRising
@@ -41,7 +28,7 @@ among-insert z e (x ∷ xs) = go (ltb e x) (eqb e x) refl (among-insert z e xs)
 all-insert : (q : ℕ → Bool) (e : ℕ) (xs : List ℕ) → q e ≡ true → all q xs ≡ true → all q (insertRising e xs) ≡ true
 unfolding all insertRising
 all-insert q e [] h k = and-both h refl
-all-insert q e (x ∷ xs) h k = let p = and-parts (q x) (all q xs) k in go (ltb e x) (eqb e x) p (all-insert q e xs h (p .1))
+all-insert q e (x ∷ xs) h k = let p = both (q x) (all q xs) k in go (ltb e x) (eqb e x) p (all-insert q e xs h (p .1))
   where
     go : (t u : Bool) → (q x ≡ true) × (all q xs ≡ true) → all q (insertRising e xs) ≡ true → all q (cond t (e ∷ x ∷ xs) (cond u (x ∷ xs) (x ∷ insertRising e xs))) ≡ true
     go true u p r = and-both h (and-both (p .0) (p .1))
@@ -52,14 +39,14 @@ all-below : (e x : ℕ) (xs : List ℕ) → e < x → all (ltb x) xs ≡ true �
 unfolding all
 all-below e x [] l h = refl
 all-below e x (y ∷ ys) l h =
-    let p = and-parts (ltb x y) (all (ltb x) ys) h in
+    let p = both (ltb x y) (all (ltb x) ys) h in
     and-both (lt-ltb e y (omega (arith, ltb-true x y (p .0)))) (all-below e x ys l (p .1))
 
 pub rising-insert : (e : ℕ) (xs : List ℕ) → rising xs ≡ true → rising (insertRising e xs) ≡ true
 unfolding rising insertRising all
 rising-insert e [] h = refl
 rising-insert e (x ∷ xs) h =
-    let p = and-parts (all (ltb x) xs) (rising xs) h in
+    let p = both (all (ltb x) xs) (rising xs) h in
     go (ltb e x) refl (eqb e x) refl p (rising-insert e xs (p .1))
   where
     go : (t : Bool) → ltb e x ≡ t → (u : Bool) → eqb e x ≡ u → (all (ltb x) xs ≡ true) × (rising xs ≡ true) → rising (insertRising e xs) ≡ true → rising (cond t (e ∷ x ∷ xs) (cond u (x ∷ xs) (x ∷ insertRising e xs))) ≡ true

@@ -1,7 +1,7 @@
 -- The quantified statement has one answer.
 use mathlib.Core.Path.{_≡_, refl, sym, ap, _∙_}
 use mathlib.Core.Logic.{_⊎_, inl, inr}
-use mathlib.Core.Bool.{Bool, true, false, cond, _&&_, _||_}
+use mathlib.Core.Bool.{Bool, true, false, _||_}
 use mathlib.Core.List.{List, [], _∷_}
 use Prim.Native.Nat.{ℕ, _≤_, _<_}
 use native.Mathlib.Omega.{arith}
@@ -9,18 +9,15 @@ use native.Mathlib.Decide.{decLe}
 use borrow.Author.Tests.{ltb-true, eqb-true, eq-eqb}
 use lib.Dec.{ltb, eqb}
 use Rattle.definitions.specs.Lists.{all}
-use Rattle.definitions.specs.Checked.{Checked, value, refused, overflow}
+use Rattle.definitions.specs.Checked.{Checked, value}
 use Rattle.laws.proofs.Checked.{value-same}
 use Rattle.definitions_votes.specs.Filling.{Filling, noneSet, allSet}
-use Rattle.definitions_votes.specs.Exact.{Ballot, currentOf, previousOf, stepOf, testOf, rootsFound, Verdict, none, some, every, Outcome, Holds, among, rising, Reaches, Lists, Told, Exact}
+use Rattle.definitions_votes.specs.Exact.{Ballot, currentOf, rootsFound, Verdict, none, some, every, Outcome, Holds, among, rising, Told}
 use Rattle.definitions_votes.specs.Votes.{votes}
 use Rattle.definitions_votes.specs.Laws.{OneAnswer}
 use Rattle.definitions_votes.proofs.Core.{never}
 use Rattle.definitions_votes.proofs.Exact.{exact, Given, Over, either, never-over}
-
-pub and-parts : (x y : Bool) → (x && y) ≡ true → (x ≡ true) × (y ≡ true)
-and-parts true y h = (refl, h)
-and-parts false y h = never h
+use Rattle.laws.proofs.Tests.{both}
 
 -- one of the list: the first, or a later one
 among-parts : (e x : ℕ) (xs : List ℕ) → among e (x ∷ xs) ≡ true → (e ≡ x) ⊎ (among e xs ≡ true)
@@ -47,7 +44,7 @@ among-later e x xs h = rw h (go (eqb e x))
 pub above : (x e : ℕ) (xs : List ℕ) → all (ltb x) xs ≡ true → among e xs ≡ true → x < e
 unfolding all among
 above x e [] h k = never k
-above x e (y ∷ ys) h k = let p = and-parts (ltb x y) (all (ltb x) ys) h in go (among-parts e y ys k) p (λ q. above x e ys (p .1) q)
+above x e (y ∷ ys) h k = let p = both (ltb x y) (all (ltb x) ys) h in go (among-parts e y ys k) p (λ q. above x e ys (p .1) q)
   where
     go : (e ≡ y) ⊎ (among e ys ≡ true) → (ltb x y ≡ true) × (all (ltb x) ys ≡ true) → (among e ys ≡ true → x < e) → x < e
     go (inl q) p r = omega (arith, q, ltb-true x y (p .0))
@@ -55,7 +52,7 @@ above x e (y ∷ ys) h k = let p = and-parts (ltb x y) (all (ltb x) ys) h in go 
 
 pub rising-parts : (x : ℕ) (xs : List ℕ) → rising (x ∷ xs) ≡ true → (all (ltb x) xs ≡ true) × (rising xs ≡ true)
 unfolding rising
-rising-parts x xs h = and-parts (all (ltb x) xs) (rising xs) h
+rising-parts x xs h = both (all (ltb x) xs) (rising xs) h
 
 none-among : (e : ℕ) → among e [] ≡ true → ⊥
 unfolding among

@@ -1,16 +1,16 @@
 -- The two-thirds test by its two sums, and the step by its two tests.
 use mathlib.Core.Path.{_≡_, refl, sym, ap, _∙_}
 use mathlib.Core.Bool.{Bool, true, false, cond, _&&_}
-use mathlib.Core.List.{List, [], _∷_, map}
-use Prim.Native.Nat.{ℕ, _+_, _*_, _^_, _≤_, _<_, max}
+use mathlib.Core.List.{List, [], map}
+use Prim.Native.Nat.{ℕ, _*_, _^_, _≤_, _<_, max}
 use native.Mathlib.Omega.{arith}
 use borrow.Author.Tests.{lt-leb, lt-ltb, ltb-true, leb-true, le-leb}
 use lib.Dec.{leb, ltb}
 use Rattle.definitions.specs.declared.Settings.{Settings}
 use Rattle.definitions.specs.declared.Finality.{Finality}
-use Rattle.definitions.specs.Lists.{filter, sum}
+use Rattle.definitions.specs.Lists.{sum}
 use Rattle.definitions.specs.Record.{Validator}
-use Rattle.definitions.specs.Checked.{Checked, value, refused, Refusal, overflow, bind, mul64, sum64}
+use Rattle.definitions.specs.Checked.{Checked, value, refused, overflow, bind, mul64, sum64}
 use Rattle.definitions.specs.Document.Phase0.EpochProcessing.{weighed}
 use Rattle.definitions.specs.Rust.Phase0.Helpers.{«is_active_validator», «get_current_epoch», «get_previous_epoch», «get_block_root», «get_active_validator_indices», «get_total_balance», «get_total_active_balance»}
 use Rattle.definitions.specs.Rust.Phase0.EpochProcessing.{isJustified, rootWhere, «weigh_justification_and_finalization»}

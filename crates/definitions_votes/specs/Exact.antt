@@ -8,7 +8,7 @@ use Rattle.definitions.specs.declared.Settings.{Settings}
 use Rattle.definitions.specs.declared.Finality.{Finality}
 use Rattle.definitions.specs.Lists.{all}
 use Rattle.definitions.specs.Record.{Validator}
-use Rattle.definitions.specs.Checked.{Checked, value, refused, Refusal, noRoot, overflow, bind}
+use Rattle.definitions.specs.Checked.{Checked, value, refused, noRoot, overflow, bind}
 use Rattle.definitions.specs.Rust.Phase0.Helpers.{«get_current_epoch», «get_previous_epoch», «get_block_root», «get_total_balance», «get_total_active_balance»}
 use Rattle.definitions.specs.Rust.Phase0.EpochProcessing.{isJustified}
 use Rattle.definitions.specs.Rust.Altair.Helpers.{«TIMELY_TARGET_FLAG_INDEX», «get_unslashed_participating_indices»}

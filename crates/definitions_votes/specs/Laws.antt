@@ -1,6 +1,6 @@
 -- What else holds of the answer.
 use mathlib.Core.Path.{_≡_}
-use Prim.Native.Nat.{ℕ, _≤_}
+use Prim.Native.Nat.{_≤_}
 use lib.ListN.{length}
 use Rattle.definitions.specs.Checked.{Checked, value}
 use Rattle.definitions_votes.specs.Exact.{Ballot, Outcome, Exact}

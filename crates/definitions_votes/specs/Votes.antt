@@ -8,7 +8,7 @@ use Rattle.definitions.specs.declared.Settings.{Settings}
 use Rattle.definitions.specs.declared.Finality.{Finality}
 use Rattle.definitions.specs.Lists.{all}
 use Rattle.definitions.specs.Record.{«GENESIS_EPOCH», decode}
-use Rattle.definitions.specs.Checked.{Checked, value, refused, Refusal, noRoot, bind}
+use Rattle.definitions.specs.Checked.{Checked, value, refused, noRoot, bind}
 use Rattle.definitions.specs.Refusals.{inOrder, settingsShaped, rootsShaped, registryShaped, lengthIs, goodSettings, goodFinality, goodRegistry}
 use Rattle.definitions.specs.Document.Phase0.EpochProcessing.{justifiedBits, finalizedBy}
 use Rattle.definitions_votes.specs.Filling.{goodMark, noneSet, allSet}

@@ -6,7 +6,7 @@ use native.Mathlib.Omega.{arith}
 use lib.ListN.{length, getD, take, length-take}
 use Rattle.definitions.specs.Lists.{filter, maximum}
 use Rattle.definitions.specs.Record.{Validator, «FAR_FUTURE_EPOCH», decode}
-use Rattle.definitions.specs.Document.Phase0.Helpers.{exitEpochs, exitQueueChurn}
+use Rattle.definitions.specs.Document.Phase0.Helpers.{exitQueueChurn}
 use Rattle.definitions.specs.ExitQueue.{queueOf}
 use Rattle.laws.proofs.Loops.Entry.{number-at}
 use Rattle.laws.proofs.Loops.Reading.{Reading, reading-none, reading-more, reading-is, prefix-all, prefix-more}

@@ -5,9 +5,7 @@ use denote.Triple.Clauses.{AtExit}
 use denote.Ref.{now}
 use Rattle.definitions_close.specs.FullClose.{FullOutcome}
 use Rattle.definitions_close.specs.StoreClose.{StoreCall}
-use Rattle.full_close.specs.Called.{fullOutcome}
-use Rattle.store.specs.Lent.{lent}
-use Rattle.store.specs.Called.{storeCalled}
+use Rattle.definitions_close.specs.Calls.{fullOutcome, lent, storeCalled}
 use Rattle.exports.proofs.whole.altair_close.Kinds as kinds
 use Rattle.exports.proofs.whole.altair_close.Reads as reads
 

@@ -15,8 +15,9 @@ use Rattle.definitions.specs.Rust.Phase0.Helpers.{«get_block_root_at_slot», �
 use Rattle.laws.proofs.Checked.{value-same}
 use Rattle.epochs.specs.Bytes.{bytesOf}
 use Rattle.epochs.proofs.roots.Lookups.{slot-value, epoch-value, found-after}
-use Rattle.plain.specs.Plain.{plainRoot, rootGiven}
-use Rattle.plain.specs.declared.PlainRoot.{PlainRoot}
+use Rattle.definitions.specs.Plain.{plainRoot}
+use Rattle.plain.specs.Root.{rootGiven}
+use Rattle.definitions.specs.declared.PlainRoot.{PlainRoot}
 
 -- m gives 32 bytes, or nothing
 abbrev Long : Checked (List ℕ) → Type 0

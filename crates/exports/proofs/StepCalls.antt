@@ -11,11 +11,7 @@ use Rattle.definitions_close.specs.Orders.{OrderCall, OrderOutcome, takeOrder, 
 use Rattle.definitions_close.specs.StoreClose.{StoreCall}
 use Rattle.definitions_close.specs.StoreSteps.{StoreStepCall, storeStep, StoreNinthCall}
 use Rattle.theorems.specs.CloseBySteps.Desk.{Desk, Act, stepping, ordering, orderCall, stepsOf, oneToEight}
-use Rattle.close_by_steps.specs.Called.{stepOutcome}
-use Rattle.orders.specs.Called.{orderCalled, orderOutcome, ninthOutcome}
-use Rattle.store.specs.Lent.{lent}
-use Rattle.store.specs.Called.{storeCalled}
-use Rattle.store_steps.specs.Called.{storeStepCalled, storeNinthCalled}
+use Rattle.definitions_close.specs.Calls.{stepOutcome, orderCalled, orderOutcome, ninthOutcome, lent, storeCalled, storeStepCalled, storeNinthCalled}
 use Rattle.theorems.specs.StoreHistory.Steps.{stepCall, act, acts, NotBegun}
 use Rattle.exports.proofs.exit_orders.altair_close_step.Kinds as stepKinds
 use Rattle.exports.proofs.exit_orders.altair_close_step.Reads as step

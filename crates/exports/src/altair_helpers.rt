@@ -11,13 +11,13 @@ ghost use Rattle.definitions.specs.Rules.{settingsUnder, inactivityPenaltyTests
 ghost use Rattle.definitions.specs.Document.Altair.Helpers.{«has_flag», «add_flag»};
 ghost use Rattle.definitions.specs.Rust.Phase0.Helpers.{«get_current_epoch»};
 ghost use Rattle.definitions.specs.Rust.Altair.Helpers.{isUnslashedParticipating, «get_unslashed_participating_indices», «get_base_reward_per_increment», «get_base_reward», «get_flag_index_deltas», «get_inactivity_penalty_deltas»};
-ghost use Rattle.plain.specs.Plain.{plainNumber, plainTruth, plainDeltas, plainTotal};
+ghost use Rattle.definitions.specs.Plain.{plainNumber, plainTruth, plainDeltas, plainTotal};
+use definitions::PlainDeltas;
+use definitions::PlainNumber;
+use definitions::PlainTotal;
+use definitions::PlainTruth;
 use definitions::Rules;
 use definitions::Settings;
-use plain::PlainDeltas;
-use plain::PlainNumber;
-use plain::PlainTotal;
-use plain::PlainTruth;
 use plain::plain_deltas;
 use plain::plain_number;
 use plain::plain_total;

@@ -4,12 +4,12 @@ ghost use Rattle.definitions.specs.Answers.{numberFor, truthFor, finalityAnswer
 ghost use Rattle.definitions.specs.Refusals.{afterTests};
 ghost use Rattle.definitions.specs.LeafRefusals.{finalizedTests, weighTests};
 ghost use Rattle.definitions.specs.Rust.Phase0.EpochProcessing.{«get_finality_delay», «is_in_inactivity_leak», «weigh_justification_and_finalization»};
-ghost use Rattle.plain.specs.Plain.{plainNumber, plainTruth};
+ghost use Rattle.definitions.specs.Plain.{plainNumber, plainTruth};
 use definitions::Finality;
 use definitions::FinalityAnswer;
+use definitions::PlainNumber;
+use definitions::PlainTruth;
 use definitions::Settings;
-use plain::PlainNumber;
-use plain::PlainTruth;
 use plain::plain_number;
 use plain::plain_truth;
 

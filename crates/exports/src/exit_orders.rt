@@ -2,11 +2,7 @@
 ghost use mathlib.Core.Path.{_≡_};
 ghost use Rattle.definitions_close.specs.Orders.{takeOrder};
 ghost use Rattle.definitions_close.specs.StoreSteps.{storeStep, storeCarryOut};
-ghost use Rattle.close_by_steps.specs.Called.{stepOutcome};
-ghost use Rattle.orders.specs.Called.{orderCalled, orderOutcome, ninthOutcome};
-ghost use Rattle.store.specs.Lent.{lent};
-ghost use Rattle.store.specs.Called.{storeCalled};
-ghost use Rattle.store_steps.specs.Called.{storeStepCalled, storeNinthCalled};
+ghost use Rattle.definitions_close.specs.Calls.{stepOutcome, orderCalled, orderOutcome, ninthOutcome, lent, storeCalled, storeStepCalled, storeNinthCalled};
 use definitions::ExitQueue;
 use definitions::Finality;
 use definitions_close::Running;

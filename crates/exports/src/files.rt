@@ -1,13 +1,12 @@
 // A record file, read and written.
 ghost use mathlib.Core.Path.{_≡_};
 ghost use Rattle.definitions.specs.Checked.{codeOf};
-ghost use Rattle.definitions_file.specs.File.{read, writeTests, written};
-ghost use Rattle.record_file.specs.Answers.{headerRead, contentsWith};
+ghost use Rattle.definitions_file.specs.File.{read, writeTests, written, headerRead, contentsWith};
 use definitions::ExitQueue;
 use definitions::Finality;
 use definitions::Settings;
-use record_file::Header;
-use record_file::ReadAnswer;
+use definitions_file::Header;
+use definitions_file::ReadAnswer;
 
 #[no_mangle]
 pub extern "C" fn altair_read_header(bytes: &[u8]) -> Header

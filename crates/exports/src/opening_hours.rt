@@ -2,10 +2,10 @@
 ghost use mathlib.Core.Path.{_≡_};
 ghost use Rattle.definitions.specs.Answers.{numberFor, truthFor};
 ghost use Rattle.definitions_clock.specs.Calls.{«slot_at_time», «epoch_at_time», «is_in_closing_window», «first_second_of_slot», «last_second_of_slot», «first_second_of_epoch», «last_second_of_epoch»};
-ghost use Rattle.plain.specs.Plain.{plainNumber, plainTruth};
+ghost use Rattle.definitions.specs.Plain.{plainNumber, plainTruth};
+use definitions::PlainNumber;
+use definitions::PlainTruth;
 use definitions_clock::Clock;
-use plain::PlainNumber;
-use plain::PlainTruth;
 use plain::plain_number;
 use plain::plain_truth;
 

@@ -1,6 +1,6 @@
 // The leaves of phase0/helpers.rs: slots and epochs, a validator's state, block roots, totals, balances, exits.
 ghost use mathlib.Core.Path.{_≡_};
-ghost use Rattle.definitions.specs.Record.{decodeOne, encodeOne, decode, encode};
+ghost use Rattle.definitions.specs.Record.{decodeOne, encodeOne, decode};
 ghost use Rattle.definitions.specs.Checked.{value};
 ghost use Rattle.definitions.specs.Answers.{numberFor, truthFor};
 ghost use Rattle.definitions.specs.Raised.{totalWithRaised, totalAnswerFor};
@@ -10,15 +10,15 @@ ghost use Rattle.definitions.specs.Document.Phase0.EpochProcessing.{isEligible}
 ghost use Rattle.definitions.specs.Document.Phase0.Helpers.{«integer_squareroot»};
 ghost use Rattle.definitions.specs.Rust.Phase0.Helpers.{«compute_epoch_at_slot», «compute_start_slot_at_epoch», «compute_activation_exit_epoch», «get_current_epoch», «get_previous_epoch», «is_active_validator», «is_eligible_for_activation_queue», «is_eligible_for_activation», «get_block_root_at_slot», «get_block_root», «get_active_validator_indices», «get_validator_churn_limit», «increase_balance», «decrease_balance», «initiate_validator_exit»};
 ghost use Rattle.definitions_close.specs.QueueCalls.{exitQueueTests, QueueCloses, foundQueue};
-ghost use Rattle.refusals.specs.Closes.{Closes};
-ghost use Rattle.plain.specs.Plain.{plainNumber, plainTruth, plainRoot, plainTotal};
+ghost use Rattle.definitions.specs.Closes.{Closes};
+ghost use Rattle.definitions.specs.Plain.{plainNumber, plainTruth, plainRoot, plainTotal};
 use definitions::ExitQueue;
+use definitions::PlainNumber;
+use definitions::PlainRoot;
+use definitions::PlainTotal;
+use definitions::PlainTruth;
 use definitions::QueueAnswer;
 use definitions::Settings;
-use plain::PlainNumber;
-use plain::PlainRoot;
-use plain::PlainTotal;
-use plain::PlainTruth;
 use plain::plain_number;
 use plain::plain_root;
 use plain::plain_total;

@@ -1,7 +1,6 @@
 // A shelf of records.
 ghost use mathlib.Core.Path.{_≡_};
-ghost use Rattle.definitions_file.specs.Shelf.{shelfRefusal, answersAfter, closingAfter, Working};
-ghost use Rattle.shelf.specs.Lent.{shelfOf};
+ghost use Rattle.definitions_file.specs.Shelf.{shelfRefusal, answersAfter, closingAfter, Working, shelfOf};
 use definitions::Bellatrix;
 
 #[no_mangle]

@@ -1,8 +1,7 @@
 // Settings by starting epoch (02, R-10): the rules of an epoch, and one entry more.
 ghost use mathlib.Core.Path.{_≡_};
 ghost use Rattle.definitions_close.specs.Store.{readRules, rulesAnswerFor, added};
-ghost use Rattle.store.specs.Lent.{lent};
-ghost use Rattle.store.specs.Answers.{newEntry, addOutcome};
+ghost use Rattle.definitions_close.specs.Calls.{lent, newEntry, addOutcome};
 use definitions::Rules;
 use definitions_close::CountAnswer;
 use definitions_close::RulesAnswer;

@@ -12,7 +12,7 @@ ghost use Rattle.definitions.specs.Rust.Phase0.EpochProcessing.{«process_regis
 ghost use Rattle.definitions.specs.Rust.Altair.EpochProcessing.{«process_justification_and_finalization», «process_inactivity_updates», «process_rewards_and_penalties», «process_slashings», «process_participation_flag_updates»};
 ghost use Rattle.definitions_close.specs.Justification.{justificationAnswerFor};
 ghost use Rattle.definitions_close.specs.QueueCalls.{registryToQueueTests, registryQueueTests, QueueCloses};
-ghost use Rattle.refusals.specs.Closes.{Closes};
+ghost use Rattle.definitions.specs.Closes.{Closes};
 use definitions::ExitQueue;
 use definitions::Finality;
 use definitions::JustificationAnswer;

@@ -7,16 +7,14 @@ ghost use Rattle.definitions.specs.Refusals.{afterTests};
 ghost use Rattle.definitions.specs.LeafRefusals.{slotRegistryTests};
 ghost use Rattle.definitions.specs.Close.{charged};
 ghost use Rattle.definitions_close.specs.StoreClose.{storeClose};
-ghost use Rattle.full_close.specs.Called.{fullOutcome};
-ghost use Rattle.store.specs.Lent.{lent};
-ghost use Rattle.store.specs.Called.{storeCalled};
+ghost use Rattle.definitions_close.specs.Calls.{fullOutcome, lent, storeCalled};
 ghost use Rattle.definitions.specs.Answers.{numberFor};
-ghost use Rattle.plain.specs.Plain.{plainNumber};
+ghost use Rattle.definitions.specs.Plain.{plainNumber};
 use definitions::ExitQueue;
 use definitions::Finality;
 use definitions::FullAnswer;
+use definitions::PlainNumber;
 use definitions::Settings;
-use plain::PlainNumber;
 use plain::plain_number;
 
 #[no_mangle]

@@ -1,5 +1,5 @@
 -- The tests of reading: what is answered and where reading stops, test by test.
-use mathlib.Core.Path.{_≡_, refl, sym, ap, _∙_}
+use mathlib.Core.Path.{_≡_, ap, _∙_}
 use mathlib.Core.Bool.{Bool, true, false, _&&_, and-false, and-assoc}
 use mathlib.Core.List.{List}
 use Prim.Native.Nat.{ℕ, _*_, _^_, _≤_, _<_}
@@ -14,8 +14,8 @@ use Rattle.definitions.specs.Refusals.{inOrder, isVectorLength, settingsShaped,
 use Rattle.definitions.specs.ExitQueue.{queueOf, isQueueOf, queueTest}
 use Rattle.definitions_file.specs.File.{numbersFromBytes, versionOf, validatorsAt, queueFrom, queueIn, noQueue, read, settingsAt, settingsFrom, countOf, rootCountOf, slashingCountOf, contentsOf, goodHeader, fileShaped, readTests, stoppedAt, position}
 use Rattle.refusals.proofs.All.{both}
-use Rattle.round_trip.proofs.Tests.{queue-own}
 use Rattle.file_refusals.specs.Tests.{Answered, QueueAnswered, sameQueue}
+use Rattle.laws.proofs.Queue.{is-its-own}
 
 -- Test 1
 
@@ -111,7 +111,7 @@ module _ (bytes : List ℕ) where
   unfolding queueIn
   queue-worked-out n e =
       let z = ne-eqb (versionOf bytes) 2 n in
-      queue-passes (rw z e) (rw z (queue-own (decode (contentsOf bytes .registry))))
+      queue-passes (rw z e) (rw z (is-its-own (decode (contentsOf bytes .registry))))
 
   module _ (v : versionOf bytes ≡ 2) {stored own : ExitQueue} (e : stored ≡ queueFrom bytes) (o : own ≡ queueOf (decode (contentsOf bytes .registry))) where
     stored-is : stored ≡ queueIn bytes

@@ -14,9 +14,8 @@ use Rattle.definitions.specs.Refusals.{goodValidator, goodRegistry}
 use Rattle.definitions_file.specs.File.{numbersFromBytes, numberAt, badPlace, stoppedAt}
 use Rattle.laws.proofs.Encode.{length-decode}
 use Rattle.refusals.proofs.All.{both}
-use Rattle.round_trip.specs.Refused.{FirstBad}
 use Rattle.round_trip.proofs.Numbers.{number-at, length-from-bytes}
-use Rattle.round_trip.proofs.Stopped.{stopped-at}
+use Rattle.round_trip.proofs.Stopped.{stopped-at, small-place}
 use Rattle.file_refusals.specs.Tests.{limitAt}
 
 from-drop : (k n j : ℕ) (bytes : List ℕ) → j ≡ k + n → drop k (numbersFromBytes j bytes) ≡ numbersFromBytes n (drop (8 * k) bytes)
@@ -154,13 +153,8 @@ stopped-end offset (v ∷ vs) e =
     let p = both (goodValidator v) (all goodValidator vs) e in
     rw (p .first) (stopped-end (offset + 80) vs (p .second) ∙ omega arith)
 
-place-below : {v : Validator} {k : ℕ} → FirstBad v k → k < 10
-place-below (FirstBad.bad-slashed p) = omega arith
-place-below (FirstBad.bad-previous p q) = omega arith
-place-below (FirstBad.bad-current p q r) = omega arith
-
 stopped-short : (offset : ℕ) (vs : List Validator) → all goodValidator vs ≡ false → stoppedAt offset vs < offset + 80 * length vs
-stopped-short offset vs e = let s = stopped-at offset vs e in omega (arith, place-below (s .first), s .inside, s .there)
+stopped-short offset vs e = let s = stopped-at offset vs e in omega (arith, small-place (s .first), s .inside, s .there)
 
 module _ (bytes : List ℕ) (from n : ℕ) where
   count : length (registryIn bytes from n) ≡ n

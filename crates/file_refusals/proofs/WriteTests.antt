@@ -11,10 +11,10 @@ use Rattle.definitions.specs.Record.{decode}
 use Rattle.definitions.specs.Checked.{bind, codeOf}
 use Rattle.definitions.specs.Refusals.{inOrder, settingsShaped, registryShaped, rootsShaped, slashingsShaped, lengthIs, goodSettings, goodFinality, goodRegistry}
 use Rattle.definitions.specs.ExitQueue.{queueOf, isQueueOf, queueTest}
-use Rattle.definitions_file.specs.File.{Contents, fileLength, writeTests}
+use Rattle.definitions_file.specs.File.{Contents, fileLength, writeTests, contentsWith}
 use Rattle.refusals.proofs.Laws.{registry-shaped}
 use Rattle.round_trip.proofs.Tests.{tests}
-use Rattle.file_refusals.specs.Tests.{sameQueue, contentsWith, writeShaped}
+use Rattle.file_refusals.specs.Tests.{sameQueue, writeShaped}
 
 module _ (s : Settings) (f : Finality) (q : ExitQueue) (registry roots slashings file : List ℕ) where
   abbrev c : Contents

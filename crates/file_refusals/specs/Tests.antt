@@ -6,14 +6,13 @@ use Prim.Native.Nat.{ℕ, _/_}
 use lib.Dec.{eqb}
 use lib.ListN.{length}
 use Rattle.definitions.specs.declared.Settings.{Settings}
-use Rattle.definitions.specs.declared.Finality.{Finality}
 use Rattle.definitions.specs.declared.ExitQueue.{ExitQueue}
 use Rattle.definitions.specs.Record.{decode}
 use Rattle.definitions.specs.Checked.{value, bind, codeOf, settle}
 use Rattle.definitions.specs.Refusals.{settingsShaped, registryShaped, rootsShaped, slashingsShaped, lengthIs}
 use Rattle.definitions.specs.ExitQueue.{isQueueOf, queueTest}
 use Rattle.file_refusals.specs.declared.Tested.{Tested}
-use Rattle.definitions_file.specs.File.{Contents, queueAt, fileLength, contentsOf, queueIn, noQueue, readTests, position, read}
+use Rattle.definitions_file.specs.File.{queueAt, fileLength, contentsOf, queueIn, noQueue, readTests, position, read}
 
 -- the most that the number at k of an entry may be
 abbrev pub limitAt : ℕ → ℕ
@@ -37,11 +36,6 @@ pub record QueueAnswered (bytes : List ℕ) (refusal at : ℕ) (queue : ExitQueu
 -- two pairs are the same
 abbrev pub sameQueue : ExitQueue → ExitQueue → Bool
 sameQueue a b = eqb (a .«last_epoch») (b .«last_epoch») && eqb (a .number) (b .number)
-
--- what the writer is handed
-abbrev pub contentsWith : Settings → Finality → List ℕ → List ℕ → List ℕ → Contents
-contentsWith s f registry roots slashings =
-    record { settings = s; finality = f; registry = registry; roots = roots; slashings = slashings }
 
 -- test 1 of writing
 unfoldable pub writeShaped : Settings → List ℕ → List ℕ → List ℕ → List ℕ → Bool

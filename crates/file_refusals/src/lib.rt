@@ -5,8 +5,8 @@ ghost use lib.ListN.{length, drop};
 ghost use Rattle.definitions.specs.Record.{decode};
 ghost use Rattle.definitions.specs.Checked.{codeOf};
 ghost use Rattle.definitions.specs.ExitQueue.{queueOf};
-ghost use Rattle.definitions_file.specs.File.{numbersFromBytes, validatorsAt, versionOf, countOf, fileShaped, stoppedAt, writeTests};
-ghost use Rattle.file_refusals.specs.Tests.{limitAt, nothingAt, Answered, QueueAnswered, sameQueue, contentsWith, writeShaped};
+ghost use Rattle.definitions_file.specs.File.{numbersFromBytes, validatorsAt, versionOf, countOf, fileShaped, stoppedAt, writeTests, contentsWith};
+ghost use Rattle.file_refusals.specs.Tests.{limitAt, nothingAt, Answered, QueueAnswered, sameQueue, writeShaped};
 
 pub mod file_header;
 

@@ -14,13 +14,14 @@ use Rattle.definitions.specs.Rules.{settingsUnder}
 use Rattle.definitions.specs.Rust.Phase0.Helpers.{«compute_epoch_at_slot», «get_current_epoch»}
 use Rattle.definitions.specs.Close.{stateOf, «process_epoch»}
 use Rattle.definitions_close.specs.Amounts.{closingAmounts}
-use Rattle.definitions_close.specs.FinalizingTest.{lastTest, finalizingTest}
+use Rattle.definitions_close.specs.FinalizingTest.{finalizingTest}
 use Rattle.definitions_close.specs.FullClose.{FullCall, FullOutcome, fullTests, fullyClosed, closingQueue, fullClose}
 use Rattle.laws.proofs.Rules.{by-fork}
 use Rattle.refusals.proofs.Answers.{passed}
 use Rattle.registry_close.proofs.Worked.{code-refused}
 use Rattle.close.proofs.Outcome.{raised-under}
-use Rattle.full_close.specs.Called.{fullOutcome, unclosed}
+use Rattle.full_close.specs.Called.{unclosed}
+use Rattle.definitions_close.specs.Calls.{fullOutcome}
 use Rattle.full_close.specs.Worked.{FullWorked}
 
 same-outcome : {o p : FullOutcome} → o .refusal ≡ p .refusal → o .finality ≡ p .finality → o .queue ≡ p .queue → o .raised ≡ p .raised → o .test ≡ p .test → o .closingRegistry ≡ p .closingRegistry → o .closingSlashings ≡ p .closingSlashings → o .amounts ≡ p .amounts → o ≡ p

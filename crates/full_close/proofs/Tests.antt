@@ -1,16 +1,15 @@
 -- The tests, as the code asks them: 1 of the amounts, those of the close, and then 8.
-use mathlib.Core.Path.{_≡_, refl, sym, _∙_}
+use mathlib.Core.Path.{_≡_, refl, _∙_}
 use mathlib.Core.Bool.{Bool, true, false, cond, _&&_}
-use mathlib.Core.List.{List}
 use Prim.Native.Nat.{ℕ, _*_, _/_}
 use borrow.Author.Tests.{eq-eqb, ne-eqb, eqb-true, eqb-false}
 use lib.Dec.{eqb}
 use lib.ListN.{length}
 use Rattle.definitions.specs.declared.ExitQueue.{ExitQueue}
 use Rattle.definitions.specs.Record.{decode}
-use Rattle.definitions.specs.Checked.{Checked, value, refused, badShape, codeOf}
+use Rattle.definitions.specs.Checked.{refused, codeOf}
 use Rattle.definitions.specs.ExitQueue.{queueOf}
-use Rattle.definitions.specs.Close.{Call, closeTests}
+use Rattle.definitions.specs.Close.{closeTests}
 use Rattle.definitions_close.specs.QueueCalls.{thenQueue}
 use Rattle.definitions_close.specs.FullClose.{FullCall, fullTests}
 use Rattle.validator_exit.proofs.queue_tests.Queue.{refused-sooner, tested-queue}

@@ -1,16 +1,15 @@
 -- From what the close promises: what is booked, the pair, and the test's number beside it.
-use mathlib.Core.Path.{_≡_, refl, sym, ap, subst, _∙_}
-use mathlib.Core.Bool.{true}
+use mathlib.Core.Path.{_≡_, sym, ap, subst, _∙_}
 use mathlib.Core.List.{List}
-use Prim.Native.Nat.{ℕ, _/_, _*_, _<_, _^_}
+use Prim.Native.Nat.{ℕ, _/_, _*_}
 use lib.ListN.{length, replicate}
 use Rattle.definitions.specs.declared.Settings.{Settings}
 use Rattle.definitions.specs.declared.Finality.{Finality}
 use Rattle.definitions.specs.declared.ExitQueue.{ExitQueue}
 use Rattle.definitions.specs.declared.CloseAnswer.{CloseAnswer}
 use Rattle.definitions.specs.declared.FullAnswer.{FullAnswer}
-use Rattle.definitions.specs.Record.{Validator, BeaconState, encode, decode}
-use Rattle.definitions.specs.Checked.{Checked, value, bind, codeOf, settle}
+use Rattle.definitions.specs.Record.{Validator, BeaconState, decode}
+use Rattle.definitions.specs.Checked.{value, bind, settle}
 use Rattle.definitions.specs.Refusals.{closingBuffer}
 use Rattle.definitions.specs.ExitQueue.{queueOf}
 use Rattle.definitions.specs.Close.{«process_epoch»}

@@ -6,26 +6,12 @@ use Rattle.definitions.specs.declared.Finality.{Finality}
 use Rattle.definitions.specs.declared.ExitQueue.{ExitQueue}
 use Rattle.definitions.specs.declared.FullAnswer.{FullAnswer}
 use Rattle.definitions.specs.Raised.{noneRaised}
-use Rattle.definitions_close.specs.FullClose.{FullCall, FullOutcome}
+use Rattle.definitions_close.specs.FullClose.{FullCall}
 use Rattle.close.specs.Called.{called}
 
 abbrev pub fullCalled : Rules → Finality → ExitQueue → List ℕ → List ℕ → List ℕ → List ℕ → List ℕ → List ℕ → FullCall
 fullCalled rules f queue registry slashings roots closingRegistry closingSlashings amounts =
     record { call = called rules f registry slashings roots closingRegistry closingSlashings; queue = queue; amounts = amounts }
-
--- the answer, and what the lent lists hold
-abbrev pub fullOutcome : FullAnswer → List ℕ → List ℕ → List ℕ → FullOutcome
-fullOutcome r closingRegistry closingSlashings amounts =
-    record {
-      refusal = r .refusal;
-      finality = r .finality;
-      queue = r .queue;
-      raised = r .raised;
-      test = r .test;
-      closingRegistry = closingRegistry;
-      closingSlashings = closingSlashings;
-      amounts = amounts;
-    }
 
 -- the answer where a test refuses
 abbrev pub unclosed : ℕ → Finality → ExitQueue → FullAnswer

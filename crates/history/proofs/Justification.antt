@@ -15,9 +15,9 @@ use Rattle.definitions.specs.Rust.Phase0.Helpers.{«get_current_epoch», «get_
 use Rattle.definitions.specs.Rust.Phase0.EpochProcessing.{«weigh_justification_and_finalization»}
 use Rattle.definitions.specs.Rust.Altair.EpochProcessing.{«process_justification_and_finalization»}
 use Rattle.laws.proofs.Checked.{value-same, bound}
-use Rattle.laws.proofs.Frame.Entries.{either}
 use Rattle.history.proofs.Shape.{CurrentMoved, FinalizedMoved, Moved}
 use Rattle.history.proofs.Counting.{T-right}
+use Rattle.laws.proofs.Tests.{either}
 
 -- the four tests, of which a later one overrides
 overriding : {e : ℕ} {o : Finality} {x y : Checkpoint} (b : Bool) → (T b → FinalizedMoved e o y) → FinalizedMoved e o x → FinalizedMoved e o (cond b y x)

@@ -19,7 +19,6 @@ use Rattle.definitions.specs.Document.Phase0.EpochProcessing.{queueEligible, is
 use Rattle.definitions.specs.Rust.Phase0.Helpers.{«compute_activation_exit_epoch», «get_current_epoch», «get_validator_churn_limit», «initiate_validator_exit»}
 use Rattle.definitions.specs.Rust.Phase0.EpochProcessing.{updateRegistryAt, «process_registry_updates»}
 use Rattle.laws.proofs.Checked.{value-same, bound, add64-value}
-use Rattle.laws.proofs.Frame.Entries.{either}
 use Rattle.laws.proofs.Frame.Registry.{exit-writes}
 use Rattle.history.proofs.Waiting.{eligibilityAt, activationAt}
 use Rattle.history.proofs.Shape.{Marked, Registered}
@@ -27,6 +26,7 @@ use Rattle.history.proofs.Counting.{T-left}
 use Rattle.history.proofs.Steps.{epochs, Spared, spared-given, spared-number, spared-eligibility, spared-activation}
 use Rattle.agreement.proofs.ActivationQueue.Dequeued.{length-dequeued}
 use Rattle.history.proofs.Queue.{dequeued-eligibility, dequeued-activation}
+use Rattle.laws.proofs.Tests.{either}
 
 -- the loop's turn at i: that entry's eligibility epoch is kept or written
 record Turned (e i : ℕ) (vs ws : List Validator) : Type 0 where

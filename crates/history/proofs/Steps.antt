@@ -18,14 +18,8 @@ epochs v = (v .«activation_eligibility_epoch», v .«activation_epoch»)
 pub record Spared (vs ws : List Validator) : Type 0 where
   pub same : map epochs ws ≡ map epochs vs
 
-pub spared-none : (vs : List Validator) → Spared vs vs
-spared-none vs = record { same = refl }
-
 pub spared-given : {vs ws : List Validator} → value vs ≡ value ws → Spared vs ws
 spared-given p = record { same = ap (map epochs) (sym (value-same p)) }
-
-pub spared-both : {us vs ws : List Validator} → Spared us vs → Spared vs ws → Spared us ws
-spared-both a b = record { same = b .same ∙ a .same }
 
 module _ {vs ws : List Validator} (a : Spared vs ws) where
   pub spared-number : length ws ≡ length vs

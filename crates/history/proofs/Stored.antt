@@ -5,7 +5,7 @@ use mathlib.Core.List.{List, [], _∷_}
 use Prim.Native.Nat.{ℕ}
 use native.Mathlib.Omega.{arith}
 use lib.ListN.{getD}
-use Rattle.definitions.specs.Record.{BeaconState, «FAR_FUTURE_EPOCH»}
+use Rattle.definitions.specs.Record.{«FAR_FUTURE_EPOCH»}
 use Rattle.definitions.specs.Close.{Call, close}
 use Rattle.history.proofs.Computing.{computing}
 use Rattle.history.proofs.Small.{settings, validator, far, record-of, call}

@@ -155,7 +155,7 @@ pub of-closes : (m : ℕ) (start : BeaconState) (calls : List (Bool × Call)) �
 of-closes m start calls l p = claim m start (map event (map closeOf calls)) (subst EachShaped (sym (map-map event closeOf calls)) (each-close calls)) l p
 
 -- the smallest churn limit of settings that stay
-stays-least : (s : Settings) (closes : List Close) → map (λ c. c .call .rules .settings) closes ≡ replicate (length closes) s → AtMost (s .«min_per_epoch_churn_limit») (accepted (map event closes))
+pub stays-least : (s : Settings) (closes : List Close) → map (λ c. c .call .rules .settings) closes ≡ replicate (length closes) s → AtMost (s .«min_per_epoch_churn_limit») (accepted (map event closes))
 unfolding filter
 stays-least s [] e = tt
 stays-least s (c ∷ closes) e = go (accepts (event c)) (stays-least s closes (tail-eq-of-cons-eq e))

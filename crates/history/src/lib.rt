@@ -1,1 +1,1 @@
-// Laws alone: demand 3. The statement: specs/Events.antt, specs/Demand3.antt.
+// Laws alone: demand 3 and R-14. The statements: specs/Events.antt, specs/Demand3.antt, specs/ExitEpochs.antt.

@@ -1,13 +1,13 @@
 -- What a value that came out of checked evaluation says of what went into it.
-use mathlib.Core.Path.{_≡_, refl, sym, ap, _∙_}
+use mathlib.Core.Path.{_≡_, refl}
 use mathlib.Core.Bool.{Bool, true, false, cond}
 use mathlib.Core.List.{List, [], _∷_, map, foldl}
-use Prim.Native.Nat.{ℕ, _+_, _-_, _*_, _^_, _≤_, _<_}
+use Prim.Native.Nat.{ℕ, _+_, _-_, _*_, _^_, _<_}
 use native.Mathlib.Omega.{arith}
-use borrow.Author.Tests.{ltb-true, leb-true}
-use lib.Dec.{ltb, leb}
+use borrow.Author.Tests.{ltb-true}
+use lib.Dec.{ltb}
 use Rattle.definitions.specs.Lists.{sum}
-use Rattle.definitions.specs.Checked.{Refusal, badShape, badSettings, badRecord, noRoot, overflow, badFile, signedOverflow, wrongQueue, noExit, tooEarly, fullList, lateStart, noEntry, beforeGenesis, noSeconds, numberOf, Checked, value, refused, bind, add64, sub64, mul64, sum64, mapChecked, foldChecked}
+use Rattle.definitions.specs.Checked.{Refusal, badShape, badSettings, badRecord, noRoot, overflow, badFile, signedOverflow, wrongQueue, noExit, tooEarly, fullList, lateStart, noEntry, beforeGenesis, noSeconds, numberOf, Checked, value, refused, bind, add64, mul64, sum64, mapChecked, foldChecked}
 
 -- 0 is no refusal's number: the one law that goes through them all
 pub number-not-zero : (r : Refusal) → numberOf r ≡ 0 → ⊥
@@ -44,6 +44,11 @@ unfolding bind
 bound (value a) k p = record { first = a; gave = refl; then = p }
 bound (refused r) k p = absurd (not-value p)
 
+pub bind-bind : {A B C : Type 0} (m : Checked A) (k : A → Checked B) (l : B → Checked C) → bind (bind m k) l ≡ bind m (λ a. bind (k a) l)
+unfolding bind
+bind-bind (value a) k l = refl
+bind-bind (refused r) k l = refl
+
 -- a checked operation that gave a value gave the plain one
 checked-value : {n x : ℕ} (t : Bool) → cond t (value n) (refused overflow) ≡ value x → (t ≡ true) × (n ≡ x)
 checked-value true p = (refl, value-same p)
@@ -53,17 +58,13 @@ pub add64-value : (a b : ℕ) {x : ℕ} → add64 a b ≡ value x → a + b ≡ 
 unfolding add64
 add64-value a b p = checked-value (ltb (a + b) (2 ^ 64)) p .1
 
+pub add64-below : (a b : ℕ) {x : ℕ} → add64 a b ≡ value x → a + b < 2 ^ 64
+unfolding add64
+add64-below a b p = ltb-true (a + b) (2 ^ 64) (checked-value (ltb (a + b) (2 ^ 64)) p .0)
+
 pub mul64-value : (a b : ℕ) {x : ℕ} → mul64 a b ≡ value x → a * b ≡ x
 unfolding mul64
 mul64-value a b p = checked-value (ltb (a * b) (2 ^ 64)) p .1
-
-pub sub64-value : (a b : ℕ) {x : ℕ} → sub64 a b ≡ value x → a - b ≡ x
-unfolding sub64
-sub64-value a b p = checked-value (leb b a) p .1
-
-pub sub64-fits : (a b : ℕ) {x : ℕ} → sub64 a b ≡ value x → b ≤ a
-unfolding sub64
-sub64-fits a b p = leb-true b a (checked-value (leb b a) p .0)
 
 pub sum64-value : (xs : List ℕ) {x : ℕ} → sum64 xs ≡ value x → sum xs ≡ x
 unfolding sum64

@@ -3,9 +3,9 @@ use mathlib.Core.Path.{_≡_, refl, sym, ap, ap₂, _∙_}
 use mathlib.Core.List.{List, [], _∷_, _++_}
 use Prim.Native.Nat.{ℕ, zero, suc, _+_, _*_, _/_, _-_, _≤_, _<_}
 use native.Mathlib.Omega.{arith}
-use lib.ListN.{length, getD, take, drop, set, length-append, length-take, length-drop, take-append-drop}
+use lib.ListN.{length, getD, take, drop, set, length-drop, take-append-drop}
 use lib.Seq.{drop-cons, take-all}
-use Rattle.definitions.specs.Record.{Validator, decodeOne, encodeOne, encode, decodeFirst, decode, nobody}
+use Rattle.definitions.specs.Record.{Validator, decodeOne, encodeOne, encode, decodeFirst, decode}
 
 pub length-encode : (vs : List Validator) → length (encode vs) ≡ 10 * length vs
 unfolding encode
@@ -24,11 +24,11 @@ decode-encode vs =
     rw e (first-encode vs)
 
 -- n numbers from k on, one by one
-from : ℕ → ℕ → List ℕ → List ℕ
+unfoldable pub from : ℕ → ℕ → List ℕ → List ℕ
 from zero k xs = []
 from (suc n) k xs = getD xs k 0 ∷ from n (suc k) xs
 
-from-take : (n k : ℕ) (xs : List ℕ) → k + n ≤ length xs → from n k xs ≡ take n (drop k xs)
+pub from-take : (n k : ℕ) (xs : List ℕ) → k + n ≤ length xs → from n k xs ≡ take n (drop k xs)
 unfolding from
 from-take zero k xs h = refl
 from-take (suc n) k xs h =
@@ -57,7 +57,7 @@ encode-decode n xs h =
     let e : length xs / 10 ≡ n = omega arith in
     rw e (encode-first n xs h)
 
-length-first : (n : ℕ) (xs : List ℕ) → length (decodeFirst n xs) ≡ n
+pub length-first : (n : ℕ) (xs : List ℕ) → length (decodeFirst n xs) ≡ n
 unfolding decodeFirst
 length-first zero xs = refl
 length-first (suc n) xs = ap suc (length-first n (drop 10 xs))
@@ -82,3 +82,7 @@ unfolding encode
 entry-put [] i v h = absurd (omega arith)
 entry-put (w ∷ vs) zero v h = refl
 entry-put (w ∷ vs) (suc i) v h = rw (ten-suc i) (ap (λ (t : List ℕ). encodeOne w ++ t) (entry-put vs i v (omega arith)))
+
+pub take-whole : (xs ys : List ℕ) → take (length xs) (xs ++ ys) ≡ xs
+take-whole [] ys = refl
+take-whole (x ∷ xs) ys = ap (λ (t : List ℕ). x ∷ t) (take-whole xs ys)

@@ -1,6 +1,6 @@
 -- The settings under rules: the same but for the two that the pair takes the places of, and good where the rules are.
-use mathlib.Core.Path.{_≡_, refl, sym, ap}
-use mathlib.Core.Bool.{Bool, true, false, cond, _&&_, _||_, not, false≢true}
+use mathlib.Core.Path.{_≡_, refl}
+use mathlib.Core.Bool.{Bool, true, false, cond, _&&_, _||_, not}
 use mathlib.Core.List.{List, [], _∷_}
 use Prim.Native.Nat.{ℕ, zero, suc}
 use lib.Dec.{leb, eqb}
@@ -11,6 +11,7 @@ use Rattle.definitions.specs.declared.Rules.{Rules}
 use Rattle.definitions.specs.Lists.{all}
 use Rattle.definitions.specs.Refusals.{isSmall, settingsShaped, settingsNumbers, divisors, goodSettings}
 use Rattle.definitions.specs.Rules.{isAltair, inPlace, settingsUnder, rulesShaped, goodBellatrix, goodRules}
+use Rattle.laws.proofs.Tests.{both}
 
 -- what holds of the settings with the pair in place or without
 pub by-fork : (r : Rules) (P : Settings → Type 0) → P (r .settings) → P (inPlace (r .bellatrix) (r .settings)) → P (settingsUnder r)
@@ -37,10 +38,6 @@ shared r =
     (record { slotsPerEpoch = refl; rootCount = refl; slashingCount = refl; lookahead = refl; leastChurn = refl })
 
 -- Tests
-
-both : (a b : Bool) → (a && b) ≡ true → (a ≡ true) × (b ≡ true)
-both true b p = (refl, p)
-both false b p = absurd (false≢true p)
 
 pub shaped-under : (r : Rules) → rulesShaped r ≡ true → settingsShaped (settingsUnder r) ≡ true
 unfolding rulesShaped settingsShaped

@@ -3,7 +3,6 @@ ghost use mathlib.Core.Path.{_≡_};
 ghost use mathlib.Core.Bool.{_&&_};
 ghost use Rattle.definitions.specs.Checked.{codeOf};
 ghost use Rattle.definitions.specs.Refusals.{inOrder, settingsShaped, registryShaped, isSmall, goodSettings, goodRegistry, registryTests};
-ghost use Rattle.definitions.specs.RegisterOrder.{registryToTests};
 use crate::registry_refusals::settings_registry_tests;
 use definitions::Settings;
 use refusals::is_small;
@@ -47,21 +46,4 @@ pub fn registry_tests(
         return 1;
     }
     finalized_registry_tests(s, state_slot, finalized_epoch, opening)
-}
-
-// The registry step's with a stop.
-pub fn registry_to_tests(
-    stop: usize,
-    s: Settings,
-    state_slot: u64,
-    finalized_epoch: u64,
-    opening: &[u64],
-    closing: &[u64],
-) -> u64
-    ensures { λ r. ⌜ r ≡ codeOf (registryToTests stop s «state_slot» «finalized_epoch» (now (opening .entry)) (now (closing .entry))) ⌝ }
-{
-    if opening.len() / 10 < stop {
-        return 1;
-    }
-    registry_tests(s, state_slot, finalized_epoch, opening, closing)
 }

@@ -3,19 +3,12 @@ use mathlib.Core.List.{List}
 use mathlib.Core.Path.{_≡_, refl, _∙_}
 use Prim.Native.Nat.{ℕ}
 use lib.ListN.{length}
-use Rattle.definitions.specs.Checked.{Checked, value, refused, bind, codeOf}
 use Rattle.definitions_file.specs.File.{Contents, nothing}
-use Rattle.definitions.specs.Refusals.{inOrder, settingsShaped, afterTests, closingBuffer}
+use Rattle.definitions.specs.Refusals.{inOrder, settingsShaped, closingBuffer}
 use Rattle.definitions.specs.Rules.{rulesShaped}
 use Rattle.definitions.specs.Close.{closeTests, closed, close}
-use Rattle.laws.proofs.Checked.{number-not-zero}
 use Rattle.definitions_file.specs.Listing.{callOf}
-
-same-buffer : {A : Type 0} (contents : A → List ℕ) (m : Checked (Unit {0})) (w : Checked A) (opening xs ys : List ℕ) → codeOf (afterTests m w) ≡ 0 → closingBuffer contents m w opening xs ≡ closingBuffer contents m w opening ys
-unfolding afterTests bind closingBuffer
-same-buffer contents (refused r) w opening xs ys e = absurd (number-not-zero r e)
-same-buffer contents (value u) (refused r) opening xs ys e = absurd (number-not-zero r e)
-same-buffer contents (value u) (value a) opening xs ys e = refl
+use Rattle.refusals.proofs.Answers.{same-buffer}
 
 -- Two closing buffers as long as two others
 

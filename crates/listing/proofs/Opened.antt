@@ -1,20 +1,16 @@
 -- What reading gives, by its refusal; of the lent buffers it asks the lengths alone.
 use mathlib.Core.Bool.{true, false}
 use mathlib.Core.List.{List, []}
-use mathlib.Core.Path.{_≡_, refl}
+use mathlib.Core.Path.{_≡_}
 use Prim.Native.Nat.{ℕ}
 use native.Mathlib.Omega.{arith}
 use lib.ListN.{length}
-use Rattle.definitions.specs.Checked.{Checked, value, refused, bind, codeOf}
+use Rattle.definitions.specs.Checked.{codeOf}
 use Rattle.definitions_file.specs.File.{contentsOf, nothing, goodHeader, fileShaped, readTests, readFile, read}
 use Rattle.laws.proofs.Loops.Ran.{code-value}
 use Rattle.round_trip.proofs.Passed.{Passed, read-passed, Accepted, accepted}
 use Rattle.record_file.proofs.Reading as reading
-
-code-bind : {A : Type 0} (m : Checked (Unit {0})) (a : A) → codeOf (bind m (λ _. value a)) ≡ codeOf m
-unfolding bind
-code-bind (value u) a = refl
-code-bind (refused r) a = refl
+use Rattle.record_file.proofs.Reading.{code-bind}
 
 module _ (bytes registry slashings : List ℕ) where
   code : read bytes registry slashings .refusal ≡ codeOf (readTests bytes registry slashings)

@@ -6,8 +6,7 @@ use lib.ListN.{length}
 use Rattle.definitions.specs.declared.Settings.{Settings}
 use Rattle.definitions.specs.declared.Finality.{Finality}
 use Rattle.definitions.specs.Close.{close}
-use Rattle.definitions_file.specs.File.{Contents, read}
-use Rattle.record_file.specs.Answers.{contentsWith}
+use Rattle.definitions_file.specs.File.{Contents, read, contentsWith}
 use Rattle.fields.specs.Put.{Put}
 use Rattle.definitions_file.specs.Lines.{refusedLine, closePrinted}
 use Rattle.listing.specs.Listed.{ListedClose}

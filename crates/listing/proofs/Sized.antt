@@ -7,12 +7,11 @@ use native.Mathlib.Omega.{arith}
 use borrow.Author.Tests.{leb-true, lt-ltb, le-ltb, not-true, not-false}
 use lib.Dec.{leb}
 use lib.ListN.{length, take, drop}
-use lib.Seq.{length-take-le, sets, sets-eq}
-use Rattle.definitions_file.specs.File.{Contents, nothing, goodHeader, countOf, slashingCountOf}
+use lib.Seq.{length-take-le, sets-eq}
+use Rattle.definitions_file.specs.File.{Contents, nothing, goodHeader, countOf, slashingCountOf, noHeader, headerRead}
 use Rattle.definitions.specs.Close.{Call, close}
 use Rattle.round_trip.proofs.Tests.{tests}
-use Rattle.record_file.specs.declared.Header.{Header}
-use Rattle.record_file.specs.Answers.{noHeader, headerRead}
+use Rattle.definitions_file.specs.declared.Header.{Header}
 use Rattle.fields.specs.Put.{Put}
 use Rattle.definitions_file.specs.Lines.{refusedLine}
 use Rattle.definitions_file.specs.Listing.{callOf, listing}

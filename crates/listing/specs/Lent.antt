@@ -5,10 +5,9 @@ use mathlib.Core.Path.{_≡_}
 use Prim.Native.Nat.{ℕ, _+_, _*_, _≤_}
 use lib.Dec.{ltb, leb}
 use lib.ListN.{length, take, drop}
-use Rattle.definitions_file.specs.File.{ReadOutcome, read}
+use Rattle.definitions_file.specs.File.{ReadOutcome, read, noHeader, headerRead}
 use Rattle.definitions.specs.Close.{Call, close}
-use Rattle.record_file.specs.declared.Header.{Header}
-use Rattle.record_file.specs.Answers.{noHeader, headerRead}
+use Rattle.definitions_file.specs.declared.Header.{Header}
 use Rattle.fields.specs.Put.{Put}
 use Rattle.definitions_file.specs.Listing.{callOf, printed, listing}
 

@@ -8,8 +8,8 @@ pub mod file_listing;
 pub mod listing_close;
 
 use crate::listing_close::list_close;
+use definitions_file::Header;
 use listing_lines::text::put_refused;
-use record_file::Header;
 use record_file::file_roots;
 use record_file::read_file;
 use record_file::read_header;

@@ -8,7 +8,7 @@ use lib.IntN.{ℤ, pos, negsuc, subℕ, _-ℤ_}
 use mir.Syntax.{w64}
 use mir.Val.{SFits, toZ, ofZ}
 use mir.Facts.{toZ-pos, toZ-ofZ}
-use Rattle.definitions.specs.Checked.{Refusal, signedOverflow, numberOf, codeOf, Checked, value, refused}
+use Rattle.definitions.specs.Checked.{signedOverflow, Checked, value, refused}
 use Rattle.definitions_file.specs.declared.Change.{Change}
 use Rattle.definitions_file.specs.declared.Change.the-variants.{Value, Refused}
 use Rattle.definitions_file.specs.NetChange.{fitsSigned, netChange, changeFor}

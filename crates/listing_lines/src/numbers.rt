@@ -1,7 +1,6 @@
 // The numbers of a line.
 ghost use mathlib.Core.Path.{_≡_};
-ghost use Prim.Native.Nat.{_<_, _^_};
-ghost use lib.IntN.{pos};
+ghost use Prim.Native.Nat.{_<_};
 ghost use Rattle.definitions_file.specs.NetChange.{netChange, changeFor};
 ghost use Rattle.definitions_file.specs.ListingAnswers.{noHead, noLine};
 use definitions_file::Change;

@@ -2,13 +2,13 @@
 use mathlib.Core.Path.{_≡_, refl, sym, ap, ap₂, _∙_}
 use mathlib.Core.Bool.{Bool, true, false, cond, _&&_, false≢true}
 use mathlib.Core.List.{List, [], _∷_, _++_}
-use Prim.Native.Nat.{ℕ, zero, suc, _+_, _-_, _*_, _/_, _≤_, _<_}
+use Prim.Native.Nat.{ℕ, zero, suc, _+_, _-_, _*_, _≤_, _<_}
 use native.Mathlib.Numerals.{add-one}
 use native.Mathlib.Omega.{arith}
 use borrow.Author.Tests.{lt-ltb, le-ltb, le-leb, lt-leb, leb-true, leb-false}
 use lib.Dec.{leb, ltb, eqb}
-use lib.ListN.{length, getD, drop, set, length-append, length-drop, length-set}
-use lib.Seq.{drop-cons, getD-drop}
+use lib.ListN.{length, getD, drop, set, length-drop, length-set}
+use lib.Seq.{getD-drop}
 use Rattle.definitions.specs.declared.ExitQueue.{ExitQueue}
 use Rattle.definitions.specs.declared.Settings.{Settings}
 use Rattle.definitions.specs.Record.{Validator, nobody, decodeOne, encode, decode, «FAR_FUTURE_EPOCH»}
@@ -16,7 +16,7 @@ use Rattle.definitions.specs.Checked.{Refusal, Checked, value, refused, noExit,
 use Rattle.definitions.specs.ExitQueue.{queueOf}
 use Rattle.definitions.specs.Rust.Phase0.Helpers.{«is_active_validator», «get_current_epoch», «get_validator_churn_limit», «compute_activation_exit_epoch», «initiate_validator_exit»}
 use Rattle.definitions_close.specs.Orders.{Order, ordersIn, room, mayExit, isDue, «process_voluntary_exit», carriedOut, answersTo}
-use Rattle.laws.proofs.Encode.{length-decode, encode-decode, decode-encode, length-encode}
+use Rattle.laws.proofs.Encode.{length-decode, encode-decode, decode-encode}
 use Rattle.laws.proofs.Checked.{not-value}
 use Rattle.laws.proofs.Loops.Entry.{entryAt, entry-is, number-at}
 use Rattle.refusals.proofs.All.{both}
@@ -25,7 +25,7 @@ use Rattle.exit_queue.proofs.exits.Exits.{exit-by-numbers}
 use Rattle.exit_queue.specs.declared.Turn.{Turn}
 use Rattle.history.proofs.ExitEpochs.Limit.{limit-exit}
 use Rattle.validator_exit.specs.Exits.{ExitsAt}
-use Rattle.orders.specs.Called.{order}
+use Rattle.definitions_close.specs.Calls.{order}
 use Rattle.orders.specs.Tried.{entryMayExit, orderBy, Tries, carriedBy, answersBy, AllTried}
 
 -- One order on the registry xs of n validators

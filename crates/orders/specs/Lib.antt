@@ -1,5 +1,4 @@
 -- What contracts of exit orders cite.
-pub mod Called
 pub mod Tried
 -- What contracts of the ninth call cite.
 pub mod Ninth

@@ -7,7 +7,7 @@ use lib.ListN.{length, drop}
 use Rattle.definitions.specs.declared.Settings.{Settings}
 use Rattle.definitions.specs.declared.Rules.{Rules}
 use Rattle.definitions.specs.declared.Finality.{Finality}
-use Rattle.definitions.specs.Record.{Validator, encode, decode}
+use Rattle.definitions.specs.Record.{encode, decode}
 use Rattle.definitions.specs.Checked.{Checked}
 use Rattle.definitions.specs.ExitQueue.{queueOf}
 use Rattle.definitions.specs.Refusals.{inOrder, lengthIs, isSmall, registryShaped, goodFinality}

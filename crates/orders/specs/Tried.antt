@@ -2,9 +2,9 @@
 use mathlib.Core.Path.{_≡_}
 use mathlib.Core.Bool.{Bool, cond, _&&_}
 use mathlib.Core.List.{List, [], _∷_, _++_}
-use Prim.Native.Nat.{ℕ, _≤_}
-use lib.Dec.{leb, eqb}
-use lib.ListN.{length, getD, drop}
+use Prim.Native.Nat.{ℕ}
+use lib.Dec.{eqb}
+use lib.ListN.{getD, drop}
 use Rattle.definitions.specs.declared.ExitQueue.{ExitQueue}
 use Rattle.definitions.specs.Record.{Validator, nobody, encode, decode, «FAR_FUTURE_EPOCH»}
 use Rattle.definitions.specs.Checked.{Checked, refused, noExit, tooEarly, codeOf, settle}

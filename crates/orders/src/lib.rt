@@ -1,13 +1,13 @@
 // Exit orders of a close that is run one step a call: taking one, and the ninth call, which carries them out.
 ghost use mathlib.Core.Path.{_≡_};
 ghost use mathlib.Core.Bool.{_&&_};
-ghost use Prim.Native.Nat.{_+_, _*_, _/_, _^_, _≤_, _<_};
+ghost use Prim.Native.Nat.{_+_, _*_, _/_, _≤_, _<_};
 ghost use lib.Dec.{leb};
 ghost use lib.ListN.{length, set};
 ghost use Rattle.definitions.specs.Record.{decodeOne, decode};
 ghost use Rattle.definitions.specs.ExitQueue.{queueOf};
 ghost use Rattle.definitions_close.specs.Orders.{ordersShaped, takeOrder, room};
-ghost use Rattle.orders.specs.Called.{order, orderCalled, orderOutcome};
+ghost use Rattle.definitions_close.specs.Calls.{order, orderCalled, orderOutcome};
 ghost use Rattle.orders.specs.Tried.{entryMayExit, orderBy, Tries, AllTried};
 
 pub mod ninth_call;

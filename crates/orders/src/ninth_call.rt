@@ -4,7 +4,7 @@ ghost use mathlib.Core.Bool.{true, _&&_};
 ghost use Rattle.definitions.specs.Checked.{codeOf};
 ghost use Rattle.definitions.specs.Refusals.{inOrder, settingsShaped, registryShaped, goodSettings};
 ghost use Rattle.definitions_close.specs.Orders.{ninthTests, carryOut};
-ghost use Rattle.orders.specs.Called.{ninthCalled, ninthOutcome};
+ghost use Rattle.definitions_close.specs.Calls.{ninthCalled, ninthOutcome};
 ghost use Rattle.orders.specs.Ninth.{listsShaped, rulesTests, lentTests, Ready, carriedUnder};
 use crate::orders_shaped;
 use crate::try_all;

@@ -1,19 +1,18 @@
 -- What a run of an accepted file begins with.
 use mathlib.Core.Bool.{Bool, true, false, not}
 use mathlib.Core.List.{List}
-use mathlib.Core.Path.{_≡_, refl, sym, ap, _∙_}
+use mathlib.Core.Path.{_≡_, sym, ap, _∙_}
 use Prim.Native.Nat.{ℕ, _+_, _*_, _/_, _%_, _^_, _≤_}
 use native.Mathlib.Omega.{arith}
 use borrow.Author.Tests.{eq-eqb, le-leb, eqb-true, leb-true, not-true, not-false}
-use lib.Dec.{eqb, leb}
+use lib.Dec.{leb}
 use lib.ListN.{length, take, drop, replicate}
 use lib.Seq.{sets}
 use Rattle.definitions.specs.declared.Settings.{Settings}
 use Rattle.definitions.specs.declared.Finality.{Finality}
 use Rattle.definitions.specs.Refusals.{registryShaped, lengthIs}
-use Rattle.definitions_file.specs.File.{Contents, numbersFromBytes, countOf, rootCountOf, slashingCountOf, contentsOf, read}
+use Rattle.definitions_file.specs.File.{Contents, numbersFromBytes, countOf, slashingCountOf, contentsOf, read, contentsWith}
 use Rattle.definitions_file.specs.Listing.{opened}
-use Rattle.file_refusals.specs.Tests.{contentsWith}
 use Rattle.fields.proofs.Stores.{sets-whole}
 use Rattle.refusals.proofs.All.{both}
 use Rattle.refusals.proofs.Laws.{good-settings, good-finality}

@@ -5,8 +5,8 @@ use Prim.Native.Nat.{ℕ, _*_, _^_, _<_, _≤_}
 use lib.ListN.{length}
 use Rattle.definitions.specs.declared.Settings.{Settings}
 use Rattle.definitions.specs.declared.Finality.{Finality}
-use Rattle.file_refusals.specs.Tests.{contentsWith}
-use Rattle.definitions_file.specs.OutageInput.{Plan, planOf}
+use Rattle.definitions_file.specs.File.{contentsWith}
+use Rattle.definitions_file.specs.OutageInput.{Plan}
 use Rattle.definitions_file.specs.OutagePreparation.{prepared}
 
 -- settings and slot of a record that has passed its tests, its roots, and what stands in the tail of the input

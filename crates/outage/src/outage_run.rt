@@ -1,9 +1,8 @@
 // Closes one after the other, each of a record that was prepared for it, up to the first that is refused: the head lines into lent bytes, the
 // record in place.
-ghost use mathlib.Core.Path.{_≡_};
-ghost use Prim.Native.Nat.{_+_, _*_, _/_, _≤_};
+ghost use Prim.Native.Nat.{_/_};
 ghost use lib.ListN.{length};
-ghost use Rattle.file_refusals.specs.Tests.{contentsWith};
+ghost use Rattle.definitions_file.specs.File.{contentsWith};
 ghost use Rattle.definitions_file.specs.OutageInput.{planOf};
 ghost use Rattle.definitions_file.specs.OutagePreparation.{prepared};
 ghost use Rattle.definitions_file.specs.OutageRun.{closeOnce, run};

@@ -9,7 +9,7 @@ ghost use Rattle.definitions.specs.Refusals.{goodSettings, registryTests};
 ghost use Rattle.definitions.specs.Answers.{Says};
 ghost use Rattle.definitions.specs.Rust.Altair.EpochProcessing.{movedScore, recoveredScore, updateInactivityScore, «process_inactivity_updates»};
 ghost use Rattle.laws.specs.Ran.{Settles, Ran};
-ghost use Rattle.refusals.specs.Closes.{Closes};
+ghost use Rattle.definitions.specs.Closes.{Closes};
 use arithmetic::add64;
 use arithmetic::min;
 use definitions::Number;

@@ -7,7 +7,7 @@ ghost use Rattle.definitions.specs.Checked.{value, codeOf};
 ghost use Rattle.definitions.specs.Refusals.{rotationTests};
 ghost use Rattle.definitions.specs.Document.Altair.EpochProcessing.{rotateParticipation};
 ghost use Rattle.definitions.specs.Rust.Altair.EpochProcessing.{«process_participation_flag_updates»};
-ghost use Rattle.refusals.specs.Closes.{Closes};
+ghost use Rattle.definitions.specs.Closes.{Closes};
 use refusals::buffers::copy;
 use refusals::good_registry;
 use refusals::registry_shaped;

@@ -1,2 +1,2 @@
 -- What the plain answers hold.
-pub mod Plain
+pub mod Root

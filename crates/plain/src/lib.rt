@@ -1,52 +1,17 @@
 // The library's answers as plain numbers, for callers that have no enum: 0 and what was asked for, or a refusal's number and zeros.
 ghost use mathlib.Core.Path.{_≡_};
-ghost use Rattle.plain.specs.Plain.{plainNumber, plainTruth, plainDeltas, plainTotal, rootGiven};
+ghost use Rattle.definitions.specs.Plain.{plainNumber, plainTruth, plainDeltas, plainTotal};
+ghost use Rattle.plain.specs.Root.{rootGiven};
 use definitions::DeltasAnswer;
 use definitions::Number;
+use definitions::PlainDeltas;
+use definitions::PlainNumber;
+use definitions::PlainRoot;
+use definitions::PlainTotal;
+use definitions::PlainTruth;
 use definitions::TotalAnswer;
 use definitions::Truth;
 use epochs::roots::root_copy;
-
-#[repr(C)]
-pub struct PlainNumber {
-    pub refusal: u64,
-    pub value: u64,
-}
-
-// value is 1 for true and 0 for false
-#[repr(C)]
-pub struct PlainTruth {
-    pub refusal: u64,
-    pub value: u64,
-}
-
-#[repr(C)]
-pub struct PlainDeltas {
-    pub refusal: u64,
-    pub reward: u64,
-    pub penalty: u64,
-}
-
-// raised is 1 where the plain sum was below one increment
-#[repr(C)]
-pub struct PlainTotal {
-    pub refusal: u64,
-    pub balance: u64,
-    pub raised: u64,
-}
-
-// value is from -2^63 to 2^63 - 1; the call that answers it makes it
-#[repr(C)]
-pub struct PlainChange {
-    pub refusal: u64,
-    pub value: i64,
-}
-
-#[repr(C)]
-pub struct PlainRoot {
-    pub refusal: u64,
-    pub root: [u8; 32],
-}
 
 pub fn plain_number(n: Number) -> PlainNumber
     ensures { λ r. ⌜ r ≡ plainNumber n ⌝ }

@@ -1,17 +1,17 @@
 -- What a score costs, case by case.
-use mathlib.Core.Path.{_≡_, refl, sym, ap, _∙_}
+use mathlib.Core.Path.{_≡_, refl, sym}
 use mathlib.Core.Bool.{Bool, true, false, not, true≢false}
 use Prim.Native.Nat.{ℕ, _*_, _/_, _^_, _≤_, _<_}
 use native.Mathlib.Nat.{mul-zero, zero-mul, div-lt-iff-lt-mul}
 use native.Mathlib.Omega.{arith}
-use Rattle.definitions.specs.declared.Deltas.{Deltas}
 use Rattle.definitions.specs.declared.DeltasAnswer.{DeltasAnswer}
 use Rattle.definitions.specs.declared.DeltasAnswer.the-variants.{Value as DeltasValue, Refused as DeltasRefused}
 use Rattle.definitions.specs.Answers.{SaysDeltas}
 use Rattle.definitions.specs.Checked.{Checked, value, refused, overflow, bind, mul64}
 use Rattle.definitions.specs.Rust.Altair.Helpers.{noDeltas}
-use Rattle.arithmetic.proofs.Operations.{OnlyOverflow, only-value, only-bind, only-mul64, mul64-given, mul64-refused, product-fits, product-over}
+use Rattle.arithmetic.proofs.Operations.{OnlyOverflow, only-value, only-bind, only-mul64, mul64-refused, product-fits, product-over}
 use Rattle.rates.specs.Rated.{penaltyOf, Most, byScore}
+use Rattle.agreement.proofs.Fits.{mul64-fits}
 
 pub most-none : {balance : ℕ} → balance ≡ 0 → Most balance 18446744073709551615
 most-none z =
@@ -73,7 +73,7 @@ module _ (bias quotient balance score : ℕ) (eligible hit : Bool) where
       module _ {denominator : ℕ} (z : mul64 bias quotient ≡ value denominator) where
         pub by-division : balance * score < 2 ^ 64 → SaysDeltas (byScore bias quotient eligible hit balance score) (DeltasValue (penaltyOf (balance * score / denominator)))
         unfolding bind
-        by-division l = charged i (rw (mul64-given balance score l, z) (record { is = refl }))
+        by-division l = charged i (rw (mul64-fits balance score l, z) (record { is = refl }))
 
         pub none-charged : 0 < denominator → score ≡ 0 → SaysDeltas (byScore bias quotient eligible hit balance score) (DeltasValue noDeltas)
         unfolding bind
@@ -81,4 +81,4 @@ module _ (bias quotient balance score : ℕ) (eligible hit : Bool) where
             let zero : balance * score ≡ 0 = rw (o, mul-zero balance) in
             let less : 0 / denominator < 1 = div-lt-iff-lt-mul {k = denominator} p .1 (omega arith) in
             let none : 0 / denominator ≡ 0 = omega arith in
-            charged i (rw (mul64-given balance score (omega (arith, zero)), z, zero, none) (record { is = refl }))
+            charged i (rw (mul64-fits balance score (omega (arith, zero)), z, zero, none) (record { is = refl }))

@@ -9,12 +9,11 @@ use lib.Dec.{leb, eqb}
 use lib.ListN.{length, take, drop}
 use Rattle.definitions.specs.Checked.{Checked, value, refused, bind, codeOf, settle}
 use Rattle.definitions.specs.Refusals.{isVectorLength, lengthIs}
-use Rattle.definitions_file.specs.File.{Contents, versionOf, validatorsAt, numbersFromBytes, slashingsAt, countOf, rootCountOf, slashingCountOf, rootsAt, fileLength, contentsOf, goodHeader, fileShaped, readTests, readFile, nothing, read}
+use Rattle.definitions_file.specs.File.{Contents, versionOf, validatorsAt, numbersFromBytes, slashingsAt, countOf, rootCountOf, slashingCountOf, rootsAt, fileLength, contentsOf, goodHeader, fileShaped, readTests, readFile, nothing, read, noHeader, headerRead}
 use Rattle.refusals.proofs.Answers.{passed}
 use Rattle.round_trip.proofs.Tests.{tests}
 use Rattle.round_trip.proofs.Passed.{Passed, read-passed, good-header}
-use Rattle.record_file.specs.declared.Header.{Header}
-use Rattle.record_file.specs.Answers.{noHeader, headerRead}
+use Rattle.definitions_file.specs.declared.Header.{Header}
 
 -- The header
 
@@ -31,7 +30,7 @@ header-accepted bytes g n S L = rw (g, n, S, L)
 
 -- The whole file
 
-code-bind : {A : Type 0} (m : Checked (Unit {0})) (a : A) → codeOf (bind m (λ _. value a)) ≡ codeOf m
+pub code-bind : {A : Type 0} (m : Checked (Unit {0})) (a : A) → codeOf (bind m (λ _. value a)) ≡ codeOf m
 unfolding bind
 code-bind (value u) a = refl
 code-bind (refused r) a = refl

@@ -1,4 +1,4 @@
 -- What the functions answer by value, in the words of definitions, File.antt.
-pub mod Answers
+pub mod Sized
 -- Both round trips.
 pub mod RoundTrips

@@ -8,7 +8,7 @@ use lib.ListN.{length}
 use Rattle.definitions.specs.declared.ExitQueue.{ExitQueue}
 use Rattle.definitions.specs.Checked.{value}
 use Rattle.definitions_file.specs.File.{Contents, versionOf, writeTests, readTests}
-use Rattle.record_file.specs.declared.ReadAnswer.{ReadAnswer}
+use Rattle.definitions_file.specs.declared.ReadAnswer.{ReadAnswer}
 
 -- the record passes with the lent file, and the buffers to read it into are as long as its own
 pub record Passes (c : Contents) (q : ExitQueue) (file registry slashings : List ℕ) : Type 0 where

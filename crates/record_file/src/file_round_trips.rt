@@ -1,11 +1,11 @@
 // Both round trips, of the functions themselves: each writes and reads, and its contract says what comes back. None is exported.
 ghost use mathlib.Core.Path.{_≡_};
-ghost use Rattle.record_file.specs.Answers.{contentsWith};
+ghost use Rattle.definitions_file.specs.File.{contentsWith};
 ghost use Rattle.record_file.specs.RoundTrips.{Passes, SameRecord, Accepted, SameBytes};
-use crate::ReadAnswer;
 use definitions::ExitQueue;
 use definitions::Finality;
 use definitions::Settings;
+use definitions_file::ReadAnswer;
 
 // A record that passes 1, 2, 3 and 8, written and then read, is the same record.
 fn write_then_read(

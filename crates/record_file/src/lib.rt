@@ -3,8 +3,8 @@ ghost use mathlib.Core.Path.{_≡_};
 ghost use mathlib.Core.Bool.{true};
 ghost use mathlib.Core.List.{[]};
 ghost use Rattle.definitions.specs.Checked.{codeOf};
-ghost use Rattle.definitions_file.specs.File.{validatorsAt, versionOf, settingsFrom, noFinality, goodHeader, read, fileOf, writeTests, written};
-ghost use Rattle.record_file.specs.Answers.{noHeader, headerRead, Sized, contentsWith};
+ghost use Rattle.definitions_file.specs.File.{validatorsAt, versionOf, settingsFrom, noFinality, goodHeader, read, fileOf, writeTests, written, noHeader, headerRead, contentsWith};
+ghost use Rattle.record_file.specs.Sized.{Sized};
 
 pub mod file_round_trips;
 
@@ -12,17 +12,10 @@ use definitions::Checkpoint;
 use definitions::ExitQueue;
 use definitions::Finality;
 use definitions::Settings;
+use definitions_file::Header;
+use definitions_file::ReadAnswer;
 
 // The header
-
-// How long the buffers of a read must be: ten numbers a validator, one a slashing. Or refusal 6, and zeros.
-#[repr(C)]
-pub struct Header {
-    pub refusal: u64,
-    pub validators: u64,
-    pub roots: u64,
-    pub slashings: u64,
-}
 
 fn no_header() -> Header
     ensures { λ r. ⌜ r ≡ noHeader ⌝ }
@@ -51,16 +44,6 @@ pub fn read_header(bytes: &[u8]) -> Header
 }
 
 // Reading
-
-// What a read answers by value: 0 or the refusal's number, where it stopped, and zeros where it is refused.
-#[repr(C)]
-pub struct ReadAnswer {
-    pub refusal: u64,
-    pub position: u64,
-    pub settings: Settings,
-    pub finality: Finality,
-    pub queue: ExitQueue,
-}
 
 fn no_settings() -> Settings
     ensures { λ r. ⌜ r ≡ settingsFrom [] ⌝ }

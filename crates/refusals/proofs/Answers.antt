@@ -3,7 +3,6 @@ use mathlib.Core.Bool.{Bool}
 use mathlib.Core.List.{List}
 use mathlib.Core.Path.{_≡_, refl, sym, ap, _∙_}
 use Prim.Native.Nat.{ℕ}
-use native.Mathlib.Omega.{arith}
 use Rattle.definitions.specs.declared.Number.the-variants.{Value as NumberValue, Refused as NumberRefused}
 use Rattle.definitions.specs.declared.Truth.the-variants.{Value as TruthValue, Refused as TruthRefused}
 use Rattle.definitions.specs.Answers.{numberFor, truthFor}
@@ -48,3 +47,17 @@ pub closing-untouched : {A : Type 0} (contents : A → List ℕ) (m : Checked (U
 unfolding closingBuffer
 closing-untouched contents (value u) w opening closing e z = absurd (z e)
 closing-untouched contents (refused r) w opening closing e z = refl
+
+-- Nothing refused, so the tests did not
+
+pub tested : {A : Type 0} (m : Checked (Unit {0})) (w : Checked A) → codeOf (afterTests m w) ≡ 0 → codeOf m ≡ 0
+unfolding afterTests bind
+tested (value u) w e = refl
+tested (refused r) w e = e
+
+-- and what was lent is not read
+pub same-buffer : {A : Type 0} (contents : A → List ℕ) (m : Checked (Unit {0})) (w : Checked A) (opening xs ys : List ℕ) → codeOf (afterTests m w) ≡ 0 → closingBuffer contents m w opening xs ≡ closingBuffer contents m w opening ys
+unfolding closingBuffer afterTests bind
+same-buffer contents (refused r) w opening xs ys e = absurd (number-not-zero r e)
+same-buffer contents (value u) (refused r) opening xs ys e = absurd (number-not-zero r e)
+same-buffer contents (value u) (value a) opening xs ys e = refl

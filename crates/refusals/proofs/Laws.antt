@@ -11,8 +11,8 @@ use Rattle.definitions.specs.declared.Finality.{Finality}
 use Rattle.definitions.specs.declared.Settings.{Settings}
 use Rattle.definitions.specs.Checked.{codeOf}
 use Rattle.definitions.specs.Lists.{all}
-use Rattle.definitions.specs.Record.{Validator, decode, nobody}
-use Rattle.definitions.specs.Refusals.{inOrder, isVectorLength, settingsShaped, registryShaped, isSmall, settingsNumbers, divisors, goodSettings, goodFinality, goodValidator, goodRegistry}
+use Rattle.definitions.specs.Record.{Validator}
+use Rattle.definitions.specs.Refusals.{inOrder, isVectorLength, settingsShaped, registryShaped, isSmall, settingsNumbers, divisors, goodSettings, goodFinality, goodValidator}
 use Rattle.refusals.proofs.All.{both, all-at}
 
 -- no test refused
@@ -182,7 +182,3 @@ good-validator v e =
     let p = both (a && b) (leb (v .«current_epoch_participation») 255) e in
     let q = both a b (p .first) in
     record { slashed = leb-true _ 1 (q .first); previous = leb-true _ 255 (q .second); current = leb-true _ 255 (p .second) }
-
-pub good-at : (xs : List ℕ) (i : ℕ) → goodRegistry xs ≡ true → i < length (decode xs) → GoodValidator (getD (decode xs) i nobody)
-unfolding goodRegistry
-good-at xs i e l = good-validator _ (all-at goodValidator (decode xs) i nobody l e)

@@ -7,15 +7,11 @@ use native.Mathlib.Omega.{arith}
 use lib.ListN.{length, getD, take, drop, length-take, length-drop}
 use lib.Seq.{getD-take, drop-drop}
 use Rattle.definitions.specs.Record.{Validator, decodeOne, decodeFirst, decode, nobody}
+use Rattle.laws.proofs.Encode.{length-first}
 
 -- its ten numbers
 abbrev pub partAt : ℕ → List ℕ → List ℕ
 partAt i xs = take (10 * i + 10 - 10 * i) (drop (10 * i) xs)
-
-length-first : (n : ℕ) (xs : List ℕ) → length (decodeFirst n xs) ≡ n
-unfolding decodeFirst
-length-first zero xs = refl
-length-first (suc n) xs = ap suc (length-first n (drop 10 xs))
 
 pub length-decoded : (xs : List ℕ) → length (decode xs) ≡ length xs / 10
 unfolding decode

@@ -3,7 +3,7 @@
 use mathlib.Core.Logic.{⊎-elim}
 use mathlib.Core.Path.{_≡_, refl, sym, ap, ap₂, _∙_}
 use mathlib.Core.Bool.{Bool, true, false, cond}
-use mathlib.Core.List.{List, [], _∷_, _++_, map, append-nil, append-assoc}
+use mathlib.Core.List.{List, [], _∷_, _++_, map, append-assoc}
 use Prim.Native.Nat.{ℕ, suc, _+_, _<_}
 use native.Mathlib.Omega.{arith}
 use lib.ListN.{length, getD, set, length-append}
@@ -12,12 +12,12 @@ use Rattle.definitions.specs.declared.Settings.{Settings}
 use Rattle.definitions.specs.Lists.{range}
 use Rattle.definitions.specs.Record.{Validator, encode, decode, nobody}
 use Rattle.definitions.specs.Updates.{withExit}
-use Rattle.definitions.specs.Checked.{Checked, value, refused, bind, foldChecked}
+use Rattle.definitions.specs.Checked.{value, foldChecked}
 use Rattle.definitions.specs.Document.Phase0.Helpers.{«is_eligible_for_activation»}
 use Rattle.definitions.specs.Document.Phase0.EpochProcessing.{queueEligible, isEjected}
 use Rattle.laws.proofs.Checked.{bound, value-same}
 use Rattle.agreement.specs.Cut.{count, queuedBefore, CutAt, eligibleNow}
-use Rattle.agreement.proofs.ActivationQueue.Filter.{flag, count-none, count-more}
+use Rattle.agreement.proofs.ActivationQueue.Filter.{count-none, count-more}
 use Rattle.exit_queue.specs.Exits.{exitAt}
 use Rattle.exit_queue.proofs.exits.Counts.{Exited, exit-gave}
 use Rattle.agreement.proofs.ActivationQueue.Cuts.{cut-cuts}

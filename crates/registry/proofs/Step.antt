@@ -1,7 +1,7 @@
 -- The step by the numbers that were found.
 use mathlib.Core.Path.{_≡_, refl, sym, ap, _∙_}
 use mathlib.Core.List.{List}
-use Prim.Native.Nat.{ℕ, _+_, _/_, max}
+use Prim.Native.Nat.{ℕ, _/_, max}
 use native.Mathlib.Omega.{arith}
 use lib.ListN.{length}
 use Rattle.definitions.specs.declared.Settings.{Settings}

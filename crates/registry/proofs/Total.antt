@@ -2,7 +2,7 @@
 use mathlib.Core.Path.{_≡_, refl, sym, ap, _∙_}
 use mathlib.Core.Bool.{Bool, true, false, cond, _&&_}
 use mathlib.Core.List.{List, [], _∷_, map}
-use Prim.Native.Nat.{ℕ, zero, suc, _+_, _<_, _≤_}
+use Prim.Native.Nat.{ℕ, zero, suc, _<_}
 use native.Mathlib.Omega.{arith}
 use borrow.Author.Tests.{lt-leb, eqb-true}
 use lib.Dec.{leb, ltb, eqb}
@@ -11,7 +11,7 @@ use Rattle.definitions.specs.declared.Settings.{Settings}
 use Rattle.definitions.specs.Lists.{filter, range}
 use Rattle.definitions.specs.Record.{Validator, «FAR_FUTURE_EPOCH»}
 use Rattle.definitions.specs.Updates.{withActivation}
-use Rattle.definitions.specs.Checked.{Checked, value, bind, sum64, foldChecked}
+use Rattle.definitions.specs.Checked.{value, bind, sum64, foldChecked}
 use Rattle.definitions.specs.Document.Phase0.Helpers.{«is_active_validator», «is_eligible_for_activation», «get_active_validator_indices»}
 use Rattle.definitions.specs.Document.Phase0.EpochProcessing.{dequeued}
 use Rattle.definitions.specs.Rust.Phase0.Helpers.{«get_current_epoch», «get_total_balance», «get_total_active_balance», «get_validator_churn_limit»}

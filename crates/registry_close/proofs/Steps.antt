@@ -9,7 +9,7 @@ use Rattle.definitions.specs.Updates.{withValidators, withFinality, withSlashin
 use Rattle.definitions.specs.Checked.{Checked, value, refused, bind, foldChecked}
 use Rattle.definitions.specs.Rust.Phase0.EpochProcessing.{resetSlashings}
 use Rattle.definitions.specs.Rust.Altair.EpochProcessing.{«process_justification_and_finalization», «process_participation_flag_updates»}
-use Rattle.definitions.specs.Close.{Step, inactivityStep, rewardsStep, registryStep, slashingsStep, effectiveBalancesStep, slashingsResetStep, participationFlagsStep, step, onValidators, finalizedEpochOf, closeUpTo, «process_epoch»}
+use Rattle.definitions.specs.Close.{inactivityStep, rewardsStep, registryStep, slashingsStep, effectiveBalancesStep, slashingsResetStep, participationFlagsStep, step, onValidators, finalizedEpochOf, closeUpTo, «process_epoch»}
 use Rattle.refusals.proofs.Answers.{Refused}
 use Rattle.write_steps.specs.RegistrySteps.{registrySteps}
 

@@ -18,7 +18,7 @@ use Rattle.definitions.specs.Rust.Altair.EpochProcessing.{«process_justificati
 use Rattle.definitions.specs.Close.{«process_epoch»}
 use Rattle.laws.proofs.Checked.{number-not-zero, not-value, value-same}
 use Rattle.laws.specs.Ran.{Ran}
-use Rattle.laws.proofs.Loops.Ran.{ran-gave, code-value}
+use Rattle.laws.proofs.Loops.Ran.{ran-gave}
 use Rattle.refusals.proofs.Answers.{Refused}
 use Rattle.refusals.proofs.Laws.{GoodFinality, good-finality}
 use Rattle.history.proofs.Shape.{FinalizedMoved, Moved}

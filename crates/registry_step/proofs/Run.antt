@@ -1,10 +1,8 @@
 -- What the step leaves once the tests have passed: its closing registry with that registry's pair, or the opening with the pair handed in.
-use mathlib.Core.Path.{_≡_, refl, sym, ap, _∙_}
+use mathlib.Core.Path.{_≡_, refl}
 use mathlib.Core.List.{List}
 use Prim.Native.Nat.{ℕ}
-use Rattle.definitions.specs.declared.Settings.{Settings}
 use Rattle.definitions.specs.declared.ExitQueue.{ExitQueue}
-use Rattle.definitions.specs.declared.QueueAnswer.{QueueAnswer}
 use Rattle.definitions.specs.Record.{Validator, decode}
 use Rattle.definitions.specs.Checked.{Checked, value}
 use Rattle.definitions.specs.ExitQueue.{queueOf}

@@ -7,12 +7,12 @@ use lib.ListN.{length}
 use Rattle.definitions.specs.declared.Settings.{Settings}
 use Rattle.definitions.specs.declared.ExitQueue.{ExitQueue}
 use Rattle.definitions.specs.declared.QueueAnswer.{QueueAnswer}
-use Rattle.definitions.specs.Record.{Validator, encode, decode}
+use Rattle.definitions.specs.Record.{Validator, decode}
 use Rattle.definitions.specs.Checked.{Checked, value, refused, bind, codeOf}
 use Rattle.definitions.specs.Refusals.{afterTests, closingBuffer, registryTests}
-use Rattle.definitions.specs.RegisterOrder.{registryUpdatesTo, registryToTests}
+use Rattle.definitions.specs.RegisterOrder.{registryUpdatesTo}
 use Rattle.definitions.specs.Rust.Phase0.EpochProcessing.{«process_registry_updates»}
-use Rattle.definitions_close.specs.QueueCalls.{thenQueue, registryToQueueTests, registryQueueTests, queueAfter, QueueCloses}
+use Rattle.definitions_close.specs.QueueCalls.{registryToQueueTests, registryQueueTests, QueueCloses}
 use Rattle.laws.proofs.Encode.{length-decode}
 use Rattle.leaf_refusals.proofs.finalized.Tests.{within, registry-passed}
 use Rattle.agreement.proofs.ActivationQueue.Stopped.{stopped}

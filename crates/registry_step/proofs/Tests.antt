@@ -1,6 +1,6 @@
 -- The tests of the registry step as the code makes them: 1, 2 and 3 of slot and finalized epoch, then 3 of the entries and 8 from the survey.
 -- `x` is the number that the first tests' code gave.
-use mathlib.Core.Path.{_≡_, refl, sym, ap, _∙_}
+use mathlib.Core.Path.{_≡_, refl, sym, _∙_}
 use mathlib.Core.Bool.{Bool, true, _&&_}
 use mathlib.Core.List.{List}
 use Prim.Native.Nat.{ℕ, _*_, _/_, _^_, _≤_, _<_}

@@ -1,7 +1,7 @@
 // read_file and file_roots: what they answer is what stands in the file, or zeros and nothing where they refuse.
 use definitions::Finality;
 use definitions::Settings;
-use record_file::ReadAnswer;
+use definitions_file::ReadAnswer;
 use vectors::bytes_part;
 use vectors::finality_stands;
 use vectors::records::FINALITY;

@@ -1,19 +1,18 @@
 -- What a validator gains and loses by a flag, case by case.
 use mathlib.Core.Bool.{Bool, true, false, not}
-use mathlib.Core.Path.{_≡_, refl, sym, ap, _∙_}
-use Prim.Native.Nat.{ℕ, zero, suc, _*_, _/_, _≤_, _<_}
+use mathlib.Core.Path.{_≡_, refl}
+use Prim.Native.Nat.{ℕ, zero, suc, _/_, _≤_, _<_}
 use native.Mathlib.Nat.{le-div-iff-mul-le}
 use native.Mathlib.Omega.{arith}
 use borrow.Author.Tests.{eq-eqb, ne-eqb}
 use lib.ListN.{getD}
-use Rattle.definitions.specs.declared.Deltas.{Deltas}
 use Rattle.definitions.specs.declared.DeltasAnswer.{DeltasAnswer}
 use Rattle.definitions.specs.declared.DeltasAnswer.the-variants.{Value as DeltasValue, Refused as DeltasRefused}
 use Rattle.definitions.specs.declared.Number.{Number}
 use Rattle.definitions.specs.declared.Number.the-variants.{Value, Refused}
 use Rattle.definitions.specs.declared.Settings.{Settings}
 use Rattle.definitions.specs.Answers.{Says, SaysDeltas}
-use Rattle.definitions.specs.Checked.{value, refused, overflow, bind, mul64}
+use Rattle.definitions.specs.Checked.{value, bind, mul64}
 use Rattle.definitions.specs.Record.{Validator}
 use Rattle.definitions.specs.Document.Phase0.EpochProcessing.{isEligible}
 use Rattle.definitions.specs.Rust.Altair.Helpers.{«PARTICIPATION_FLAG_WEIGHTS», «WEIGHT_DENOMINATOR», noDeltas, isUnslashedParticipating, «get_base_reward», FlagTotals, hitDeltas, missDeltas, flagIndexDeltas}

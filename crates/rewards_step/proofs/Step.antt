@@ -1,12 +1,11 @@
 -- The step from its totals, one after the other: the total and the leak are the same for the three flags.
-use mathlib.Core.Bool.{Bool}
 use mathlib.Core.List.{List}
-use mathlib.Core.Path.{_≡_, refl, _∙_}
+use mathlib.Core.Path.{_≡_, refl}
 use Prim.Native.Nat.{ℕ}
 use borrow.Author.Tests.{ne-eqb}
 use Rattle.definitions.specs.declared.Settings.{Settings}
 use Rattle.definitions.specs.Answers.{Answers}
-use Rattle.definitions.specs.Checked.{Checked, value, refused, overflow, bind, mapChecked}
+use Rattle.definitions.specs.Checked.{Checked, value, refused, bind, mapChecked}
 use Rattle.definitions.specs.Lists.{filter}
 use Rattle.definitions.specs.Record.{Validator, encode}
 use Rattle.definitions.specs.Rust.Phase0.EpochProcessing.{«is_in_inactivity_leak»}

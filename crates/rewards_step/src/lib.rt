@@ -10,7 +10,7 @@ ghost use Rattle.definitions.specs.Refusals.{goodSettings};
 ghost use Rattle.definitions.specs.Rules.{settingsUnder, rewardsTests};
 ghost use Rattle.definitions.specs.Rust.Altair.EpochProcessing.{rewardAndPenalize, «process_rewards_and_penalties»};
 ghost use Rattle.laws.specs.Ran.{Ran};
-ghost use Rattle.refusals.specs.Closes.{Closes};
+ghost use Rattle.definitions.specs.Closes.{Closes};
 ghost use Rattle.rewards.specs.Shared.{SharedBy, totalsOf};
 ghost use Rattle.rewards_step.specs.Totals.{flagTotalsOf};
 

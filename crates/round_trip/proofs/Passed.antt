@@ -92,7 +92,7 @@ length-roots : (bytes : List ℕ) → length bytes ≡ fileLength (versionOf byt
 unfolding contentsOf
 length-roots bytes e = length-take-le (32 * rootCountOf bytes) (drop (rootsAt (versionOf bytes) (countOf bytes)) bytes) (omega (arith, length-drop (rootsAt (versionOf bytes) (countOf bytes)) bytes))
 
-length-slashings : (bytes : List ℕ) → length (contentsOf bytes .slashings) ≡ slashingCountOf bytes
+pub length-slashings : (bytes : List ℕ) → length (contentsOf bytes .slashings) ≡ slashingCountOf bytes
 unfolding contentsOf
 length-slashings bytes = length-from-bytes (slashingCountOf bytes) (drop (slashingsAt (versionOf bytes) (countOf bytes) (rootCountOf bytes)) bytes)
 

@@ -17,8 +17,8 @@ use Rattle.definitions_file.specs.File.{numberAt, versionOf, validatorsAt, queu
 use Rattle.laws.proofs.Encode.{entry-at, encode-decode, length-decode}
 use Rattle.round_trip.specs.Refused.{FirstBad, bad-slashed, bad-previous, bad-current, Stopped, StoppedAt, StoppedInRegistry, RegistryRefused, QueueRefused}
 use Rattle.round_trip.proofs.Numbers.{number-at}
-use Rattle.round_trip.proofs.Tests.{queue-own}
 use Rattle.round_trip.proofs.Passed.{good-header, length-registry}
+use Rattle.laws.proofs.Queue.{is-its-own}
 
 first-bad : (v : Validator) → goodValidator v ≡ false → FirstBad v (badPlace v)
 unfolding goodValidator badPlace
@@ -63,7 +63,7 @@ stopped-at offset (v ∷ vs) e = by (goodValidator v) refl (stopped-at (offset +
           there = omega arith;
         }
 
-small-place : {v : Validator} {k : ℕ} → FirstBad v k → k < 10
+pub small-place : {v : Validator} {k : ℕ} → FirstBad v k → k < 10
 small-place (bad-slashed p) = omega arith
 small-place (bad-previous p q) = omega arith
 small-place (bad-current p q r) = omega arith
@@ -113,7 +113,7 @@ registry-refused bytes registry slashings header shaped settings finality bad =
 -- in version 1 the pair is the register's own
 first-own : (bytes : List ℕ) → (versionOf bytes ≡ 2 → ⊥) → isQueueOf (queueIn bytes) (decode (contentsOf bytes .registry)) ≡ true
 unfolding queueIn
-first-own bytes n = rw (ne-eqb (versionOf bytes) 2 n) (queue-own (decode (contentsOf bytes .registry)))
+first-own bytes n = rw (ne-eqb (versionOf bytes) 2 n) (is-its-own (decode (contentsOf bytes .registry)))
 
 stores : (bytes : List ℕ) → isQueueOf (queueIn bytes) (decode (contentsOf bytes .registry)) ≡ false → (t : Bool) → eqb (versionOf bytes) 2 ≡ t → versionOf bytes ≡ 2
 stores bytes wrong true e = eqb-true (versionOf bytes) 2 e

@@ -11,7 +11,7 @@ use Rattle.definitions.specs.declared.ExitQueue.{ExitQueue}
 use Rattle.definitions.specs.Record.{Validator, decode}
 use Rattle.definitions.specs.Checked.{value, refused, wrongQueue, bind}
 use Rattle.definitions.specs.Refusals.{inOrder, isVectorLength, settingsShaped, registryShaped, rootsShaped, slashingsShaped, lengthIs, goodSettings, goodFinality, goodRegistry}
-use Rattle.definitions.specs.ExitQueue.{queueOf, isQueueOf, queueTest}
+use Rattle.definitions.specs.ExitQueue.{isQueueOf, queueTest}
 use Rattle.definitions_file.specs.File.{Contents, fileLength, writeTests}
 use Rattle.laws.proofs.Checked.{not-value, bound}
 
@@ -79,18 +79,6 @@ queue-passed q vs e = go (isQueueOf q vs) e
     go : (t : Bool) {u : Unit {0}} → cond t (value tt) (refused wrongQueue) ≡ value u → t ≡ true
     go true e = refl
     go false e = absurd (not-value e)
-
-pub queue-is : (q : ExitQueue) (vs : List Validator) → isQueueOf q vs ≡ true → q ≡ queueOf vs
-unfolding isQueueOf
-queue-is q vs e =
-    let t = tests (eqb (q .«last_epoch») (queueOf vs .«last_epoch»)) (eqb (q .number) (queueOf vs .number) ∷ []) e in
-    let last = eqb-true (q .«last_epoch») (queueOf vs .«last_epoch») (t 0) in
-    let number = eqb-true (q .number) (queueOf vs .number) (t 1) in
-    λ i. record { «last_epoch» = last i; number = number i }
-
-pub queue-own : (vs : List Validator) → isQueueOf (queueOf vs) vs ≡ true
-unfolding isQueueOf
-queue-own vs = rw (eq-eqb (queueOf vs .«last_epoch») (queueOf vs .«last_epoch») refl, eq-eqb (queueOf vs .number) (queueOf vs .number) refl)
 
 -- Writing
 

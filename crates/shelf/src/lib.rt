@@ -1,12 +1,10 @@
 // A shelf of records in one call: the lengths are tested first, and then each file is closed by itself, in one pass over the shelf.
 ghost use mathlib.Core.Path.{_≡_};
 ghost use mathlib.Core.Bool.{true};
-ghost use Prim.Native.Nat.{_*_};
-ghost use lib.Dec.{leb, eqb};
+ghost use lib.Dec.{eqb};
 ghost use lib.ListN.{length};
-ghost use Rattle.definitions.specs.Lists.{sum, maximum};
-ghost use Rattle.definitions_file.specs.Shelf.{holdsLongest, shelfShaped, shelfRefusal, answersFor, partsFor, answersAfter, closingAfter, Working};
-ghost use Rattle.shelf.specs.Lent.{shelfOf};
+ghost use Rattle.definitions.specs.Lists.{sum};
+ghost use Rattle.definitions_file.specs.Shelf.{holdsLongest, shelfShaped, shelfRefusal, answersFor, partsFor, answersAfter, closingAfter, Working, shelfOf};
 use definitions::Bellatrix;
 use shelf_file::close_file;
 

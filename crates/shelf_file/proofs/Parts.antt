@@ -1,11 +1,11 @@
 -- A file's numbers in a working list.
-use mathlib.Core.Path.{_≡_, refl, sym, ap, _∙_}
+use mathlib.Core.Path.{_≡_, sym, ap, _∙_}
 use mathlib.Core.List.{List, _++_}
 use Prim.Native.Nat.{ℕ, _+_, _-_, _*_, _≤_}
 use native.Mathlib.Omega.{arith}
 use lib.ListN.{length, take, drop, length-take, length-drop}
 use lib.Seq.{take-at, drop-at, length-take-le}
-use Rattle.definitions_file.specs.File.{versionOf, countOf, rootCountOf, slashingCountOf, numbersFromBytes, contentsOf}
+use Rattle.definitions_file.specs.File.{countOf, rootCountOf, slashingCountOf, numbersFromBytes, contentsOf}
 use Rattle.round_trip.proofs.Numbers.{length-from-bytes}
 use Rattle.round_trip.proofs.Passed.{good-header}
 use Rattle.shelf_file.specs.Parts.{Counts, Counted, numbersBehind, Opened}

@@ -8,22 +8,23 @@ use lib.ListN.{length}
 use Rattle.definitions.specs.declared.Settings.{Settings}
 use Rattle.definitions.specs.declared.Bellatrix.{Bellatrix}
 use Rattle.definitions.specs.Lists.{all}
-use Rattle.definitions.specs.Record.{Validator, BeaconState, encode, decode}
+use Rattle.definitions.specs.Record.{BeaconState, encode, decode}
 use Rattle.definitions.specs.Checked.{value, foldChecked}
 use Rattle.definitions.specs.Refusals.{goodValidator, goodRegistry, closingBuffer}
 use Rattle.definitions.specs.Rules.{settingsUnder}
 use Rattle.definitions.specs.ExitQueue.{queueOf, isQueueOf}
 use Rattle.definitions.specs.Close.{Step, step, closeUpTo, «process_epoch»}
-use Rattle.definitions_file.specs.File.{Contents, countOf, slashingCountOf, contentsOf, fileOf, writeTests}
+use Rattle.definitions_file.specs.File.{Contents, contentsOf, fileOf, writeTests}
 use Rattle.definitions_file.specs.ClosedFile.{rulesIn, stateIn, fileTests, work, closedContents, partFor}
 use Rattle.laws.proofs.Checked.{bound, value-same}
 use Rattle.laws.proofs.Encode.{length-encode, decode-encode, encode-decode}
-use Rattle.round_trip.proofs.Tests.{Good, fileLengthOf, queue-own, good-write}
-use Rattle.round_trip.proofs.Passed.{length-registry}
+use Rattle.round_trip.proofs.Tests.{Good, fileLengthOf, good-write}
+use Rattle.round_trip.proofs.Passed.{length-registry, length-slashings}
 use Rattle.round_trip.proofs.Written.{is-file, written-read}
 use Rattle.theorems.proofs.CloseBySteps.Kept.{Kept, kept-step}
 use Rattle.shelf_file.specs.ReadAgain.{Written, ClosedWritten, ClosedRead}
-use Rattle.shelf_file.proofs.Tests.{passes, length-slashings}
+use Rattle.shelf_file.proofs.Tests.{passes}
+use Rattle.laws.proofs.Queue.{is-its-own}
 
 -- what the steps leave of what the tests ask
 kept-steps : (s : Settings) (ks : List Step) (a b : BeaconState) → foldChecked (step s) a ks ≡ value b → Kept a b
@@ -91,7 +92,7 @@ module _ (fork : ℕ) (pair : Bellatrix) (file : List ℕ) (after : BeaconState)
       omega (arith, a .header .long, p .second, a .count, a .root-count, a .slashing-count, long)
 
   closed-passes : writeTests (closedContents file after) (queueOf (after .validators)) file ≡ value tt
-  closed-passes = good-write (closedContents file after) (queueOf (after .validators)) file good as-long (ap (isQueueOf (queueOf (after .validators))) (decode-encode (after .validators)) ∙ queue-own (after .validators))
+  closed-passes = good-write (closedContents file after) (queueOf (after .validators)) file good as-long (ap (isQueueOf (queueOf (after .validators))) (decode-encode (after .validators)) ∙ is-its-own (after .validators))
 
   closed-part : (part : List ℕ) → partFor fork pair file part ≡ fileOf (closedContents file after) (queueOf (after .validators))
   unfolding partFor closingBuffer

@@ -6,7 +6,7 @@ use Prim.Native.Nat.{ℕ, _*_, _/_, _%_}
 use native.Mathlib.Omega.{arith}
 use borrow.Author.Tests.{le-leb, eq-eqb, eqb-true}
 use lib.Dec.{leb, eqb}
-use lib.ListN.{length, drop}
+use lib.ListN.{length}
 use Rattle.definitions.specs.declared.Settings.{Settings}
 use Rattle.definitions.specs.declared.Finality.{Finality}
 use Rattle.definitions.specs.declared.CloseAnswer.{CloseAnswer}
@@ -19,20 +19,19 @@ use Rattle.definitions.specs.Rules.{«BELLATRIX», isAltair, goodBellatrix, set
 use Rattle.definitions.specs.ExitQueue.{queueOf, isQueueOf, queueTest}
 use Rattle.definitions.specs.Rust.Phase0.EpochProcessing.{resetSlashings}
 use Rattle.definitions.specs.Close.{Call}
-use Rattle.definitions_file.specs.File.{Contents, versionOf, countOf, rootCountOf, slashingCountOf, slashingsAt, contentsOf, queueIn, goodHeader, fileShaped, readTests, fileLength, fileOf}
+use Rattle.definitions_file.specs.File.{Contents, versionOf, countOf, rootCountOf, slashingCountOf, contentsOf, queueIn, goodHeader, fileShaped, readTests, fileLength, fileOf, contentsWith}
 use Rattle.definitions_file.specs.ClosedFile.{rulesIn, stateIn, fileTests, work, closedContents, closedFile, answerFor, partFor}
 use Rattle.laws.proofs.Checked.{not-value, bound}
 use Rattle.refusals.proofs.All.{both}
 use Rattle.refusals.specs.Refusal.{rulesRefusal}
-use Rattle.round_trip.proofs.Numbers.{length-from-bytes}
 use Rattle.round_trip.proofs.Tests.{in-order, queue-passed}
-use Rattle.round_trip.proofs.Passed.{Passed, Accepted, accepted, length-registry}
+use Rattle.round_trip.proofs.Passed.{Passed, Accepted, accepted, length-registry, length-slashings}
 use Rattle.close.specs.Called.{called}
 use Rattle.registry_close.specs.Worked.{stateNow, Tested, Worked}
 use Rattle.close.specs.Worked.{recordTests}
 use Rattle.laws.proofs.Loops.Ran.{code-value}
 use Rattle.laws.proofs.Encode.{decode-encode}
-use Rattle.record_file.specs.Answers.{Sized, contentsWith}
+use Rattle.record_file.specs.Sized.{Sized}
 use Rattle.registry_close.proofs.Worked.{code-refused}
 use Rattle.close.proofs.Lent.{lent}
 use Rattle.shelf_file.specs.Parts.{FileClosed}
@@ -59,10 +58,6 @@ beside true true true true true true = refl
 same-shape : (file xs ys us vs : List ℕ) → length xs ≡ length us → length ys ≡ length vs → fileShaped file xs ys ≡ fileShaped file us vs
 unfolding fileShaped
 same-shape file xs ys us vs l m = rw (l, m)
-
-pub length-slashings : (file : List ℕ) → length (contentsOf file .slashings) ≡ slashingCountOf file
-unfolding contentsOf
-length-slashings file = length-from-bytes (slashingCountOf file) (drop (slashingsAt (versionOf file) (countOf file) (rootCountOf file)) file)
 
 module _ (fork : ℕ) (pair : Bellatrix) (file : List ℕ) where
   abbrev r : Rules

@@ -1,16 +1,16 @@
 // One file of a shelf: its tests, its close with two working lists, and the closed record as a file in its part.
 ghost use mathlib.Core.Path.{_≡_};
-ghost use mathlib.Core.Bool.{true, _&&_};
+ghost use mathlib.Core.Bool.{_&&_};
 ghost use Prim.Native.Nat.{_*_, _≤_};
 ghost use lib.Dec.{eqb};
-ghost use lib.ListN.{length, take, drop};
+ghost use lib.ListN.{length, take};
 ghost use Rattle.definitions.specs.Checked.{value, codeOf};
 ghost use Rattle.definitions.specs.Rust.Phase0.EpochProcessing.{resetSlashings};
 ghost use Rattle.definitions.specs.Record.{decode};
 ghost use Rattle.definitions.specs.ExitQueue.{queueOf};
-ghost use Rattle.definitions_file.specs.File.{versionOf, contentsOf, goodHeader, fileOf};
-ghost use Rattle.definitions_file.specs.ClosedFile.{rulesIn, fileTests, answerFor, partFor};
-ghost use Rattle.record_file.specs.Answers.{Sized, contentsWith};
+ghost use Rattle.definitions_file.specs.File.{versionOf, contentsOf, goodHeader, fileOf, contentsWith};
+ghost use Rattle.definitions_file.specs.ClosedFile.{fileTests, answerFor, partFor};
+ghost use Rattle.record_file.specs.Sized.{Sized};
 ghost use Rattle.registry_close.specs.Worked.{stateNow, Tested, Worked};
 ghost use Rattle.shelf_file.specs.Parts.{Counts, Counted, numbersBehind, Opened, FileClosed};
 use definitions::Bellatrix;

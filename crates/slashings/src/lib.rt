@@ -13,7 +13,7 @@ ghost use Rattle.definitions.specs.Rust.Phase0.EpochProcessing.{resetSlashings}
 ghost use Rattle.definitions.specs.Rust.Altair.EpochProcessing.{slash, «process_slashings»};
 ghost use Rattle.agreement.specs.Bounds.{Passed};
 ghost use Rattle.laws.specs.Ran.{Settles, Ran};
-ghost use Rattle.refusals.specs.Closes.{Closes};
+ghost use Rattle.definitions.specs.Closes.{Closes};
 ghost use Rattle.slashings.specs.Adjusted.{adjustedBalance};
 use arithmetic::add64;
 use arithmetic::min;

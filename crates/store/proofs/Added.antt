@@ -8,7 +8,7 @@ use lib.Seq.{drop-drop}
 use Rattle.definitions.specs.Checked.{value, codeOf}
 use Rattle.definitions_close.specs.Store.{Entry, Store, numbersOf, additionTests, withEntry, addEntry, AddOutcome, added}
 use Rattle.refusals.proofs.Answers.{after-passed, after-refused}
-use Rattle.store.specs.Lent.{lent}
+use Rattle.definitions_close.specs.Calls.{lent}
 
 module _ (s : Store) (new : Entry) {x : ℕ} (e : x ≡ codeOf (additionTests s new)) where
   outcome : ℕ → Store → AddOutcome

@@ -3,12 +3,9 @@ use mathlib.Core.List.{List, []}
 use mathlib.Core.Path.{_≡_}
 use Prim.Native.Nat.{ℕ, _≤_, _<_}
 use lib.ListN.{length, getD}
-use Rattle.definitions.specs.declared.Rules.{Rules}
 use Rattle.definitions.specs.Checked.{value, refused, noEntry}
 use Rattle.definitions_close.specs.declared.RulesAnswer.{RulesAnswer}
-use Rattle.definitions_close.specs.declared.CountAnswer.{CountAnswer}
-use Rattle.definitions_close.specs.Store.{Entry, entryOf, entryFor, noRules, AddOutcome}
-use Rattle.store.specs.Lent.{lent}
+use Rattle.definitions_close.specs.Store.{Entry, entryOf, entryFor, noRules}
 
 -- the place r is that of the epoch's entry, or past the end where there is none
 pub record Finds (epoch : ℕ) (es : List Entry) (r : ℕ) : Type 0 where
@@ -17,10 +14,3 @@ pub record Finds (epoch : ℕ) (es : List Entry) (r : ℕ) : Type 0 where
 
 abbrev pub turnedAway : ℕ → RulesAnswer
 turnedAway number = record { refusal = number; rules = noRules }
-
-abbrev pub newEntry : ℕ → Rules → Entry
-newEntry start rules = record { start = start; rules = rules }
-
--- the answer of an addition, and the store afterwards
-abbrev pub addOutcome : CountAnswer → List ℕ → AddOutcome
-addOutcome r numbers = record { refusal = r .refusal; store = lent numbers (r .count) }

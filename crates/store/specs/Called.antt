@@ -3,27 +3,11 @@ use mathlib.Core.Bool.{Bool, true, _&&_}
 use mathlib.Core.List.{List}
 use Prim.Native.Nat.{ℕ}
 use Rattle.definitions.specs.declared.Rules.{Rules}
-use Rattle.definitions.specs.declared.Finality.{Finality}
-use Rattle.definitions.specs.declared.ExitQueue.{ExitQueue}
 use Rattle.definitions.specs.Checked.{Checked}
 use Rattle.definitions.specs.Refusals.{inOrder, afterTests, registryShaped, rootsShaped, slashingsShaped, sameLength}
 use Rattle.definitions_close.specs.Amounts.{amountsShaped}
 use Rattle.definitions_close.specs.Store.{Store, entries, lastOf, ofLast, storeShaped, goodEntries}
-use Rattle.definitions_close.specs.StoreClose.{StoreCall, rulesAtSlot}
-
-abbrev pub storeCalled : Store → Finality → ExitQueue → List ℕ → List ℕ → List ℕ → List ℕ → List ℕ → List ℕ → StoreCall
-storeCalled store f queue registry slashings roots closingRegistry closingSlashings amounts =
-    record {
-      store = store;
-      finality = f;
-      queue = queue;
-      registry = registry;
-      slashings = slashings;
-      roots = roots;
-      closingRegistry = closingRegistry;
-      closingSlashings = closingSlashings;
-      amounts = amounts;
-    }
+use Rattle.definitions_close.specs.StoreClose.{rulesAtSlot}
 
 -- `storeCallShaped` of any call with these: neither finality nor the pair is asked
 unfoldable pub shapedWith : Store → List ℕ → List ℕ → List ℕ → List ℕ → List ℕ → List ℕ → Bool

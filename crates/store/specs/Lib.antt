@@ -1,6 +1,5 @@
 -- What the contracts of reading and adding cite.
 pub mod Answers
 -- What the contracts of a store's code cite.
-pub mod Lent
 -- What the contracts of a close with a store cite.
 pub mod Called

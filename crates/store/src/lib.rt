@@ -4,9 +4,9 @@ ghost use Prim.Native.Nat.{_*_, _≤_};
 ghost use lib.Dec.{ltb};
 ghost use lib.ListN.{length};
 ghost use Rattle.definitions.specs.Checked.{codeOf};
-ghost use Rattle.definitions_close.specs.Store.{entriesFrom, keeps, lastOf, ofLast, storeTests, rulesAt, readRules, rulesAnswerFor, noRules, numbersOf, additionShaped, additionTests, added};
-ghost use Rattle.store.specs.Lent.{lent};
-ghost use Rattle.store.specs.Answers.{Finds, turnedAway, newEntry, addOutcome};
+ghost use Rattle.definitions_close.specs.Store.{entriesFrom, keeps, lastOf, ofLast, storeTests, rulesAt, readRules, rulesAnswerFor, numbersOf, additionShaped, additionTests, added};
+ghost use Rattle.definitions_close.specs.Calls.{lent, newEntry, addOutcome};
+ghost use Rattle.store.specs.Answers.{Finds, turnedAway};
 
 pub mod store_entries;
 pub mod store_rules;

@@ -5,7 +5,7 @@ ghost use lib.ListN.{length};
 ghost use Rattle.definitions.specs.Lists.{all};
 ghost use Rattle.definitions.specs.Rules.{rulesShaped, goodRules};
 ghost use Rattle.definitions_close.specs.Store.{entryOf, entriesFrom, keeps, follows, inSequence, storeShaped, goodEntries};
-ghost use Rattle.store.specs.Lent.{lent};
+ghost use Rattle.definitions_close.specs.Calls.{lent};
 use definitions::Bellatrix;
 use definitions::Rules;
 use definitions::Settings;

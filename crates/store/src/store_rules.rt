@@ -7,7 +7,7 @@ ghost use Rattle.definitions.specs.Refusals.{registryShaped, rootsShaped, slash
 ghost use Rattle.definitions_close.specs.Amounts.{amountsShaped};
 ghost use Rattle.definitions_close.specs.Store.{entriesFrom, lastOf, ofLast, goodEntries, rulesAnswerFor};
 ghost use Rattle.definitions_close.specs.StoreClose.{rulesAtSlot};
-ghost use Rattle.store.specs.Lent.{lent};
+ghost use Rattle.definitions_close.specs.Calls.{lent};
 ghost use Rattle.store.specs.Called.{shapedWith, rulesWith};
 use crate::rules_at;
 use crate::store_entries::entry_rules;

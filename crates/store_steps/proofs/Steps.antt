@@ -14,8 +14,8 @@ use Rattle.definitions_close.specs.declared.RulesAnswer.{RulesAnswer}
 use Rattle.definitions_close.specs.Store.{rulesAnswerFor}
 use Rattle.definitions_close.specs.StoreClose.{rulesFor}
 use Rattle.definitions_close.specs.StoreSteps.{StoreStepCall, stepBy, stepOf, storeSoFar, storeFound, stepRefused, storeStepBy, storeStep, StoreNinthCall, ninthBy, ninthRules, carryBy, storeCarryOut}
-use Rattle.close_by_steps.specs.Called.{stepOutcome, endedAnswer}
-use Rattle.orders.specs.Called.{ninthOutcome}
+use Rattle.close_by_steps.specs.Called.{endedAnswer}
+use Rattle.definitions_close.specs.Calls.{stepOutcome, ninthOutcome}
 use Rattle.store.proofs.store_rules.Given.{rules-given, rules-turned}
 use Rattle.store_steps.specs.Called.{firstStep, laterStep, ninthRulesWith}
 

@@ -5,15 +5,11 @@ use Prim.Native.Nat.{ℕ}
 use Rattle.definitions.specs.declared.Rules.{Rules}
 use Rattle.definitions.specs.Checked.{Checked}
 use Rattle.definitions.specs.Refusals.{inOrder, afterTests, isSmall, registryShaped}
-use Rattle.definitions_close.specs.declared.Running.{Running}
 use Rattle.definitions_close.specs.CloseBySteps.{StepOutcome}
 use Rattle.definitions_close.specs.Store.{Store, entries, storeShaped, goodEntries}
-use Rattle.definitions_close.specs.StoreClose.{StoreCall, rulesAtSlot, rulesFor}
-use Rattle.definitions_close.specs.StoreSteps.{StoreStepCall, storeSoFar, storeStepBy, StoreNinthCall}
+use Rattle.definitions_close.specs.StoreClose.{rulesAtSlot, rulesFor}
+use Rattle.definitions_close.specs.StoreSteps.{StoreStepCall, storeSoFar, storeStepBy}
 use Rattle.orders.specs.Ninth.{listsShaped}
-
-abbrev pub storeStepCalled : ℕ → Running → StoreCall → StoreStepCall
-storeStepCalled number running whole = record { number = number; running = running; whole = whole }
 
 -- the first call in its turn, and a later one: by the rules for the opening, and for the record so far
 unfoldable pub firstStep : StoreStepCall → StepOutcome
@@ -21,10 +17,6 @@ firstStep c = storeStepBy c (rulesFor (c .whole))
 
 unfoldable pub laterStep : StoreStepCall → StepOutcome
 laterStep c = storeStepBy c (rulesFor (storeSoFar (c .running) (c .whole)))
-
-abbrev pub storeNinthCalled : Store → ℕ → Running → List ℕ → List ℕ → List ℕ → StoreNinthCall
-storeNinthCalled store period running registry orders answers =
-    record { store = store; period = period; running = running; closingRegistry = registry; orders = orders; answers = answers }
 
 -- `ninthRules` of any ninth call with these
 unfoldable pub ninthRulesWith : Store → ℕ → ℕ → ℕ → List ℕ → List ℕ → List ℕ → Checked Rules

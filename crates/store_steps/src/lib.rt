@@ -5,11 +5,8 @@ ghost use Prim.Native.Nat.{_+_, _≤_};
 ghost use lib.Dec.{leb, eqb};
 ghost use Rattle.definitions_close.specs.Store.{rulesAnswerFor};
 ghost use Rattle.definitions_close.specs.StoreSteps.{storeStep, storeCarryOut};
-ghost use Rattle.close_by_steps.specs.Called.{stepOutcome};
-ghost use Rattle.orders.specs.Called.{ninthOutcome};
-ghost use Rattle.store.specs.Lent.{lent};
-ghost use Rattle.store.specs.Called.{storeCalled};
-ghost use Rattle.store_steps.specs.Called.{storeStepCalled, firstStep, laterStep, storeNinthCalled, ninthRulesWith};
+ghost use Rattle.definitions_close.specs.Calls.{stepOutcome, ninthOutcome, lent, storeCalled, storeStepCalled, storeNinthCalled};
+ghost use Rattle.store_steps.specs.Called.{firstStep, laterStep, ninthRulesWith};
 
 pub mod store_close;
 

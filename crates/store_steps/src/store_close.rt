@@ -1,9 +1,7 @@
 // The close with a store in place of settings, fork and pair (02, R-10).
 ghost use mathlib.Core.Path.{_≡_};
 ghost use Rattle.definitions_close.specs.StoreClose.{storeClose};
-ghost use Rattle.store.specs.Lent.{lent};
-ghost use Rattle.store.specs.Called.{storeCalled};
-ghost use Rattle.full_close.specs.Called.{fullOutcome};
+ghost use Rattle.definitions_close.specs.Calls.{lent, fullOutcome, storeCalled};
 use definitions::ExitQueue;
 use definitions::Finality;
 use definitions::FullAnswer;

@@ -4,12 +4,12 @@ use mathlib.Core.Bool.{Bool, true, false, cond, _&&_}
 use mathlib.Core.List.{List, [], _∷_, _++_, map}
 use Prim.Native.Nat.{ℕ, _+_, _*_, _%_, _^_, _≤_, _<_}
 use native.Mathlib.Omega.{arith}
-use borrow.Author.Tests.{lt-ltb, le-ltb, ltb-true, ltb-false, eqb-true, eqb-false, eq-eqb}
+use borrow.Author.Tests.{ltb-true, ltb-false, eqb-true, eqb-false}
 use lib.Dec.{ltb, eqb}
-use lib.ListN.{length, getD, take, length-take, length-map, List·getD-map}
+use lib.ListN.{length, take, length-take, length-map, List·getD-map}
 use Rattle.definitions.specs.declared.Settings.{Settings}
 use Rattle.definitions.specs.Lists.{filter, all, sum}
-use Rattle.definitions.specs.Checked.{value, refused, overflow, sum64}
+use Rattle.definitions.specs.Checked.{value}
 use Rattle.definitions.specs.Record.{Validator, decodeOne, decode, nobody}
 use Rattle.definitions.specs.Refusals.{goodValidator, goodRegistry}
 use Rattle.definitions.specs.Rust.Phase0.Helpers.{«get_active_validator_indices»}
@@ -19,7 +19,7 @@ use Rattle.refusals.proofs.All.{both}
 use Rattle.laws.proofs.Loops.Entry.{entryAt}
 use Rattle.laws.proofs.Loops.Filtered.{filter-last, filter-le, sum64-filter}
 use Rattle.laws.proofs.Loops.Reading.{Reading, reading-none, reading-more, reading-is, prefix-all, prefix-more}
-use Rattle.laws.proofs.Loops.Summed.{sum-append, sum64-given, sum64-refused}
+use Rattle.laws.proofs.Loops.Summed.{sum64-given, sum64-refused}
 use Rattle.selection.specs.Keep.{Blank, Kept, waitingSince}
 use Rattle.selection.proofs.Picking.{Picking, picking-none, picking-more}
 use Rattle.selection.proofs.Waiting.{smallest-kept}
@@ -27,7 +27,7 @@ use Rattle.exit_queue.specs.Queue.{Tracks}
 use Rattle.exit_queue.proofs.Tracks.{tracks-none, tracks-last, tracks-few}
 use Rattle.survey.specs.declared.Sums.{Sums}
 use Rattle.survey.specs.declared.Findings.{Findings}
-use Rattle.survey.specs.Sums.{weight, activeAt, balanceOf, PlainSums}
+use Rattle.survey.specs.Sums.{weight, activeAt, PlainSums}
 use Rattle.survey.specs.Found.{PlainSum, Finds, overAfter, foundAfter, allFit}
 
 -- A sum: its low 64 bits, and whether it has left them

@@ -1,3 +1,4 @@
+-- Its proofs, in the same folders.
 pub mod Completeness
 pub mod Amounts
 pub mod FullClose

@@ -1,3 +1,4 @@
+-- What is claimed of the calls and of closes, a folder a subject.
 pub mod Completeness
 pub mod Amounts
 pub mod FullClose

@@ -8,7 +8,7 @@ use Rattle.definitions.specs.declared.Settings.{Settings}
 use Rattle.definitions.specs.declared.Number.the-variants.{Value, Refused}
 use Rattle.definitions.specs.Lists.{filter}
 use Rattle.definitions.specs.Record.{Validator, decodeOne, decode}
-use Rattle.definitions.specs.Checked.{Checked, value, sum64, bind}
+use Rattle.definitions.specs.Checked.{Checked, value, sum64}
 use Rattle.definitions.specs.Answers.{numberFor, Says}
 use Rattle.definitions.specs.Rust.Phase0.Helpers.{«get_total_balance»}
 use Rattle.laws.proofs.Checked.{bound, value-same}

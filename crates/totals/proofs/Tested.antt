@@ -1,12 +1,11 @@
 -- An answer after tests. `x` is the number that the tests' code gave.
-use mathlib.Core.Path.{_≡_, sym, ap, _∙_}
+use mathlib.Core.Path.{_≡_}
 use Prim.Native.Nat.{ℕ}
-use Rattle.definitions.specs.declared.Number.{Number}
 use Rattle.definitions.specs.declared.Number.the-variants.{Value, Refused}
 use Rattle.definitions.specs.Checked.{Checked, value, codeOf}
-use Rattle.definitions.specs.Answers.{numberFor, Says}
+use Rattle.definitions.specs.Answers.{Says}
 use Rattle.definitions.specs.Refusals.{afterTests}
-use Rattle.refusals.proofs.Answers.{after-passed, number-refused, number-passed}
+use Rattle.refusals.proofs.Answers.{number-refused, number-passed}
 
 module _ (tests : Checked (Unit {0})) {x : ℕ} (e : x ≡ codeOf tests) where
   -- a test refused
@@ -14,8 +13,5 @@ module _ (tests : Checked (Unit {0})) {x : ℕ} (e : x ≡ codeOf tests) where
   says-refused work z = record { is = number-refused tests work e z }
 
   -- none did
-  pub says-after : {work : Checked ℕ} {r : Number} → x ≡ 0 → Says work r → Says (afterTests tests work) r
-  says-after {work} z h = record { is = h .is ∙ ap numberFor (sym (after-passed tests work e z)) }
-
   pub says-plain : {n k : ℕ} → x ≡ 0 → n ≡ k → Says (afterTests tests (value k)) (Value n)
   says-plain z h = record { is = number-passed tests e z h }

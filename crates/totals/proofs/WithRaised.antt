@@ -1,5 +1,5 @@
 -- A total with whether it was raised, from its plain sum; and its balance alone.
-use mathlib.Core.Path.{_≡_, refl, sym, ap, _∙_}
+use mathlib.Core.Path.{_≡_, sym, ap, _∙_}
 use mathlib.Core.List.{List, map}
 use Prim.Native.Nat.{ℕ}
 use Rattle.definitions.specs.declared.Settings.{Settings}

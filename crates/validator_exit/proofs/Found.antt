@@ -1,15 +1,12 @@
 -- The pair of a registry that is lent alone: what is answered at each return.
-use mathlib.Core.Path.{_≡_, refl, sym, _∙_}
+use mathlib.Core.Path.{_≡_, refl}
 use mathlib.Core.Bool.{Bool, true, false, cond}
 use mathlib.Core.List.{List}
 use Prim.Native.Nat.{ℕ}
 use native.Mathlib.Omega.{arith}
 use Rattle.definitions.specs.declared.ExitQueue.{ExitQueue}
-use Rattle.definitions.specs.declared.QueueAnswer.{QueueAnswer}
-use Rattle.definitions.specs.Record.{decode}
 use Rattle.definitions.specs.Checked.{bind}
 use Rattle.definitions.specs.Refusals.{inOrder, registryShaped, goodRegistry, afterTests}
-use Rattle.definitions.specs.ExitQueue.{queueOf}
 use Rattle.definitions_close.specs.QueueCalls.{queueAfter, foundQueue}
 use Rattle.validator_exit.specs.declared.Seen.{Seen}
 use Rattle.validator_exit.specs.Exits.{Sees}

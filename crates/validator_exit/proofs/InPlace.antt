@@ -1,24 +1,23 @@
 -- One validator's exit in place by the registry's pair: it is the rescanning exit, and the pair afterwards is the registry's again.
 use mathlib.Core.Path.{_≡_, refl, sym, ap, _∙_}
-use mathlib.Core.Bool.{Bool, true, false}
 use mathlib.Core.List.{List}
 use Prim.Native.Nat.{ℕ, _+_, _*_, _≤_, _<_}
 use native.Mathlib.Omega.{arith}
-use lib.ListN.{length, getD, set, length-set}
+use lib.ListN.{length, getD, set}
 use lib.Seq.{getD-set-same, set-getD}
 use Rattle.definitions.specs.Record.{Validator, «FAR_FUTURE_EPOCH», decodeOne, encodeOne, encode, decode, nobody}
-use Rattle.definitions.specs.Checked.{Checked, value, refused, Refusal, bind, codeOf, settle}
+use Rattle.definitions.specs.Checked.{Checked, value, refused, Refusal, bind, settle}
 use Rattle.definitions.specs.ExitQueue.{queueOf}
-use Rattle.laws.proofs.Checked.{not-value, number-not-zero}
+use Rattle.laws.proofs.Checked.{not-value}
 use Rattle.laws.proofs.Encode.{length-decode, decode-encode, encode-decode}
 use Rattle.laws.specs.Ran.{Settles}
 use Rattle.laws.proofs.Loops.Entry.{entryAt, putAt, entry-is, entry-back, number-at}
-use Rattle.laws.proofs.Loops.Ran.{code-value, ran-entry, ran-gave}
+use Rattle.laws.proofs.Loops.Ran.{ran-entry}
 use Rattle.definitions.specs.declared.ExitQueue.{ExitQueue}
 use Rattle.exit_queue.specs.Exits.{exitAt, Leaves}
 use Rattle.exit_queue.proofs.exits.Exits.{exit-known}
 use Rattle.exit_queue.specs.declared.Turn.{Turn}
-use Rattle.exit_queue.specs.Queue.{Tracks, joined, startPair, exitBy, moved}
+use Rattle.exit_queue.specs.Queue.{Tracks, joined, startPair, exitBy}
 use Rattle.exit_queue.specs.Turns.{Exits}
 use Rattle.exit_queue.proofs.Tracks.{tracks-set, tracks-few, tracks-start}
 use Rattle.exit_queue.proofs.Exiting.{exit-tracked}

@@ -18,7 +18,7 @@ use Rattle.definitions.specs.Rust.Phase0.Helpers.{«compute_epoch_at_slot», «
 use Rattle.refusals.proofs.All.{both}
 use Rattle.refusals.proofs.Laws.{InOrder, in-order, PositiveDivisors, good-settings, registry-shaped, small}
 use Rattle.refusals.proofs.Answers.{passed}
-use Rattle.refusals.specs.Closes.{Closes}
+use Rattle.definitions.specs.Closes.{Closes}
 use Rattle.refusals.proofs.buffers.Closes.{closes-refused}
 use Rattle.exit_queue.specs.Exits.{Leaves}
 use Rattle.exit_queue.proofs.exits.Exits.{exit-by-numbers}

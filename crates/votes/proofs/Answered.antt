@@ -4,7 +4,7 @@ use mathlib.Core.Bool.{Bool, true, false, _&&_}
 use mathlib.Core.List.{List, [], _∷_}
 use Prim.Native.Nat.{ℕ, _≤_, _<_}
 use Rattle.definitions.specs.Answers.{Answers}
-use Rattle.definitions.specs.Checked.{Checked, value, refused, codeOf, overflow, noRoot}
+use Rattle.definitions.specs.Checked.{Checked, value, refused, codeOf}
 use Rattle.definitions.specs.Record.{Validator}
 use Rattle.definitions.specs.Refusals.{afterTests}
 use Rattle.definitions.specs.Rust.Phase0.Helpers.{«get_block_root»}
@@ -20,6 +20,7 @@ use Rattle.definitions_votes.specs.Answers.{verdictNumber, firstThree, turnedAw
 use Rattle.votes.specs.Sums.{Counted}
 use Rattle.votes.specs.Weighed.{weighedSums}
 use Rattle.votes.proofs.Weighed.{votes-early, votes-missing, votes-by-sums, votes-over}
+use Rattle.laws.proofs.Tests.{and-both}
 
 found : (m : Checked (List ℕ)) {x : ℕ} → x ≡ codeOf m → x ≡ 0 → isFound m ≡ true
 found m e z = ap isFound (given m e z .is)
@@ -31,9 +32,6 @@ lost (refused r) e z = refl
 and-false : (a : Bool) {b : Bool} → b ≡ false → (a && b) ≡ false
 and-false true h = h
 and-false false h = refl
-
-and-true : {a b : Bool} → a ≡ true → b ≡ true → (a && b) ≡ true
-and-true h k = rw (h, k)
 
 abbrev pub lookup : Ballot → ℕ → Checked (List ℕ)
 lookup b epoch = «get_block_root» (b .settings) (b .roots) (b .finality .slot) epoch
@@ -60,7 +58,7 @@ module _ (b : Ballot) where
 
       module _ (w : y ≡ 0) {c : VoteSumsAnswer} (g : Counted (currentOf b) (previousOf b) (b .marks) (b .validators) c) where
         both : rootsFound b ≡ true
-        both = and-true (found (lookup b (previousOf b)) e z) (found (lookup b (currentOf b)) f w)
+        both = and-both (found (lookup b (previousOf b)) e z) (found (lookup b (currentOf b)) f w)
 
         pub ends-over : {q : ℕ} → c ≡ Refused q → {a : VotesAnswer} → a ≡ turnedAway 5 → a ≡ votesAnswerFor (votes b)
         ends-over {q} k h = answers (votes-over b l both (g .over q k)) h

@@ -1,50 +1,38 @@
 -- Neither lookup of the two target epochs can overflow after the tests.
-use mathlib.Core.Path.{_≡_, refl, sym, ap, _∙_}
-use mathlib.Core.Bool.{Bool, true, false, cond, true≢false}
+use mathlib.Core.Path.{_≡_, sym, ap, _∙_}
+use mathlib.Core.Bool.{true, false, true≢false}
 use mathlib.Core.List.{List}
-use Prim.Native.Nat.{ℕ, _+_, _-_, _*_, _/_, _^_, _≤_, _<_}
+use Prim.Native.Nat.{ℕ, _+_, _-_, _*_, _^_, _≤_, _<_}
 use native.Mathlib.Omega.{arith}
 use native.Mathlib.Decide.{decLe}
-use native.Mathlib.Nat.{div-mul-le-self, mul-le-mul-right}
-use lib.Dec.{eqb}
+use native.Mathlib.Nat.{mul-le-mul-right}
 use Rattle.definitions.specs.declared.Settings.{Settings}
-use Rattle.definitions.specs.Checked.{value, refused, noRoot}
-use Rattle.definitions.specs.Rust.Phase0.Helpers.{«compute_epoch_at_slot», «compute_start_slot_at_epoch», «get_current_epoch», «get_previous_epoch», «get_block_root», «get_block_root_at_slot»}
-use Rattle.arithmetic.proofs.Operations.{add64-given, mul64-given}
+use Rattle.definitions.specs.Checked.{refused, noRoot}
+use Rattle.definitions.specs.Rust.Phase0.Helpers.{«compute_start_slot_at_epoch», «get_current_epoch», «get_previous_epoch», «get_block_root», «get_block_root_at_slot»}
 use Rattle.arithmetic.proofs.Laws.{bind-value}
 use Rattle.epochs.proofs.roots.Lookups as lookups
 use Rattle.definitions_votes.specs.Exact.{isFound}
 use Rattle.votes.specs.Laws.{FourIsNoRoot}
 use Rattle.votes.proofs.Passed.{votes-passed}
+use Rattle.agreement.proofs.Bounds.{previous-epoch, current-start}
+use Rattle.agreement.proofs.Fits.{add64-fits, mul64-fits}
 
 module _ (s : Settings) (roots : List ℕ) (stateSlot epoch : ℕ) (l : epoch * s .«slots_per_epoch» ≤ stateSlot) (a : stateSlot < 2 ^ 48) (b : s .«slots_per_historical_root» < 2 ^ 48) where
   at-start : «get_block_root» s roots stateSlot epoch ≡ «get_block_root_at_slot» s roots stateSlot (epoch * s .«slots_per_epoch»)
   unfolding «get_block_root» «compute_start_slot_at_epoch»
-  at-start = bind-value («get_block_root_at_slot» s roots stateSlot) (mul64-given epoch (s .«slots_per_epoch») (omega arith))
+  at-start = bind-value («get_block_root_at_slot» s roots stateSlot) (mul64-fits epoch (s .«slots_per_epoch») (omega arith))
 
   only-no-root : isFound («get_block_root» s roots stateSlot epoch) ≡ false → «get_block_root» s roots stateSlot epoch ≡ refused noRoot
   only-no-root h = go (decLe stateSlot (epoch * s .«slots_per_epoch»)) (decLe stateSlot (epoch * s .«slots_per_epoch» + s .«slots_per_historical_root»))
     where
       go : Dec (stateSlot ≤ epoch * s .«slots_per_epoch») → Dec (stateSlot ≤ epoch * s .«slots_per_epoch» + s .«slots_per_historical_root») → «get_block_root» s roots stateSlot epoch ≡ refused noRoot
       go (yes e) d = at-start ∙ lookups.late s roots stateSlot (epoch * s .«slots_per_epoch») e
-      go (no e) (yes d) = absurd (true≢false (sym (ap isFound (at-start ∙ lookups.found s roots stateSlot (epoch * s .«slots_per_epoch») (omega arith) (add64-given (epoch * s .«slots_per_epoch») (s .«slots_per_historical_root») (omega arith)) d)) ∙ h))
-      go (no e) (no d) = at-start ∙ lookups.old s roots stateSlot (epoch * s .«slots_per_epoch») (omega arith) (add64-given (epoch * s .«slots_per_epoch») (s .«slots_per_historical_root») (omega arith)) (omega arith)
-
-current-start : (s : Settings) (stateSlot : ℕ) → «get_current_epoch» s stateSlot * s .«slots_per_epoch» ≤ stateSlot
-unfolding «get_current_epoch» «compute_epoch_at_slot»
-current-start s stateSlot = div-mul-le-self stateSlot (s .«slots_per_epoch»)
-
-earlier : (s : Settings) (stateSlot : ℕ) → «get_previous_epoch» s stateSlot ≤ «get_current_epoch» s stateSlot
-unfolding «get_previous_epoch»
-earlier s stateSlot = go (eqb («get_current_epoch» s stateSlot) 0)
-  where
-    go : (t : Bool) → cond t 0 («get_current_epoch» s stateSlot - 1) ≤ «get_current_epoch» s stateSlot
-    go true = omega arith
-    go false = omega arith
+      go (no e) (yes d) = absurd (true≢false (sym (ap isFound (at-start ∙ lookups.found s roots stateSlot (epoch * s .«slots_per_epoch») (omega arith) (add64-fits (epoch * s .«slots_per_epoch») (s .«slots_per_historical_root») (omega arith)) d)) ∙ h))
+      go (no e) (no d) = at-start ∙ lookups.old s roots stateSlot (epoch * s .«slots_per_epoch») (omega arith) (add64-fits (epoch * s .«slots_per_epoch») (s .«slots_per_historical_root») (omega arith)) (omega arith)
 
 previous-start : (s : Settings) (stateSlot : ℕ) → «get_previous_epoch» s stateSlot * s .«slots_per_epoch» ≤ stateSlot
 previous-start s stateSlot =
-    let m : «get_previous_epoch» s stateSlot * s .«slots_per_epoch» ≤ «get_current_epoch» s stateSlot * s .«slots_per_epoch» = mul-le-mul-right (s .«slots_per_epoch») (earlier s stateSlot) in
+    let m : «get_previous_epoch» s stateSlot * s .«slots_per_epoch» ≤ «get_current_epoch» s stateSlot * s .«slots_per_epoch» = mul-le-mul-right (s .«slots_per_epoch») (previous-epoch s stateSlot) in
     omega (arith, current-start s stateSlot)
 
 pub four-is-no-root : FourIsNoRoot

@@ -1,22 +1,22 @@
 -- The outcome by the five sums.
-use mathlib.Core.Path.{_≡_, refl, sym, ap, _∙_}
+use mathlib.Core.Path.{_≡_, refl, sym, _∙_}
 use mathlib.Core.Logic.{_⊎_, inl, inr}
 use mathlib.Core.Bool.{Bool, true, false, cond}
-use mathlib.Core.List.{List, [], _∷_, map}
+use mathlib.Core.List.{List, map}
 use Prim.Native.Nat.{ℕ, _^_, _≤_, _<_, max}
 use native.Mathlib.Omega.{arith}
 use borrow.Author.Tests.{le-leb, lt-leb, ltb-true}
 use lib.Dec.{ltb}
-use Rattle.definitions.specs.Checked.{Checked, value, refused, noRoot, overflow, sum64, bind}
+use Rattle.definitions.specs.Checked.{value, refused, noRoot, overflow, sum64}
 use Rattle.definitions.specs.Lists.{sum}
 use Rattle.definitions.specs.Rust.Phase0.EpochProcessing.{isJustified}
 use Rattle.laws.proofs.Checked.{not-value, value-same}
 use Rattle.laws.proofs.Loops.Summed.{sum64-given}
 use Rattle.definitions_votes.specs.Filling.{Filling, noneSet, allSet, filled}
-use Rattle.definitions_votes.specs.Exact.{Ballot, currentOf, previousOf, testOf, rootsFound, Outcome, nothingOpen}
+use Rattle.definitions_votes.specs.Exact.{Ballot, currentOf, previousOf, testOf, rootsFound, nothingOpen}
 use Rattle.definitions_votes.specs.Votes.{weighedVotes, votes}
 use Rattle.definitions_votes.proofs.Filled.{active-kept}
-use Rattle.definitions_votes.proofs.Tests.{testBy, test-plain, test-fits}
+use Rattle.definitions_votes.proofs.Tests.{test-plain, test-fits}
 use Rattle.definitions_votes.proofs.Exact.{activeSum, test-sums, Given, Over, either, later}
 use Rattle.votes.specs.declared.vote_sums.VoteSums.{VoteSums}
 use Rattle.votes.specs.Sums.{weight, activeAt, hitsTarget, PlainSums}

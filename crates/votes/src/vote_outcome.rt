@@ -1,6 +1,5 @@
 // What votes not yet counted can come to (R-13): the finalized epochs of the four pairs of tests, rising and each once, and the answer.
 ghost use mathlib.Core.Path.{_≡_};
-ghost use mathlib.Core.List.{[], _∷_};
 ghost use Prim.Native.Nat.{_+_, _^_, _≤_, _<_, max};
 ghost use Rattle.definitions.specs.Answers.{Answers, SaysTruth};
 ghost use Rattle.definitions.specs.Checked.{value};

@@ -3,12 +3,11 @@ use mathlib.Core.Path.{_≡_, refl, sym, ap, _∙_}
 use mathlib.Core.Bool.{Bool, true, false, cond, _&&_, _||_}
 use Prim.Native.Nat.{ℕ, _+_, _-_, _≤_}
 use native.Mathlib.Omega.{arith}
-use borrow.Author.Tests.{ltb-true, ltb-false}
 use lib.Dec.{ltb, eqb}
 use Rattle.definitions.specs.declared.Settings.{Settings}
 use Rattle.definitions.specs.Record.{Validator, «FAR_FUTURE_EPOCH»}
-use Rattle.definitions.specs.Updates.{withEffectiveBalance, withEligibility, withActivation, withExit, withBalance}
-use Rattle.definitions.specs.Checked.{Checked, value, refused, bind, add64}
+use Rattle.definitions.specs.Updates.{withEffectiveBalance, withEligibility, withExit, withBalance}
+use Rattle.definitions.specs.Checked.{value, bind, add64}
 use Rattle.definitions.specs.Document.Phase0.Helpers.{«is_eligible_for_activation_queue»}
 use Rattle.definitions.specs.Document.Phase0.EpochProcessing.{queueEligible, isEjected, roundedBalance}
 use Rattle.definitions.specs.Document.Altair.EpochProcessing.{rotateParticipation}

@@ -2,31 +2,29 @@
 use mathlib.Core.Path.{_≡_, refl, sym, ap, _∙_}
 use mathlib.Core.Bool.{Bool, true, false, cond}
 use mathlib.Core.List.{List, [], _∷_, _++_}
-use Prim.Native.Nat.{ℕ, _+_, _-_, _^_, _≤_, _<_, min}
-use native.Mathlib.Omega.{arith}
-use borrow.Author.Tests.{eq-eqb, ne-eqb, ltb-true, ltb-false}
-use lib.Dec.{ltb, eqb}
-use lib.ListN.{replicate}
+use Prim.Native.Nat.{ℕ, _+_, _-_, _≤_, min}
+use borrow.Author.Tests.{eq-eqb, ne-eqb}
+use lib.Dec.{ltb}
 use Rattle.definitions.specs.declared.Settings.{Settings}
 use Rattle.definitions.specs.declared.Deltas.{Deltas}
 use Rattle.definitions.specs.Record.{Validator}
 use Rattle.definitions.specs.Updates.{withScore, withBalance}
-use Rattle.definitions.specs.Checked.{Checked, value, refused, overflow, bind, settle, add64, foldChecked}
+use Rattle.definitions.specs.Checked.{Checked, value, refused, bind, add64, foldChecked}
 use Rattle.definitions.specs.Rust.Phase0.EpochProcessing.{isEligible}
 use Rattle.definitions.specs.Rust.Altair.Helpers.{FlagTotals, isUnslashedParticipating, flagIndexDeltas, inactivityPenaltyDeltas}
 use Rattle.definitions.specs.Rust.Altair.EpochProcessing.{movedScore, recoveredScore, updateInactivityScore, rewardAndPenalize}
 use Rattle.definitions_close.specs.Amounts.{pairs, booked}
 use Rattle.arithmetic.proofs.Laws.{bind-value}
-use Rattle.laws.proofs.Checked.{not-value, value-same, bound, add64-value}
+use Rattle.laws.proofs.Checked.{not-value, value-same, bound, add64-value, add64-below}
 use Rattle.rates.specs.Balances.{appliedBalance, rewardedBalance}
 use Rattle.rates.proofs.reward_balances.Rewarded.{rewarded, not-rewarded}
 use Rattle.rewards.specs.Shared.{totalsOf}
 use Rattle.write_turn.specs.declared.Plan.{Plan}
 use Rattle.write_turn.specs.Planned.{scoredBy, rewardedBy, paidBy}
-use Rattle.write_turn.specs.Written.{payOf}
 use Rattle.write_pass.specs.declared.Booking.{Booking}
 use Rattle.write_pass.specs.declared.Pairs.{Pairs}
 use Rattle.write_pass.specs.Filled.{Gives, BooksPair, four, left, Fits, eightBy, nineBy, Between}
+use Rattle.laws.proofs.Tests.{lowered}
 
 -- From a balance on
 
@@ -39,21 +37,6 @@ pub record Applied (balance : ℕ) (ds : List Deltas) (x : ℕ) : Type 0 where
   pub fits : Fits balance ds
   pub is : left balance ds ≡ x
 
-fits64 : (a b : ℕ) {x : ℕ} → add64 a b ≡ value x → a + b < 2 ^ 64
-unfolding add64
-fits64 a b {x} e = go (ltb (a + b) (2 ^ 64)) refl e
-  where
-    go : (t : Bool) → ltb (a + b) (2 ^ 64) ≡ t → cond t (value (a + b)) (refused overflow) ≡ value x → a + b < 2 ^ 64
-    go true q e = ltb-true _ _ q
-    go false q e = absurd (not-value e)
-
-lowered : (a b : ℕ) → cond (ltb a b) 0 (a - b) ≡ a - min a b
-lowered a b = go (ltb a b) refl
-  where
-    go : (t : Bool) → ltb a b ≡ t → cond t 0 (a - b) ≡ a - min a b
-    go true q = let l = ltb-true a b q in omega (arith, l)
-    go false q = let l = ltb-false a b q in omega (arith, l)
-
 pub applied : (balance : ℕ) (ds : List Deltas) {x : ℕ} → foldChecked appliedBalance balance ds ≡ value x → Applied balance ds x
 unfolding foldChecked appliedBalance Fits left
 applied balance [] e = record { fits = tt; is = value-same e }
@@ -63,7 +46,7 @@ applied balance (d ∷ ds) {x} e =
     let raised = add64-value balance (d .reward) (b .gave) in
     let next : a .first ≡ balance + d .reward - min (balance + d .reward) (d .penalty) = sym (value-same (b .then)) ∙ lowered (b .first) (d .penalty) ∙ ap (λ (k : ℕ). k - min k (d .penalty)) (sym raised) in
     let rest = applied (balance + d .reward - min (balance + d .reward) (d .penalty)) ds (rw next at (a .then)) in
-    record { fits = (fits64 balance (d .reward) (b .gave), rest .fits); is = rest .is }
+    record { fits = (add64-below balance (d .reward) (b .gave), rest .fits); is = rest .is }
 
 -- Scores write the score alone, rewards the balance alone
 

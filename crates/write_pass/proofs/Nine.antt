@@ -3,21 +3,10 @@ use mathlib.Core.Path.{_≡_, refl, sym, ap, _∙_}
 use mathlib.Core.List.{List, [], _∷_, _++_}
 use Prim.Native.Nat.{ℕ, zero, suc, _+_, _-_, _*_, _≤_, _<_}
 use native.Mathlib.Omega.{arith}
-use lib.ListN.{length, getD, take, drop, set, length-append, length-take, length-drop, take-append-drop}
-use lib.Seq.{drop-cons, take-all}
+use lib.ListN.{length, take, drop, set, length-take, length-drop, take-append-drop}
+use lib.Seq.{take-all}
 use Rattle.write_pass.specs.Filled.{nineAt, putNine, PutAt}
-
--- n numbers from k on, one by one
-from : ℕ → ℕ → List ℕ → List ℕ
-from zero k xs = []
-from (suc n) k xs = getD xs k 0 ∷ from n (suc k) xs
-
-from-take : (n k : ℕ) (xs : List ℕ) → k + n ≤ length xs → from n k xs ≡ take n (drop k xs)
-unfolding from
-from-take zero k xs h = refl
-from-take (suc n) k xs h =
-    let l : k < length xs = omega arith in
-    rw (drop-cons xs k 0) (ap (λ (t : List ℕ). getD xs k 0 ∷ t) (from-take n (suc k) xs (omega arith)))
+use Rattle.laws.proofs.Encode.{from, from-take, take-whole}
 
 abbrev over : ℕ → ℕ → ℕ → ℕ → ℕ → ℕ → ℕ → ℕ → ℕ → List ℕ → List ℕ
 over a b c d e f g h i xs = set (set (set (set (set (set (set (set (set xs 0 a) 1 b) 2 c) 3 d) 4 e) 5 f) 6 g) 7 h) 8 i
@@ -38,10 +27,6 @@ drop-front (suc n) (x ∷ xs) ys h = drop-front n xs ys (omega arith)
 
 part-front : (n k : ℕ) (xs ys : List ℕ) → k + n ≤ length xs → take n (drop k (xs ++ ys)) ≡ take n (drop k xs)
 part-front n k xs ys h = rw (drop-front k xs ys (omega arith)) (take-front n (drop k xs) ys (omega (arith, length-drop k xs)))
-
-take-whole : (xs ys : List ℕ) → take (length xs) (xs ++ ys) ≡ xs
-take-whole [] ys = refl
-take-whole (x ∷ xs) ys = ap (λ (t : List ℕ). x ∷ t) (take-whole xs ys)
 
 drop-whole : (xs ys : List ℕ) → drop (length xs) (xs ++ ys) ≡ ys
 drop-whole [] ys = refl

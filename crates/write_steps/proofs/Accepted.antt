@@ -3,22 +3,22 @@
 use mathlib.Core.Path.{_≡_, refl, sym, ap, _∙_}
 use mathlib.Core.Bool.{Bool, true, false, cond, _&&_, not}
 use mathlib.Core.List.{List, [], _∷_, map}
-use Prim.Native.Nat.{ℕ, _+_, _-_, _/_, _^_, _≤_, _<_, min}
+use Prim.Native.Nat.{ℕ, _-_, _^_, _≤_, _<_, min}
 use native.Mathlib.Omega.{arith}
 use borrow.Author.Tests.{lt-ltb, eq-eqb, ne-eqb, eqb-true, ltb-true}
 use lib.Dec.{ltb, eqb}
-use lib.ListN.{length, replicate}
+use lib.ListN.{replicate}
 use Rattle.definitions.specs.declared.Settings.{Settings}
 use Rattle.definitions.specs.declared.Checkpoint.{Checkpoint}
 use Rattle.definitions.specs.Lists.{sum, filter}
 use Rattle.definitions.specs.Record.{Validator, BeaconState, «GENESIS_EPOCH»}
-use Rattle.definitions.specs.Checked.{Refusal, overflow, Checked, value, refused, bind, mul64, sum64, mapChecked}
+use Rattle.definitions.specs.Checked.{overflow, Checked, value, refused, bind, mul64, sum64, mapChecked}
 use Rattle.definitions.specs.Rust.Phase0.Helpers.{«is_active_validator», «get_current_epoch», «get_previous_epoch», «get_active_validator_indices», «get_total_balance», «get_total_active_balance»}
-use Rattle.definitions.specs.Rust.Phase0.EpochProcessing.{«is_in_inactivity_leak», «process_registry_updates», «process_effective_balance_updates», updateEffectiveBalance}
+use Rattle.definitions.specs.Rust.Phase0.EpochProcessing.{«is_in_inactivity_leak», «process_registry_updates», «process_effective_balance_updates»}
 use Rattle.definitions.specs.Rust.Altair.Helpers.{«TIMELY_SOURCE_FLAG_INDEX», «TIMELY_TARGET_FLAG_INDEX», «TIMELY_HEAD_FLAG_INDEX», FlagTotals, flagTotals, isUnslashedParticipating, «get_unslashed_participating_indices»}
 use Rattle.definitions.specs.Rust.Altair.EpochProcessing.{updateInactivityScore, rewardAndPenalize, «process_inactivity_updates», «process_rewards_and_penalties», «process_slashings»}
-use Rattle.definitions.specs.Close.{step, inactivityStep, rewardsStep, registryStep, slashingsStep, effectiveBalancesStep}
-use Rattle.laws.proofs.Checked.{not-value, value-same, bound, sum64-value}
+use Rattle.definitions.specs.Close.{step}
+use Rattle.laws.proofs.Checked.{not-value, value-same, bound}
 use Rattle.agreement.proofs.Agrees.{Agrees, Overflow}
 use Rattle.agreement.proofs.Inactivity.{inactivity}
 use Rattle.agreement.proofs.Rewards.{rewards}
@@ -40,7 +40,8 @@ use Rattle.survey.specs.Sums.{weight, activeAt, balanceOf, PlainSums}
 use Rattle.write_steps.specs.RegistrySteps.{registrySteps}
 use Rattle.write_steps.specs.Numbers.{leakOf, Lacks, noLeak, noAdjusted, noThresholds}
 use Rattle.write_steps.proofs.Leak.{leak-none, leak-some}
-use Rattle.write_steps.proofs.Kept.{bare, Keeps, score-keeps, reward-keeps, kept-map}
+use Rattle.write_steps.proofs.Kept.{bare, score-keeps, reward-keeps}
+use Rattle.laws.proofs.Frame.Entries.{kept-map, Keeps}
 
 -- Every refusal is 5
 

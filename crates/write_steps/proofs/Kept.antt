@@ -1,12 +1,11 @@
 -- The totals do not read what scores and rewards write.
-use mathlib.Core.Path.{_≡_, refl, sym, ap, ap₂, _∙_}
+use mathlib.Core.Path.{_≡_, refl, sym, ap, _∙_}
 use mathlib.Core.Bool.{Bool, true, false, cond}
-use mathlib.Core.List.{List, [], _∷_, map}
+use mathlib.Core.List.{List}
 use Prim.Native.Nat.{ℕ}
-use lib.ListN.{length}
 use Rattle.definitions.specs.declared.Settings.{Settings}
 use Rattle.definitions.specs.Checked.{Checked, value, refused, bind, mapChecked}
-use Rattle.definitions.specs.Lists.{sum, filter}
+use Rattle.definitions.specs.Lists.{filter}
 use Rattle.definitions.specs.Record.{Validator}
 use Rattle.definitions.specs.Updates.{withScore, withBalance}
 use Rattle.definitions.specs.Rust.Phase0.EpochProcessing.{isEligible}
@@ -19,15 +18,13 @@ use Rattle.rates.specs.Balances.{rewardedBalance}
 use Rattle.rates.proofs.reward_balances.Rewarded.{rewarded, not-rewarded}
 use Rattle.survey.specs.declared.Sums.{Sums}
 use Rattle.survey.specs.Sums.{weight, activeAt, Totals}
+use Rattle.laws.proofs.Frame.Entries.{kept-map, Keeps}
 
 -- a validator but for its balance and score
 abbrev pub bare : Validator → Validator
 bare v = withScore 0 (withBalance 0 v)
 
 -- f leaves what h reads as it is
-abbrev pub Keeps : {B : Type 0} → (Validator → Checked Validator) → (Validator → B) → Type 0
-Keeps f h = (v w : Validator) → f v ≡ value w → h w ≡ h v
-
 pub score-keeps : (s : Settings) (current previous : ℕ) (leaking : Bool) → Keeps (updateInactivityScore s current previous leaking) bare
 unfolding updateInactivityScore
 score-keeps s current previous leaking v w e = go (isEligible previous v) e
@@ -45,14 +42,6 @@ reward-keeps s quotient current previous source target head v w e = go (rewarded
     go : (m : Checked ℕ) → rewardedBalance s quotient current previous source target head v ≡ m → bare w ≡ bare v
     go (value x) h = ap bare (value-same (sym e ∙ rewarded s quotient current previous source target head v h))
     go (refused p) h = absurd (not-value (sym (not-rewarded s quotient current previous source target head v h) ∙ e))
-
-pub kept-map : {B : Type 0} (f : Validator → Checked Validator) (h : Validator → B) → Keeps f h → (vs : List Validator) {ws : List Validator} → mapChecked f vs ≡ value ws → map h ws ≡ map h vs
-unfolding mapChecked
-kept-map f h k [] e = ap (map h) (sym (value-same e))
-kept-map f h k (v ∷ vs) e =
-    let a = bound (f v) (λ y. bind (mapChecked f vs) (λ ys. value (y ∷ ys))) e in
-    let b = bound (mapChecked f vs) (λ ys. value (a .first ∷ ys)) (a .then) in
-    ap (map h) (sym (value-same (b .then))) ∙ ap₂ _∷_ (k v (a .first) (a .gave)) (kept-map f h k vs (b .gave))
 
 module _ (f : Validator → Checked Validator) (vs : List Validator) {ws : List Validator} (e : mapChecked f vs ≡ value ws) where
   -- over those that pass a test

@@ -1,7 +1,7 @@
 -- What the code's ways through the steps need of what was found.
 use mathlib.Core.Path.{_≡_, refl, sym, ap, subst, _∙_}
 use mathlib.Core.Bool.{Bool, true, false, true≢false}
-use mathlib.Core.List.{List, map}
+use mathlib.Core.List.{List}
 use Prim.Native.Nat.{ℕ, _*_, _/_, _≤_, max}
 use native.Mathlib.Omega.{arith}
 use borrow.Author.Tests.{eq-eqb}
@@ -9,9 +9,9 @@ use lib.Dec.{eqb}
 use lib.ListN.{length}
 use Rattle.definitions.specs.declared.Settings.{Settings}
 use Rattle.definitions.specs.Record.{Validator, decode}
-use Rattle.definitions.specs.Checked.{value, sum64}
-use Rattle.definitions.specs.Rust.Phase0.Helpers.{«get_current_epoch», «get_previous_epoch», «get_total_balance», «get_validator_churn_limit»}
-use Rattle.laws.proofs.Checked.{bound, not-value, value-same}
+use Rattle.definitions.specs.Checked.{value}
+use Rattle.definitions.specs.Rust.Phase0.Helpers.{«get_current_epoch», «get_previous_epoch», «get_validator_churn_limit»}
+use Rattle.laws.proofs.Checked.{bound, not-value}
 use Rattle.laws.proofs.Encode.{length-decode}
 use Rattle.agreement.specs.Cut.{CutAt, eligibleNow}
 use Rattle.definitions.specs.declared.ExitQueue.{ExitQueue}
@@ -36,12 +36,6 @@ pub queue-few : {least : ℕ} (xs : List ℕ) {q : ExitQueue} → length xs ≡ 
 queue-few xs h t = let f = tracks-few t in omega (arith, length-decode (length xs / 10) xs h)
 
 -- a total is at least an increment
-pub total-least : (s : Settings) (members : List Validator) {t : ℕ} → «get_total_balance» s members ≡ value t → s .«effective_balance_increment» ≤ t
-unfolding «get_total_balance»
-total-least s members e =
-    let a = bound (sum64 (map (λ v. v .«effective_balance») members)) (λ x. value (max (s .«effective_balance_increment») x)) e in
-    omega (arith, value-same (a .then))
-
 -- From the survey
 
 -- a sum that is a number has not gone over

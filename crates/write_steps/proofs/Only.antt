@@ -15,9 +15,8 @@ use Rattle.arithmetic.proofs.Operations.{OnlyOverflow, only-value, only-add64, 
 use Rattle.finality.proofs.Passed as finality
 use Rattle.participation.proofs.inactivity.Scores.{only-moved}
 use Rattle.rates.specs.Balances.{rewardedBalance}
-use Rattle.rates.proofs.reward_balances.Only.{only-rewarded}
+use Rattle.rates.proofs.reward_balances.Only.{only-rewarded, only-either}
 use Rattle.rates.proofs.reward_balances.Rewarded.{rewarded, not-rewarded}
-use Rattle.write_turn.proofs.Sweeps.Pure.{only-either}
 use Rattle.definitions.specs.declared.ExitQueue.{ExitQueue}
 use Rattle.exit_queue.specs.Queue.{exitBy}
 use Rattle.exit_queue.proofs.Exiting.{only-nextEpoch}

@@ -23,9 +23,9 @@ use Rattle.write_turn.specs.declared.Course.{Course}
 use Rattle.write_turn.specs.Written.{payOf, moveWith, writtenWith}
 use Rattle.write_steps.proofs.Only.{only-pay, only-last}
 use Rattle.write_steps.proofs.Passes.{turns, admits, moved-last, only-move, turns-follow}
-use Rattle.write_steps.proofs.Kept.{kept-map}
 use Rattle.write_steps.proofs.Seen.{seen, seenNow, opening-seen, cut-kept, pay-seen, turns-seen}
 use Rattle.write_steps.proofs.Tracked.{pay-tracked}
+use Rattle.laws.proofs.Frame.Entries.{kept-map}
 
 module _ (s : Settings) (p : Plan) (t : Course) (quota : ℕ) (vs : List Validator) (cut : CutAt (t .limit) (t .«finalized_epoch») (eligibleNow s (p .shared .«current_epoch») vs) (t .bound) quota) where
   abbrev f : ℕ

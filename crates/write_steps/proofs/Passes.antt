@@ -1,16 +1,15 @@
 -- The one pass is the passes one after the other: scores and rewards; the registry's loop, which rescans the registry at each exit; activation
 -- by the cut; slashings, effective balances and flags.
-use mathlib.Core.Path.{_≡_, refl, sym, ap, _∙_}
+use mathlib.Core.Path.{_≡_, refl, ap, _∙_}
 use mathlib.Core.Bool.{Bool, true, false, cond}
 use mathlib.Core.List.{List, [], _∷_}
-use Prim.Native.Nat.{ℕ, zero, suc, _+_, _-_, _<_}
+use Prim.Native.Nat.{ℕ, suc, _+_, _-_, _<_}
 use native.Mathlib.Omega.{arith}
-use lib.Dec.{eqb}
 use lib.ListN.{length, getD, set, take}
 use Rattle.definitions.specs.declared.Settings.{Settings}
-use Rattle.definitions.specs.Lists.{range, filter}
-use Rattle.definitions.specs.Record.{Validator, «FAR_FUTURE_EPOCH», nobody}
-use Rattle.definitions.specs.Checked.{Refusal, Checked, value, refused, bind, mapChecked, foldChecked}
+use Rattle.definitions.specs.Lists.{filter}
+use Rattle.definitions.specs.Record.{Validator, nobody}
+use Rattle.definitions.specs.Checked.{Checked, value, refused, bind, mapChecked}
 use Rattle.laws.proofs.Checked.{Bound, bound, value-same}
 use Rattle.arithmetic.proofs.Operations.{OnlyOverflow, only-value, only-bind}
 use Rattle.agreement.specs.Queue.{mapBelow}
@@ -21,13 +20,13 @@ use Rattle.exit_queue.proofs.Tracks.{tracks-set}
 use Rattle.registry.specs.Updates.{updateAt, turnBy}
 use Rattle.registry.proofs.Turns.{turn-tracked, turn-keeps}
 use Rattle.write_turn.specs.Sweep.{Moved, sweep, after, last, dropped}
-use Rattle.write_turn.proofs.Sweeps.Fused.{swept-both, swept-first, swept-last, paired, keeping}
-use Rattle.write_turn.proofs.Sweeps.Follows.{Follows, followed}
+use Rattle.write_turn.proofs.Sweeps.Fused.{swept-both, swept-last, paired, keeping}
+use Rattle.write_turn.proofs.Sweeps.Follows.{Follows}
 use Rattle.write_turn.specs.declared.Plan.{Plan}
 use Rattle.write_turn.specs.Planned.{lastBy}
 use Rattle.write_turn.specs.declared.Course.{Course}
-use Rattle.write_turn.specs.Written.{payOf, turnWith, admitWith, moveWith, writtenWith}
-use Rattle.write_steps.proofs.Only.{only-pay, only-turn, only-last}
+use Rattle.write_turn.specs.Written.{turnWith, admitWith, moveWith}
+use Rattle.write_steps.proofs.Only.{only-turn, only-last}
 
 module _ (s : Settings) (epoch limit : ℕ) where
   abbrev turned : ExitQueue → Validator → Validator → Checked (Moved ExitQueue Validator)

@@ -1,16 +1,16 @@
 -- The steps over the registry, one after the other as the Rust has them, are the one pass from the opening.
 use mathlib.Core.Path.{_≡_, refl, sym, ap, subst, _∙_}
 use mathlib.Core.Bool.{Bool, true, false, cond}
-use mathlib.Core.List.{List, [], _∷_, map}
-use Prim.Native.Nat.{ℕ, _+_, _/_, _≤_, _<_, max}
+use mathlib.Core.List.{List, [], _∷_}
+use Prim.Native.Nat.{ℕ, _/_, max}
 use native.Mathlib.Omega.{arith}
-use borrow.Author.Tests.{eqb-true, eq-eqb, ne-eqb}
+use borrow.Author.Tests.{eqb-true, eq-eqb}
 use lib.Dec.{eqb}
 use lib.ListN.{length}
 use Rattle.definitions.specs.declared.Settings.{Settings}
 use Rattle.definitions.specs.declared.Number.{Number}
 use Rattle.definitions.specs.Lists.{range, sum}
-use Rattle.definitions.specs.Record.{Validator, «FAR_FUTURE_EPOCH»}
+use Rattle.definitions.specs.Record.{Validator}
 use Rattle.definitions.specs.Checked.{Checked, value, refused, bind, mapChecked, foldChecked}
 use Rattle.definitions.specs.Document.Phase0.EpochProcessing.{dequeued}
 use Rattle.definitions.specs.Rust.Phase0.Helpers.{«get_current_epoch», «get_previous_epoch», «is_active_validator», «get_active_validator_indices», «get_total_active_balance», «get_validator_churn_limit»}
@@ -38,11 +38,13 @@ use Rattle.write_turn.specs.Written.{payOf, writtenWith}
 use Rattle.write_steps.specs.RegistrySteps.{registrySteps, lastSteps}
 use Rattle.write_steps.specs.Numbers.{planOf, PlanFor, Found}
 use Rattle.write_steps.proofs.Leak.{leak-some}
-use Rattle.write_steps.proofs.Kept.{kept-map, totals-kept}
+use Rattle.write_steps.proofs.Kept.{totals-kept}
 use Rattle.write_steps.proofs.Rewards.{no-scores, no-rewards, one-pass}
 use Rattle.write_steps.proofs.Last.{as-one}
 use Rattle.write_steps.proofs.Tracked.{pay-bare}
 use Rattle.write_steps.proofs.Opening.{closing-is}
+use Rattle.laws.proofs.Frame.Entries.{kept-map}
+use Rattle.laws.proofs.Checked.{bind-bind}
 
 map-same : (f g : Validator → Checked Validator) → ((v : Validator) → f v ≡ g v) → (vs : List Validator) → mapChecked f vs ≡ mapChecked g vs
 unfolding mapChecked
@@ -54,14 +56,9 @@ unfolding mapChecked bind
 map-none f h [] = refl
 map-none f h (v ∷ vs) = rw (h v, map-none f h vs)
 
-in-turn : {A B C : Type 0} (m : Checked A) (k : A → Checked B) (l : B → Checked C) → bind (bind m k) l ≡ bind m (λ a. bind (k a) l)
-unfolding bind
-in-turn (value a) k l = refl
-in-turn (refused r) k l = refl
-
 grouped : (s : Settings) (stateSlot finalizedEpoch : ℕ) (slashings : List ℕ) (vs : List Validator) → registrySteps s stateSlot finalizedEpoch slashings vs ≡ bind (bind («process_inactivity_updates» s stateSlot finalizedEpoch vs) («process_rewards_and_penalties» s (s .«inactivity_penalty_quotient_altair») stateSlot finalizedEpoch)) (λ paid. bind («process_registry_updates» s stateSlot finalizedEpoch paid) (λ updated. lastSteps s (s .«proportional_slashing_multiplier_altair») stateSlot slashings updated))
 unfolding registrySteps lastSteps
-grouped s stateSlot finalizedEpoch slashings vs = sym (in-turn _ _ _)
+grouped s stateSlot finalizedEpoch slashings vs = sym (bind-bind _ _ _)
 
 module _ (s : Settings) (slot fin : ℕ) (ep : Epochs s slot) (totals : Sums) (leaking : Bool) (a b c : Number) (adjusted : ℕ) (thresholds : Thresholds) where
   abbrev current : ℕ

@@ -1,5 +1,5 @@
 -- Scores and rewards leave the exit epochs as they are, so that the pair of the opening is the pair that the registry's loop starts with.
-use mathlib.Core.Path.{_≡_, refl, sym, ap, ap₂, _∙_}
+use mathlib.Core.Path.{_≡_, refl, sym, ap, _∙_}
 use mathlib.Core.Bool.{Bool, true, false, cond, not}
 use mathlib.Core.List.{List, [], _∷_, map}
 use Prim.Native.Nat.{ℕ}
@@ -8,7 +8,7 @@ use lib.ListN.{length}
 use Rattle.definitions.specs.declared.Settings.{Settings}
 use Rattle.definitions.specs.Lists.{filter, maximum}
 use Rattle.definitions.specs.Record.{Validator, «FAR_FUTURE_EPOCH»}
-use Rattle.definitions.specs.Checked.{Checked, value, bind, mapChecked}
+use Rattle.definitions.specs.Checked.{value, mapChecked}
 use Rattle.definitions.specs.Document.Phase0.Helpers.{exitEpochs, exitQueueChurn}
 use Rattle.laws.proofs.Checked.{bound, value-same}
 use Rattle.definitions.specs.declared.ExitQueue.{ExitQueue}
@@ -16,7 +16,8 @@ use Rattle.exit_queue.specs.Queue.{Tracks}
 use Rattle.write_turn.specs.declared.Plan.{Plan}
 use Rattle.write_turn.specs.Planned.{scoredBy, rewardedBy, paidBy}
 use Rattle.write_turn.specs.Written.{payOf}
-use Rattle.write_steps.proofs.Kept.{bare, Keeps, score-keeps, reward-keeps, kept-map}
+use Rattle.write_steps.proofs.Kept.{bare, score-keeps, reward-keeps}
+use Rattle.laws.proofs.Frame.Entries.{kept-map, Keeps}
 
 abbrev exit : Validator → ℕ
 exit v = v .«exit_epoch»

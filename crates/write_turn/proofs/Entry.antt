@@ -26,7 +26,6 @@ use Rattle.exit_queue.specs.Turns.{Turns}
 use Rattle.registry.specs.Updates.{turnBy}
 use Rattle.rates.specs.declared.Rates.{Rates}
 use Rattle.write_turn.specs.Runs.{Runs}
-use Rattle.write_turn.proofs.Sweeps.Runs.{plain-runs}
 use Rattle.write_turn.specs.Steps.{Steps}
 use Rattle.write_turn.proofs.Sweeps.Steps.{steps-value, steps-refused}
 use Rattle.write_turn.specs.declared.Plan.{Plan}

@@ -1,5 +1,4 @@
 -- The shared numbers of a pass, and what scores, rewards and the last three steps do to one validator by them.
-use mathlib.Core.Path.{_≡_}
 use Prim.Native.Nat.{ℕ, _<_}
 use Rattle.definitions.specs.declared.Settings.{Settings}
 use Rattle.definitions.specs.Record.{Validator}

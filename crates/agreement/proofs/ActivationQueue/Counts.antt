@@ -12,25 +12,14 @@ use Rattle.definitions.specs.Record.{Validator, nobody}
 use Rattle.definitions.specs.Document.Phase0.Helpers.{«is_eligible_for_activation»}
 use Rattle.agreement.specs.Queue.{ahead}
 use Rattle.agreement.specs.Cut.{queuedBefore, queuedAt, count}
-use Rattle.agreement.proofs.ActivationQueue.Filter.{flag, count-none, count-more, count-mono, count-plus}
+use Rattle.agreement.proofs.ActivationQueue.Filter.{flag, count-more, count-mono, count-plus}
+use Rattle.laws.proofs.Tests.{and-right}
 
 pub and-left : (a b : Bool) → (a && b) ≡ true → a ≡ true
 and-left true b e = refl
 and-left false b e = e
 
-and-right : (a b c : Bool) → (b ≡ true → c ≡ true) → (a && b) ≡ true → (a && c) ≡ true
-and-right true b c h e = h e
-and-right false b c h e = e
-
 module _ (f : ℕ) where
-  pub before-queued : (bound : ℕ) (v : Validator) → queuedBefore f bound v ≡ true → «is_eligible_for_activation» f v ≡ true
-  unfolding queuedBefore
-  before-queued bound v e = and-left («is_eligible_for_activation» f v) (ltb (v .«activation_eligibility_epoch») bound) e
-
-  pub at-queued : (bound : ℕ) (v : Validator) → queuedAt f bound v ≡ true → «is_eligible_for_activation» f v ≡ true
-  unfolding queuedAt
-  at-queued bound v e = and-left («is_eligible_for_activation» f v) (eqb (v .«activation_eligibility_epoch») bound) e
-
   pub before-mono : {a b : ℕ} → a ≤ b → (v : Validator) → queuedBefore f a v ≡ true → queuedBefore f b v ≡ true
   unfolding queuedBefore
   before-mono {a} {b} h v e =

@@ -12,8 +12,8 @@ use Rattle.definitions.specs.Updates.{withActivation}
 use Rattle.definitions.specs.Document.Phase0.Helpers.{«is_eligible_for_activation»}
 use Rattle.agreement.specs.Queue.{ahead, mapBelow, activatedAt, activated}
 use Rattle.agreement.specs.Cut.{queuedBefore, queuedAt, count, admitOne, admittedAt, admitted, Cuts, CutAt}
-use Rattle.agreement.proofs.ActivationQueue.Filter.{count-mono, first-more, first-le}
-use Rattle.agreement.proofs.ActivationQueue.Counts.{and-left, before-queued, at-queued, grows, next, ahead-is}
+use Rattle.agreement.proofs.ActivationQueue.Filter.{first-more, first-le}
+use Rattle.agreement.proofs.ActivationQueue.Counts.{and-left, grows, next, ahead-is}
 
 below-same : (stop : ℕ) (f g : ℕ → Validator → Validator) (vs : List Validator) → ((i : ℕ) → i < length vs → f i (getD vs i nobody) ≡ g i (getD vs i nobody)) → mapBelow stop f vs ≡ mapBelow stop g vs
 unfolding mapBelow

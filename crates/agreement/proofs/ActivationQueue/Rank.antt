@@ -10,6 +10,7 @@ use lib.Dec.{T, ltb, eqb, eqb→eq, leb·suc-suc}
 use lib.ListN.{length, take}
 use Rattle.definitions.specs.Lists.{filter, range, insert, sorted}
 use Rattle.agreement.proofs.ActivationQueue.Filter.{count-more}
+use Rattle.laws.proofs.Tests.{or-swap}
 
 -- nothing is before itself, what is before what is before comes before, and of two different numbers one is before the other
 pub record StrictTotal (before : ℕ → ℕ → Bool) : Type 0 where
@@ -40,11 +41,6 @@ all-among P i (x ∷ xs) h t = go (eqb i x) (eqb→eq i x) t (all-among P i xs (
     go : (b : Bool) → (T b → i ≡ x) → T (b || among i xs) → (T (among i xs) → P i) → P i
     go true e t k = subst P (sym (e tt)) (h .0)
     go false e t k = k t
-
-or-swap : (a b c : Bool) → (a || (b || c)) ≡ (b || (a || c))
-or-swap true true c = refl
-or-swap true false c = refl
-or-swap false b c = refl
 
 -- filter
 

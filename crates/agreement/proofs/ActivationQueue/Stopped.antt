@@ -22,6 +22,7 @@ use Rattle.laws.proofs.Checked.{value-same, bound}
 use Rattle.agreement.specs.Queue.{ahead, mapBelow, activatedAt, activated}
 use Rattle.agreement.specs.Stopped.{keptFrom, Stopped}
 use Rattle.agreement.proofs.ActivationQueue.Dequeued.{dequeued-is}
+use Rattle.laws.proofs.Tests.{either}
 
 -- The turns
 
@@ -37,10 +38,6 @@ eligible-kept s epoch v = go («is_eligible_for_activation_queue» s v)
     go false = refl
 
 -- what a condition chooses between
-pub either : {A : Type 0} (P : A → Type 0) (t : Bool) {m n : Checked A} {a : A} → (m ≡ value a → P a) → (n ≡ value a → P a) → cond t m n ≡ value a → P a
-either P true f g p = f p
-either P false f g p = g p
-
 module _ (s : Settings) (stateSlot : ℕ) where
   -- ws has the activation epochs of vs
   abbrev Kept : List Validator → List Validator → Type 0

@@ -1,6 +1,5 @@
 use native.Mathlib.Omega.{arith}
 use borrow.Author.Needs.{needs}
-use Prim.Native.Nat.{_*_}
 use Rattle.definitions_clock.specs.Clock.{firstSlotOf}
 use Rattle.clock.proofs.Steps.{mul-fits, goes-on, stops, times}
 use Rattle.clock.proofs.epoch_start.Statement.{statement}

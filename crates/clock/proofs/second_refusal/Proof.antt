@@ -1,8 +1,8 @@
 use borrow.Author.Needs.{needs}
-use mathlib.Core.Path.{_≡_, _∙_, sym, ap}
+use mathlib.Core.Path.{_∙_, sym, ap}
 use borrow.Author.Tests.{lt-ltb, le-ltb}
-use Rattle.definitions.specs.Checked.{value, codeOf}
-use Rattle.refusals.proofs.Answers.{passed, after-passed, after-refused}
+use Rattle.definitions.specs.Checked.{codeOf}
+use Rattle.refusals.proofs.Answers.{after-passed, after-refused}
 use Rattle.definitions_clock.specs.Calls.{clockTests, notBeforeGenesis, secondTests}
 use Rattle.clock.proofs.second_refusal.Statement.{statement}
 use Rattle.clock.proofs.second_refusal.Tie as tie

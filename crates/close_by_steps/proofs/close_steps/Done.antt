@@ -6,11 +6,10 @@ use lib.ListN.{length, replicate}
 use Rattle.definitions.specs.declared.Settings.{Settings}
 use Rattle.definitions.specs.declared.Finality.{Finality}
 use Rattle.definitions.specs.declared.ExitQueue.{ExitQueue}
-use Rattle.definitions.specs.declared.Raised.{Raised}
 use Rattle.definitions.specs.declared.CloseAnswer.{CloseAnswer}
 use Rattle.definitions.specs.declared.FullAnswer.{FullAnswer}
 use Rattle.definitions.specs.Record.{BeaconState, encode, decode}
-use Rattle.definitions.specs.Checked.{Checked, value, refused, numberOf, bind, codeOf, settle}
+use Rattle.definitions.specs.Checked.{Checked, value, refused, bind, codeOf, settle}
 use Rattle.definitions.specs.ExitQueue.{queueOf}
 use Rattle.definitions.specs.Raised.{raisedTotals, raisedUnlessRefused, closeAnswerFor}
 use Rattle.definitions.specs.Refusals.{afterTests}
@@ -21,7 +20,8 @@ use Rattle.definitions_close.specs.CloseBySteps.{StepOutcome, stepAfter, amount
 use Rattle.laws.proofs.Checked.{number-not-zero}
 use Rattle.laws.proofs.Encode.{decode-encode}
 use Rattle.close_by_steps.specs.Later.{soFarState, LaterRan}
-use Rattle.close_by_steps.specs.Called.{stepOutcome, endedAnswer, firstBy, laterBy, laterOf}
+use Rattle.close_by_steps.specs.Called.{endedAnswer, firstBy, laterBy, laterOf}
+use Rattle.definitions_close.specs.Calls.{stepOutcome}
 
 module _ (s : Settings) (f : Finality) (q : ExitQueue) (registry slashings lent : List ℕ) (tests : Checked (Unit {0})) (m : Checked Finality) (passed : tests ≡ value tt) {j : CloseAnswer}
     (e : j ≡ closeAnswerFor (afterTests tests m) f (raisedTotals s (f .slot) (decode registry))) {closing closingSlashings amounts : List ℕ}

@@ -1,6 +1,6 @@
 -- What each step after the first leaves of the record so far.
 use mathlib.Core.Path.{_≡_, refl, sym, ap, _∙_}
-use mathlib.Core.List.{List, map}
+use mathlib.Core.List.{List}
 use Prim.Native.Nat.{ℕ, zero, suc, _*_, _/_, _≤_}
 use native.Mathlib.Omega.{arith}
 use lib.ListN.{length, replicate}
@@ -11,14 +11,14 @@ use Rattle.definitions.specs.Updates.{withValidators, withSlashings}
 use Rattle.definitions.specs.Checked.{Checked, value, refused, bind, codeOf, settle}
 use Rattle.definitions.specs.RegisterOrder.{registryUpdatesTo}
 use Rattle.definitions.specs.Rust.Phase0.EpochProcessing.{«process_registry_updates», resetSlashings}
-use Rattle.definitions.specs.Close.{Step, inactivityStep, rewardsStep, registryStep, slashingsStep, effectiveBalancesStep, slashingsResetStep, participationFlagsStep, step, onValidators, finalizedEpochOf}
+use Rattle.definitions.specs.Close.{Step, inactivityStep, rewardsStep, registryStep, slashingsStep, effectiveBalancesStep, participationFlagsStep, step, onValidators}
 use Rattle.definitions_close.specs.CloseBySteps.{stepAfter, eights, amountsBy}
 use Rattle.laws.proofs.Checked.{value-same, bound}
 use Rattle.laws.proofs.Encode.{length-decode, encode-decode}
 use Rattle.laws.specs.Ran.{Ran}
 use Rattle.agreement.proofs.ActivationQueue.Stopped.{stopped}
-use Rattle.theorems.proofs.Amounts.Rewarded.{Rewarded, rewarded}
-use Rattle.theorems.proofs.Amounts.Slashed.{Slashed, slashed}
+use Rattle.theorems.proofs.Amounts.Rewarded.{rewarded}
+use Rattle.theorems.proofs.Amounts.Slashed.{slashed}
 use Rattle.close_by_steps.specs.Booked.{RewardsBooked}
 use Rattle.close_by_steps.specs.Taken.{SlashingsBooked}
 use Rattle.close_by_steps.specs.Later.{plainBy, soFarState, LaterRan}

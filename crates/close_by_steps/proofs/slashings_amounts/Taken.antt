@@ -5,10 +5,10 @@ use Prim.Native.Nat.{ℕ, zero, suc, _+_, _-_, _*_, _/_, _≤_, _<_}
 use native.Mathlib.Omega.{arith}
 use borrow.Author.Count.{below-more}
 use lib.ListN.{length, getD, take, drop, set, length-append, length-take, length-drop}
-use lib.Seq.{getD-take, getD-drop, drop-cons}
+use lib.Seq.{getD-take, getD-drop}
 use Rattle.definitions.specs.declared.Settings.{Settings}
 use Rattle.definitions.specs.Record.{Validator, encode, decode, nobody}
-use Rattle.definitions.specs.Checked.{Checked, value, refused, codeOf}
+use Rattle.definitions.specs.Checked.{Checked, value, refused}
 use Rattle.definitions.specs.Rust.Altair.EpochProcessing.{«process_slashings»}
 use Rattle.definitions_close.specs.Amounts.{takenBySlashings, nines}
 use Rattle.definitions_close.specs.CloseBySteps.{eights}
@@ -18,10 +18,10 @@ use Rattle.laws.specs.Ran.{Ran}
 use Rattle.laws.proofs.Loops.Entry.{number-at}
 use Rattle.write_pass.specs.Filled.{nineAt, putNine}
 use Rattle.write_pass.proofs.Nine.{nine-nine, nine-same, nine-other}
-use Rattle.theorems.specs.Amounts.Laws.{balanceAt}
 use Rattle.theorems.proofs.Amounts.Nines.{Eights, nine-at, nines-long, nine-ext, first-eight, last}
 use Rattle.theorems.proofs.Amounts.Slashed.{Slashed, slashed}
 use Rattle.close_by_steps.specs.Taken.{SlashingsBooked, balanceIn, NinthsPut, NinthsTaken}
+use Rattle.theorems.proofs.CloseBySteps.Amounts.{long-eights}
 
 -- the ninth of nine is put
 pub ninth-put : (xs : List ℕ) (x : ℕ) → length xs ≡ 9 → set xs 8 x ≡ take 8 xs ++ (x ∷ [])
@@ -116,11 +116,6 @@ pub balance-is : (n : ℕ) (registry : List ℕ) (i : ℕ) → length registry �
 balance-is n registry i long l = number-at n registry i long l 6 (omega arith)
 
 -- The step
-
-long-eights : (n : ℕ) (xs : List ℕ) → length (eights n xs) ≡ n
-unfolding eights
-long-eights zero xs = refl
-long-eights (suc n) xs = ap suc (long-eights n (drop 9 xs))
 
 eights-at : (n : ℕ) (xs : List ℕ) (i : ℕ) → i < n → getD (eights n xs) i [] ≡ take 8 (drop (9 * i) xs)
 unfolding eights

@@ -1,18 +1,17 @@
 -- Rewards that book as they go: one validator, all, and the step.
-use mathlib.Core.Path.{_≡_, refl, sym, ap, ap₂, _∙_}
-use mathlib.Core.Bool.{Bool, true, false, cond}
+use mathlib.Core.Path.{_≡_, refl, sym, ap, _∙_}
+use mathlib.Core.Bool.{Bool}
 use mathlib.Core.List.{List, [], _∷_, _++_, map}
-use Prim.Native.Nat.{ℕ, zero, suc, _+_, _-_, _*_, _/_, _^_, _≤_, _<_}
+use Prim.Native.Nat.{ℕ, zero, suc, _+_, _-_, _*_, _/_, _≤_, _<_}
 use native.Mathlib.Omega.{arith}
 use borrow.Author.Count.{below-more}
 use borrow.Author.Tests.{eq-eqb, ne-eqb}
-use lib.Dec.{eqb}
-use lib.ListN.{length, getD, take, drop, set, replicate, length-map, length-append, length-take, length-drop}
+use lib.ListN.{length, getD, set, replicate, length-map, length-append, length-take, length-drop}
 use Rattle.definitions.specs.declared.Settings.{Settings}
 use Rattle.definitions.specs.declared.Deltas.{Deltas}
 use Rattle.definitions.specs.Lists.{filter}
-use Rattle.definitions.specs.Record.{Validator, decodeOne, encode, decode, nobody}
-use Rattle.definitions.specs.Checked.{Refusal, overflow, Checked, value, refused, bind, foldChecked, mapChecked, codeOf}
+use Rattle.definitions.specs.Record.{Validator, decodeOne, decode, nobody}
+use Rattle.definitions.specs.Checked.{overflow, Checked, value, refused, bind, foldChecked}
 use Rattle.definitions.specs.Rust.Phase0.EpochProcessing.{«is_in_inactivity_leak»}
 use Rattle.definitions.specs.Rust.Phase0.Helpers.{«get_current_epoch», «get_previous_epoch», «get_active_validator_indices», «get_total_balance», «get_total_active_balance»}
 use Rattle.definitions.specs.Rust.Altair.Helpers.{isUnslashedParticipating, «get_unslashed_participating_indices», FlagTotals, flagTotals, flagIndexDeltas, inactivityPenaltyDeltas}
@@ -23,7 +22,7 @@ use Rattle.laws.proofs.Encode.{length-decode}
 use Rattle.arithmetic.proofs.Laws.{bind-value, bind-refused}
 use Rattle.arithmetic.proofs.Operations.{OnlyOverflow, only-value, only-bind}
 use Rattle.arithmetic.proofs.Answers.{Tells}
-use Rattle.laws.specs.Ran.{Settles, Ran}
+use Rattle.laws.specs.Ran.{Ran}
 use Rattle.laws.proofs.Loops.Entry.{entryAt, putAt}
 use Rattle.laws.proofs.Loops.Mapped.{mapped-is}
 use Rattle.laws.proofs.Loops.Checking.{Checking, checking-none, checking-ten, checking-more, checking-stop, checking-all, settles-value, settles-refused}
@@ -33,7 +32,7 @@ use Rattle.rates.proofs.reward_balances.Rewarded.{rewarded, not-rewarded, put-b
 use Rattle.rewards_step.specs.Totals.{flagTotalsOf}
 use Rattle.write_pass.specs.declared.Pairs.{Pairs}
 use Rattle.write_pass.specs.Filled.{four, left, Fits, nineAt, putNine}
-use Rattle.write_pass.proofs.Booked.{Applied, applied}
+use Rattle.write_pass.proofs.Booked.{applied}
 use Rattle.write_pass.proofs.Nine.{nine-nine, nine-same, nine-other}
 use Rattle.theorems.proofs.Amounts.Lists.{each-length, each-at, at-map}
 use Rattle.theorems.proofs.Amounts.Nines.{Eights, nine-at, nines-long, nine-ext}

@@ -1,6 +1,6 @@
 -- The nine numbers that the pass fills are those of the steps, by the plan of an accepted close.
 use mathlib.Core.Path.{_≡_, refl, sym, ap, subst, _∙_}
-use mathlib.Core.Bool.{Bool, true, false, cond, true≢false}
+use mathlib.Core.Bool.{Bool, true, false, true≢false}
 use mathlib.Core.List.{List, [], _∷_, _++_, map}
 use Prim.Native.Nat.{ℕ, _+_, _-_, _*_, _/_, _<_}
 use native.Mathlib.Omega.{arith}
@@ -10,16 +10,15 @@ use lib.ListN.{length, getD, take, drop, replicate}
 use Rattle.definitions.specs.declared.Settings.{Settings}
 use Rattle.definitions.specs.declared.Number.{Number}
 use Rattle.definitions.specs.Record.{Validator, decode, nobody}
-use Rattle.definitions.specs.Checked.{Checked, value, bind, settle, mapChecked}
+use Rattle.definitions.specs.Checked.{Checked, value, bind, mapChecked}
 use Rattle.definitions.specs.Rust.Phase0.Helpers.{«get_current_epoch», «get_previous_epoch», «get_total_active_balance»}
 use Rattle.definitions.specs.Rust.Phase0.EpochProcessing.{«is_in_inactivity_leak»}
 use Rattle.definitions.specs.Rust.Altair.Helpers.{«get_unslashed_participating_indices», flagTotals}
-use Rattle.definitions.specs.Rust.Altair.EpochProcessing.{updateInactivityScore}
 use Rattle.laws.proofs.Checked.{value-same}
 use Rattle.laws.proofs.Encode.{length-decode}
 use Rattle.arithmetic.proofs.Laws.{bind-value}
 use Rattle.definitions_close.specs.Amounts.{eachChecked, pairs, booked, bookedByRewards, nines}
-use Rattle.theorems.specs.Amounts.Laws.{nineOf, balanceAt}
+use Rattle.theorems.specs.Amounts.Laws.{nineOf}
 use Rattle.theorems.proofs.Amounts.Lists.{each-length, each-at, each-map, at-map}
 use Rattle.theorems.proofs.Amounts.Nines.{Eights, nine-at, nines-long, nine-ext}
 use Rattle.theorems.proofs.Amounts.Accounted.{Way, by-rewards, by-slashings, filled-ninth}

@@ -1,23 +1,18 @@
 -- The registry between the steps of an accepted close.
-use mathlib.Core.Path.{_≡_, refl, sym, ap, subst, _∙_}
+use mathlib.Core.Path.{_≡_, refl, sym, ap, _∙_}
 use mathlib.Core.List.{List, map}
-use Prim.Native.Nat.{ℕ, _≤_, _<_}
-use native.Mathlib.Omega.{arith}
-use lib.ListN.{length, getD, length-map, List·getD-map}
+use Prim.Native.Nat.{ℕ}
+use lib.ListN.{length, length-map}
 use Rattle.definitions.specs.declared.Settings.{Settings}
-use Rattle.definitions.specs.declared.Number.{Number}
-use Rattle.definitions.specs.Record.{Validator, nobody}
-use Rattle.definitions.specs.Updates.{withBalance, withEffectiveBalance, withParticipation}
-use Rattle.definitions.specs.Checked.{Checked, value, bind, mapChecked}
+use Rattle.definitions.specs.Record.{Validator}
+use Rattle.definitions.specs.Checked.{value}
 use Rattle.definitions.specs.Rust.Phase0.EpochProcessing.{«process_registry_updates», «process_effective_balance_updates»}
-use Rattle.definitions.specs.Rust.Altair.EpochProcessing.{«process_inactivity_updates», «process_rewards_and_penalties», «process_slashings», «process_participation_flag_updates»}
+use Rattle.definitions.specs.Rust.Altair.EpochProcessing.{«process_inactivity_updates», «process_rewards_and_penalties», «process_slashings»}
 use Rattle.laws.proofs.Checked.{value-same, bound}
 use Rattle.laws.specs.Frames.{withoutEpochs}
 use Rattle.laws.proofs.Frame.Entries.{told}
 use Rattle.laws.proofs.Frame.Registry.{registry-writes}
-use Rattle.laws.proofs.Frame.Frames.{slashings-write, effective-balances-write, rotation-writes}
-use Rattle.theorems.specs.Amounts.Laws.{balanceAt}
-use Rattle.theorems.proofs.Amounts.Accounted.{Way, by-slashings}
+use Rattle.theorems.proofs.Amounts.Accounted.{Way}
 use Rattle.write_steps.specs.RegistrySteps.{registrySteps}
 
 pub way : (s : Settings) (slot fin : ℕ) (ys : List ℕ) (vs : List Validator) {ws : List Validator} → registrySteps s slot fin ys vs ≡ value ws → Way s slot fin ys vs ws

@@ -3,19 +3,19 @@ use mathlib.Core.Path.{_≡_, refl, sym, ap, _∙_}
 use mathlib.Core.Logic.{_⊎_, inl, inr, ⊎-elim}
 use mathlib.Core.Bool.{Bool, true, false, cond}
 use mathlib.Core.List.{List, [], _∷_, map}
-use Prim.Native.Nat.{ℕ, suc, _+_, _/_, _^_, max, _<_}
+use Prim.Native.Nat.{ℕ, suc, _/_, max, _<_}
 use native.Mathlib.Omega.{arith}
-use borrow.Author.Tests.{lt-ltb, ltb-true}
-use lib.Dec.{ltb, eqb}
+use borrow.Author.Tests.{lt-ltb}
+use lib.Dec.{eqb}
 use lib.ListN.{length, getD, set}
 use lib.Seq.{map-set-same}
 use Rattle.definitions.specs.declared.Settings.{Settings}
 use Rattle.definitions.specs.Lists.{filter}
 use Rattle.definitions.specs.Record.{Validator, nobody, «FAR_FUTURE_EPOCH»}
 use Rattle.definitions.specs.Updates.{withExit}
-use Rattle.definitions.specs.Checked.{value, refused, overflow, bind, add64}
+use Rattle.definitions.specs.Checked.{value, bind, add64}
 use Rattle.definitions.specs.Rust.Phase0.Helpers.{«is_active_validator», «get_current_epoch», «get_active_validator_indices», «get_validator_churn_limit», «compute_activation_exit_epoch», exitQueueEpoch, «initiate_validator_exit»}
-use Rattle.laws.proofs.Checked.{bound, value-same, not-value, add64-value}
+use Rattle.laws.proofs.Checked.{bound, value-same, add64-value, add64-below}
 use Rattle.exit_queue.specs.Exits.{exitAt}
 use Rattle.exit_queue.proofs.exits.Counts.{queued-late, Exited, exit-gave}
 use Rattle.exit_queue.proofs.exits.Exits.{exit-by-numbers}
@@ -32,14 +32,6 @@ count-map {A} {B} f q (x ∷ xs) = go (q (f x)) (count-map f q xs)
 
 pub count-by : {A B : Type 0} (f : A → B) (q : B → Bool) (xs ys : List A) → map f ys ≡ map f xs → length (filter (λ x. q (f x)) ys) ≡ length (filter (λ x. q (f x)) xs)
 count-by {A} {B} f q xs ys h = count-map f q ys ∙ ap (λ (zs : List B). length (filter q zs)) h ∙ sym (count-map f q xs)
-
-add64-below : (a b : ℕ) {x : ℕ} → add64 a b ≡ value x → a + b < 2 ^ 64
-unfolding add64
-add64-below a b {x} h = go (ltb (a + b) (2 ^ 64)) refl h
-  where
-    go : (t : Bool) → ltb (a + b) (2 ^ 64) ≡ t → cond t (value (a + b)) (refused overflow) ≡ value x → a + b < 2 ^ 64
-    go true e h = ltb-true _ _ e
-    go false e h = absurd (not-value h)
 
 module _ (s : Settings) (stateSlot : ℕ) where
   abbrev present : ℕ

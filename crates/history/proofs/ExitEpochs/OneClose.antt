@@ -18,7 +18,6 @@ use Rattle.definitions.specs.Rust.Phase0.EpochProcessing.{updateRegistryAt, «p
 use Rattle.definitions.specs.Close.{Call, stateOf, finalizedEpochOf, close}
 use Rattle.laws.proofs.Checked.{bound, value-same, number-not-zero}
 use Rattle.laws.proofs.Encode.{decode-encode}
-use Rattle.laws.proofs.Frame.Entries.{either}
 use Rattle.laws.proofs.Frame.Registry.{eligible-writes, dequeued-writes}
 use Rattle.history.proofs.Steps.{still-told}
 use Rattle.history.proofs.EightSteps.{Parts, parts, same-slot, handed-still}
@@ -26,6 +25,7 @@ use Rattle.history.proofs.WholeClose.{Accepted, accepted-close}
 use Rattle.history.specs.ExitEpochs.{exitEpoch, settingsOf, closing, exiting, event, Called, Defined}
 use Rattle.history.proofs.ExitEpochs.Shape.{exitOf, Exits, kept, exit, then, Shaped}
 use Rattle.history.proofs.ExitEpochs.Limit.{limitOf, active, limit-by, limit-exit}
+use Rattle.laws.proofs.Tests.{either}
 
 -- The registry step
 

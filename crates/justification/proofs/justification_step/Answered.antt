@@ -9,8 +9,8 @@ use Rattle.definitions.specs.declared.Raised.{Raised}
 use Rattle.definitions.specs.declared.CloseAnswer.{CloseAnswer}
 use Rattle.definitions.specs.declared.JustificationAnswer.{JustificationAnswer}
 use Rattle.definitions.specs.Checked.{Checked, value, refused, codeOf, bind}
-use Rattle.definitions.specs.Raised.{raisedUnlessRefused, closeAnswerFor}
-use Rattle.definitions.specs.Refusals.{inOrder, afterTests, settingsShaped, rootsShaped, registryShaped, goodSettings, goodFinality, goodRegistry, justificationTests}
+use Rattle.definitions.specs.Raised.{closeAnswerFor}
+use Rattle.definitions.specs.Refusals.{afterTests, settingsShaped, rootsShaped, registryShaped, goodSettings, goodFinality, goodRegistry, justificationTests}
 use Rattle.definitions_close.specs.FinalizingTest.{finalizingTest}
 use Rattle.definitions_close.specs.Justification.{justificationAnswerFor, lessTest}
 use Rattle.laws.proofs.Checked.{number-not-zero}

@@ -1,5 +1,5 @@
 -- Every answer of the step: the test's number tells the checkpoint.
-use mathlib.Core.Path.{_≡_, refl, sym, ap, subst, _∙_}
+use mathlib.Core.Path.{_≡_, refl, sym, ap, subst}
 use mathlib.Core.Bool.{Bool, true, false, cond}
 use mathlib.Core.List.{List}
 use Prim.Native.Nat.{ℕ, _+_}
@@ -21,7 +21,7 @@ use Rattle.laws.proofs.Checked.{value-same, bound}
 use Rattle.theorems.specs.Amounts.Laws.{setBy}
 use Rattle.theorems.proofs.Amounts.Test.{set-by-test}
 use Rattle.theorems.proofs.Completeness.OtherCalls.{justification-calls}
-use Rattle.justification.specs.Told.{JustificationTold, JustificationTells}
+use Rattle.justification.specs.Told.{JustificationTells}
 
 module _ (s : Settings) (roots : List ℕ) (old : Finality) (vs : List Validator) where
   abbrev epoch : ℕ

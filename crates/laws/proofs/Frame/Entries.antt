@@ -15,12 +15,9 @@ use Rattle.definitions.specs.Rust.Phase0.EpochProcessing.{isEligible, updateEff
 use Rattle.definitions.specs.Rust.Altair.Helpers.{FlagTotals}
 use Rattle.definitions.specs.Rust.Altair.EpochProcessing.{updateInactivityScore, applyDelta, rewardAndPenalize, slash}
 use Rattle.laws.proofs.Checked.{value-same, bound}
+use Rattle.laws.proofs.Tests.{either}
 
 -- what a condition chooses between
-pub either : {A : Type 0} (P : A → Type 0) (b : Bool) {x y : Checked A} {z : A} → (x ≡ value z → P z) → (y ≡ value z → P z) → cond b x y ≡ value z → P z
-either P true f g p = f p
-either P false f g p = g p
-
 -- a turn leaves what h reads as it is, and so does the loop
 abbrev pub Keeps : {B : Type 0} → (Validator → Checked Validator) → (Validator → B) → Type 0
 Keeps f h = (v w : Validator) → f v ≡ value w → h w ≡ h v

@@ -17,8 +17,9 @@ use Rattle.definitions.specs.Rust.Altair.EpochProcessing.{«process_justificati
 use Rattle.definitions.specs.Close.{justificationStep, inactivityStep, rewardsStep, registryStep, slashingsStep, effectiveBalancesStep, slashingsResetStep, participationFlagsStep, step, onValidators}
 use Rattle.laws.proofs.Checked.{value-same, bound}
 use Rattle.laws.specs.Frames.{each, slotAlone, withoutEpochs, but, Frames}
-use Rattle.laws.proofs.Frame.Entries.{either, kept-map, score-writes, reward-writes, slash-writes, effective-writes}
+use Rattle.laws.proofs.Frame.Entries.{kept-map, score-writes, reward-writes, slash-writes, effective-writes}
 use Rattle.laws.proofs.Frame.Registry.{same-value, registry-writes}
+use Rattle.laws.proofs.Tests.{either}
 
 -- Over the registry
 

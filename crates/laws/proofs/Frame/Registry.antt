@@ -17,7 +17,7 @@ use Rattle.definitions.specs.Rust.Phase0.Helpers.{«get_current_epoch», «get_
 use Rattle.definitions.specs.Rust.Phase0.EpochProcessing.{updateRegistryAt, «process_registry_updates»}
 use Rattle.laws.proofs.Checked.{value-same, bound}
 use Rattle.laws.specs.Frames.{withoutEpochs}
-use Rattle.laws.proofs.Frame.Entries.{either}
+use Rattle.laws.proofs.Tests.{either}
 
 -- what is given outright
 pub same-value : {B : Type 0} (h : Validator → B) {vs ws : List Validator} → value vs ≡ value ws → map h ws ≡ map h vs

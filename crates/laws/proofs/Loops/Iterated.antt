@@ -12,7 +12,7 @@ use Rattle.laws.proofs.Encode.{length-decode, encode-decode}
 use Rattle.laws.specs.Ran.{Ran}
 use Rattle.laws.proofs.Loops.Ran.{ran-gave, ran-stop, ran-value}
 
-foldChecked-append : {A B : Type 0} (f : B → A → Checked B) (b : B) (xs ys : List A) → foldChecked f b (xs ++ ys) ≡ bind (foldChecked f b xs) (λ c. foldChecked f c ys)
+pub foldChecked-append : {A B : Type 0} (f : B → A → Checked B) (b : B) (xs ys : List A) → foldChecked f b (xs ++ ys) ≡ bind (foldChecked f b xs) (λ c. foldChecked f c ys)
 unfolding foldChecked bind
 foldChecked-append f b [] ys = refl
 foldChecked-append {A} {B} f b (x ∷ xs) ys = go (f b x) (λ c. foldChecked-append f c xs ys)

@@ -2,7 +2,6 @@
 use mathlib.Core.Path.{_≡_, refl, sym, ap, _∙_}
 use mathlib.Core.List.{List}
 use Prim.Native.Nat.{ℕ, _*_, _<_}
-use native.Mathlib.Omega.{arith}
 use lib.ListN.{length, getD, set}
 use Rattle.definitions.specs.Checked.{Checked, value, refused, bind, codeOf, settle}
 use Rattle.definitions.specs.Record.{Validator, decodeOne, encodeOne, encode, decode, nobody}

@@ -2,10 +2,9 @@
 -- their code gave.
 use mathlib.Core.Bool.{true, _&&_}
 use mathlib.Core.List.{List}
-use mathlib.Core.Path.{_≡_, sym, ap, _∙_}
+use mathlib.Core.Path.{_≡_, sym, _∙_}
 use Prim.Native.Nat.{ℕ, _/_, _^_, _≤_, _<_}
-use borrow.Author.Tests.{eq-eqb, ne-eqb, eqb-true, le-leb, lt-leb, leb-true}
-use lib.Dec.{leb}
+use borrow.Author.Tests.{eq-eqb, ne-eqb, eqb-true, le-leb}
 use lib.ListN.{length}
 use Rattle.definitions.specs.declared.Settings.{Settings}
 use Rattle.definitions.specs.Checked.{codeOf}
@@ -56,23 +55,7 @@ module _ (s : Settings) (stateSlot finalizedEpoch : ℕ) (opening closing : List
 
 -- With a stop
 module _ (stop : ℕ) (s : Settings) (stateSlot finalizedEpoch : ℕ) (opening closing : List ℕ) where
-  pub above : length opening / 10 < stop → 1 ≡ codeOf (registryToTests stop s stateSlot finalizedEpoch opening closing)
-  unfolding registryToTests inOrder
-  above l = rw (lt-leb stop (length opening / 10) l, and-false)
-
   -- a stop within the registry tests no more than the step
   pub within : stop ≤ length opening / 10 → registryToTests stop s stateSlot finalizedEpoch opening closing ≡ registryTests s stateSlot finalizedEpoch opening closing
   unfolding registryToTests registryTests
   within l = rw (le-leb stop (length opening / 10) l, and-true)
-
-  pub record RegistryToPassed : Type 0 where
-    pub passed : RegistryPassed s stateSlot finalizedEpoch opening closing
-    pub stops : stop ≤ length opening / 10
-
-  pub registry-to-passed : {x : ℕ} → x ≡ codeOf (registryToTests stop s stateSlot finalizedEpoch opening closing) → x ≡ 0 → RegistryToPassed
-  unfolding registryToTests
-  registry-to-passed e z =
-      let shape = settingsShaped s && registryShaped opening && sameLength opening closing in
-      let p = in-order (shape && leb stop (length opening / 10)) (goodSettings s) (isSmall stateSlot && isSmall finalizedEpoch && goodRegistry opening) (sym e ∙ z) in
-      let l = leb-true stop (length opening / 10) (both shape (leb stop (length opening / 10)) (p .first) .second) in
-      record { passed = registry-passed s stateSlot finalizedEpoch opening closing (e ∙ ap codeOf (within l)) z; stops = l }

@@ -7,7 +7,7 @@ use borrow.Author.Tests.{leb-true}
 use Rattle.definitions.specs.declared.Settings.{Settings}
 use Rattle.definitions.specs.Checked.{codeOf}
 use Rattle.definitions.specs.LeafRefusals.{isFlagIndex, isParticipationEpoch, slotRegistryTests, participationTests}
-use Rattle.definitions.specs.Refusals.{inOrder, settingsShaped, registryShaped, isSmall, goodSettings, goodRegistry}
+use Rattle.definitions.specs.Refusals.{settingsShaped, registryShaped, isSmall, goodSettings, goodRegistry}
 use Rattle.agreement.specs.Bounds.{Passed}
 use Rattle.refusals.proofs.All.{both}
 use Rattle.refusals.proofs.Laws.{in-order, PositiveDivisors, good-settings, RegistryShape, registry-shaped}

@@ -8,10 +8,9 @@ use borrow.Author.Tests.{ltb-false, le-leb, lt-leb}
 use lib.Dec.{ltb}
 use lib.ListN.{length, take, drop, length-append, length-drop}
 use lib.Seq.{length-take-le}
-use Rattle.definitions_file.specs.File.{goodHeader}
+use Rattle.definitions_file.specs.File.{goodHeader, headerRead}
 use Rattle.round_trip.proofs.Passed.{good-header}
-use Rattle.record_file.specs.declared.Header.{Header}
-use Rattle.record_file.specs.Answers.{headerRead}
+use Rattle.definitions_file.specs.declared.Header.{Header}
 use Rattle.definitions_file.specs.Listing.{listing}
 use Rattle.listing.specs.Lent.{Buffers, inFront, sizes, fits, listed, listedLength}
 use Rattle.listing.specs.Printed.{longest, printedText, printedLength}

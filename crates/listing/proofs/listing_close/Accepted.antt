@@ -1,13 +1,13 @@
 -- What an accepted close says of what it was handed.
 use mathlib.Core.Bool.{true, _&&_, _||_}
 use mathlib.Core.List.{[], _∷_}
-use mathlib.Core.Path.{_≡_, refl}
+use mathlib.Core.Path.{_≡_}
 use Prim.Native.Nat.{_<_}
 use borrow.Author.Tests.{eqb-true}
 use lib.ListN.{length}
-use Rattle.definitions.specs.Checked.{Checked, value, refused, bind, codeOf}
+use Rattle.definitions.specs.Checked.{value}
 use Rattle.definitions.specs.Rules.{isAltair, rulesShaped, goodBellatrix, goodRules}
-use Rattle.definitions.specs.Refusals.{registryShaped, rootsShaped, slashingsShaped, sameLength, goodSettings, goodFinality, goodRegistry, afterTests}
+use Rattle.definitions.specs.Refusals.{registryShaped, rootsShaped, slashingsShaped, sameLength, goodSettings, goodFinality, goodRegistry}
 use Rattle.definitions.specs.Record.{decode}
 use Rattle.definitions.specs.Raised.{raisedTotals}
 use Rattle.definitions.specs.Close.{Call, closeTests, closed, close}
@@ -15,13 +15,9 @@ use Rattle.agreement.proofs.Restored.{restored}
 use Rattle.refusals.proofs.All.{both}
 use Rattle.refusals.proofs.Laws.{in-order, good-settings}
 use Rattle.round_trip.proofs.Tests.{tests}
+use Rattle.refusals.proofs.Answers.{tested}
 
 -- the tests passed where what comes after them is a value
-tested : {A : Type 0} (m : Checked (Unit {0})) (w : Checked A) → codeOf (afterTests m w) ≡ 0 → codeOf m ≡ 0
-unfolding afterTests bind
-tested (value u) w e = refl
-tested (refused r) w e = e
-
 pub record Accepted (c : Call) : Type 0 where
   pub epochs : 0 < c .rules .settings .«slots_per_epoch»
   pub shaped : registryShaped (c .registry) ≡ true

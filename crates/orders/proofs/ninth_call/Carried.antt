@@ -1,16 +1,14 @@
 -- The orders carried out, and the call's answer.
-use mathlib.Core.Path.{_≡_, refl, sym, ap, _∙_}
-use mathlib.Core.Bool.{Bool, true, false, cond}
-use mathlib.Core.List.{List, _++_}
+use mathlib.Core.Path.{_≡_, sym, ap, _∙_}
+use mathlib.Core.Bool.{true, false}
+use mathlib.Core.List.{List}
 use Prim.Native.Nat.{ℕ, _+_, _<_}
 use native.Mathlib.Nat.{div-le-self}
 use native.Mathlib.Omega.{arith}
-use borrow.Author.Tests.{eq-eqb, ne-eqb}
 use lib.Dec.{eqb}
-use lib.ListN.{drop}
 use Rattle.definitions.specs.declared.Settings.{Settings}
 use Rattle.definitions.specs.declared.ExitQueue.{ExitQueue}
-use Rattle.definitions.specs.Record.{Validator, encode, decode, «FAR_FUTURE_EPOCH»}
+use Rattle.definitions.specs.Record.{encode, decode, «FAR_FUTURE_EPOCH»}
 use Rattle.definitions.specs.Checked.{Checked, value, refused, codeOf}
 use Rattle.definitions.specs.ExitQueue.{queueOf}
 use Rattle.definitions.specs.Rules.{settingsUnder}
@@ -23,7 +21,7 @@ use Rattle.agreement.specs.Bounds.{Passed}
 use Rattle.agreement.proofs.Bounds.{given}
 use Rattle.refusals.proofs.Laws.{small, good-settings}
 use Rattle.refusals.proofs.Answers.{passed}
-use Rattle.orders.specs.Called.{ninthOutcome}
+use Rattle.definitions_close.specs.Calls.{ninthOutcome}
 use Rattle.orders.specs.Tried.{orderBy, AllTried}
 use Rattle.orders.proofs.Tried.{orders-are}
 use Rattle.orders.specs.Ninth.{Ready, carriedUnder}

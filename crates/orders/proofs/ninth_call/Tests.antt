@@ -2,17 +2,14 @@
 use mathlib.Core.Path.{_≡_, refl, sym, ap, _∙_}
 use mathlib.Core.Bool.{Bool, true, false, cond, _&&_}
 use mathlib.Core.List.{List}
-use Prim.Native.Nat.{ℕ, _*_, _/_, _%_, _≤_}
+use Prim.Native.Nat.{ℕ, _*_, _/_, _%_}
 use native.Mathlib.Omega.{arith}
 use borrow.Author.Tests.{leb-true, eqb-true, lt-ltb}
 use lib.Dec.{leb, eqb}
 use lib.ListN.{length}
 use Rattle.definitions.specs.declared.Rules.{Rules}
 use Rattle.definitions.specs.declared.Finality.{Finality}
-use Rattle.definitions.specs.declared.ExitQueue.{ExitQueue}
-use Rattle.definitions.specs.Record.{decode}
-use Rattle.definitions.specs.Checked.{Checked, value, refused, bind, codeOf}
-use Rattle.definitions.specs.ExitQueue.{queueOf}
+use Rattle.definitions.specs.Checked.{Checked, codeOf}
 use Rattle.definitions.specs.Refusals.{inOrder, isSmall, registryShaped, goodFinality, goodRegistry}
 use Rattle.definitions.specs.Rules.{settingsUnder, rulesShaped, goodRules}
 use Rattle.definitions_close.specs.QueueCalls.{thenQueue}
@@ -20,10 +17,11 @@ use Rattle.definitions_close.specs.Orders.{room, ordersShaped, NinthCall, ninth
 use Rattle.laws.proofs.Rules.{shaped-under, good-under}
 use Rattle.refusals.proofs.All.{both}
 use Rattle.refusals.proofs.Laws.{in-order, registry-shaped, good-finality}
-use Rattle.validator_exit.proofs.queue_tests.Queue.{refused-sooner, tested-queue, QueuePassed, queue-passed}
+use Rattle.validator_exit.proofs.queue_tests.Queue.{refused-sooner, tested-queue, queue-passed}
 use Rattle.validator_exit.specs.declared.Seen.{Seen}
 use Rattle.validator_exit.specs.Exits.{Sees}
 use Rattle.orders.specs.Ninth.{listsShaped, rulesTests, lentTests, Ready}
+use Rattle.validator_exit.proofs.queue_tests.Found.{refused-first}
 
 -- in plain truth values
 
@@ -44,13 +42,6 @@ more-passed true true true false e g h z = absurd (omega (arith, h, z))
 more-passed true true true true true true h z = refl
 more-passed true true true true true false h z = refl
 more-passed true true true true false g h z = refl
-
-last-refused : (a b d g : Bool) {x : ℕ} → x ≡ codeOf (inOrder a b d) → (x ≡ 0 → ⊥) → x ≡ codeOf (inOrder a b (d && g))
-unfolding inOrder
-last-refused false b d g h z = h
-last-refused true false d g h z = h
-last-refused true true false g h z = h
-last-refused true true true g h z = absurd (z h)
 
 last-passed : (a b d g : Bool) {x : ℕ} → x ≡ codeOf (inOrder a b d) → x ≡ 0 → cond g 0 3 ≡ codeOf (inOrder a b (d && g))
 unfolding inOrder
@@ -101,7 +92,7 @@ module _ (n : NinthCall) where
     pub lent-refuses : (x ≡ 0 → ⊥) → x ≡ codeOf (ninthTests n)
     unfolding lentTests
     lent-refuses z =
-        refused-sooner before (n .running .answer .queue) (n .closingRegistry) (last-refused shaped good (goodFinality (n .running .answer .finality)) (goodRegistry (n .closingRegistry)) e z) z
+        refused-sooner before (n .running .answer .queue) (n .closingRegistry) (refused-first shaped good (goodFinality (n .running .answer .finality)) (goodRegistry (n .closingRegistry)) e z) z
         ∙ ap codeOf (sym ninth-is)
 
     pub lent-long : x ≡ 0 → length (n .closingRegistry) ≡ 10 * (length (n .closingRegistry) / 10)

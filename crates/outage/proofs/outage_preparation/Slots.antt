@@ -1,6 +1,6 @@
 -- The last slot of the next epoch lies above the slot, and no more than two epochs above it.
 use mathlib.Core.Path.{_≡_, _∙_}
-use Prim.Native.Nat.{ℕ, _+_, _*_, _/_, _%_, _≤_, _<_}
+use Prim.Native.Nat.{ℕ, _+_, _*_, _/_, _≤_, _<_}
 use native.Mathlib.Nat.{div-add-mod, mod-lt, mul-comm, mul-add}
 use native.Mathlib.Omega.{arith}
 

@@ -1,28 +1,20 @@
 -- One close, into closing buffers of any contents. `r`, `us` and `vs` are what it gave.
-use mathlib.Core.List.{List, []}
+use mathlib.Core.List.{List}
 use mathlib.Core.Path.{_≡_, refl, sym, ap, _∙_}
 use Prim.Native.Nat.{ℕ, _+_, _≤_}
 use native.Mathlib.Omega.{arith}
 use borrow.Author.Tests.{eq-eqb, ne-eqb}
 use lib.ListN.{length}
 use Rattle.definitions.specs.declared.CloseAnswer.{CloseAnswer}
-use Rattle.definitions.specs.Checked.{Checked, value, refused, bind, codeOf}
-use Rattle.definitions.specs.Refusals.{afterTests, closingBuffer}
 use Rattle.definitions_file.specs.File.{Contents}
 use Rattle.definitions.specs.Close.{Outcome, closeTests, closed, close}
-use Rattle.laws.proofs.Checked.{number-not-zero}
 use Rattle.close.specs.Called.{outcome}
 use Rattle.fields.specs.Put.{Put}
 use Rattle.definitions_file.specs.Listing.{callOf, closing}
 use Rattle.listing.proofs.Closing.{same-refusal, same-finality, same-registry}
 use Rattle.definitions_file.specs.OutageRun.{headOf, closedWith, closeOnce}
 use Rattle.outage.specs.Went.{Went}
-
-same-buffer : {A : Type 0} (contents : A → List ℕ) (m : Checked (Unit {0})) (w : Checked A) (opening xs ys : List ℕ) → codeOf (afterTests m w) ≡ 0 → closingBuffer contents m w opening xs ≡ closingBuffer contents m w opening ys
-unfolding afterTests bind closingBuffer
-same-buffer contents (refused r) w opening xs ys e = absurd (number-not-zero r e)
-same-buffer contents (value u) (refused r) opening xs ys e = absurd (number-not-zero r e)
-same-buffer contents (value u) (value a) opening xs ys e = refl
+use Rattle.refusals.proofs.Answers.{same-buffer}
 
 module _ (c : Contents) (xs ys : List ℕ) (l : length xs ≡ length (c .registry)) (m : length ys ≡ length (c .slashings)) where
   same-tests : closeTests (callOf c xs ys) ≡ closeTests (closing c)

@@ -7,7 +7,7 @@ use borrow.Author.Tests.{eqb-true, eqb-false}
 use lib.Dec.{eqb}
 use Rattle.definitions.specs.declared.Settings.{Settings}
 use Rattle.definitions.specs.Record.{BeaconState}
-use Rattle.definitions.specs.Checked.{Checked, value, refused, bind, foldChecked, codeOf, settle}
+use Rattle.definitions.specs.Checked.{Checked, value, refused, foldChecked, codeOf, settle}
 use Rattle.definitions.specs.Refusals.{goodFinality, goodRegistry, afterTests}
 use Rattle.definitions.specs.Rules.{settingsUnder}
 use Rattle.definitions_file.specs.File.{Contents}
@@ -19,6 +19,7 @@ use Rattle.theorems.proofs.Completeness.Kept.{kept-step}
 use Rattle.definitions_file.specs.Listing.{closing}
 use Rattle.definitions_file.specs.OutageRun.{closeOnce}
 use Rattle.outage.specs.Went.{Went}
+use Rattle.refusals.proofs.Answers.{tested}
 
 slot-steps : (s : Settings) (ks : List Step) (st after : BeaconState) → foldChecked (step s) st ks ≡ value after → after .finality .slot ≡ st .finality .slot
 unfolding foldChecked
@@ -30,11 +31,6 @@ slot-steps s (k ∷ ks) st after e =
 slot-kept : (c : Call) (after : BeaconState) → closed c ≡ value after → after .finality .slot ≡ c .finality .slot
 unfolding closed afterTests «process_epoch» closeUpTo
 slot-kept c after e = slot-steps (settingsUnder (c .rules)) _ (stateOf c) after (bound (closeTests c) _ e .then)
-
-tested : {A : Type 0} (m : Checked (Unit {0})) (w : Checked A) → codeOf (afterTests m w) ≡ 0 → codeOf m ≡ 0
-unfolding afterTests bind
-tested (value u) w e = refl
-tested (refused r) w e = e
 
 slot-small : (c : Call) → close c .refusal ≡ 0 → c .finality .slot < 2 ^ 48
 unfolding close closed closeTests

@@ -1,7 +1,6 @@
 use mathlib.Core.Path.{sym, _∙_}
 use native.Mathlib.Omega.{arith}
 use Rattle.refusals.proofs.Laws.{registry-shaped}
-use Rattle.fields.proofs.decimals.Put.{put-length}
 use Rattle.listing.proofs.listing_close.Printed.{or-refused, or-text}
 use Rattle.definitions_file.specs.Outage.{linesText}
 use borrow.Author.Needs.{needs}

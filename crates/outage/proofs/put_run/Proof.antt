@@ -1,7 +1,7 @@
 use mathlib.Core.Path.{sym, ap, _∙_}
 use native.Mathlib.Omega.{arith}
 use lib.ListN.{length}
-use Rattle.file_refusals.specs.Tests.{contentsWith}
+use Rattle.definitions_file.specs.File.{contentsWith}
 use Rattle.outage.proofs.Ended.{run-refused, run-lines}
 use borrow.Author.Needs.{needs}
 use Rattle.outage.proofs.put_run.Statement.{statement}

@@ -1,4 +1,4 @@
-use Rattle.plain.specs.Plain.{plainDeltas}
+use Rattle.definitions.specs.Plain.{plainDeltas}
 use borrow.Author.Needs.{needs}
 use Rattle.plain.proofs.plain_deltas.Statement.{statement}
 use Rattle.plain.proofs.plain_deltas.Tie as tie

@@ -1,4 +1,4 @@
-use Rattle.plain.specs.Plain.{plainNumber}
+use Rattle.definitions.specs.Plain.{plainNumber}
 use borrow.Author.Needs.{needs}
 use Rattle.plain.proofs.plain_number.Statement.{statement}
 use Rattle.plain.proofs.plain_number.Tie as tie

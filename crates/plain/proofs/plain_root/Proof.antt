@@ -1,6 +1,6 @@
 use borrow.Author.Needs.{needs}
 use borrow.Author.Tests.{eq-eqb, ne-eqb}
-use Rattle.plain.specs.Plain.{rootGiven}
+use Rattle.plain.specs.Root.{rootGiven}
 use Rattle.plain.proofs.plain_root.Statement.{statement}
 use Rattle.plain.proofs.plain_root.Tie as tie
 

@@ -1,4 +1,4 @@
-use Rattle.plain.specs.Plain.{plainTotal}
+use Rattle.definitions.specs.Plain.{plainTotal}
 use borrow.Author.Needs.{needs}
 use Rattle.plain.proofs.plain_total.Statement.{statement}
 use Rattle.plain.proofs.plain_total.Tie as tie

@@ -1,7 +1,7 @@
 use mathlib.Core.Path.{_≡_, refl}
 use mathlib.Core.Bool.{Bool, true, false, cond}
 use mir.Val.{boolByte}
-use Rattle.plain.specs.Plain.{plainTruth}
+use Rattle.definitions.specs.Plain.{plainTruth}
 use borrow.Author.Needs.{needs}
 use Rattle.plain.proofs.plain_truth.Statement.{statement}
 use Rattle.plain.proofs.plain_truth.Tie as tie

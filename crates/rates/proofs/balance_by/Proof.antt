@@ -3,7 +3,6 @@ use native.Mathlib.Omega.{arith}
 use borrow.Author.Needs.{needs}
 use Rattle.arithmetic.proofs.Laws.{next-told, stop-told}
 use Rattle.arithmetic.proofs.Answers.{tells-deltas}
-use Rattle.definitions.specs.declared.DeltasAnswer.{DeltasAnswer}
 use Rattle.definitions.specs.Answers.{SaysDeltas}
 use Rattle.definitions.specs.Record.{decodeOne}
 use Rattle.definitions.specs.Rust.Altair.Helpers.{flagIndexDeltas, inactivityPenaltyDeltas}

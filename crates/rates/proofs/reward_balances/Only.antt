@@ -5,7 +5,7 @@ use Prim.Native.Nat.{ℕ}
 use lib.Dec.{eqb}
 use Rattle.definitions.specs.declared.Deltas.{Deltas}
 use Rattle.definitions.specs.declared.Settings.{Settings}
-use Rattle.definitions.specs.Checked.{Checked, bind, foldChecked}
+use Rattle.definitions.specs.Checked.{Checked, foldChecked}
 use Rattle.definitions.specs.Record.{Validator}
 use Rattle.definitions.specs.Document.Phase0.EpochProcessing.{isEligible}
 use Rattle.definitions.specs.Rust.Altair.Helpers.{«TIMELY_HEAD_FLAG_INDEX», isUnslashedParticipating, FlagTotals, hitDeltas, missDeltas, flagIndexDeltas, inactivityPenaltyDeltas}
@@ -13,7 +13,7 @@ use Rattle.arithmetic.proofs.Operations.{OnlyOverflow, only-value, only-add64, 
 use Rattle.rewards.proofs.base_rewards.Base.{only-base}
 use Rattle.rates.specs.Balances.{appliedBalance, rewardedBalance}
 
-only-either : {A : Type 0} {x y : Checked A} (t : Bool) → OnlyOverflow x → OnlyOverflow y → OnlyOverflow (cond t x y)
+pub only-either : {A : Type 0} {x y : Checked A} (t : Bool) → OnlyOverflow x → OnlyOverflow y → OnlyOverflow (cond t x y)
 only-either true h k = h
 only-either false h k = k
 

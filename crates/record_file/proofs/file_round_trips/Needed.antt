@@ -1,5 +1,5 @@
 -- Each premise of the round trips is needed: it follows from what they give. And so the claim without the length of the file is false.
-use mathlib.Core.Path.{_≡_, refl, sym, _∙_}
+use mathlib.Core.Path.{_≡_, refl, sym}
 use mathlib.Core.List.{List, []}
 use Prim.Native.Nat.{ℕ}
 use native.Mathlib.Omega.{arith}

@@ -4,12 +4,12 @@ use borrow.Author.Needs.{needs}
 use lib.ListN.{length}
 use lib.Seq.{sets}
 use Rattle.definitions.specs.Refusals.{settingsNumbers}
-use Rattle.definitions_file.specs.File.{Contents, header, numbersToBytes, finalityToBytes, queueToBytes, fileOf}
+use Rattle.definitions_file.specs.File.{Contents, header, numbersToBytes, finalityToBytes, queueToBytes, fileOf, contentsWith}
 use Rattle.round_trip.proofs.Numbers.{length-to-bytes}
 use Rattle.round_trip.proofs.Tests.{countIn, rootCountIn, slashingCountIn}
 use Rattle.fields.proofs.Bytes.{length-finality, length-queue}
 use Rattle.fields.proofs.Stores.{stored-first, stored-more, sets-whole}
-use Rattle.record_file.specs.Answers.{Sized, contentsWith}
+use Rattle.record_file.specs.Sized.{Sized}
 use Rattle.record_file.proofs.put_record.Statement.{statement}
 use Rattle.record_file.proofs.put_record.Tie as tie
 

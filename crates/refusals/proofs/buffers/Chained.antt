@@ -1,5 +1,5 @@
 -- Numbers that a step works out before its loop over the registry.
-use mathlib.Core.Path.{_≡_, refl, _∙_}
+use mathlib.Core.Path.{_≡_, refl}
 use mathlib.Core.List.{List}
 use Prim.Native.Nat.{ℕ}
 use Rattle.definitions.specs.declared.Number.{Number}

@@ -10,7 +10,7 @@ use Rattle.laws.proofs.Encode.{ten}
 use Rattle.refusals.proofs.Answers.{passed, after-refused, closing-untouched}
 use Rattle.laws.specs.Ran.{Settles, Ran}
 use Rattle.laws.proofs.Loops.Ran.{ran-kept, ran-restored}
-use Rattle.refusals.specs.Closes.{Closes}
+use Rattle.definitions.specs.Closes.{Closes}
 
 module _ {A : Type 0} (contents : A → List ℕ) (tests : Checked (Unit {0})) {opening closing : List ℕ} {x : ℕ} (e : x ≡ codeOf tests) where
   -- a test refused

@@ -1,5 +1,4 @@
 -- A flag's totals, worked out one after the other.
-use mathlib.Core.Bool.{Bool}
 use mathlib.Core.List.{List, map}
 use mathlib.Core.Path.{_≡_, refl}
 use Prim.Native.Nat.{ℕ, _≤_, max}

@@ -4,8 +4,6 @@ use Rattle.selection.proofs.Kept.{Counting, counting-none, counting-yes
 use native.Mathlib.Omega.{arith}
 use Rattle.selection.proofs.count_under.Statement.{statement}
 use Rattle.selection.proofs.count_under.Tie as tie
-use Rattle.selection.proofs.count_under.Reads as reads
-use Rattle.selection.proofs.count_under.Lts as lts
 
 abbrev Inv-loop : tie.InvT-loop
 Inv-loop kept b count₀ j₀ count j = Counting b kept j count

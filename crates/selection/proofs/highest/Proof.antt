@@ -4,8 +4,6 @@ use Rattle.selection.proofs.Kept.{Seeking, seeking-none, seeking-new, s
 use native.Mathlib.Omega.{arith}
 use Rattle.selection.proofs.highest.Statement.{statement}
 use Rattle.selection.proofs.highest.Tie as tie
-use Rattle.selection.proofs.highest.Reads as reads
-use Rattle.selection.proofs.highest.Lts as lts
 
 abbrev Inv-loop : tie.InvT-loop
 Inv-loop kept p₀ j₀ p j = Seeking kept p j

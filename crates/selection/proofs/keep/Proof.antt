@@ -4,8 +4,6 @@ use Rattle.selection.proofs.Kept.{kept-same, kept-set}
 use borrow.Author.Needs.{needs}
 use Rattle.selection.proofs.keep.Statement.{statement}
 use Rattle.selection.proofs.keep.Tie as tie
-use Rattle.selection.proofs.keep.Reads as reads
-use Rattle.selection.proofs.keep.Lts as lts
 use Rattle.selection.proofs.highest.Reads as highest-reads
 
 returns : tie.Need-returns

@@ -1,25 +1,20 @@
 -- The bracket narrows, and the cut that it ends at.
-use mathlib.Core.Path.{_≡_, refl, sym, ap, _∙_}
-use mathlib.Core.Bool.{Bool, true, false, _&&_, and-false}
+use mathlib.Core.Path.{_≡_}
+use mathlib.Core.Bool.{and-false}
 use mathlib.Core.List.{List, [], _∷_}
-use Prim.Native.Nat.{ℕ, _+_, _-_, _≤_, _<_, min}
+use Prim.Native.Nat.{ℕ, _+_, _-_, _≤_, _<_}
 use native.Mathlib.Omega.{arith}
 use borrow.Author.Tests.{lt-ltb, le-ltb, ltb-true}
 use lib.Dec.{ltb, eqb}
-use lib.ListN.{length, getD}
-use Rattle.definitions.specs.declared.Settings.{Settings}
+use lib.ListN.{getD}
 use Rattle.definitions.specs.Record.{Validator, «FAR_FUTURE_EPOCH»}
-use Rattle.agreement.specs.Cut.{count, queuedBefore, CutAt}
+use Rattle.agreement.specs.Cut.{count, CutAt}
 use Rattle.agreement.proofs.ActivationQueue.Filter.{flag, count-none, count-more, count-mono}
-use Rattle.agreement.proofs.ActivationQueue.Counts.{and-left}
 use Rattle.selection.specs.Keep.{under, Highest, waitingBefore, Smallest}
 use Rattle.selection.proofs.Kept.{under-less}
 use Rattle.selection.proofs.Waiting.{count-queued}
 use Rattle.selection.specs.Bracket.{Bracket}
-
-and-right : (a b c : Bool) → (b ≡ true → c ≡ true) → (a && b) ≡ true → (a && c) ≡ true
-and-right true b c h e = h e
-and-right false b c h e = e
+use Rattle.laws.proofs.Tests.{and-right}
 
 waiting-grows : (a b : ℕ) (vs : List Validator) → a ≤ b → count (waitingBefore a) vs ≤ count (waitingBefore b) vs
 unfolding waitingBefore

@@ -1,9 +1,7 @@
-use mathlib.Core.Path.{_≡_, refl, _∙_}
-use mathlib.Core.Bool.{true}
+use mathlib.Core.Path.{refl}
 use borrow.Author.Needs.{needs}
-use Rattle.definitions_file.specs.Shelf.{shelfShaped, shelfRefusal, answersAfter, closingAfter}
+use Rattle.definitions_file.specs.Shelf.{shelfRefusal, answersAfter, closingAfter}
 use Rattle.refusals.proofs.All.{fails, passes}
-use Rattle.shelf.specs.Lent.{shelfOf}
 use Rattle.shelf.proofs.close_shelf.Statement.{statement}
 use Rattle.shelf.proofs.close_shelf.Tie as tie
 

@@ -1,6 +1,6 @@
 use native.Mathlib.Omega.{arith}
 use borrow.Author.Needs.{needs}
-use lib.ListN.{take, length-take}
+use lib.ListN.{length-take}
 use Rattle.shelf_file.proofs.close_opening.Statement.{statement}
 use Rattle.shelf_file.proofs.close_opening.Tie as tie
 

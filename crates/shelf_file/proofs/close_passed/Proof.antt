@@ -10,9 +10,10 @@ use Rattle.definitions_file.specs.ClosedFile.{rulesIn}
 use Rattle.fields.proofs.Stores.{sets-whole}
 use Rattle.shelf_file.specs.Parts.{numbersBehind}
 use Rattle.shelf_file.proofs.Parts.{counts-long, behind-put}
-use Rattle.shelf_file.proofs.Tests.{same-rules, read-tested, read-worked, sized, put-refused, put-done, length-slashings}
+use Rattle.shelf_file.proofs.Tests.{same-rules, read-tested, read-worked, sized, put-refused, put-done}
 use Rattle.shelf_file.proofs.close_passed.Statement.{statement}
 use Rattle.shelf_file.proofs.close_passed.Tie as tie
+use Rattle.round_trip.proofs.Passed.{length-slashings}
 
 abbrev start : tie.After-roots-of → tie.Start
 start c = c .before .before .before .before .before .before .before .before .before .before .before .before

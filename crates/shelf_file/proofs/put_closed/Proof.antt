@@ -1,4 +1,3 @@
-use mathlib.Core.Path.{_∙_}
 use borrow.Author.Needs.{needs}
 use Rattle.shelf_file.proofs.put_closed.Statement.{statement}
 use Rattle.shelf_file.proofs.put_closed.Tie as tie

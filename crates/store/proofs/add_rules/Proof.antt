@@ -2,8 +2,7 @@ use Prim.Native.Nat.{_+_, _*_, _≤_}
 use native.Mathlib.Omega.{arith}
 use borrow.Author.Needs.{needs}
 use lib.ListN.{length}
-use Rattle.store.specs.Lent.{lent}
-use Rattle.store.specs.Answers.{newEntry}
+use Rattle.definitions_close.specs.Calls.{lent, newEntry}
 use Rattle.store.proofs.Added.{added-refused, added-accepted}
 use Rattle.store.proofs.Passed.{addition-passed}
 use Rattle.store.proofs.add_rules.Statement.{statement}

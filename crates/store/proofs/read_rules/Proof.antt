@@ -2,7 +2,7 @@ use mathlib.Core.Path.{ap, _∙_}
 use borrow.Author.Needs.{needs}
 use Rattle.definitions_close.specs.Store.{entries, storeTests, rulesAt, readRules}
 use Rattle.refusals.proofs.Answers.{after-passed, after-refused}
-use Rattle.store.specs.Lent.{lent}
+use Rattle.definitions_close.specs.Calls.{lent}
 use Rattle.store.specs.Answers.{turnedAway}
 use Rattle.store.proofs.Passed.{store-passed}
 use Rattle.store.proofs.read_rules.Statement.{statement}

@@ -2,10 +2,8 @@ use mathlib.Core.Path.{_≡_, ap, _∙_}
 use Rattle.definitions_close.specs.Store.{rulesAnswerFor}
 use Rattle.definitions_close.specs.StoreClose.{rulesFor}
 use Rattle.definitions_close.specs.StoreSteps.{StoreStepCall}
-use Rattle.store.specs.Lent.{lent}
-use Rattle.store.specs.Called.{storeCalled}
+use Rattle.definitions_close.specs.Calls.{lent, storeCalled, storeStepCalled}
 use Rattle.store.proofs.store_rules.Given.{rules-with}
-use Rattle.store_steps.specs.Called.{storeStepCalled}
 use Rattle.store_steps.proofs.Steps.{first-by, first-turned}
 use borrow.Author.Needs.{needs}
 use Rattle.store_steps.proofs.first_step.Statement.{statement}

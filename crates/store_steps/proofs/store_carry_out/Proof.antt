@@ -2,8 +2,7 @@ use mathlib.Core.Path.{_≡_, ap, _∙_}
 use borrow.Author.Tests.{eq-eqb, ne-eqb}
 use Rattle.definitions_close.specs.Store.{rulesAnswerFor}
 use Rattle.definitions_close.specs.StoreSteps.{StoreNinthCall, ninthRules, storeCarryOut}
-use Rattle.store.specs.Lent.{lent}
-use Rattle.store_steps.specs.Called.{storeNinthCalled}
+use Rattle.definitions_close.specs.Calls.{lent, storeNinthCalled}
 use Rattle.store_steps.proofs.Steps.{ninth-with, ninth-turned, ninth-by}
 use borrow.Author.Needs.{needs}
 use Rattle.store_steps.proofs.store_carry_out.Statement.{statement}

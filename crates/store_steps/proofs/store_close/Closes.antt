@@ -6,7 +6,7 @@ use Rattle.definitions_close.specs.FullClose.{fullClose}
 use Rattle.definitions_close.specs.declared.RulesAnswer.{RulesAnswer}
 use Rattle.definitions_close.specs.Store.{rulesAnswerFor}
 use Rattle.definitions_close.specs.StoreClose.{StoreCall, callBy, rulesFor, turnedAway, closeBy, storeClose}
-use Rattle.full_close.specs.Called.{fullOutcome}
+use Rattle.definitions_close.specs.Calls.{fullOutcome}
 use Rattle.store.proofs.store_rules.Given.{rules-given, rules-turned}
 
 module _ (c : StoreCall) {a : RulesAnswer} (e : a ≡ rulesAnswerFor (rulesFor c)) where

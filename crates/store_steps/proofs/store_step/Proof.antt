@@ -3,9 +3,7 @@ use borrow.Author.Tests.{eq-eqb}
 use Rattle.definitions_close.specs.CloseBySteps.{unwritten}
 use Rattle.definitions_close.specs.StoreSteps.{StoreStepCall, storeStep}
 use Rattle.refusals.proofs.All.{fails, passes}
-use Rattle.store.specs.Lent.{lent}
-use Rattle.store.specs.Called.{storeCalled}
-use Rattle.store_steps.specs.Called.{storeStepCalled}
+use Rattle.definitions_close.specs.Calls.{lent, storeCalled, storeStepCalled}
 use Rattle.store_steps.proofs.Steps.{out-of-turn, first, later}
 use borrow.Author.Needs.{needs}
 use Rattle.store_steps.proofs.store_step.Statement.{statement}

@@ -1,4 +1,3 @@
-use mathlib.Core.Bool.{and-false}
 use borrow.Author.Tests.{le-leb, lt-leb}
 use Rattle.survey.proofs.test_after.Statement.{statement}
 use Rattle.survey.proofs.test_after.Tie as tie

@@ -3,22 +3,22 @@ use mathlib.Core.Path.{_≡_, refl, sym, ap, _∙_}
 use mathlib.Core.List.{List, [], _∷_, _++_}
 use Prim.Native.Nat.{ℕ, _+_, _-_, _*_, _<_}
 use native.Mathlib.Omega.{arith}
-use lib.ListN.{length, getD, take, drop}
+use lib.ListN.{length, getD, take}
 use Rattle.definitions.specs.declared.Settings.{Settings}
 use Rattle.definitions.specs.declared.Finality.{Finality}
-use Rattle.definitions.specs.Record.{Validator, BeaconState, nobody}
+use Rattle.definitions.specs.Record.{Validator, BeaconState}
 use Rattle.definitions.specs.Updates.{withValidators, withFinality}
 use Rattle.definitions.specs.Checked.{Checked, value, refused, bind, foldChecked}
 use Rattle.definitions.specs.Rust.Phase0.EpochProcessing.{«process_registry_updates», «process_effective_balance_updates»}
 use Rattle.definitions.specs.Rust.Altair.EpochProcessing.{«process_justification_and_finalization», «process_inactivity_updates», «process_rewards_and_penalties», «process_slashings», «process_participation_flag_updates»}
 use Rattle.definitions.specs.Close.{onValidators, step, closeUpTo, «process_epoch»}
-use Rattle.laws.proofs.Checked.{not-value, value-same, bound}
+use Rattle.laws.proofs.Checked.{not-value, value-same}
 use Rattle.arithmetic.proofs.Laws.{bind-value}
-use Rattle.definitions_close.specs.Amounts.{bookedByRewards, takenBySlashings, nines, amounts}
-use Rattle.theorems.specs.Amounts.Laws.{nineOf, rewardsIn, takenIn, balanceAt, ByLeaves, Accounted}
+use Rattle.definitions_close.specs.Amounts.{nines, amounts}
+use Rattle.theorems.specs.Amounts.Laws.{nineOf, rewardsIn, takenIn, balanceAt, Accounted}
 use Rattle.theorems.proofs.Amounts.Nines.{Eights, nine-at, nines-long, front, last, first-eight}
 use Rattle.theorems.proofs.Amounts.Kept.{Kept, kept-then, kept-same, scores-kept, registry-kept, effective-kept, rotation-kept}
-use Rattle.theorems.proofs.Amounts.Rewarded.{Rewarded, rewarded, rewardsFor, takenFor}
+use Rattle.theorems.proofs.Amounts.Rewarded.{Rewarded, rewarded}
 use Rattle.theorems.proofs.Amounts.Slashed.{Slashed, slashed}
 
 -- The registry between the steps

@@ -6,10 +6,7 @@ use native.Mathlib.Omega.{arith}
 use lib.ListN.{length, getD, take, drop, length-append}
 use lib.Seq.{ext-getD, getD-drop, getD-take}
 use Rattle.definitions_close.specs.Amounts.{nines}
-
-take-whole : (xs ys : List ℕ) → take (length xs) (xs ++ ys) ≡ xs
-take-whole [] ys = refl
-take-whole (x ∷ xs) ys = ap (λ (t : List ℕ). x ∷ t) (take-whole xs ys)
+use Rattle.laws.proofs.Encode.{take-whole}
 
 drop-more : (n k : ℕ) (xs ys : List ℕ) → n ≡ length xs + k → drop n (xs ++ ys) ≡ drop k ys
 drop-more n k [] ys h = let e : n ≡ k = omega (arith, h) in ap (λ (m : ℕ). drop m ys) e
@@ -25,7 +22,7 @@ pub record Eights (es : List (List ℕ)) (ts : List ℕ) : Type 0 where
   pub long : length ts ≡ length es
   pub eight : (i : ℕ) → i < length es → length (getD es i []) ≡ 8
 
-fewer : {e : List ℕ} {es : List (List ℕ)} {t : ℕ} {ts : List ℕ} → Eights (e ∷ es) (t ∷ ts) → Eights es ts
+pub fewer : {e : List ℕ} {es : List (List ℕ)} {t : ℕ} {ts : List ℕ} → Eights (e ∷ es) (t ∷ ts) → Eights es ts
 fewer h = record { long = omega (arith, h .long); eight = λ i l. h .eight (suc i) (omega arith) }
 
 pub nine-at : (es : List (List ℕ)) (ts : List ℕ) → Eights es ts → (i : ℕ) → i < length es → take 9 (drop (9 * i) (nines es ts)) ≡ getD es i [] ++ (getD ts i 0 ∷ [])

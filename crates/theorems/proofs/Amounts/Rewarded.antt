@@ -1,11 +1,11 @@
 -- The rewards step, and the eight numbers of each validator.
 use mathlib.Core.Path.{_≡_, refl, sym, ap, _∙_}
-use mathlib.Core.Bool.{Bool, true, false, cond, true≢false}
+use mathlib.Core.Bool.{Bool, true, false, cond}
 use mathlib.Core.List.{List, [], _∷_, map}
 use Prim.Native.Nat.{ℕ, _+_, _-_, _<_, min}
 use native.Mathlib.Omega.{arith}
-use borrow.Author.Tests.{eqb-true, ltb-true, ltb-false}
-use lib.Dec.{eqb, ltb}
+use borrow.Author.Tests.{eqb-true}
+use lib.Dec.{eqb}
 use lib.ListN.{length, getD, replicate, length-map}
 use Rattle.definitions.specs.declared.Settings.{Settings}
 use Rattle.definitions.specs.declared.Deltas.{Deltas}
@@ -20,17 +20,11 @@ use Rattle.arithmetic.proofs.Laws.{bind-value}
 use Rattle.definitions_close.specs.Amounts.{eachChecked, pairs, booked, bookedByRewards}
 use Rattle.theorems.specs.Amounts.Laws.{balanceAt}
 use Rattle.theorems.proofs.Amounts.Lists.{Gave, each-length, each-at, each-gave, each-map, at-map}
+use Rattle.laws.proofs.Tests.{lowered}
 
 -- Of one validator
 
 -- a reward, then its penalty as far as there is balance
-pub lowered : (a b : ℕ) → cond (ltb a b) 0 (a - b) ≡ a - min a b
-lowered a b = go (ltb a b) refl
-  where
-    go : (t : Bool) → ltb a b ≡ t → cond t 0 (a - b) ≡ a - min a b
-    go true q = let l = ltb-true a b q in omega (arith, l)
-    go false q = let l = ltb-false a b q in omega (arith, l)
-
 applied : (v : Validator) (d : Deltas) {w : Validator} → applyDelta v d ≡ value w → w .balance ≡ v .balance + d .reward - min (v .balance + d .reward) (d .penalty)
 unfolding applyDelta «increase_balance» «decrease_balance»
 applied v d e =

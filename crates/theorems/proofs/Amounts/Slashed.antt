@@ -1,5 +1,5 @@
 -- The slashings step, and the ninth number of each validator.
-use mathlib.Core.Path.{_≡_, refl, sym, ap, _∙_}
+use mathlib.Core.Path.{_≡_, sym, ap, _∙_}
 use mathlib.Core.Bool.{Bool, true, false, cond}
 use mathlib.Core.List.{List}
 use Prim.Native.Nat.{ℕ, _+_, _-_, _<_, min}
@@ -9,15 +9,15 @@ use lib.ListN.{length, getD}
 use Rattle.definitions.specs.declared.Settings.{Settings}
 use Rattle.definitions.specs.Record.{Validator, nobody}
 use Rattle.definitions.specs.Updates.{withBalance}
-use Rattle.definitions.specs.Checked.{Checked, value, bind, mul64, sum64, mapChecked}
+use Rattle.definitions.specs.Checked.{Checked, value, bind, mul64, sum64}
 use Rattle.definitions.specs.Rust.Phase0.Helpers.{«get_current_epoch», «get_total_active_balance», «decrease_balance»}
 use Rattle.definitions.specs.Rust.Altair.EpochProcessing.{isSlashingDue, slashingPenalty, slash, «process_slashings»}
 use Rattle.laws.proofs.Checked.{value-same, bound}
 use Rattle.arithmetic.proofs.Laws.{bind-value}
-use Rattle.definitions_close.specs.Amounts.{eachChecked, takenFrom, takenBySlashings}
+use Rattle.definitions_close.specs.Amounts.{takenFrom, takenBySlashings}
 use Rattle.theorems.specs.Amounts.Laws.{balanceAt}
-use Rattle.theorems.proofs.Amounts.Lists.{Gave, each-length, each-at, each-gave, each-map}
-use Rattle.theorems.proofs.Amounts.Rewarded.{lowered}
+use Rattle.theorems.proofs.Amounts.Lists.{each-length, each-at, each-gave, each-map}
+use Rattle.laws.proofs.Tests.{lowered}
 
 record Took (s : Settings) (epoch total adjusted : ℕ) (v w : Validator) : Type 0 where
   taken : ℕ

@@ -4,24 +4,23 @@ use mathlib.Core.List.{List, [], _∷_, _++_, map}
 use Prim.Native.Nat.{ℕ, zero, suc, _+_, _*_, _/_, _≤_, _<_}
 use native.Mathlib.Numerals.{add-one}
 use native.Mathlib.Omega.{arith}
-use lib.ListN.{length, getD, take, drop, replicate, length-replicate, length-map, length-take, length-drop, length-append}
-use lib.Seq.{take-at, drop-at}
+use lib.ListN.{length, getD, take, drop, replicate, length-replicate, length-map, length-take, length-drop}
 use Rattle.definitions.specs.declared.Settings.{Settings}
 use Rattle.definitions.specs.Record.{Validator, BeaconState}
-use Rattle.definitions.specs.Checked.{Checked, value, refused, bind, foldChecked, settle}
+use Rattle.definitions.specs.Checked.{value, bind, foldChecked, settle}
 use Rattle.definitions.specs.Close.{Step, justificationStep, inactivityStep, rewardsStep, registryStep, slashingsStep, effectiveBalancesStep, slashingsResetStep, participationFlagsStep, step, stateOf, finalizedEpochOf, closeUpTo, «process_epoch»}
-use Rattle.definitions_close.specs.Amounts.{bookedByRewards, takenBySlashings, nines, amounts as amountsOf}
+use Rattle.definitions_close.specs.Amounts.{nines, amounts as amountsOf}
 use Rattle.definitions_close.specs.FullClose.{FullCall, settingsOf}
 use Rattle.definitions_close.specs.CloseBySteps.{stepAfter, eights, amountsBy}
 use Rattle.laws.proofs.Checked.{value-same, bound}
-use Rattle.theorems.proofs.Amounts.Nines.{Eights, nines-long}
+use Rattle.theorems.proofs.Amounts.Nines.{Eights, nines-long, fewer}
 use Rattle.theorems.proofs.Amounts.Rewarded.{Rewarded, rewarded}
 use Rattle.theorems.proofs.Amounts.Slashed.{Slashed, slashed}
-use Rattle.theorems.proofs.CloseBySteps.Kept.{kept-step}
+use Rattle.laws.proofs.Encode.{take-whole}
 
 -- Eight numbers of each nine
 
-long-eights : (n : ℕ) (xs : List ℕ) → length (eights n xs) ≡ n
+pub long-eights : (n : ℕ) (xs : List ℕ) → length (eights n xs) ≡ n
 unfolding eights
 long-eights zero xs = refl
 long-eights (suc n) xs = ap suc (long-eights n (drop 9 xs))
@@ -36,9 +35,6 @@ eights-of : (n : ℕ) (xs ts : List ℕ) → 9 * n ≤ length xs → length ts �
 eights-of n xs ts h l =
     record { long = l ∙ sym (long-eights n xs); eight = λ i k. each-eight n xs h i (omega (arith, k, long-eights n xs)) }
 
-fewer : {e : List ℕ} {es : List (List ℕ)} {t : ℕ} {ts : List ℕ} → Eights (e ∷ es) (t ∷ ts) → Eights es ts
-fewer h = record { long = omega (arith, h .long); eight = λ i l. h .eight (suc i) (omega arith) }
-
 nine-more : (e : List ℕ) (t : ℕ) (rest : List ℕ) → length e ≡ 8 → drop 9 (e ++ (t ∷ rest)) ≡ rest
 nine-more (a ∷ b ∷ c ∷ d ∷ f ∷ g ∷ h ∷ i ∷ []) t rest l = refl
 nine-more [] t rest l = absurd (omega arith)
@@ -50,10 +46,6 @@ nine-more (a ∷ b ∷ c ∷ d ∷ f ∷ []) t rest l = absurd (omega arith)
 nine-more (a ∷ b ∷ c ∷ d ∷ f ∷ g ∷ []) t rest l = absurd (omega arith)
 nine-more (a ∷ b ∷ c ∷ d ∷ f ∷ g ∷ h ∷ []) t rest l = absurd (omega arith)
 nine-more (a ∷ b ∷ c ∷ d ∷ f ∷ g ∷ h ∷ i ∷ j ∷ es) t rest l = absurd (omega arith)
-
-take-whole : (xs ys : List ℕ) → take (length xs) (xs ++ ys) ≡ xs
-take-whole [] ys = refl
-take-whole (x ∷ xs) ys = ap (λ (t : List ℕ). x ∷ t) (take-whole xs ys)
 
 eights-nines : (es : List (List ℕ)) (ts : List ℕ) → Eights es ts → eights (length es) (nines es ts) ≡ es
 unfolding eights nines

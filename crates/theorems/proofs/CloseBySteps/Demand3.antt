@@ -1,31 +1,29 @@
 -- Demand 3 of closes that are whole or by steps, whatever orders come: an order leaves the two activation epochs as they are.
 use mathlib.Core.Path.{_≡_, refl, sym, ap, _∙_, subst}
-use mathlib.Core.Bool.{Bool, true, false, cond}
+use mathlib.Core.Bool.{Bool}
 use mathlib.Core.List.{List, [], _∷_, map, map-map}
-use Prim.Native.Nat.{ℕ, _<_}
+use Prim.Native.Nat.{ℕ}
 use native.Mathlib.Omega.{arith}
 use lib.Dec.{T, eqb, eqb→eq}
-use lib.ListN.{length}
 use Rattle.definitions.specs.declared.FullAnswer.{FullAnswer}
 use Rattle.definitions.specs.Record.{Validator, BeaconState, encode, decode}
 use Rattle.definitions.specs.Updates.{withValidators}
 use Rattle.definitions.specs.Checked.{Checked, value, refused}
 use Rattle.definitions.specs.Close.{Outcome, close}
-use Rattle.definitions_close.specs.FullClose.{FullCall, FullOutcome, settingsOf, fullClose}
-use Rattle.definitions_close.specs.CloseBySteps.{saysEnded}
-use Rattle.definitions_close.specs.Orders.{Order, ordersIn, carriedOut, NinthCall, NinthOutcome, ninthTests, untried, carriesOut, ninthInTurn, carryOut}
+use Rattle.definitions_close.specs.FullClose.{FullCall, settingsOf, fullClose}
+use Rattle.definitions_close.specs.Orders.{Order, ordersIn, carriedOut, NinthCall, NinthOutcome, ninthTests, carriesOut, ninthInTurn, carryOut}
 use Rattle.laws.proofs.Encode.{decode-encode}
 use Rattle.laws.proofs.Frame.Entries.{told}
 use Rattle.history.specs.Events.{Event}
 use Rattle.history.specs.Demand3.{Close, event}
-use Rattle.history.proofs.Shape.{EventShape, Registered, Shaped, EachShaped}
+use Rattle.history.proofs.Shape.{EventShape, Shaped, EachShaped}
 use Rattle.history.proofs.Steps.{epochs, Spared, spared-number, spared-eligibility, spared-activation}
 use Rattle.history.proofs.EveryList.{claim}
 use Rattle.theorems.specs.FullClose.ByNumber.{plainOutcome}
 use Rattle.theorems.proofs.FullClose.Demand3.{full-shaped}
-use Rattle.theorems.specs.CloseBySteps.Desk.{Desk, acts, ninthCall, Gives}
-use Rattle.theorems.specs.CloseBySteps.Demand3.{BySteps, eighth, ninth, outcomeOf, AnyClose, wholly, bySteps, closeOf, Demand3BySteps}
-use Rattle.theorems.proofs.CloseBySteps.Turns.{Stopped, UnderWay, answerSoFar, deskAt, Listed, On, waiting, onward, ended}
+use Rattle.theorems.specs.CloseBySteps.Desk.{Desk, ninthCall}
+use Rattle.theorems.specs.CloseBySteps.Demand3.{eighth, AnyClose, wholly, bySteps, closeOf, Demand3BySteps}
+use Rattle.theorems.proofs.CloseBySteps.Turns.{UnderWay, answerSoFar, deskAt, On, waiting, onward, ended}
 use Rattle.theorems.proofs.CloseBySteps.Eight.{stopped-done, onward-gives, eight-on}
 use Rattle.theorems.proofs.CloseBySteps.Nine.{says}
 use Rattle.theorems.proofs.CloseBySteps.Orders.{withoutExit, exits-only}

@@ -2,27 +2,25 @@
 use mathlib.Core.Path.{_≡_, refl, sym, ap, _∙_, subst}
 use mathlib.Core.Bool.{Bool, true, false, cond, _&&_}
 use mathlib.Core.List.{List, [], _∷_, _++_, append-assoc, append-nil, head-eq-of-cons-eq, tail-eq-of-cons-eq}
-use Prim.Native.Nat.{ℕ, zero, suc, _+_, _*_, _/_, _≤_, _<_}
+use Prim.Native.Nat.{ℕ, zero, suc, _+_, _*_, _≤_, _<_}
 use native.Mathlib.Numerals.{add-one}
 use native.Mathlib.Omega.{arith}
 use borrow.Author.Tests.{ltb-true, ne-eqb}
-use lib.Dec.{leb, ltb, eqb}
+use lib.Dec.{ltb}
 use lib.ListN.{length, getD, drop, set, length-drop, length-set}
 use lib.Seq.{drop-cons}
-use Rattle.definitions.specs.declared.FullAnswer.{FullAnswer}
 use Rattle.definitions.specs.Record.{BeaconState}
-use Rattle.definitions.specs.Checked.{Checked, value, refused, bind}
+use Rattle.definitions.specs.Checked.{value, bind}
 use Rattle.definitions.specs.Refusals.{afterTests, closingBuffer}
 use Rattle.definitions.specs.Raised.{raisedUnlessRefused}
-use Rattle.definitions.specs.Close.{stateOf, closeUpTo, «process_epoch»}
+use Rattle.definitions.specs.Close.{stateOf, «process_epoch»}
 use Rattle.definitions_close.specs.Amounts.{closingAmounts}
-use Rattle.definitions_close.specs.FinalizingTest.{finalizingTest}
-use Rattle.definitions_close.specs.FullClose.{FullCall, fullTests, settingsOf, fullyClosed, closingQueue, fullClose}
+use Rattle.definitions_close.specs.FullClose.{FullCall, settingsOf, fullyClosed, closingQueue, fullClose}
 use Rattle.definitions_close.specs.declared.Running.{Running}
-use Rattle.definitions_close.specs.CloseBySteps.{hasEnded, unwritten, saysEnded, closeStep}
-use Rattle.definitions_close.specs.Orders.{Order, ordersIn, OrderCall, OrderOutcome, takesOrders, ordersShaped, room, withOrders, appended, takeOrder}
-use Rattle.theorems.specs.CloseBySteps.Desk.{Desk, Act, stepping, ordering, orderCall, stepCall, act, acts, stepsOf, oneToEight, NotBegun, Gives, EightCalls, isTaken, arrived}
-use Rattle.theorems.proofs.CloseBySteps.Amounts.{amountsAt, amounts-end}
+use Rattle.definitions_close.specs.CloseBySteps.{hasEnded, unwritten, closeStep}
+use Rattle.definitions_close.specs.Orders.{Order, ordersIn, OrderCall, takesOrders, ordersShaped, room, withOrders, appended, takeOrder}
+use Rattle.theorems.specs.CloseBySteps.Desk.{Desk, Act, stepping, ordering, orderCall, act, acts, stepsOf, oneToEight, NotBegun, Gives, EightCalls, isTaken, arrived}
+use Rattle.theorems.proofs.CloseBySteps.Amounts.{amounts-end}
 use Rattle.theorems.proofs.CloseBySteps.Turns.{Stopped, UnderWay, deskAt, Listed, On, waiting, onward, ended, notBegun, first-call, later-call}
 
 -- An order changes the list and its count alone
@@ -68,10 +66,6 @@ listed-order x os size false true false p q r h = rw (p, q, r) h
 listed-order x os size false false f p q r h = rw (p, q) h
 
 -- After the end, and before the first call, nothing changes
-
-takes-none : (x : OrderCall) → hasEnded (x .running) ≡ true → takeOrder x ≡ record { answer = saysEnded (x .running); orders = x .orders }
-unfolding takeOrder
-takes-none x p = rw p
 
 pub ended-act : (c : FullCall) (d : Desk) (a : Act) → d .running .done ≡ 9 → act c d a ≡ d
 unfolding act closeStep unwritten takeOrder

@@ -15,9 +15,9 @@ use Rattle.definitions_close.specs.Amounts.{eachChecked, pairs, booked, bookedB
 use Rattle.definitions_close.specs.FinalizingTest.{lastTest, finalizingTest}
 use Rattle.definitions_close.specs.FullClose.{FullCall, fullTests}
 use Rattle.definitions_close.specs.CloseBySteps.{found, stepTests, stepped, eights, amountsBy, steppedAmounts, endedBy, goesOn, runningAfter, unwritten, stepInTurn, closeStep}
-use Rattle.definitions_close.specs.Orders.{Order, ordersIn, appended, takeOrder, mayExit, isDue, «process_voluntary_exit», carriedOut, answersTo, NinthOutcome, ninthTests, carriesOut, ninthInTurn, carryOut}
+use Rattle.definitions_close.specs.Orders.{ordersIn, appended, takeOrder, mayExit, isDue, «process_voluntary_exit», carriedOut, answersTo, NinthOutcome, ninthTests, carriesOut, ninthInTurn, carryOut}
 use Rattle.history.proofs.Computing.{computing}
-use Rattle.theorems.specs.CloseBySteps.Desk.{Desk, Act, stepping, ordering, act, acts, stepsOf, oneToEight, NotBegun, ninthCall}
+use Rattle.theorems.specs.CloseBySteps.Desk.{Desk, Act, stepping, ordering, act, acts, stepsOf, ninthCall}
 use Rattle.theorems.specs.CloseBySteps.Demand3.{BySteps}
 
 abbrev settings : Settings

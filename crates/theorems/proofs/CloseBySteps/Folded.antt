@@ -4,37 +4,29 @@ use mathlib.Core.Bool.{Bool, true, false, false≢true}
 use mathlib.Core.List.{List, [], _∷_, _++_}
 use Prim.Native.Nat.{ℕ, zero, suc, _+_, _<_}
 use native.Mathlib.Numerals.{add-one}
-use lib.ListN.{length, getD, take, drop, take-append-drop}
+use lib.ListN.{take, drop, take-append-drop}
 use lib.Seq.{take-suc, drop-cons}
 use Rattle.definitions.specs.declared.Settings.{Settings}
 use Rattle.definitions.specs.Record.{BeaconState}
-use Rattle.definitions.specs.Checked.{Refusal, Checked, value, refused, bind, foldChecked}
+use Rattle.definitions.specs.Checked.{Refusal, value, refused, bind, foldChecked}
 use Rattle.definitions.specs.Close.{Step, justificationStep, inactivityStep, rewardsStep, registryStep, slashingsStep, effectiveBalancesStep, slashingsResetStep, participationFlagsStep, steps, step, closeUpTo, «process_epoch»}
 use Rattle.definitions_close.specs.CloseBySteps.{stepAfter}
 use Rattle.laws.proofs.Frame.Frames.{frames}
-
-fold-append : {A B : Type 0} (f : B → A → Checked B) (b : B) (xs ys : List A) → foldChecked f b (xs ++ ys) ≡ bind (foldChecked f b xs) (λ c. foldChecked f c ys)
-unfolding foldChecked bind
-fold-append f b [] ys = refl
-fold-append {A} {B} f b (x ∷ xs) ys = go (f b x) (λ c. fold-append f c xs ys)
-  where
-    go : (m : Checked B) → ((c : B) → foldChecked f c (xs ++ ys) ≡ bind (foldChecked f c xs) (λ d. foldChecked f d ys)) → bind m (λ c. foldChecked f c (xs ++ ys)) ≡ bind (bind m (λ c. foldChecked f c xs)) (λ d. foldChecked f d ys)
-    go (value c) h = h c
-    go (refused r) h = refl
+use Rattle.laws.proofs.Loops.Iterated.{foldChecked-append}
 
 module _ (s : Settings) (st : BeaconState) (n : ℕ) (l : n < 8) {at : BeaconState} (e : closeUpTo n s st ≡ value at) where
   pub one-more : {next : BeaconState} → step s at (stepAfter n) ≡ value next → closeUpTo (n + 1) s st ≡ value next
   unfolding closeUpTo foldChecked bind
   one-more q =
       ap (foldChecked (step s) st) (ap (λ (k : ℕ). take k steps) (add-one n) ∙ take-suc steps n participationFlagsStep l)
-      ∙ fold-append (step s) st (take n steps) (stepAfter n ∷ [])
+      ∙ foldChecked-append (step s) st (take n steps) (stepAfter n ∷ [])
       ∙ rw (e, q)
 
   pub stopped : {r : Refusal} → step s at (stepAfter n) ≡ refused r → «process_epoch» s st ≡ refused r
   unfolding «process_epoch» closeUpTo foldChecked bind
   stopped q =
       ap (foldChecked (step s) st) (sym (take-append-drop n steps) ∙ ap (λ (ks : List Step). take n steps ++ ks) (drop-cons steps n participationFlagsStep l))
-      ∙ fold-append (step s) st (take n steps) (stepAfter n ∷ drop (suc n) steps)
+      ∙ foldChecked-append (step s) st (take n steps) (stepAfter n ∷ drop (suc n) steps)
       ∙ rw (e, q)
 
 -- Only the first writes the finality

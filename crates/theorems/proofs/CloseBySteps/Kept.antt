@@ -14,20 +14,21 @@ use Rattle.definitions.specs.declared.Finality.{Finality}
 use Rattle.definitions.specs.Lists.{all}
 use Rattle.definitions.specs.Record.{Validator, BeaconState, «GENESIS_EPOCH»}
 use Rattle.definitions.specs.Updates.{withEffectiveBalance, withBalance, withScore, withParticipation}
-use Rattle.definitions.specs.Checked.{Checked, value}
+use Rattle.definitions.specs.Checked.{value}
 use Rattle.definitions.specs.Refusals.{isSmall, goodFinality, goodValidator}
-use Rattle.definitions.specs.Document.Phase0.EpochProcessing.{bit, withBit, justifiedBits, finalizedBy, weighed}
+use Rattle.definitions.specs.Document.Phase0.EpochProcessing.{bit, justifiedBits, finalizedBy, weighed}
 use Rattle.definitions.specs.Document.Altair.EpochProcessing.{rotateParticipation}
 use Rattle.definitions.specs.Rust.Phase0.Helpers.{«compute_epoch_at_slot», «get_current_epoch», «get_previous_epoch»}
 use Rattle.definitions.specs.Rust.Phase0.EpochProcessing.{«weigh_justification_and_finalization»}
 use Rattle.definitions.specs.Rust.Altair.EpochProcessing.{«process_justification_and_finalization», «process_participation_flag_updates»}
 use Rattle.definitions.specs.Close.{Step, justificationStep, inactivityStep, rewardsStep, registryStep, slashingsStep, effectiveBalancesStep, slashingsResetStep, participationFlagsStep, step}
 use Rattle.laws.proofs.Checked.{value-same, bound}
-use Rattle.refusals.proofs.Laws.{GoodFinality, good-finality, GoodValidator, good-validator}
+use Rattle.refusals.proofs.Laws.{GoodFinality, good-finality, good-validator}
 use Rattle.refusals.proofs.All.{both}
-use Rattle.laws.specs.Frames.{each, withoutEpochs, but}
-use Rattle.laws.proofs.Frame.Entries.{either, told}
+use Rattle.laws.specs.Frames.{each, withoutEpochs}
+use Rattle.laws.proofs.Frame.Entries.{told}
 use Rattle.laws.proofs.Frame.Frames.{frames}
+use Rattle.laws.proofs.Tests.{either}
 
 -- Finality
 

@@ -1,25 +1,22 @@
 -- The ninth call carries the orders out, in order of arrival, on what the whole close leaves.
 use mathlib.Core.Path.{_≡_, refl, sym, ap, _∙_, subst}
-use mathlib.Core.Bool.{Bool, true, false, cond, _&&_}
-use mathlib.Core.List.{List, [], _∷_, _++_}
-use Prim.Native.Nat.{ℕ, zero, suc, _+_, _*_, _/_, _%_, _^_, _≤_, _<_}
+use mathlib.Core.List.{List}
+use Prim.Native.Nat.{ℕ, zero, suc, _/_, _%_, _^_, _≤_, _<_}
 use native.Mathlib.Omega.{arith}
 use borrow.Author.Tests.{lt-ltb, le-leb, eq-eqb}
-use lib.Dec.{leb, eqb}
 use lib.ListN.{length, drop}
 use Rattle.definitions.specs.declared.FullAnswer.{FullAnswer}
-use Rattle.definitions.specs.declared.Finality.{Finality}
-use Rattle.definitions.specs.Record.{Validator, BeaconState, encode, decode}
-use Rattle.definitions.specs.Checked.{Checked, value, refused, bind}
+use Rattle.definitions.specs.Record.{BeaconState, encode, decode}
+use Rattle.definitions.specs.Checked.{value, bind}
 use Rattle.definitions.specs.Refusals.{inOrder, goodRegistry}
 use Rattle.definitions.specs.ExitQueue.{queueOf, isQueueOf, queueTest}
-use Rattle.definitions_close.specs.FullClose.{FullCall, FullOutcome, settingsOf, fullClose}
+use Rattle.definitions_close.specs.FullClose.{FullCall, fullClose}
 use Rattle.definitions_close.specs.CloseBySteps.{saysEnded}
-use Rattle.definitions_close.specs.Orders.{Order, ordersIn, room, ordersShaped, carriedOut, answersTo, NinthCall, NinthOutcome, ninthTests, untried, carriesOut, ninthInTurn, carryOut}
+use Rattle.definitions_close.specs.Orders.{Order, ordersIn, room, NinthCall, ninthTests, untried, carriesOut, ninthInTurn, carryOut}
 use Rattle.laws.proofs.Encode.{decode-encode}
-use Rattle.theorems.specs.CloseBySteps.Desk.{Desk, acts, stepsOf, oneToEight, NotBegun, answerOf, Gives, arrived, ninthCall, NinthLent, Carries, NineCalls}
-use Rattle.theorems.proofs.CloseBySteps.Tests.{Passed, full-passed, Sound, shaped-as, long-as}
-use Rattle.theorems.proofs.CloseBySteps.Turns.{Stopped, UnderWay, deskAt, Listed, On, waiting, onward, ended}
+use Rattle.theorems.specs.CloseBySteps.Desk.{Desk, acts, arrived, ninthCall, Carries, NineCalls}
+use Rattle.theorems.proofs.CloseBySteps.Tests.{full-passed, shaped-as, long-as}
+use Rattle.theorems.proofs.CloseBySteps.Turns.{UnderWay, deskAt, On, waiting, onward, ended}
 use Rattle.theorems.proofs.CloseBySteps.Eight.{stopped-done, onward-gives, eight-on}
 
 many : (count : ℕ) (list : List ℕ) → length (ordersIn count list) ≡ count

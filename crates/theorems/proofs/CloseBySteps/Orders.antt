@@ -1,5 +1,5 @@
 -- What an order changes: it is an exit of one validator, or nothing, so that only exit and withdrawable epochs change.
-use mathlib.Core.Path.{_≡_, refl, sym, ap, _∙_}
+use mathlib.Core.Path.{_≡_, refl, _∙_}
 use mathlib.Core.Bool.{Bool, true, false, cond, _&&_}
 use mathlib.Core.List.{List, [], _∷_, map}
 use Prim.Native.Nat.{ℕ, _<_}
@@ -9,12 +9,11 @@ use lib.ListN.{length, getD}
 use Rattle.definitions.specs.declared.Settings.{Settings}
 use Rattle.definitions.specs.Record.{Validator, nobody, «FAR_FUTURE_EPOCH»}
 use Rattle.definitions.specs.Updates.{withExit}
-use Rattle.definitions.specs.Checked.{Refusal, noExit, tooEarly, Checked, value, refused, settle}
+use Rattle.definitions.specs.Checked.{noExit, tooEarly, Checked, value, refused, settle}
 use Rattle.definitions.specs.Rust.Phase0.Helpers.{«is_active_validator», «get_current_epoch», «initiate_validator_exit»}
 use Rattle.definitions_close.specs.Orders.{Order, mayExit, isDue, «process_voluntary_exit», carriedOut}
 use Rattle.laws.proofs.Checked.{not-value}
 use Rattle.refusals.proofs.All.{both}
-use Rattle.laws.proofs.Frame.Entries.{told}
 use Rattle.laws.proofs.Frame.Registry.{exit-writes}
 
 -- an order that is carried out: the exit of a validator that is known and has none yet

@@ -2,27 +2,26 @@
 use mathlib.Core.Path.{_≡_, refl, sym, ap, _∙_}
 use mathlib.Core.Bool.{Bool, true, false, cond, _&&_}
 use mathlib.Core.List.{List}
-use Prim.Native.Nat.{ℕ, _+_, _*_, _/_, _%_, _^_}
+use Prim.Native.Nat.{ℕ, _*_, _/_, _%_, _^_}
 use native.Mathlib.Omega.{arith}
 use borrow.Author.Tests.{eqb-true, eq-eqb}
 use lib.Dec.{leb, eqb}
 use lib.ListN.{length}
 use Rattle.definitions.specs.declared.Settings.{Settings}
-use Rattle.definitions.specs.declared.FullAnswer.{FullAnswer}
 use Rattle.definitions.specs.Lists.{all}
-use Rattle.definitions.specs.Record.{Validator, BeaconState, encode, decode}
+use Rattle.definitions.specs.Record.{BeaconState, encode, decode}
 use Rattle.definitions.specs.Checked.{Checked, value, refused, badShape, bind, codeOf}
 use Rattle.definitions.specs.Refusals.{inOrder, rootsShaped, slashingsShaped, registryShaped, sameLength, goodFinality, goodValidator, goodRegistry}
 use Rattle.definitions.specs.Rules.{rulesShaped, goodRules}
 use Rattle.definitions.specs.ExitQueue.{queueOf, isQueueOf, queueTest}
-use Rattle.definitions.specs.Close.{Step, step, Call, stateOf, closeTests}
+use Rattle.definitions.specs.Close.{Step, step, stateOf, closeTests}
 use Rattle.definitions_close.specs.Amounts.{amountsShaped}
 use Rattle.definitions_close.specs.FullClose.{FullCall, fullTests}
 use Rattle.laws.proofs.Checked.{not-value, bound}
 use Rattle.laws.proofs.Encode.{length-encode, decode-encode, length-decode}
-use Rattle.refusals.proofs.Laws.{InOrder, in-order, RegistryShape, registry-shaped}
+use Rattle.refusals.proofs.Laws.{in-order, RegistryShape, registry-shaped}
 use Rattle.refusals.proofs.All.{both}
-use Rattle.theorems.proofs.CloseBySteps.Kept.{Kept, kept-step}
+use Rattle.theorems.proofs.CloseBySteps.Kept.{kept-step}
 
 -- the record of a state as a later call tests it: the opening stands in the place of the closing buffers
 abbrev pub recordAt : FullCall → BeaconState → List ℕ → FullCall

@@ -1,17 +1,16 @@
 -- One call of a step, and one order, on a desk that is under way.
 use mathlib.Core.Path.{_≡_, refl, sym, ap, ap₂, _∙_, subst}
-use mathlib.Core.Bool.{Bool, true, false, cond, _&&_}
-use mathlib.Core.List.{List, [], _∷_}
-use Prim.Native.Nat.{ℕ, zero, suc, _+_, _*_, _/_, _≤_, _<_}
-use native.Mathlib.Numerals.{add-one}
+use mathlib.Core.Bool.{true, false}
+use mathlib.Core.List.{List, []}
+use Prim.Native.Nat.{ℕ, suc, _+_, _*_, _/_, _≤_, _<_}
 use native.Mathlib.Omega.{arith}
 use borrow.Author.Tests.{eq-eqb, ne-eqb, le-leb}
-use lib.Dec.{leb, eqb}
+use lib.Dec.{eqb}
 use lib.ListN.{length, replicate}
 use Rattle.definitions.specs.declared.FullAnswer.{FullAnswer}
 use Rattle.definitions.specs.declared.Finality.{Finality}
-use Rattle.definitions.specs.Record.{Validator, BeaconState, encode, decode}
-use Rattle.definitions.specs.Checked.{Refusal, numberOf, Checked, value, refused, bind, foldChecked, codeOf, settle}
+use Rattle.definitions.specs.Record.{Validator, BeaconState, encode}
+use Rattle.definitions.specs.Checked.{Refusal, numberOf, Checked, value, refused, bind, foldChecked, settle}
 use Rattle.definitions.specs.Refusals.{afterTests, closingBuffer}
 use Rattle.definitions.specs.Raised.{noneRaised, raisedTotals, raisedUnlessRefused}
 use Rattle.definitions.specs.ExitQueue.{queueOf}
@@ -20,12 +19,11 @@ use Rattle.definitions_close.specs.Amounts.{closingAmounts}
 use Rattle.definitions_close.specs.FinalizingTest.{finalizingTest}
 use Rattle.definitions_close.specs.FullClose.{FullCall, fullTests, settingsOf, fullyClosed, closingQueue, fullClose}
 use Rattle.definitions_close.specs.declared.Running.{Running}
-use Rattle.definitions_close.specs.declared.RunningAnswer.{RunningAnswer}
 use Rattle.definitions_close.specs.CloseBySteps.{StepCall, StepOutcome, isFirst, inTurn, found, stepTests, stepAfter, stepped, amountsBy, steppedAmounts, endedBy, goesOn, runningAfter, stepInTurn, closeStep}
 use Rattle.definitions_close.specs.Orders.{Order, ordersIn}
 use Rattle.laws.proofs.Checked.{number-not-zero}
 use Rattle.laws.proofs.Encode.{decode-encode}
-use Rattle.theorems.specs.CloseBySteps.Desk.{Desk, stepping, stepCall, act, NotBegun, answerOf, Gives}
+use Rattle.theorems.specs.CloseBySteps.Desk.{Desk, stepping, stepCall, act, NotBegun, Gives}
 use Rattle.theorems.proofs.CloseBySteps.Tests.{recordAt, Passed, full-passed, Sound, sound-opening, sound-step, tested-again}
 use Rattle.theorems.proofs.CloseBySteps.Folded.{one-more, stopped, later-finality}
 use Rattle.theorems.proofs.CloseBySteps.Amounts.{amountsAt, amounts-turn, amounts-long}
@@ -40,7 +38,7 @@ in-turn x p q = rw (p, q)
 abbrev amountsOn : StepCall → List ℕ
 amountsOn x = settle (amountsBy (stepAfter (x .running .done)) (settingsOf (x .whole)) (stateOf (found x .call)) (x .whole .amounts)) (replicate (length (x .whole .amounts)) 0)
 
-settled-buffer : (xs : Checked (List ℕ)) (zeros lent : List ℕ) → closingBuffer (λ filled. filled) (value tt) xs zeros lent ≡ settle xs zeros
+pub settled-buffer : (xs : Checked (List ℕ)) (zeros lent : List ℕ) → closingBuffer (λ filled. filled) (value tt) xs zeros lent ≡ settle xs zeros
 unfolding closingBuffer
 settled-buffer (value ys) zeros lent = refl
 settled-buffer (refused r) zeros lent = refl

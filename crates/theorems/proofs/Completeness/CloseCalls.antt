@@ -40,7 +40,7 @@ outcomeBy tests c work =
       closingSlashings = closingBuffer slashingsOf tests work (c .slashings) (c .closingSlashings);
     }
 
-after-refusal : (r : Refusal) (c : Call) (m n : Checked BeaconState) → outcomeBy (refused r) c m ≡ outcomeBy (refused r) c n
+pub after-refusal : (r : Refusal) (c : Call) (m n : Checked BeaconState) → outcomeBy (refused r) c m ≡ outcomeBy (refused r) c n
 unfolding afterTests bind closingBuffer raisedUnlessRefused
 after-refusal r c m n = refl
 

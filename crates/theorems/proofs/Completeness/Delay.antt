@@ -23,8 +23,9 @@ use Rattle.theorems.specs.Completeness.DocumentIn64Bits.{FlagTotals as T
 use Rattle.theorems.specs.Completeness.Rows.{hits}
 use Rattle.theorems.specs.Completeness.Complete.{LeafParts, CompleteLeaf}
 use Rattle.agreement.proofs.Deltas.{flag-totals}
-use Rattle.theorems.proofs.Completeness.Laws.{bind-value, bind-bind, bind-through, traverse-alike, Never, never-refused, never-first, never-then, refuses, refused-or-parted}
+use Rattle.theorems.proofs.Completeness.Laws.{bind-value, bind-through, traverse-alike, Never, never-refused, never-first, never-then, refuses, refused-or-parted}
 use Rattle.theorems.proofs.Completeness.Agrees.{delta-agrees}
+use Rattle.laws.proofs.Checked.{bind-bind}
 
 -- it answers, or the delay is below 0
 pub data Delay (s : Settings) (stateSlot finalizedEpoch : ℕ) : Type 0 where

@@ -22,11 +22,6 @@ pub bind-value : {A B : Type 0} (a : A) (k : A → Checked B) → bind (value a)
 unfolding bind
 bind-value a k = refl
 
-pub bind-bind : {A B C : Type 0} (m : Checked A) (k : A → Checked B) (l : B → Checked C) → bind (bind m k) l ≡ bind m (λ a. bind (k a) l)
-unfolding bind
-bind-bind (value a) k l = refl
-bind-bind (refused r) k l = refl
-
 -- the same, where one of them hands on g of what the other does
 pub bind-through : {A B C : Type 0} (m : Checked A) (g : A → B) (k : B → Checked C) {l : A → Checked C} → ((a : A) → k (g a) ≡ l a) → bind (bind m (λ a. value (g a))) k ≡ bind m l
 unfolding bind

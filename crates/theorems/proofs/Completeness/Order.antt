@@ -25,11 +25,6 @@ unfolding bind
 gives-bind {m = value a} k h = rw (h .same a refl)
 gives-bind {m = refused r} k h = refl
 
-pub gives-then : {A B : Type 0} (m : Checked A) (g : A → B) → gives (bind m (λ a. value (g a))) ≡ gives m
-unfolding bind
-gives-then (value a) g = refl
-gives-then (refused r) g = refl
-
 gives-both : {A B C : Type 0} (m : Checked A) (n : Checked B) (f : A → B → C) → gives (bind m (λ a. bind n (λ b. value (f a b)))) ≡ (gives m && gives n)
 unfolding bind
 gives-both (value a) (value b) f = refl

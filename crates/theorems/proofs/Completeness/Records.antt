@@ -26,7 +26,7 @@ use Rattle.theorems.specs.Completeness.ListByList as byLists
 use Rattle.theorems.specs.Completeness.DocumentIn64Bits as in64
 use Rattle.theorems.specs.Completeness.ListByList.{traverse, zipChecked}
 use Rattle.theorems.specs.Completeness.Rows.{FinalizedAhead, nobodyEligible, nobodyHits, noValidators, atInactivity, atEffectiveBalances}
-use Rattle.theorems.specs.Completeness.Records.{least, callOf, onBellatrix, ahead, missed, Parting, Records}
+use Rattle.theorems.specs.Completeness.Records.{least, callOf, ahead, missed, Parting, Records}
 
 is-ahead : (registry : List ℕ) → let c = callOf (least 1 0 0) registry 1 1 in FinalizedAhead (c .rules .settings) (stateOf c)
 unfolding «get_current_epoch» «get_previous_epoch» «compute_epoch_at_slot»

@@ -12,14 +12,14 @@ use Rattle.definitions.specs.Updates.{withValidators, withSlashings}
 use Rattle.definitions.specs.Checked.{Refusal, badShape, badRecord, overflow, Checked, value, refused, bind, numberOf}
 use Rattle.definitions.specs.Refusals.{inOrder, afterTests, closingBuffer, registryTests, effectiveBalanceTests, slashingsResetTests, rotationTests}
 use Rattle.definitions.specs.Rules.{settingsUnder, rewardsTests, slashingsTests}
-use Rattle.definitions.specs.RegisterOrder.{registryUpdatesTo, registryToTests}
+use Rattle.definitions.specs.RegisterOrder.{registryToTests}
 use Rattle.definitions.specs.Rust.Phase0.EpochProcessing.{«process_registry_updates», resetSlashings}
 use Rattle.definitions.specs.Rust.Altair.EpochProcessing as rust
 use Rattle.definitions.specs.Close.{onValidators, finalizedEpochOf, Step, inactivityStep, rewardsStep, registryStep, slashingsStep, effectiveBalancesStep, slashingsResetStep, participationFlagsStep, step}
 use Rattle.agreement.specs.Agreement.{documentStep}
 use Rattle.agreement.specs.Bounds.{Passed}
 use Rattle.agreement.specs.Restored.{OneOf}
-use Rattle.refusals.specs.Closes.{Closes}
+use Rattle.definitions.specs.Closes.{Closes}
 use Rattle.theorems.specs.Completeness.DocumentIn64Bits as in64
 use Rattle.theorems.specs.Completeness.Calls.{registryOf, slashingsOf, ByNumber, StepCall, StepCalls, RulesCalls, stoppedOf, StoppedCalls}
 use Rattle.laws.proofs.Checked.{not-value}

@@ -3,16 +3,16 @@ use mathlib.Core.Path.{_≡_, refl, sym, ap, _∙_}
 use mathlib.Core.Bool.{Bool, true, false}
 use mathlib.Core.List.{List, [], _∷_}
 use mathlib.Core.Logic.{_⊎_, inl, inr, ⊎-elim}
-use Prim.Native.Nat.{ℕ, _*_, _^_, _≤_, _<_}
+use Prim.Native.Nat.{ℕ, _^_, _≤_, _<_}
 use native.Mathlib.Decide.{decLt}
 use native.Mathlib.Omega.{arith}
-use borrow.Author.Tests.{eqb-false, ne-eqb, le-ltb}
+use borrow.Author.Tests.{eqb-false, ne-eqb}
 use lib.Dec.{eqb}
 use lib.ListN.{take}
 use Rattle.definitions.specs.declared.Settings.{Settings}
 use Rattle.definitions.specs.declared.Deltas.{Deltas}
 use Rattle.definitions.specs.Record.{Validator, BeaconState}
-use Rattle.definitions.specs.Checked.{overflow, value, refused, bind, mul64, mapChecked, foldChecked}
+use Rattle.definitions.specs.Checked.{overflow, value, refused, bind, mapChecked, foldChecked}
 use Rattle.definitions.specs.Document.Phase0.Helpers.{«get_current_epoch», «get_previous_epoch», «get_validator_churn_limit»}
 use Rattle.definitions.specs.Document.Phase0.EpochProcessing as documentEpoch
 use Rattle.definitions.specs.Document.Phase0.EpochProcessing.{isEligible, activationQueue, dequeued}
@@ -37,6 +37,7 @@ use Rattle.theorems.proofs.Completeness.Laws.{bind-same, map-alike, fol
 use Rattle.theorems.proofs.Completeness.Agrees.{each-step}
 use Rattle.theorems.proofs.Completeness.ListByList.{same-by-lists}
 use Rattle.theorems.proofs.Completeness.Delay.{Delay, answered, below, delay, score-same, list-same, leak-refused, score-refused, totals-refused, deltas-refused}
+use Rattle.arithmetic.proofs.Operations.{mul64-refused}
 
 -- equal, or parted
 abbrev Settled : Settings → BeaconState → Step → Type 0
@@ -124,10 +125,6 @@ registry-complete s st p =
 
 -- Effective balances
 
-mul64-leaves : (a b : ℕ) → 2 ^ 64 ≤ a * b → mul64 a b ≡ refused overflow
-unfolding mul64
-mul64-leaves a b h = rw (le-ltb (a * b) (2 ^ 64) h)
-
 no-validators : (s : Settings) → ((v : Validator) → Never (in64.updateEffectiveBalance s v)) → (vs : List Validator) {ws : List Validator} → mapChecked (in64.updateEffectiveBalance s) vs ≡ value ws → vs ≡ []
 unfolding mapChecked
 no-validators s h [] e = refl
@@ -148,18 +145,18 @@ both-fit s st d u = inl (rw (mul64-fits _ _ d, mul64-fits _ _ u, map-alike (bala
 module _ (s : Settings) (st : BeaconState) where
   downward-refused : 2 ^ 64 ≤ downward s → Rust.step s st effectiveBalancesStep ≡ refused overflow
   unfolding Rust.step rustEpoch.«process_effective_balance_updates» bind
-  downward-refused d = rw (mul64-leaves _ _ d)
+  downward-refused d = rw (mul64-refused _ _ d)
 
   upward-refused : 2 ^ 64 ≤ upward s → Rust.step s st effectiveBalancesStep ≡ refused overflow
   unfolding Rust.step rustEpoch.«process_effective_balance_updates»
   upward-refused u =
       refuses (effective-balances s st)
-      (rw (mul64-leaves _ _ u) (never-first _ (never-then _ (λ d. never-first _ never-refused))))
+      (rw (mul64-refused _ _ u) (never-first _ (never-then _ (λ d. never-first _ never-refused))))
 
   balance-refused : (2 ^ 64 ≤ downward s) ⊎ (2 ^ 64 ≤ upward s) → (v : Validator) → Never (in64.updateEffectiveBalance s v)
   unfolding in64.updateEffectiveBalance
-  balance-refused (inl d) v = rw (mul64-leaves _ _ d) (never-first _ never-refused)
-  balance-refused (inr u) v = rw (mul64-leaves _ _ u) (never-then _ (λ d. never-first _ never-refused))
+  balance-refused (inl d) v = rw (mul64-refused _ _ d) (never-first _ never-refused)
+  balance-refused (inr u) v = rw (mul64-refused _ _ u) (never-then _ (λ d. never-first _ never-refused))
 
   one-leaves : Rust.step s st effectiveBalancesStep ≡ refused overflow → (2 ^ 64 ≤ downward s) ⊎ (2 ^ 64 ≤ upward s) → Settled s st effectiveBalancesStep
   one-leaves e p =

@@ -1,10 +1,10 @@
 -- Each call has the interface of exit_epochs where it is accepted.
-use mathlib.Core.Path.{_≡_, refl, sym, ap, _∙_}
+use mathlib.Core.Path.{ap}
 use mathlib.Core.Logic.{_⊎_, inl, inr}
 use mathlib.Core.List.{List, [], _∷_, map}
 use Prim.Native.Nat.{ℕ}
 use native.Mathlib.Omega.{arith}
-use lib.Dec.{T, eqb, eqb→eq}
+use lib.Dec.{eqb, eqb→eq}
 use Rattle.definitions.specs.declared.Settings.{Settings}
 use Rattle.definitions.specs.declared.ExitQueue.{ExitQueue}
 use Rattle.definitions.specs.declared.QueueAnswer.{QueueAnswer}
@@ -12,17 +12,15 @@ use Rattle.definitions.specs.declared.FullAnswer.{FullAnswer}
 use Rattle.definitions.specs.Record.{encode, decode}
 use Rattle.definitions.specs.LeafRefusals.{exitTests}
 use Rattle.definitions.specs.Rust.Phase0.Helpers.{«initiate_validator_exit»}
-use Rattle.refusals.specs.Closes.{Closes}
+use Rattle.definitions.specs.Closes.{Closes}
 use Rattle.definitions_close.specs.FullClose.{FullCall, fullClose}
-use Rattle.definitions_close.specs.Orders.{carryOut}
-use Rattle.theorems.specs.CloseBySteps.Desk.{Desk, Act, acts, stepsOf, oneToEight, NotBegun, Gives}
+use Rattle.theorems.specs.CloseBySteps.Desk.{Desk, Act, acts, Gives}
 use Rattle.theorems.proofs.CloseBySteps.Eight.{eight-calls}
 use Rattle.theorems.specs.FullClose.ByNumber.{plainOutcome}
 use Rattle.theorems.specs.FullClose.QueueCalls.{WrongPair}
 use Rattle.theorems.proofs.FullClose.Demand3.{accepted-same}
 use Rattle.theorems.proofs.FullClose.QueueCalls.{exit-call}
 use Rattle.history.specs.ExitEpochs as base
-use Rattle.history.specs.ExitEpochs.{Event}
 use Rattle.history.proofs.ExitEpochs.Shape.{Shaped}
 use Rattle.history.proofs.ExitEpochs.OneClose as base-shaped
 use Rattle.history.proofs.ExitEpochs.EveryRun.{EachShaped, claim}

@@ -1,17 +1,16 @@
 -- What comes back of a full close, by what its tests and the eight steps answered.
-use mathlib.Core.Path.{_≡_, refl, sym, ap, subst, _∙_}
-use mathlib.Core.Bool.{Bool, true, false, cond, _&&_}
+use mathlib.Core.Path.{_≡_, refl, sym, ap, _∙_}
+use mathlib.Core.Bool.{Bool, true, false}
 use mathlib.Core.List.{List, [], _∷_}
 use mathlib.Core.Logic.{_⊎_, inl, inr}
-use Prim.Native.Nat.{ℕ, _+_, _*_, _/_, _≤_, _<_}
+use Prim.Native.Nat.{ℕ, _*_, _/_, _≤_}
 use native.Mathlib.Omega.{arith}
 use borrow.Author.Tests.{eqb-true, eq-eqb}
-use lib.Dec.{T, eqb}
+use lib.Dec.{eqb}
 use lib.ListN.{length}
-use Rattle.definitions.specs.declared.ExitQueue.{ExitQueue}
-use Rattle.definitions.specs.Record.{Validator, BeaconState, encode, decode}
+use Rattle.definitions.specs.Record.{Validator, BeaconState, decode}
 use Rattle.definitions.specs.Checked.{Refusal, badShape, wrongQueue, Checked, value, refused, bind, numberOf}
-use Rattle.definitions.specs.Refusals.{inOrder, afterTests, closingBuffer}
+use Rattle.definitions.specs.Refusals.{afterTests, closingBuffer}
 use Rattle.definitions.specs.Raised.{raisedUnlessRefused}
 use Rattle.definitions.specs.ExitQueue.{queueOf, isQueueOf, queueTest}
 use Rattle.definitions.specs.Close.{stateOf, closeTests, closed, close, «process_epoch»}
@@ -19,14 +18,15 @@ use Rattle.definitions_close.specs.Amounts.{amounts, closingAmounts}
 use Rattle.definitions_close.specs.FinalizingTest.{finalizingTest}
 use Rattle.definitions_close.specs.FullClose.{FullCall, fullTests, settingsOf, fullyClosed, closingQueue, fullClose}
 use Rattle.laws.proofs.Encode.{decode-encode}
-use Rattle.validator_exit.proofs.queue_tests.Queue.{is-queue, queue-passes}
+use Rattle.validator_exit.proofs.queue_tests.Queue.{queue-passes}
 use Rattle.agreement.specs.Restored.{OneOf}
 use Rattle.agreement.proofs.Refused.{work-refused}
-use Rattle.agreement.proofs.Restored.{high, one-left, one-right, tests-number, work-number}
-use Rattle.theorems.specs.Amounts.Laws.{nineOf, rewardsIn, takenIn, balanceAt, Accounted}
+use Rattle.agreement.proofs.Restored.{one-left, one-right, tests-number, work-number}
+use Rattle.theorems.specs.Amounts.Laws.{Accounted}
 use Rattle.theorems.proofs.Amounts.Accounted.{accounted}
 use Rattle.theorems.specs.FullClose.ByNumber.{plainOutcome, Lent, FullAccepted, FullUntouched, FullOpening, FullByNumber}
 use Rattle.theorems.specs.FullClose.Demand2.{outcomeBy}
+use Rattle.laws.proofs.Queue.{is-queue}
 
 -- The tests
 

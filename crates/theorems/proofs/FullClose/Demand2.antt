@@ -1,25 +1,18 @@
 -- Demand 2 of a full close: where its tests passed it is a close, of which completeness has it.
-use mathlib.Core.Path.{_≡_, refl, sym, ap, _∙_, subst}
+use mathlib.Core.Path.{_≡_, sym, ap, _∙_}
 use mathlib.Core.Logic.{_⊎_, inl, inr, ⊎-elim}
-use Rattle.definitions.specs.Record.{BeaconState}
-use Rattle.definitions.specs.Checked.{Refusal, Checked, value, refused, bind}
-use Rattle.definitions.specs.Refusals.{afterTests, closingBuffer}
-use Rattle.definitions.specs.Raised.{raisedUnlessRefused}
-use Rattle.definitions.specs.Close.{Call, Outcome, stateOf, closeTests, close, «process_epoch»}
+use Rattle.definitions.specs.Checked.{Checked, value}
+use Rattle.definitions.specs.Close.{Outcome, stateOf, close, «process_epoch»}
 use Rattle.definitions_close.specs.FullClose.{FullCall, settingsOf, fullTests, fullClose}
 use Rattle.theorems.specs.Completeness.DocumentIn64Bits as in64
 use Rattle.theorems.specs.Completeness.Complete.{CloseParts}
 use Rattle.theorems.specs.Completeness.Calls.{DocumentClosed}
-use Rattle.theorems.proofs.Completeness.CloseCalls.{close-call}
-use Rattle.theorems.specs.FullClose.ByNumber.{plainOutcome, Lent, FullAccepted}
+use Rattle.theorems.proofs.Completeness.CloseCalls.{close-call, after-refusal}
+use Rattle.theorems.specs.FullClose.ByNumber.{plainOutcome, FullAccepted}
 use Rattle.theorems.specs.FullClose.Demand2.{outcomeBy, FullCloseCall}
 use Rattle.theorems.proofs.FullClose.ByNumber.{Tests, passed, turned, tests, lent-tests, plain-by, lent-same, full-by-number}
 
 -- the work shows only where the tests passed
-after-refusal : (r : Refusal) (c : Call) (m n : Checked BeaconState) → outcomeBy (refused r) c m ≡ outcomeBy (refused r) c n
-unfolding afterTests bind closingBuffer raisedUnlessRefused
-after-refusal r c m n = refl
-
 full-complete : (c : FullCall) → Tests c → (plainOutcome (fullClose c) ≡ outcomeBy (fullTests c) (c .call) (in64.«process_epoch» (settingsOf c) (stateOf (c .call)))) ⊎ ((fullTests c ≡ value tt) × CloseParts (settingsOf c) (stateOf (c .call)))
 full-complete c (turned r n t) = inl (plain-by c ∙ rw t (after-refusal r (c .call) _ _))
 full-complete c (passed l t) = ⊎-elim (λ e. inl (lent-same c l ∙ e ∙ sym (ap by (lent-tests c l)))) (λ p. inr (t, p .1)) (close-call (c .call) .complete)

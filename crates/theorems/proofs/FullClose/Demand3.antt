@@ -1,21 +1,17 @@
 -- Demand 3 of full closes: one that is accepted is a close with the same record, so that it has the interface of history.
-use mathlib.Core.Path.{_≡_, sym, ap, subst}
-use mathlib.Core.Bool.{Bool, true, false, cond}
-use mathlib.Core.List.{List, [], _∷_, map, map-map, head-eq-of-cons-eq, tail-eq-of-cons-eq}
+use mathlib.Core.Path.{_≡_, sym, subst}
+use mathlib.Core.Bool.{Bool}
+use mathlib.Core.List.{List, [], _∷_, map, map-map}
 use Prim.Native.Nat.{ℕ}
-use native.Mathlib.Omega.{arith}
 use lib.Dec.{T, eqb, eqb→eq}
-use lib.ListN.{length, replicate}
-use Rattle.definitions.specs.declared.Settings.{Settings}
-use Rattle.definitions.specs.Lists.{filter}
 use Rattle.definitions.specs.Record.{BeaconState}
 use Rattle.definitions.specs.Close.{Outcome, close}
 use Rattle.definitions_close.specs.FullClose.{FullCall, fullClose}
-use Rattle.history.specs.Events.{accepts, accepted, Least, Premises, Claim}
-use Rattle.history.specs.Demand3.{Close, event}
+use Rattle.history.specs.Events.{accepted, Least, Premises, Claim}
+use Rattle.history.specs.Demand3.{event}
 use Rattle.history.proofs.Shape.{Shaped, EachShaped}
-use Rattle.history.proofs.Premises.{AtMost, least}
-use Rattle.history.proofs.WholeClose.{close-shaped}
+use Rattle.history.proofs.Premises.{least}
+use Rattle.history.proofs.WholeClose.{close-shaped, stays-least}
 use Rattle.history.proofs.EveryList.{claim}
 use Rattle.theorems.specs.FullClose.ByNumber.{plainOutcome}
 use Rattle.theorems.specs.FullClose.Demand3.{fullCloseOf, FullDemand3}
@@ -41,17 +37,5 @@ pub of-full-closes : (m : ℕ) (start : BeaconState) (calls : List (Bool × Full
 of-full-closes m start calls l p = claim m start (map event (map fullCloseOf calls)) (subst EachShaped (sym (map-map event fullCloseOf calls)) (each-full calls)) l p
 
 -- the smallest churn limit of settings that stay
-stays-least : (s : Settings) (closes : List Close) → map (λ c. c .call .rules .settings) closes ≡ replicate (length closes) s → AtMost (s .«min_per_epoch_churn_limit») (accepted (map event closes))
-unfolding filter
-stays-least s [] e = tt
-stays-least s (c ∷ closes) e = go (accepts (event c)) (stays-least s closes (tail-eq-of-cons-eq e))
-  where
-    m : ℕ
-    m = s .«min_per_epoch_churn_limit»
-
-    go : (b : Bool) → AtMost m (accepted (map event closes)) → AtMost m (cond b (event c ∷ accepted (map event closes)) (accepted (map event closes)))
-    go true h = (omega (arith, ap (λ (s : Settings). s .«min_per_epoch_churn_limit») (head-eq-of-cons-eq e)), h)
-    go false h = h
-
 pub full-demand3 : FullDemand3
 full-demand3 s start calls p = of-full-closes (s .«min_per_epoch_churn_limit») start calls (least (s .«min_per_epoch_churn_limit») _ (p .churn) (stays-least s (map fullCloseOf calls) (p .stay))) (p .list)

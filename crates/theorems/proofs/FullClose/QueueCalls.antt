@@ -1,10 +1,9 @@
 -- A call that is lent the pair: refused under 8, or what it would be without.
 use mathlib.Core.Path.{_≡_, refl, sym, ap, _∙_}
-use mathlib.Core.Logic.{_⊎_, inl, inr}
+use mathlib.Core.Logic.{inl, inr}
 use mathlib.Core.Bool.{Bool, true, false, cond, false≢true}
 use mathlib.Core.List.{List}
 use Prim.Native.Nat.{ℕ}
-use borrow.Author.Tests.{eq-eqb}
 use Rattle.definitions.specs.declared.Settings.{Settings}
 use Rattle.definitions.specs.declared.ExitQueue.{ExitQueue}
 use Rattle.definitions.specs.declared.QueueAnswer.{QueueAnswer}
@@ -17,11 +16,11 @@ use Rattle.definitions.specs.Rust.Phase0.Helpers.{«initiate_validator_exit»}
 use Rattle.definitions_close.specs.QueueCalls.{thenQueue, exitQueueTests, queueAfter, QueueCloses}
 use Rattle.laws.proofs.Checked.{number-not-zero}
 use Rattle.laws.proofs.Encode.{decode-encode}
-use Rattle.refusals.specs.Closes.{Closes}
-use Rattle.validator_exit.proofs.queue_tests.Queue.{is-queue}
+use Rattle.definitions.specs.Closes.{Closes}
 use Rattle.validator_exit.proofs.queue_tests.Closes.{closes-of}
 use Rattle.theorems.proofs.Completeness.StepCalls.{step-calls, stopped-calls}
 use Rattle.theorems.specs.FullClose.QueueCalls.{TruePair, WrongPair, QueueCall, QueueCalls, ExitCall}
+use Rattle.laws.proofs.Queue.{is-queue, is-its-own}
 
 -- once all tests have passed
 worked : (work : Checked (List Validator)) {queue : ExitQueue} {opening closing after : List ℕ} {r : QueueAnswer} → queue ≡ queueOf (decode opening) → QueueCloses (value tt) work queue opening closing after r → TruePair queue opening after r
@@ -51,10 +50,6 @@ turned p work h =
       handsBack = λ z. absurd (number-not-zero p (sym n ∙ z));
       stays = λ _. ap (λ (a : QueueAnswer). a .queue) (h .answer);
     }
-
-is-its-own : (vs : List Validator) → isQueueOf (queueOf vs) vs ≡ true
-unfolding isQueueOf
-is-its-own vs = rw (eq-eqb (queueOf vs .«last_epoch») (queueOf vs .«last_epoch») refl, eq-eqb (queueOf vs .number) (queueOf vs .number) refl)
 
 wrong-pair : (tests : Checked (Unit {0})) (work : Checked (List Validator)) {queue : ExitQueue} {opening closing after : List ℕ} {r : QueueAnswer} → tests ≡ value tt → isQueueOf queue (decode opening) ≡ false → QueueCloses (refused wrongQueue) work queue opening closing after r → WrongPair tests queue opening closing after r
 unfolding afterTests bind closingBuffer

@@ -3,8 +3,7 @@ use mathlib.Core.Path.{_≡_, refl, sym, ap, _∙_}
 use Rattle.definitions.specs.Checked.{Checked, value, refused, codeOf, settle}
 use Rattle.definitions_close.specs.Store.{Store, readRules, rulesAnswerFor, addEntry, AddOutcome, added}
 use Rattle.laws.proofs.Checked.{number-not-zero}
-use Rattle.store.specs.Lent.{lent}
-use Rattle.store.specs.Answers.{newEntry}
+use Rattle.definitions_close.specs.Calls.{lent, newEntry}
 use Rattle.theorems.specs.Store.Laws.{ReadsBefore}
 use Rattle.theorems.proofs.Store.Addition.{additions}
 

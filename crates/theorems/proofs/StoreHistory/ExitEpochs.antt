@@ -12,7 +12,6 @@ use Rattle.definitions_close.specs.Store.{noRules}
 use Rattle.definitions_close.specs.StoreClose.{StoreCall, callBy, rulesFor, closeBy, storeClose}
 use Rattle.definitions_close.specs.StoreSteps.{StoreNinthCall, ninthBy, ninthOf, ninthRules, carryBy, storeCarryOut}
 use Rattle.laws.proofs.Checked.{number-not-zero}
-use Rattle.theorems.specs.CloseBySteps.Desk as desk
 use Rattle.theorems.specs.CloseBySteps.Desk.{Desk, Act, stepsOf, oneToEight}
 use Rattle.history.proofs.ExitEpochs.Shape.{Shaped, kept}
 use Rattle.history.proofs.ExitEpochs.EveryRun.{EachShaped, claim}

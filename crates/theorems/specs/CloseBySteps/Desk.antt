@@ -3,11 +3,11 @@
 use mathlib.Core.Path.{_≡_}
 use mathlib.Core.Bool.{Bool, cond, _&&_}
 use mathlib.Core.List.{List, [], _∷_, _++_}
-use Prim.Native.Nat.{ℕ, _^_, _/_, _%_, _<_}
+use Prim.Native.Nat.{ℕ, _^_, _%_, _<_}
 use lib.Dec.{eqb}
 use lib.ListN.{length, drop}
 use Rattle.definitions.specs.declared.FullAnswer.{FullAnswer}
-use Rattle.definitions.specs.Record.{Validator, encode, decode}
+use Rattle.definitions.specs.Record.{encode, decode}
 use Rattle.definitions.specs.ExitQueue.{queueOf}
 use Rattle.definitions_close.specs.FullClose.{FullCall, FullOutcome, settingsOf, fullClose}
 use Rattle.definitions_close.specs.declared.Running.{Running}

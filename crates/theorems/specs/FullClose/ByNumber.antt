@@ -1,6 +1,6 @@
 -- What a full close hands back and what the lent lists hold, by the number that it answers: document 01's table, with what R-4 and R-8 add.
 use mathlib.Core.Path.{_≡_}
-use mathlib.Core.List.{List, [], _∷_}
+use mathlib.Core.List.{[], _∷_}
 use Prim.Native.Nat.{ℕ, _+_, _*_, _/_, _<_}
 use lib.ListN.{length, replicate}
 use Rattle.definitions.specs.Record.{BeaconState, decode}

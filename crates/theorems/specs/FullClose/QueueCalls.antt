@@ -17,7 +17,7 @@ use Rattle.definitions.specs.Rust.Phase0.EpochProcessing.{«process_registry_up
 use Rattle.definitions.specs.Close.{registryStep, finalizedEpochOf}
 use Rattle.definitions_close.specs.QueueCalls.{registryToQueueTests, registryQueueTests, QueueCloses}
 use Rattle.agreement.specs.Agreement.{documentStep}
-use Rattle.refusals.specs.Closes.{Closes}
+use Rattle.definitions.specs.Closes.{Closes}
 use Rattle.theorems.specs.Completeness.Calls.{registryOf, stoppedOf, StepCall}
 
 -- "It is true of every record that a call accepts, or hands back unrefused"; on refusal the pair handed in comes back

@@ -9,8 +9,7 @@ use Rattle.definitions_close.specs.FullClose.{FullCall, fullClose}
 use Rattle.definitions_close.specs.declared.CountAnswer.{CountAnswer}
 use Rattle.definitions_close.specs.Store.{Entry, Store, numbersOf, entries, lastOf, storeTests, readRules, rulesAnswerFor, addEntry, added}
 use Rattle.definitions_close.specs.StoreClose.{StoreCall, callBy, storeClose}
-use Rattle.store.specs.Lent.{lent}
-use Rattle.store.specs.Answers.{newEntry, addOutcome}
+use Rattle.definitions_close.specs.Calls.{lent, newEntry, addOutcome}
 
 -- t is the store after `new` was added to s
 pub record Grown (s : Store) (new : Entry) (t : Store) : Type 0 where

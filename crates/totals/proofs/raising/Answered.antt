@@ -1,5 +1,5 @@
 -- A finality's answer, with what was raised.
-use mathlib.Core.Path.{_≡_, refl, sym, ap, _∙_}
+use mathlib.Core.Path.{_≡_, sym, ap, _∙_}
 use Prim.Native.Nat.{ℕ}
 use borrow.Author.Tests.{ne-eqb}
 use Rattle.definitions.specs.declared.Finality.{Finality}

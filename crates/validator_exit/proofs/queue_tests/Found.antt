@@ -16,7 +16,7 @@ use Rattle.refusals.proofs.Laws.{in-order}
 use Rattle.validator_exit.specs.Found.{foundTests}
 use Rattle.validator_exit.proofs.queue_tests.Queue.{refused-sooner, tested-queue}
 
-refused-first : (a b first second : Bool) {x : ℕ} → x ≡ codeOf (inOrder a b first) → (x ≡ 0 → ⊥) → x ≡ codeOf (inOrder a b (first && second))
+pub refused-first : (a b first second : Bool) {x : ℕ} → x ≡ codeOf (inOrder a b first) → (x ≡ 0 → ⊥) → x ≡ codeOf (inOrder a b (first && second))
 unfolding inOrder
 refused-first false b first second e z = e
 refused-first true false first second e z = e

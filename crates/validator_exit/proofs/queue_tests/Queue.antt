@@ -1,10 +1,9 @@
 -- Test 8 after the other tests, and what it gives once passed.
-use mathlib.Core.Path.{_≡_, refl, sym, ap, _∙_}
-use mathlib.Core.Bool.{Bool, true, false, cond, _&&_, false≢true}
+use mathlib.Core.Path.{_≡_, refl, _∙_}
+use mathlib.Core.Bool.{Bool, true, false, cond, _&&_}
 use mathlib.Core.List.{List}
 use Prim.Native.Nat.{ℕ}
-use native.Mathlib.Omega.{arith}
-use borrow.Author.Tests.{eqb-true, eq-eqb}
+use borrow.Author.Tests.{eq-eqb}
 use lib.Dec.{eqb}
 use Rattle.definitions.specs.declared.ExitQueue.{ExitQueue}
 use Rattle.definitions.specs.Record.{Validator, decode}
@@ -13,15 +12,7 @@ use Rattle.definitions.specs.ExitQueue.{queueOf, isQueueOf, queueTest}
 use Rattle.definitions_close.specs.QueueCalls.{thenQueue}
 use Rattle.laws.proofs.Checked.{not-value}
 use Rattle.refusals.proofs.Answers.{passed}
-
-pub is-queue : (q : ExitQueue) (vs : List Validator) → isQueueOf q vs ≡ true → q ≡ queueOf vs
-unfolding isQueueOf
-is-queue q vs e = go (eqb (q .«last_epoch») (queueOf vs .«last_epoch»)) (eqb (q .number) (queueOf vs .number)) refl refl e
-  where
-    go : (a b : Bool) → eqb (q .«last_epoch») (queueOf vs .«last_epoch») ≡ a → eqb (q .number) (queueOf vs .number) ≡ b → a && b ≡ true → q ≡ queueOf vs
-    go true true l n e = λ i. record { «last_epoch» = eqb-true (q .«last_epoch») (queueOf vs .«last_epoch») l i; number = eqb-true (q .number) (queueOf vs .number) n i }
-    go true false l n e = absurd (false≢true e)
-    go false b l n e = absurd (false≢true e)
+use Rattle.laws.proofs.Queue.{is-queue}
 
 pub queue-passes : (vs : List Validator) → queueTest (queueOf vs) vs ≡ value tt
 unfolding queueTest isQueueOf

@@ -1,11 +1,11 @@
 -- At most four epochs in a rising list, on the numbers of a struct.
-use mathlib.Core.Path.{_≡_, refl, sym, ap, _∙_}
+use mathlib.Core.Path.{_≡_, refl, ap, _∙_}
 use mathlib.Core.Bool.{Bool, true, false, cond}
 use mathlib.Core.List.{List, [], _∷_}
 use Prim.Native.Nat.{ℕ, suc, _+_, _≤_}
 use native.Mathlib.Omega.{arith}
 use lib.Dec.{ltb, eqb}
-use lib.ListN.{length, getD}
+use lib.ListN.{length}
 use Rattle.definitions_votes.specs.Votes.{insertRising, sortedOnce}
 use Rattle.votes.specs.declared.vote_outcome.Epochs.{Epochs}
 use Rattle.definitions_votes.specs.declared.VotesAnswer.{VotesAnswer}

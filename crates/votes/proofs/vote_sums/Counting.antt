@@ -1,38 +1,30 @@
 -- The pass that works out the five sums at once.
 use mathlib.Core.Path.{_≡_, refl, sym, ap, _∙_}
-use mathlib.Core.Bool.{Bool, true, false, cond}
+use mathlib.Core.Bool.{Bool, true, false}
 use mathlib.Core.List.{List, map}
 use Prim.Native.Nat.{ℕ, _+_, _*_, _^_, _≤_, _<_}
 use native.Mathlib.Omega.{arith}
 use borrow.Author.Tests.{ltb-true, ltb-false}
 use lib.Dec.{ltb}
 use lib.ListN.{length, getD, length-map, List·getD-map}
-use Rattle.definitions.specs.Checked.{Checked, value, refused, Refusal, overflow, bind, add64, sum64}
+use Rattle.definitions.specs.Checked.{value, refused, Refusal, bind, add64}
 use Rattle.definitions.specs.Record.{Validator, decodeOne, decode, nobody}
-use Rattle.laws.proofs.Checked.{not-value, value-same, bound, add64-value}
+use Rattle.laws.proofs.Checked.{not-value, value-same, bound, add64-value, add64-below}
 use Rattle.laws.proofs.Encode.{length-decode}
 use Rattle.arithmetic.proofs.Answers.{Tells}
-use Rattle.arithmetic.proofs.Operations.{add64-given}
+use Rattle.arithmetic.proofs.Operations.{}
 use Rattle.laws.proofs.Loops.Entry.{entryAt}
 use Rattle.laws.proofs.Loops.Reading.{Reading, reading-none, reading-more, reading-is}
 use Rattle.laws.proofs.Loops.Summed.{Added, added-none, added-more, added-over, added-all}
 use Rattle.definitions_votes.specs.Filling.{Filling, noneSet, allSet, filledOne, filled}
 use Rattle.definitions_votes.proofs.Filled.{length-filled, filled-at}
 use Rattle.votes.specs.declared.vote_sums.VoteSums.{VoteSums}
-use Rattle.votes.specs.declared.vote_sums.VoteSumsAnswer.{VoteSumsAnswer}
 use Rattle.votes.specs.declared.vote_sums.VoteSumsAnswer.the-variants.{Value, Refused}
 use Rattle.votes.specs.Sums.{weight, activeAt, hitsTarget, voteSumsOf, addedTo, sumsFor, sumIn, PlainSums, Counted}
+use Rattle.agreement.proofs.Fits.{add64-fits}
 
 pub tells-sums : Tells sumsFor Value Refused
 tells-sums = record { of-value = λ x. refl; of-refused = λ p. refl; one-value = λ x y e. cc; one-number = λ p q e. cc; apart = λ x q e. (let z : _≡_ {A = ℕ} 0 1 = cc in omega arith) }
-
-add64-fits : (a b : ℕ) {x : ℕ} → add64 a b ≡ value x → a + b < 2 ^ 64
-unfolding add64
-add64-fits a b {x} h = go (ltb (a + b) (2 ^ 64)) refl h
-  where
-    go : (t : Bool) → ltb (a + b) (2 ^ 64) ≡ t → cond t (value (a + b)) (refused overflow) ≡ value x → a + b < 2 ^ 64
-    go true e h = ltb-true _ _ e
-    go false e h = absurd (not-value h)
 
 -- one weight of the filled registry
 abbrev weights : (Validator → Bool) → List ℕ → Filling → List ℕ → List ℕ
@@ -62,14 +54,14 @@ module _ {p : Validator → Bool} {f : Filling} {n : ℕ} {xs marks : List ℕ} 
         ∙ sym (List·getD-map (weight p) (filled marks f (decode xs)) i nobody)
 
     sum-more : {t : ℕ} → add64 total x ≡ value t → Summing p f n xs marks (i + 1) t
-    sum-more h = record { at = reading-more (g .at) l; held = added-more (g .held) (omega (arith, long)) (weight p nobody) here (sym (add64-value total x h)) (rw (← add64-value total x h) (add64-fits total x h)) }
+    sum-more h = record { at = reading-more (g .at) l; held = added-more (g .held) (omega (arith, long)) (weight p nobody) here (sym (add64-value total x h)) (rw (← add64-value total x h) (add64-below total x h)) }
 
     -- where the whole sum fits, so does this one
     sum-fits : {b : ℕ} → sumIn p marks f (decode xs) ≡ value b → add64 total x ≡ value (total + x)
     sum-fits {b} h = go (ltb (total + x) (2 ^ 64)) refl
       where
         go : (t : Bool) → ltb (total + x) (2 ^ 64) ≡ t → add64 total x ≡ value (total + x)
-        go true k = add64-given total x (ltb-true _ _ k)
+        go true k = add64-fits total x (ltb-true _ _ k)
         go false k = absurd (not-value (sym (added-over (g .held) (omega (arith, long)) (weight p nobody) here (ltb-false _ _ k)) ∙ h))
 
 -- the five sums of two, each in its own place

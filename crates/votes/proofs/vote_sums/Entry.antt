@@ -1,12 +1,12 @@
 -- One validator's weights.
-use mathlib.Core.Path.{_≡_, refl, sym, ap, _∙_}
-use mathlib.Core.Bool.{Bool, true, false, cond, _&&_, _||_, not}
+use mathlib.Core.Path.{_≡_}
+use mathlib.Core.Bool.{cond, _&&_, not}
 use Prim.Native.Nat.{ℕ, _<_}
 use native.Mathlib.Omega.{arith}
 use lib.Dec.{eqb}
 use Rattle.definitions.specs.Record.{Validator}
 use Rattle.definitions.specs.Rust.Phase0.Helpers.{«is_active_validator»}
-use Rattle.definitions.specs.Rust.Altair.Helpers.{«has_flag», isUnslashedParticipating}
+use Rattle.definitions.specs.Rust.Altair.Helpers.{«has_flag»}
 use Rattle.definitions_votes.specs.Filling.{previousUnknown, currentUnknown, Vote, filledOne}
 use Rattle.definitions_votes.proofs.Filled.{active-filled, balance-filled, current-filled, previous-filled}
 use Rattle.votes.specs.declared.vote_sums.VoteSums.{VoteSums}

@@ -1,5 +1,3 @@
-use Prim.Native.Nat.{_*_, _+_}
-use mathlib.Core.Path.{_∙_}
 use native.Mathlib.Omega.{arith}
 use Rattle.write_pass.proofs.Nine.{nine-part, put-part}
 use borrow.Author.Needs.{needs}

@@ -1,6 +1,6 @@
 use Rattle.definitions.specs.Record.{decodeOne}
 use Rattle.definitions.specs.Updates.{withScore}
-use Rattle.rates.proofs.Rated.{source-says, target-says, head-says, penalty-says}
+use Rattle.rates.proofs.Rated.{source-says, target-says, head-says}
 use Rattle.write_pass.proofs.Scored.{eligible-scored, hit-scored, flag-answer, given-pair, charged-pair}
 use borrow.Author.Needs.{needs}
 use Rattle.write_pass.proofs.pairs_by.Statement.{statement}

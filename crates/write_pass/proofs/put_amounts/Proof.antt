@@ -1,7 +1,6 @@
 use mathlib.Core.Path.{_∙_}
 use Rattle.write_pass.specs.Filled.{left, Fits}
 use Rattle.write_pass.proofs.Booked.{nine-booked}
-use native.Mathlib.Omega.{arith}
 use borrow.Author.Needs.{needs}
 use Rattle.write_pass.proofs.put_amounts.Statement.{statement}
 use Rattle.write_pass.proofs.put_amounts.Tie as tie

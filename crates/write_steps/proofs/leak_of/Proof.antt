@@ -1,6 +1,5 @@
-use mathlib.Core.Path.{sym, ap, _∙_}
+use mathlib.Core.Path.{sym, _∙_}
 use borrow.Author.Needs.{needs}
-use Rattle.definitions.specs.Answers.{truthFor}
 use Rattle.write_steps.proofs.Leak.{leak-none, leak-some}
 use Rattle.write_steps.proofs.leak_of.Statement.{statement}
 use Rattle.write_steps.proofs.leak_of.Tie as tie

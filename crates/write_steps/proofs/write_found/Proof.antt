@@ -7,10 +7,11 @@ use Rattle.refusals.proofs.Laws.{good-settings}
 use Rattle.refusals.proofs.buffers.Chained.{ran-overflow}
 use Rattle.registry.proofs.Epochs.{Epochs, epochs}
 use Rattle.write_steps.proofs.Accepted.{Accepted, none-lacks, not-accepted}
-use Rattle.write_steps.proofs.Made.{queue-few, total-least}
+use Rattle.write_steps.proofs.Made.{queue-few}
 use Rattle.write_steps.proofs.Steps.{steps-run}
 use Rattle.write_steps.proofs.write_found.Statement.{statement}
 use Rattle.write_steps.proofs.write_found.Tie as tie
+use Rattle.rewards_step.proofs.flag_rewards.Totals.{total-least}
 
 -- what the tests gave
 ep : (c : tie.Start) → Epochs (c .args .s) (c .args .state-slot)

@@ -1,7 +1,7 @@
 -- One pass that runs two functions on each entry gives what two passes give, where both refuse only by 5.
 use mathlib.Core.Path.{_≡_, refl, sym, ap, _∙_}
 use mathlib.Core.List.{List, [], _∷_}
-use Rattle.definitions.specs.Checked.{Refusal, overflow, Checked, value, refused, bind, mapChecked}
+use Rattle.definitions.specs.Checked.{Refusal, Checked, value, refused, bind, mapChecked}
 use Rattle.arithmetic.proofs.Operations.{OnlyOverflow, only-value, only-bind}
 use Rattle.write_turn.proofs.Sweeps.Pure.{only-map}
 use Rattle.write_turn.specs.Sweep.{Moved, Turning, sweep, after, first, last}

@@ -1,8 +1,7 @@
 -- One pass with two functions gives what two passes give, where both refuse only by 5.
-use mathlib.Core.Path.{_≡_, refl, sym, ap, _∙_}
-use mathlib.Core.Bool.{Bool, true, false, cond}
+use mathlib.Core.Path.{_≡_, refl, ap}
 use mathlib.Core.List.{List, [], _∷_, map}
-use Rattle.definitions.specs.Checked.{Refusal, overflow, Checked, value, refused, bind, mapChecked}
+use Rattle.definitions.specs.Checked.{overflow, Checked, value, refused, bind, mapChecked}
 use Rattle.definitions.specs.Record.{Validator}
 use Rattle.arithmetic.proofs.Operations.{OnlyOverflow, only-value, only-bind}
 use Rattle.write_turn.specs.Runs.{both}
@@ -17,10 +16,6 @@ pub map-value : {A : Type 0} (g : A → A) (xs : List A) → mapChecked (λ x. v
 unfolding mapChecked bind
 map-value g [] = refl
 map-value g (x ∷ xs) = rw (map-value g xs)
-
-pub only-either : {A : Type 0} {m n : Checked A} (t : Bool) → OnlyOverflow m → OnlyOverflow n → OnlyOverflow (cond t m n)
-only-either true h k = h
-only-either false h k = k
 
 -- what comes after is refused by 5, so that the whole is
 pub refused-after : {A B : Type 0} {m : Checked A} {k : A → Checked B} → OnlyOverflow m → ((x : A) → k x ≡ refused overflow) → bind m k ≡ refused overflow

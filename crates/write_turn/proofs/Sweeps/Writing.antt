@@ -1,15 +1,15 @@
 -- The loop that, for each validator of one buffer, writes the ten numbers of f's answer to another, and stops at the first refusal. What
 -- stood in the other buffer does not matter.
-use mathlib.Core.Path.{_≡_, refl, sym, ap, ap₂, _∙_}
+use mathlib.Core.Path.{_≡_, refl, sym, ap, _∙_}
 use mathlib.Core.List.{List, [], _∷_, _++_}
 use Prim.Native.Nat.{ℕ, zero, suc, _+_, _*_, _≤_, _<_}
 use native.Mathlib.Omega.{arith}
 use native.Mathlib.Numerals.{add-one}
-use lib.ListN.{length, take, drop, set, getD}
+use lib.ListN.{length, take, drop, set}
 use lib.Seq.{take-all}
 use Rattle.definitions.specs.Checked.{Checked, value, refused, bind, codeOf}
-use Rattle.definitions.specs.Record.{Validator, decodeOne, encodeOne, encode, decode, nobody}
-use Rattle.laws.proofs.Checked.{number-not-zero, not-value, value-same}
+use Rattle.definitions.specs.Record.{Validator, decodeOne, encodeOne, encode, decode}
+use Rattle.laws.proofs.Checked.{not-value, value-same}
 use Rattle.laws.proofs.Encode.{length-decode, encode-decode, decode-encode}
 use Rattle.laws.specs.Ran.{Ran}
 use Rattle.laws.proofs.Loops.Entry.{entryAt, putAt, entry-ten, entry-back}

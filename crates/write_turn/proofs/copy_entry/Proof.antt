@@ -1,7 +1,5 @@
 use lib.ListN.{length-set}
 use Rattle.write_turn.proofs.Copied.{ten-copied}
-use mathlib.Core.Path.{sym}
-use Rattle.laws.proofs.Encode.{ten}
 use native.Mathlib.Omega.{arith}
 use borrow.Author.Needs.{needs}
 use Rattle.write_turn.proofs.copy_entry.Statement.{statement}

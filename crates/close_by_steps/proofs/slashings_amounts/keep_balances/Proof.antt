@@ -1,5 +1,5 @@
 use Prim.Native.Nat.{_-_}
-use mathlib.Core.Path.{_∙_, ap₂}
+use mathlib.Core.Path.{_∙_}
 use mathlib.Core.Path.{refl}
 use Rattle.close_by_steps.specs.Taken.{balanceIn}
 use Rattle.close_by_steps.proofs.slashings_amounts.Taken.{Putting, putting-none, putting-nine, putting-more, put-all, balance-is}

@@ -1,6 +1,6 @@
 -- phase0/beacon-chain.md, section Epoch processing, as far as Altair keeps it.
 use mathlib.Core.Bool.{Bool, cond, _&&_, _||_}
-use mathlib.Core.List.{List, [], _∷_, map, foldl}
+use mathlib.Core.List.{List, map, foldl}
 use Prim.Native.Nat.{ℕ, _+_, _-_, _*_, _/_, _%_, _^_, min}
 use lib.Dec.{leb, ltb, eqb}
 use lib.ListN.{length, getD, take, set}

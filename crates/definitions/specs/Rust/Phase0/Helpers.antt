@@ -8,7 +8,7 @@ use Rattle.definitions.specs.declared.Settings.{Settings}
 use Rattle.definitions.specs.Lists.{maximum}
 use Rattle.definitions.specs.Record.{Validator, «FAR_FUTURE_EPOCH», nobody}
 use Rattle.definitions.specs.Updates.{withBalance, withExit}
-use Rattle.definitions.specs.Checked.{Checked, value, refused, Refusal, noRoot, bind, add64, mul64, sum64}
+use Rattle.definitions.specs.Checked.{Checked, value, refused, noRoot, bind, add64, mul64, sum64}
 use Rattle.definitions.specs.Document.Phase0.Helpers as document
 use Rattle.definitions.specs.Document.Phase0.Helpers.{exitEpochs, exitQueueChurn}
 -- 23, 27, 32, 485, 224, 531, 646, 678, 1005: the document's

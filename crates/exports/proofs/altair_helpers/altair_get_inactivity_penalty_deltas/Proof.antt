@@ -1,5 +1,5 @@
 use mathlib.Core.Path.{ap, _∙_}
-use Rattle.plain.specs.Plain.{plainDeltas}
+use Rattle.definitions.specs.Plain.{plainDeltas}
 use borrow.Author.Needs.{needs}
 use Rattle.exports.proofs.altair_helpers.altair_get_inactivity_penalty_deltas.Statement.{
   statement,

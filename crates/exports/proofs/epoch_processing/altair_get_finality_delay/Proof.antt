@@ -1,5 +1,5 @@
 use mathlib.Core.Path.{ap, _∙_}
-use Rattle.plain.specs.Plain.{plainNumber}
+use Rattle.definitions.specs.Plain.{plainNumber}
 use borrow.Author.Needs.{needs}
 use Rattle.exports.proofs.epoch_processing.altair_get_finality_delay.Statement.{statement}
 use Rattle.exports.proofs.epoch_processing.altair_get_finality_delay.Tie as tie

@@ -1,5 +1,5 @@
 use mathlib.Core.Path.{ap, _∙_}
-use Rattle.plain.specs.Plain.{plainNumber}
+use Rattle.definitions.specs.Plain.{plainNumber}
 use borrow.Author.Needs.{needs}
 use Rattle.exports.proofs.opening_hours.altair_epoch_at_time.Statement.{statement}
 use Rattle.exports.proofs.opening_hours.altair_epoch_at_time.Tie as tie

@@ -1,5 +1,5 @@
 use mathlib.Core.Path.{ap, _∙_}
-use Rattle.plain.specs.Plain.{plainTruth}
+use Rattle.definitions.specs.Plain.{plainTruth}
 use borrow.Author.Needs.{needs}
 use Rattle.exports.proofs.opening_hours.altair_is_in_closing_window.Statement.{statement}
 use Rattle.exports.proofs.opening_hours.altair_is_in_closing_window.Tie as tie

@@ -1,5 +1,5 @@
 use mathlib.Core.Path.{ap, _∙_}
-use Rattle.plain.specs.Plain.{plainNumber}
+use Rattle.definitions.specs.Plain.{plainNumber}
 use borrow.Author.Needs.{needs}
 use Rattle.exports.proofs.phase0_helpers.altair_compute_epoch_at_slot.Statement.{statement}
 use Rattle.exports.proofs.phase0_helpers.altair_compute_epoch_at_slot.Tie as tie

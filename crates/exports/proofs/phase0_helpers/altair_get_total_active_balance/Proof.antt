@@ -1,5 +1,5 @@
 use mathlib.Core.Path.{ap, _∙_}
-use Rattle.plain.specs.Plain.{plainTotal}
+use Rattle.definitions.specs.Plain.{plainTotal}
 use borrow.Author.Needs.{needs}
 use Rattle.exports.proofs.phase0_helpers.altair_get_total_active_balance.Statement.{
   statement,

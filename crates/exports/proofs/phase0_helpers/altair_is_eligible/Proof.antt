@@ -1,5 +1,5 @@
 use mathlib.Core.Path.{ap, _∙_}
-use Rattle.plain.specs.Plain.{plainTruth}
+use Rattle.definitions.specs.Plain.{plainTruth}
 use borrow.Author.Needs.{needs}
 use Rattle.exports.proofs.phase0_helpers.altair_is_eligible.Statement.{statement}
 use Rattle.exports.proofs.phase0_helpers.altair_is_eligible.Tie as tie

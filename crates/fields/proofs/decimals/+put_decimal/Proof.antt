@@ -7,8 +7,8 @@ use native.Mathlib.Omega.{arith}
 use borrow.Author.Needs.{needs}
 use borrow.Fn.Kinds.{In}
 use borrow.Fn.PlainCycle.{Measures, is, falls, and}
-use lib.ListN.{length, length-set}
-use Rattle.definitions_file.specs.Decimal.{digit, decimal}
+use lib.ListN.{length-set}
+use Rattle.definitions_file.specs.Decimal.{digit}
 use Rattle.fields.proofs.decimals.Decimal.{decimal-one, decimal-more, room-one, room-more}
 use Rattle.fields.proofs.decimals.Put.{put, put-byte, put-length}
 use Rattle.fields.proofs.decimals.put_decimal.Reads as put-decimal

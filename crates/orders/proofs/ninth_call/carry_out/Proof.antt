@@ -2,7 +2,7 @@ use mathlib.Core.Path.{_≡_, _∙_}
 use native.Mathlib.Omega.{arith}
 use borrow.Author.Tests.{eq-eqb, ne-eqb}
 use Rattle.definitions_close.specs.Orders.{carryOut}
-use Rattle.orders.specs.Called.{ninthCalled}
+use Rattle.definitions_close.specs.Calls.{ninthCalled}
 use Rattle.orders.proofs.ninth_call.Tests.{ready}
 use Rattle.orders.proofs.ninth_call.Carried.{turned-away, carries-out}
 use borrow.Author.Needs.{needs}

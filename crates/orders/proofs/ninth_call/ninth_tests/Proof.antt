@@ -1,4 +1,4 @@
-use Rattle.orders.specs.Called.{ninthCalled}
+use Rattle.definitions_close.specs.Calls.{ninthCalled}
 use Rattle.orders.proofs.ninth_call.Tests.{lent-refuses, lent-long, entries-refuse, queue-tested}
 use borrow.Author.Needs.{needs}
 use Rattle.orders.proofs.ninth_call.ninth_tests.Statement.{statement}

@@ -2,9 +2,8 @@ use mathlib.Core.Path.{sym, ap, _∙_}
 use native.Mathlib.Omega.{arith}
 use borrow.Author.Needs.{needs}
 use Rattle.definitions.specs.Rules.{altairRules}
-use Rattle.definitions_file.specs.File.{Contents}
+use Rattle.definitions_file.specs.File.{Contents, contentsWith}
 use Rattle.definitions.specs.Close.{Call, Outcome}
-use Rattle.file_refusals.specs.Tests.{contentsWith}
 use Rattle.close.specs.Called.{called}
 use Rattle.refusals.proofs.Laws.{registry-shaped}
 use Rattle.listing.proofs.listing_close.Accepted.{accepted}

@@ -2,7 +2,7 @@ use mathlib.Core.Path.{refl, _∙_}
 use Prim.Native.Nat.{_-_, _/_}
 use native.Mathlib.Omega.{arith}
 use lib.ListN.{length}
-use Rattle.file_refusals.specs.Tests.{contentsWith}
+use Rattle.definitions_file.specs.File.{contentsWith}
 use Rattle.definitions_file.specs.OutageInput.{planOf}
 use Rattle.outage.specs.Ready.{Ready}
 use Rattle.outage.proofs.outage_run.Slot.{went-small}

@@ -1,8 +1,7 @@
 use mathlib.Core.Path.{_≡_}
 use borrow.Author.Needs.{needs}
-use Rattle.definitions_file.specs.File.{Contents, read}
+use Rattle.definitions_file.specs.File.{Contents, read, contentsWith}
 use Rattle.round_trip.specs.RoundTrip.{Below}
-use Rattle.record_file.specs.Answers.{contentsWith}
 use Rattle.record_file.proofs.file_round_trips.RoundTrips.{same-bytes}
 use Rattle.record_file.proofs.file_round_trips.read_then_write.Statement.{statement}
 use Rattle.record_file.proofs.file_round_trips.read_then_write.Tie as tie

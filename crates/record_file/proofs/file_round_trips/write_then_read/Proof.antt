@@ -1,9 +1,8 @@
 use mathlib.Core.Path.{ap, _∙_}
 use native.Mathlib.Omega.{arith}
 use borrow.Author.Needs.{needs}
-use Rattle.definitions_file.specs.File.{Contents, ReadOutcome}
+use Rattle.definitions_file.specs.File.{Contents, ReadOutcome, contentsWith}
 use Rattle.round_trip.specs.RoundTrip.{TypedQueue}
-use Rattle.record_file.specs.Answers.{contentsWith}
 use Rattle.record_file.proofs.file_round_trips.Types.{typed}
 use Rattle.record_file.proofs.file_round_trips.RoundTrips.{read-back}
 use Rattle.record_file.proofs.file_round_trips.write_then_read.Statement.{statement}

@@ -3,8 +3,6 @@ use Rattle.registry.proofs.activation.Admitting.{Admitting, admitting-n
 use native.Mathlib.Omega.{arith}
 use Rattle.registry.proofs.activation.admit_below.Statement.{statement}
 use Rattle.registry.proofs.activation.admit_below.Tie as tie
-use Rattle.registry.proofs.activation.admit_below.Reads as reads
-use Rattle.registry.proofs.activation.admit_below.Lts as lts
 use Rattle.registry.proofs.activation.admit_entry.Reads as admit-entry-reads
 
 abbrev Inv-loop : tie.InvT-loop

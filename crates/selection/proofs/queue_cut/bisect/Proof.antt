@@ -1,5 +1,5 @@
-use mathlib.Core.Path.{_≡_, _∙_}
-use Prim.Native.Nat.{ℕ, _-_, _/_}
+use mathlib.Core.Path.{_∙_}
+use Prim.Native.Nat.{_-_}
 use Rattle.definitions.specs.Record.{decode}
 use Rattle.agreement.specs.Cut.{eligibleNow}
 use Rattle.selection.proofs.Waiting.{count-waiting}

@@ -2,8 +2,7 @@ use mathlib.Core.Path.{_≡_, ap, _∙_}
 use borrow.Author.Needs.{needs}
 use Rattle.definitions_close.specs.Store.{rulesAnswerFor}
 use Rattle.definitions_close.specs.StoreClose.{StoreCall, rulesFor}
-use Rattle.store.specs.Lent.{lent}
-use Rattle.store.specs.Called.{storeCalled}
+use Rattle.definitions_close.specs.Calls.{lent, storeCalled}
 use Rattle.store.proofs.store_rules.Given.{rules-with}
 use Rattle.store_steps.proofs.store_close.Closes.{turned-away, closed-by}
 use Rattle.store_steps.proofs.store_close.store_close.Statement.{statement}

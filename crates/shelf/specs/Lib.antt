@@ -1,2 +1,0 @@
--- What the contract of a shelf cites.
-pub mod Lent
