@@ -39,7 +39,7 @@ admitted epoch finalizedEpoch bound quota stop vs = mapBelow stop (admittedAt ep
 pub record Cuts (limit finalizedEpoch : ℕ) (vs : List Validator) (bound quota : ℕ) : Type 0 where
   pub same : (epoch stop : ℕ) → admitted epoch finalizedEpoch bound quota stop vs ≡ activated epoch limit finalizedEpoch stop vs
 
--- It does so by counts alone (proofs, Cuts.antt): the quota is what those queued since before the bound leave of the limit, and the limit is
+-- It does so by counts alone (proofs/ActivationQueue/Cuts.antt): the quota is what those queued since before the bound leave of the limit, and the limit is
 -- reached at the bound's own epoch, or all are queued since the bound or before
 pub record CutAt (limit finalizedEpoch : ℕ) (vs : List Validator) (bound quota : ℕ) : Type 0 where
   pub reach : count (queuedBefore finalizedEpoch bound) vs + quota ≡ limit

@@ -23,7 +23,7 @@ pairsFor (refused r) = Refused (numberOf r)
 abbrev pub SaysPairs : Checked Pairs → PairsAnswer → Type 0
 SaysPairs m r = Answers pairsFor m r
 
--- `pairs` of definitions_amounts as a struct
+-- `pairs` of definitions_close, Amounts.antt, as a struct
 unfoldable pub fourOf : Settings → ℕ → ℕ → ℕ → FlagTotals → FlagTotals → FlagTotals → Validator → Checked Pairs
 fourOf s quotient current previous source target head v =
     bind (flagIndexDeltas s current previous 0 source v) (λ a.

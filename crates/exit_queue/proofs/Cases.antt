@@ -1,4 +1,4 @@
--- The cases in which a pair is easily wrong, each by itself. Tracks.antt and Exits.antt have them among all others.
+-- The cases in which a pair is easily wrong, each by itself. Tracks.antt and Exiting.antt have them among all others.
 use mathlib.Core.Path.{_≡_, refl}
 use Prim.Native.Nat.{ℕ, _≤_}
 use native.Mathlib.Omega.{arith}

@@ -1,5 +1,5 @@
 -- An exit by the few numbers that it reads of settings and slot, so that a step works them out once: `least` is the activation exit epoch
--- of the present epoch, `limit` the churn limit, `delay` the withdrawability delay. proofs/Exits.antt: it is the Rust's exit.
+-- of the present epoch, `limit` the churn limit, `delay` the withdrawability delay. proofs/exits/Exits.antt: it is the Rust's exit.
 use mathlib.Core.Path.{_≡_}
 use mathlib.Core.Bool.{cond}
 use mathlib.Core.List.{List}

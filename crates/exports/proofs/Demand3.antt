@@ -1,5 +1,5 @@
--- Demand 3 of every list of closes by `altair_close`, or by steps: the contracts say that each is a close of the definition, of which store_history
--- has it.
+-- Demand 3 of every list of closes by `altair_close`, or by steps: the contracts say that each is a close of the definition, of which StoreHistory
+-- of theorems has it.
 use mathlib.Core.Path.{_≡_, refl, ap, ap₂, _∙_}
 use mathlib.Core.Bool.{Bool}
 use mathlib.Core.List.{List, [], _∷_, map}

@@ -1,3 +1,3 @@
--- What a field holds is said by definitions, File.antt.
+-- What a field holds is said by definitions_file, File.antt.
 -- Text put into lent bytes.
 pub mod Put

@@ -1,4 +1,4 @@
--- The tests of reading and of writing, in the words of definitions, File.antt.
+-- The tests of reading and of writing, in the words of definitions_file, File.antt.
 use mathlib.Core.Path.{_≡_}
 use mathlib.Core.Bool.{Bool, cond, _&&_, not}
 use mathlib.Core.List.{List}

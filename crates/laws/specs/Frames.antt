@@ -1,5 +1,5 @@
 -- Which fields of the state, and of a validator, each of the eight steps writes: `but k st` is st without what step k writes. That a step leaves
--- the rest as it was is proofs/Frames.antt `frames`.
+-- the rest as it was is proofs/Frame/Frames.antt `frames`.
 use mathlib.Core.Path.{_≡_}
 use mathlib.Core.List.{[], map}
 use Prim.Native.Nat.{ℕ}

@@ -1,4 +1,4 @@
--- The balance that applyDelta and rewardAndPenalize leave: the one number of the ten that they change (proofs, Rewarded.antt).
+-- The balance that applyDelta and rewardAndPenalize leave: the one number of the ten that they change (proofs/reward_balances/Rewarded.antt).
 use mathlib.Core.Bool.{cond}
 use mathlib.Core.List.{[], _∷_}
 use Prim.Native.Nat.{ℕ, _-_}

@@ -1,4 +1,4 @@
--- What the functions answer by value, in the words of definitions, File.antt.
+-- The lengths by which a record is put into a file.
 pub mod Sized
 -- Both round trips.
 pub mod RoundTrips

@@ -23,7 +23,7 @@ pub fn function(number: u64) -> bool {
     )
 }
 
-// The parts of an answer, by their numbers in record_vectors, in 10 bytes each.
+// The parts of an answer, by their numbers in vectors::records, in 10 bytes each.
 fn part(differs: u64) -> bool {
     if 8 < differs {
         return false;

@@ -1,4 +1,4 @@
--- Each call has the interface of exit_epochs where it is accepted.
+-- Each call has the interface of history, ExitEpochs/Shape.antt, where it is accepted.
 use mathlib.Core.Path.{ap}
 use mathlib.Core.Logic.{_⊎_, inl, inr}
 use mathlib.Core.List.{List, [], _∷_, map}

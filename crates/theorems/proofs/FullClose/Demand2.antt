@@ -1,4 +1,4 @@
--- Demand 2 of a full close: where its tests passed it is a close, of which completeness has it.
+-- Demand 2 of a full close: where its tests passed it is a close, of which Completeness/ has it.
 use mathlib.Core.Path.{_≡_, sym, ap, _∙_}
 use mathlib.Core.Logic.{_⊎_, inl, inr, ⊎-elim}
 use Rattle.definitions.specs.Checked.{Checked, value}

@@ -1,5 +1,5 @@
 -- Demand 2 of every exported call, and document 01's table of "What is returned" by number, in the terms that the contracts cite: the
--- close (definitions, Close.antt), the seven steps with a closing buffer (buffers, Closes.antt), the registry step with a stop, justification,
+-- close (definitions, Close.antt), the seven steps with a closing buffer (Closes.antt there), the registry step with a stop, justification,
 -- and files.
 use mathlib.Core.Path.{_≡_}
 use mathlib.Core.List.{List, [], _∷_}

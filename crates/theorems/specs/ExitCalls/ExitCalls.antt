@@ -1,5 +1,5 @@
--- 02, R-14: "Show, over any run of accepted closes and exit orders", as they are called once R-4, R-8 and R-9 have landed. exit_epochs has events,
--- premises and claim. Words in quotation marks are the request's.
+-- 02, R-14: "Show, over any run of accepted closes and exit orders", as they are called once R-4, R-8 and R-9 have landed. history,
+-- ExitEpochs.antt, has events, premises and claim. Words in quotation marks are the request's.
 use mathlib.Core.Path.{_≡_}
 use mathlib.Core.Bool.{cond, _&&_, not}
 use mathlib.Core.List.{List, [], _∷_, map}

@@ -1,4 +1,4 @@
--- Demand 2 of closes with stores: by the store's tests nothing is written, and any other is a full close by an entry's rules, of which full_theorems
+-- Demand 2 of closes with stores: by the store's tests nothing is written, and any other is a full close by an entry's rules, of which FullClose/
 -- has the table of refusals and demand 2.
 use mathlib.Core.List.{[], _∷_}
 use mathlib.Core.Path.{_≡_}

@@ -1,5 +1,5 @@
--- 02, R-14, of runs in which closes go by stores, whole or by steps, and exit orders are carried out with a store: exit_epochs has premises and
--- claim, exit_calls the calls by rules.
+-- 02, R-14, of runs in which closes go by stores, whole or by steps, and exit orders are carried out with a store: history, ExitEpochs.antt, has
+-- premises and claim, ExitCalls/ the calls by rules.
 use mathlib.Core.List.{List, map}
 use mathlib.Core.Path.{_≡_}
 use Rattle.definitions.specs.declared.Rules.{Rules}

@@ -1,5 +1,5 @@
 -- A close by steps with a store, which is part of what it was lent and stays. 02, R-9: "A close may be run one step a call, giving what the whole
--- close gives, amounts too." stepwise_theorems, Desk.antt, has the same by rules.
+-- close gives, amounts too." CloseBySteps/Desk.antt has the same by rules.
 use mathlib.Core.Path.{_≡_}
 use mathlib.Core.List.{List, [], _∷_}
 use Prim.Native.Nat.{ℕ}

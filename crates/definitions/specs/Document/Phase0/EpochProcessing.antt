@@ -65,7 +65,7 @@ unfoldable pub «weigh_justification_and_finalization» : Settings → List ℕ 
 
 -- Rewards and penalties
 
--- Left out: a uint64 below 0 fails. Where the text meets that, and the Rust: completeness, DocumentIn64Bits.antt.
+-- Left out: a uint64 below 0 fails. Where the text meets that, and the Rust: theorems, Completeness/DocumentIn64Bits.antt.
 unfoldable pub «get_finality_delay» : Settings → ℕ → ℕ → ℕ
 «get_finality_delay» s stateSlot finalizedEpoch = «get_previous_epoch» s stateSlot - finalizedEpoch
 

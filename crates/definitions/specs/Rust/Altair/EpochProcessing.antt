@@ -62,7 +62,7 @@ rewardAndPenalize s quotient currentEpoch previousEpoch source target head v =
     bind (inactivityPenaltyDeltas s quotient currentEpoch previousEpoch v) (λ d.
     foldChecked applyDelta v (a ∷ b ∷ c ∷ d ∷ [])))))
 
--- 157: here validator by validator. The Rust's order, list by list, gives the same: completeness, ListByList.antt.
+-- 157: here validator by validator. The Rust's order, list by list, gives the same: theorems, Completeness/ListByList.antt.
 unfoldable pub «process_rewards_and_penalties» : Settings → ℕ → ℕ → ℕ → List Validator → Checked (List Validator)
 «process_rewards_and_penalties» s quotient stateSlot finalizedEpoch vs =
     let totals = flagTotals s stateSlot finalizedEpoch vs in
