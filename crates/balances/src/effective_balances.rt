@@ -13,10 +13,13 @@ ghost use Rattle.balances.specs.Thresholds.{thresholdsOf, SaysThresholds
 use arithmetic::add64;
 use arithmetic::min;
 use arithmetic::mul64;
+use definitions::BALANCE;
+use definitions::EFFECTIVE_BALANCE;
 use definitions::Number;
 use definitions::Settings;
 use leaf_refusals::registry_refusals::settings_registry_tests;
 use refusals::buffers::copy;
+use refusals::buffers::put_back;
 
 // How far a balance may lie below and above the effective balance before that follows it.
 pub struct Thresholds {
@@ -63,20 +66,20 @@ pub fn entry_update(s: Settings, downward: u64, upward: u64, entry: &mut [u64]) 
     requires { ⌜ (length (now entry) ≡ 10) × (0 < s .«effective_balance_increment») ⌝ }
     ensures { λ r. ⌜ Settles (updateEffectiveBalance s downward upward) (now (entry .entry)) (now (entry .exit)) r ⌝ }
 {
-    let effective = entry[0];
-    let balance = entry[6];
+    let effective = entry[EFFECTIVE_BALANCE];
+    let balance = entry[BALANCE];
     let Number::Value(low) = add64(balance, downward) else {
         return 5;
     };
     if low < effective {
-        entry[0] = rounded(s, balance);
+        entry[EFFECTIVE_BALANCE] = rounded(s, balance);
         return 0;
     }
     let Number::Value(high) = add64(effective, upward) else {
         return 5;
     };
     if high < balance {
-        entry[0] = rounded(s, balance);
+        entry[EFFECTIVE_BALANCE] = rounded(s, balance);
         return 0;
     }
     0
@@ -129,8 +132,6 @@ pub fn process_effective_balance_updates(s: Settings, opening: &[u64], closing: 
     }
     copy(opening, closing);
     let done = effective_balances_core(s, closing);
-    if done != 0 {
-        copy(opening, closing);
-    }
+    put_back(done, opening, closing);
     done
 }

@@ -11,6 +11,7 @@ ghost use Rattle.definitions.specs.Closes.{Closes};
 pub mod effective_balances;
 
 use arithmetic::add64;
+use definitions::BALANCE;
 use definitions::Number;
 use leaf_refusals::entry_tests;
 
@@ -18,10 +19,10 @@ pub fn entry_increase_balance(entry: &mut [u64], delta: u64) -> u64
     requires { ⌜ length (now entry) ≡ 10 ⌝ }
     ensures { λ r. ⌜ Settles (λ v. «increase_balance» v delta) (now (entry .entry)) (now (entry .exit)) r ⌝ }
 {
-    let Number::Value(balance) = add64(entry[6], delta) else {
+    let Number::Value(balance) = add64(entry[BALANCE], delta) else {
         return 5;
     };
-    entry[6] = balance;
+    entry[BALANCE] = balance;
     0
 }
 
@@ -30,12 +31,12 @@ pub fn entry_decrease_balance(entry: &mut [u64], delta: u64)
     requires { ⌜ length (now entry) ≡ 10 ⌝ }
     ensures { λ _. ⌜ now (entry .exit) ≡ encodeOne («decrease_balance» (decodeOne (now (entry .entry))) delta) ⌝ }
 {
-    let balance = entry[6];
+    let balance = entry[BALANCE];
     if balance < delta {
-        entry[6] = 0;
+        entry[BALANCE] = 0;
         return;
     }
-    entry[6] = balance - delta;
+    entry[BALANCE] = balance - delta;
 }
 
 pub fn increase_balance(entry: &mut [u64], delta: u64) -> u64

@@ -15,11 +15,12 @@ ghost use Rattle.close.specs.Called.{called, outcome};
 ghost use Rattle.registry_close.specs.Worked.{stateNow, Tested};
 ghost use Rattle.close.specs.Worked.{settingsTests, recordTests, StepsClosed, ClosedUnder};
 use definitions::CloseAnswer;
+use definitions::FAR_FUTURE_EPOCH;
 use definitions::Finality;
 use definitions::Rules;
 use definitions::Settings;
-use leaf_refusals::current_epoch;
-use leaf_refusals::previous_epoch;
+use epochs::current_epoch;
+use epochs::previous_epoch;
 use refusals::buffers::copy;
 use refusals::good_finality;
 use refusals::good_settings;
@@ -253,7 +254,7 @@ pub fn close(
         };
     }
     let s = settings_under(rules);
-    let mut kept = [18446744073709551615u64; 64];
+    let mut kept = [FAR_FUTURE_EPOCH; 64];
     close_tested(
         s,
         finality,

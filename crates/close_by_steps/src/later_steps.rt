@@ -13,11 +13,12 @@ ghost use Rattle.close_by_steps.specs.Later.{plainBy, soFarState, LaterR
 use crate::slashings_amounts::slashings_booked;
 use crate::step_amounts::rewards_booked;
 use balances::effective_balances::effective_balances_core;
+use definitions::FAR_FUTURE_EPOCH;
 use definitions::Finality;
 use definitions::Settings;
+use epochs::current_epoch;
+use epochs::previous_epoch;
 use exit_queue::start_pair;
-use leaf_refusals::current_epoch;
-use leaf_refusals::previous_epoch;
 use participation::inactivity::inactivity_core;
 use participation::participation_flags::participation_flags_core;
 use registry_step::update_by;
@@ -62,7 +63,7 @@ fn registry_in_place(
     requires { ⌜ length (now registry) ≡ 10 * (length (now registry) / 10) ⌝ }
     ensures { λ r. ⌜ Ran («process_registry_updates» s «state_slot» «finalized_epoch» (decode (now (registry .entry)))) (now (registry .exit)) r ⌝ }
 {
-    let mut kept = [18446744073709551615u64; 64];
+    let mut kept = [FAR_FUTURE_EPOCH; 64];
     registry_core(s, state_slot, finalized_epoch, &mut kept[0..64], registry)
 }
 

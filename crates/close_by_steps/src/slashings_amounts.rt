@@ -6,6 +6,7 @@ ghost use Prim.Native.Nat.{_-_, _*_, _/_};
 ghost use lib.ListN.{length, take};
 ghost use Rattle.definitions.specs.Refusals.{goodSettings};
 ghost use Rattle.close_by_steps.specs.Taken.{SlashingsBooked, NinthsPut, NinthsTaken};
+use definitions::BALANCE;
 use definitions::Settings;
 use slashings::slashings_core;
 
@@ -35,7 +36,7 @@ fn keep_balances(registry: &[u64], amounts: &mut [u64])
     for i in 0..n {
         let c = 9 * i;
         let d = c + 9;
-        let balance = registry[10 * i + 6];
+        let balance = registry[10 * i + BALANCE];
         put_ninth(balance, &mut amounts[c..d]);
     }
 }
@@ -49,7 +50,7 @@ fn take_balances(registry: &[u64], amounts: &mut [u64])
     for i in 0..n {
         let c = 9 * i;
         let d = c + 9;
-        let balance = registry[10 * i + 6];
+        let balance = registry[10 * i + BALANCE];
         let kept = amounts[9 * i + 8];
         let taken = less(kept, balance);
         put_ninth(taken, &mut amounts[c..d]);

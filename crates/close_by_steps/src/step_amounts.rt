@@ -12,13 +12,14 @@ ghost use Rattle.rewards.specs.Shared.{SharedBy, totalsOf};
 ghost use Rattle.rewards_step.specs.Totals.{flagTotalsOf};
 ghost use Rattle.close_by_steps.specs.Booked.{SaysPairs, fourOf, eightOf, BooksEntry, BooksAll, RewardsBooked};
 use arithmetic::mul64;
+use definitions::BALANCE;
 use definitions::DeltasAnswer;
 use definitions::Number;
 use definitions::Settings;
 use definitions::Truth;
+use epochs::current_epoch;
+use epochs::previous_epoch;
 use finality::inactivity_leak;
-use leaf_refusals::current_epoch;
-use leaf_refusals::previous_epoch;
 use rates::reward_balances::all_applied;
 use refusals::buffers::clear;
 use rewards::Shared;
@@ -121,12 +122,12 @@ fn entry_reward_booked(
     let b = pairs.target;
     let c = pairs.head;
     let d = pairs.inactivity;
-    let before = entry[6];
+    let before = entry[BALANCE];
     let Number::Value(balance) = all_applied(before, a, b, c, d) else {
         return 5;
     };
     put_amounts(pairs, before, balance, nine);
-    entry[6] = balance;
+    entry[BALANCE] = balance;
     0
 }
 

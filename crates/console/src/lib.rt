@@ -4,20 +4,22 @@ ghost use lib.ListN.{length};
 
 pub mod outage_console;
 
+use definitions_file::LONGEST_LISTING;
+use definitions_file::MOST_INPUT;
 use listing::file_listing::list_file;
 
 // One byte more than a record file may have: input that fills it is too long.
-fn input() -> [u8; 65537]
+fn input() -> [u8; MOST_INPUT + 1]
     ensures { λ r. ⌜ 65537 ≡ length r ⌝ }
 {
-    [0; 65537]
+    [0; MOST_INPUT + 1]
 }
 
 // As long as the longest listing.
-fn output() -> [u8; 103585]
+fn output() -> [u8; LONGEST_LISTING]
     ensures { λ r. ⌜ 103585 ≡ length r ⌝ }
 {
-    [0; 103585]
+    [0; LONGEST_LISTING]
 }
 
 // Reads a record file from a descriptor. Nothing is printed before all of the input is read and listed.

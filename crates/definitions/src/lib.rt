@@ -1,5 +1,29 @@
 // What the contracts of every crate above mean: the definitions in specs/, and here the types by value.
 
+// An epoch that is none: phase0/mod.rs.
+pub const FAR_FUTURE_EPOCH: u64 = 18446744073709551615;
+
+// The places of a validator's ten numbers in the registry, in document 01's order: specs/Record.antt, `encodeOne`.
+pub const EFFECTIVE_BALANCE: usize = 0;
+
+pub const SLASHED: usize = 1;
+
+pub const ACTIVATION_ELIGIBILITY_EPOCH: usize = 2;
+
+pub const ACTIVATION_EPOCH: usize = 3;
+
+pub const EXIT_EPOCH: usize = 4;
+
+pub const WITHDRAWABLE_EPOCH: usize = 5;
+
+pub const BALANCE: usize = 6;
+
+pub const PREVIOUS_EPOCH_PARTICIPATION: usize = 7;
+
+pub const CURRENT_EPOCH_PARTICIPATION: usize = 8;
+
+pub const INACTIVITY_SCORE: usize = 9;
+
 // What goes in and comes back by value: the settings of a network, and the finality part of a record.
 
 // The nineteen settings, in document 01's order and under the names of state_transition/context.rs.

@@ -5,6 +5,22 @@ use definitions::Finality;
 use definitions::Raised;
 use definitions::Settings;
 
+// Where the parts of a record file of version 2 stand: specs/File.antt. Version 1 has no pair, and the validators in its place.
+pub const SETTINGS_AT: usize = 80;
+
+pub const FINALITY_AT: usize = 232;
+
+pub const QUEUE_AT: usize = 368;
+
+pub const VALIDATORS_AT: usize = 384;
+
+// The most bytes of input that the programs take, and the most that they print of one.
+pub const MOST_INPUT: usize = 65536;
+
+pub const LONGEST_LISTING: usize = 103585;
+
+pub const LONGEST_OUTAGE: usize = 964000;
+
 // What reading a record file answers.
 
 // How long the buffers of a read must be: ten numbers a validator, one a slashing. Or refusal 6, and zeros.

@@ -12,14 +12,23 @@ ghost use Rattle.definitions.specs.LeafRefusals.{flagTests, entryTests, finaliz
 ghost use Rattle.definitions.specs.Document.Phase0.Helpers.{«is_active_validator», «is_eligible_for_activation_queue», «is_eligible_for_activation», «get_current_epoch», «get_previous_epoch»};
 ghost use Rattle.definitions.specs.Document.Phase0.EpochProcessing.{isEligible};
 ghost use Rattle.definitions.specs.Document.Altair.Helpers.{«has_flag», «add_flag», isUnslashedParticipating};
+use definitions::ACTIVATION_ELIGIBILITY_EPOCH;
+use definitions::ACTIVATION_EPOCH;
+use definitions::CURRENT_EPOCH_PARTICIPATION;
+use definitions::EFFECTIVE_BALANCE;
+use definitions::EXIT_EPOCH;
+use definitions::FAR_FUTURE_EPOCH;
 use definitions::Number;
+use definitions::PREVIOUS_EPOCH_PARTICIPATION;
+use definitions::SLASHED;
 use definitions::Settings;
 use definitions::Truth;
-use leaf_refusals::current_epoch;
+use definitions::WITHDRAWABLE_EPOCH;
+use epochs::current_epoch;
+use epochs::previous_epoch;
 use leaf_refusals::entry_tests;
 use leaf_refusals::finalized_entry_tests;
 use leaf_refusals::participation_entry_tests;
-use leaf_refusals::previous_epoch;
 use leaf_refusals::settings_entry_tests;
 use leaf_refusals::slot_entry_tests;
 
@@ -37,7 +46,7 @@ pub fn entry_is_active(entry: &[u64], epoch: u64) -> bool
     requires { ⌜ length (now entry) ≡ 10 ⌝ }
     ensures { λ r. ⌜ r ≡ «is_active_validator» (decodeOne (now (entry .entry))) epoch ⌝ }
 {
-    is_active(entry[3], entry[4], epoch)
+    is_active(entry[ACTIVATION_EPOCH], entry[EXIT_EPOCH], epoch)
 }
 
 pub fn is_active_validator(entry: &[u64], epoch: u64) -> Truth
@@ -58,7 +67,7 @@ pub fn becomes_eligible(
 ) -> bool
     ensures { λ r. ⌜ r ≡ (eqb «eligibility_epoch» 18446744073709551615 && eqb «effective_balance» «max_effective_balance») ⌝ }
 {
-    if eligibility_epoch != 18446744073709551615 {
+    if eligibility_epoch != FAR_FUTURE_EPOCH {
         return false;
     }
     effective_balance == max_effective_balance
@@ -68,7 +77,11 @@ pub fn entry_is_eligible_for_activation_queue(s: Settings, entry: &[u64]) -> boo
     requires { ⌜ length (now entry) ≡ 10 ⌝ }
     ensures { λ r. ⌜ r ≡ «is_eligible_for_activation_queue» s (decodeOne (now (entry .entry))) ⌝ }
 {
-    becomes_eligible(s.max_effective_balance, entry[0], entry[2])
+    becomes_eligible(
+        s.max_effective_balance,
+        entry[EFFECTIVE_BALANCE],
+        entry[ACTIVATION_ELIGIBILITY_EPOCH],
+    )
 }
 
 pub fn is_eligible_for_activation_queue(s: Settings, entry: &[u64]) -> Truth
@@ -88,10 +101,10 @@ pub fn entry_is_eligible_for_activation(finalized_epoch: u64, entry: &[u64]) -> 
     requires { ⌜ length (now entry) ≡ 10 ⌝ }
     ensures { λ r. ⌜ r ≡ «is_eligible_for_activation» «finalized_epoch» (decodeOne (now (entry .entry))) ⌝ }
 {
-    if finalized_epoch < entry[2] {
+    if finalized_epoch < entry[ACTIVATION_ELIGIBILITY_EPOCH] {
         return false;
     }
-    entry[3] == 18446744073709551615
+    entry[ACTIVATION_EPOCH] == FAR_FUTURE_EPOCH
 }
 
 pub fn is_eligible_for_activation(finalized_epoch: u64, entry: &[u64]) -> Truth
@@ -116,14 +129,14 @@ pub fn entry_is_eligible(previous_epoch: u64, entry: &[u64]) -> bool
     if entry_is_active(entry, previous_epoch) {
         return true;
     }
-    if entry[1] != 1 {
+    if entry[SLASHED] != 1 {
         return false;
     }
     // previous_epoch + 1 < withdrawable epoch, for any epoch
-    if entry[5] == 0 {
+    if entry[WITHDRAWABLE_EPOCH] == 0 {
         return false;
     }
-    previous_epoch < entry[5] - 1
+    previous_epoch < entry[WITHDRAWABLE_EPOCH] - 1
 }
 
 pub fn is_eligible(s: Settings, state_slot: u64, entry: &[u64]) -> Truth
@@ -208,8 +221,13 @@ pub fn entry_is_participating(
     ensures { λ r. ⌜ r ≡ isUnslashedParticipating «current_epoch» «flag_index» epoch (decodeOne (now (entry .entry))) ⌝ }
 {
     let active = entry_is_active(entry, epoch);
-    let flags = flags_at(current_epoch, epoch, entry[8], entry[7]);
-    participates(active, entry[1], flags, flag_index)
+    let flags = flags_at(
+        current_epoch,
+        epoch,
+        entry[CURRENT_EPOCH_PARTICIPATION],
+        entry[PREVIOUS_EPOCH_PARTICIPATION],
+    );
+    participates(active, entry[SLASHED], flags, flag_index)
 }
 
 pub fn is_unslashed_participating(

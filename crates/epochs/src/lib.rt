@@ -1,5 +1,6 @@
 // Epochs and slots: phase0/helpers.rs.
 ghost use mathlib.Core.Path.{_≡_};
+ghost use Prim.Native.Nat.{_<_};
 ghost use Rattle.definitions.specs.Answers.{Says};
 ghost use Rattle.definitions.specs.Checked.{value, codeOf};
 ghost use Rattle.definitions.specs.Refusals.{afterTests};
@@ -12,8 +13,6 @@ use arithmetic::add64;
 use arithmetic::mul64;
 use definitions::Number;
 use definitions::Settings;
-use leaf_refusals::current_epoch;
-use leaf_refusals::previous_epoch;
 use refusals::good_settings;
 use refusals::in_order;
 use refusals::is_small;
@@ -34,6 +33,25 @@ pub fn slot_refusal(s: Settings, state_slot: u64) -> u64
 }
 
 // What is worked out once the tests have passed.
+
+pub fn current_epoch(s: Settings, state_slot: u64) -> u64
+    requires { ⌜ 0 < s .«slots_per_epoch» ⌝ }
+    ensures { λ r. ⌜ r ≡ «get_current_epoch» s «state_slot» ⌝ }
+{
+    state_slot / s.slots_per_epoch
+}
+
+// One less, and at the genesis epoch the genesis epoch.
+pub fn previous_epoch(s: Settings, state_slot: u64) -> u64
+    requires { ⌜ 0 < s .«slots_per_epoch» ⌝ }
+    ensures { λ r. ⌜ r ≡ «get_previous_epoch» s «state_slot» ⌝ }
+{
+    let current = current_epoch(s, state_slot);
+    if current == 0 {
+        return 0;
+    }
+    current - 1
+}
 
 pub fn activation_exit_epoch(s: Settings, epoch: u64) -> Number
     ensures { λ r. ⌜ Says («compute_activation_exit_epoch» s epoch) r ⌝ }

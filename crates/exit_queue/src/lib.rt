@@ -13,10 +13,10 @@ pub mod exits;
 
 use crate::exits::write_exit;
 use arithmetic::add64;
+use definitions::EXIT_EPOCH;
 use definitions::ExitQueue;
+use definitions::FAR_FUTURE_EPOCH;
 use definitions::Number;
-
-const FAR_FUTURE_EPOCH: u64 = 18446744073709551615;
 
 pub fn last_after(last_epoch: u64, epoch: u64) -> u64
     ensures { λ r. ⌜ r ≡ lastAfter «last_epoch» epoch ⌝ }
@@ -79,7 +79,7 @@ pub fn queue_of(registry: &[u64]) -> ExitQueue
         number: 0,
     };
     for i in 0..n {
-        queue = exited(queue, registry[10 * i + 4]);
+        queue = exited(queue, registry[10 * i + EXIT_EPOCH]);
     }
     queue
 }
@@ -117,7 +117,7 @@ pub fn exit_entry(entry: &mut [u64], queue: ExitQueue, limit: u64, delay: u64) -
     requires { ⌜ (length (now entry) ≡ 10) × (queue .number < 18446744073709551615) ⌝ }
     ensures { λ r. ⌜ Exits (exitBy limit delay queue) queue (now (entry .entry)) (now (entry .exit)) r ⌝ }
 {
-    if entry[4] != FAR_FUTURE_EPOCH {
+    if entry[EXIT_EPOCH] != FAR_FUTURE_EPOCH {
         return Turn {
             refusal: 0,
             queue: queue,

@@ -13,6 +13,8 @@ use definitions::Checkpoint;
 use definitions::ExitQueue;
 use definitions::Finality;
 use definitions::Settings;
+use definitions_file::FINALITY_AT;
+use definitions_file::QUEUE_AT;
 
 // As many numbers as the buffer holds.
 pub fn read_numbers(bytes: &[u8], at: usize, numbers: &mut [u64])
@@ -104,15 +106,20 @@ fn checkpoint_at(bytes: &[u8], at: usize) -> Checkpoint
     }
 }
 
+// Slot, bits, then three checkpoints of 40 bytes.
+const CURRENT_AT: usize = FINALITY_AT + 56;
+
+const FINALIZED_AT: usize = CURRENT_AT + 40;
+
 pub fn read_finality(bytes: &[u8]) -> Finality
     requires { ⌜ 368 ≤ length (now bytes) ⌝ }
     ensures { λ r. ⌜ r ≡ finalityFrom (now (bytes .entry)) ⌝ }
 {
-    let slot = crate::reader::read_number(bytes, 232);
+    let slot = crate::reader::read_number(bytes, FINALITY_AT);
     let bits = crate::reader::read_number(bytes, slot.position);
     let previous = checkpoint_at(bytes, bits.position);
-    let current = checkpoint_at(bytes, 288);
-    let finalized = checkpoint_at(bytes, 328);
+    let current = checkpoint_at(bytes, CURRENT_AT);
+    let finalized = checkpoint_at(bytes, FINALIZED_AT);
     Finality {
         slot: slot.number,
         justification_bits: bits.number,
@@ -122,13 +129,16 @@ pub fn read_finality(bytes: &[u8]) -> Finality
     }
 }
 
+// The second of the pair that version 2 stores.
+const NUMBER_AT: usize = QUEUE_AT + 8;
+
 // The pair that version 2 stores.
 pub fn read_queue(bytes: &[u8]) -> ExitQueue
     requires { ⌜ 384 ≤ length (now bytes) ⌝ }
     ensures { λ r. ⌜ r ≡ queueFrom (now (bytes .entry)) ⌝ }
 {
-    let last_epoch = crate::reader::read_number(bytes, 368);
-    let number = crate::reader::read_number(bytes, 376);
+    let last_epoch = crate::reader::read_number(bytes, QUEUE_AT);
+    let number = crate::reader::read_number(bytes, NUMBER_AT);
     ExitQueue {
         last_epoch: last_epoch.number,
         number: number.number,

@@ -1,10 +1,10 @@
 -- The tests of reading: what is answered and where reading stops, test by test.
-use mathlib.Core.Path.{_≡_, ap, _∙_}
+use mathlib.Core.Path.{_≡_, refl, ap, _∙_}
 use mathlib.Core.Bool.{Bool, true, false, _&&_, and-false, and-assoc}
-use mathlib.Core.List.{List}
+use mathlib.Core.List.{List, [], _∷_}
 use Prim.Native.Nat.{ℕ, _*_, _^_, _≤_, _<_}
-use borrow.Author.Tests.{lt-ltb, le-ltb, le-leb, lt-leb, eq-eqb, ne-eqb}
-use lib.Dec.{leb}
+use borrow.Author.Tests.{lt-ltb, le-ltb, lt-leb, eq-eqb, ne-eqb, leb-true, eqb-true}
+use lib.Dec.{leb, eqb}
 use lib.ListN.{length, drop}
 use Rattle.definitions.specs.declared.Settings.{Settings}
 use Rattle.definitions.specs.declared.ExitQueue.{ExitQueue}
@@ -14,51 +14,68 @@ use Rattle.definitions.specs.Refusals.{inOrder, isVectorLength, settingsShaped,
 use Rattle.definitions.specs.ExitQueue.{queueOf, isQueueOf, queueTest}
 use Rattle.definitions_file.specs.File.{numbersFromBytes, versionOf, validatorsAt, queueFrom, queueIn, noQueue, read, settingsAt, settingsFrom, countOf, rootCountOf, slashingCountOf, contentsOf, goodHeader, fileShaped, readTests, stoppedAt, position}
 use Rattle.refusals.proofs.All.{both}
-use Rattle.file_refusals.specs.Tests.{Answered, QueueAnswered, sameQueue}
+use Rattle.round_trip.proofs.Tests.{tests}
+use Rattle.file_refusals.specs.Tests.{countsShaped, Answered, QueueAnswered, sameQueue}
 use Rattle.laws.proofs.Queue.{is-its-own}
 
 -- Test 1
 
-and-third : (a b c : Bool) → (b && c) ≡ false → (a && b && c) ≡ false
-and-third a b c e = and-assoc a b c ∙ ap (λ (t : Bool). a && t) e ∙ and-false a
-
 abbrev pub settingsIn : List ℕ → Settings
 settingsIn bytes = settingsFrom (numbersFromBytes 19 (drop settingsAt bytes))
 
+abbrev pub countsIn : List ℕ → Bool
+countsIn bytes = countsShaped (countOf bytes) (rootCountOf bytes) (slashingCountOf bytes) (settingsIn bytes .«slots_per_historical_root») (settingsIn bytes .«epochs_per_slashings_vector»)
+
+-- the definition's tests of the vectors stand between those of the counts
+vectors-fail : (a b c : Bool) → (b && c) ≡ false → (a && b && c) ≡ false
+vectors-fail a b c e = and-assoc a b c ∙ ap (λ (t : Bool). a && t) e ∙ and-false a
+
+counts-fail : (a b c d e : Bool) → (a && d && e) ≡ false → (a && b && c && d && e) ≡ false
+counts-fail false b c d e f = refl
+counts-fail true false c d e f = refl
+counts-fail true true false d e f = refl
+counts-fail true true true d e f = f
+
+record Counted (bytes : List ℕ) : Type 0 where
+  few : leb (countOf bytes) (2 ^ 24) ≡ true
+  roots : rootCountOf bytes ≡ settingsIn bytes .«slots_per_historical_root»
+  slashings : slashingCountOf bytes ≡ settingsIn bytes .«epochs_per_slashings_vector»
+
+counted : (bytes : List ℕ) → countsIn bytes ≡ true → Counted bytes
+unfolding countsShaped
+counted bytes t =
+    let s = settingsIn bytes in
+    let test = tests (leb (countOf bytes) (2 ^ 24)) (eqb (rootCountOf bytes) (s .«slots_per_historical_root») ∷ eqb (slashingCountOf bytes) (s .«epochs_per_slashings_vector») ∷ []) t in
+    record { few = test 0; roots = eqb-true _ _ (test 1); slashings = eqb-true _ _ (test 2) }
+
+pub few : (bytes : List ℕ) → countsIn bytes ≡ true → countOf bytes ≤ 2 ^ 24
+few bytes t = leb-true _ _ (counted bytes t .few)
+
 module _ (bytes registry slashings : List ℕ) where
-  pub too-many : 2 ^ 24 < countOf bytes → false ≡ fileShaped bytes registry slashings
-  unfolding fileShaped
-  too-many l = rw (lt-leb _ _ l)
-
-  pub unlike-roots : (rootCountOf bytes ≡ settingsIn bytes .«slots_per_historical_root» → ⊥) → false ≡ fileShaped bytes registry slashings
-  unfolding fileShaped contentsOf
-  unlike-roots z = rw (ne-eqb _ _ z, and-false)
-
-  pub unlike-slashings : (slashingCountOf bytes ≡ settingsIn bytes .«epochs_per_slashings_vector» → ⊥) → false ≡ fileShaped bytes registry slashings
-  unfolding fileShaped contentsOf
-  unlike-slashings z = rw (ne-eqb _ _ z, and-false)
+  pub unlike-counts : countsIn bytes ≡ false → false ≡ fileShaped bytes registry slashings
+  unfolding fileShaped contentsOf countsShaped
+  unlike-counts e = rw (counts-fail _ (isVectorLength (rootCountOf bytes)) (isVectorLength (slashingCountOf bytes)) _ _ e)
 
   pub other-registry : (length registry ≡ 10 * countOf bytes → ⊥) → false ≡ fileShaped bytes registry slashings
   unfolding fileShaped
   other-registry z = rw (ne-eqb _ _ z, and-false)
 
-  pub other-slashings : (length slashings ≡ slashingCountOf bytes → ⊥) → false ≡ fileShaped bytes registry slashings
-  unfolding fileShaped
-  other-slashings z = rw (ne-eqb _ _ z, and-false)
-
-  module _ (roots : rootCountOf bytes ≡ settingsIn bytes .«slots_per_historical_root») (slash : slashingCountOf bytes ≡ settingsIn bytes .«epochs_per_slashings_vector») where
+  module _ (t : countsIn bytes ≡ true) where
     pub not-vectors : settingsShaped (settingsIn bytes) ≡ false → false ≡ fileShaped bytes registry slashings
     unfolding fileShaped settingsShaped
     not-vectors e =
-        let v : (isVectorLength (rootCountOf bytes) && isVectorLength (slashingCountOf bytes)) ≡ false = rw (roots, slash) e in
-        rw (and-third (leb (countOf bytes) (2 ^ 24)) (isVectorLength (rootCountOf bytes)) (isVectorLength (slashingCountOf bytes)) v)
+        let c = counted bytes t in
+        let v : (isVectorLength (rootCountOf bytes) && isVectorLength (slashingCountOf bytes)) ≡ false = rw (c .roots, c .slashings) e in
+        rw (vectors-fail (leb (countOf bytes) (2 ^ 24)) (isVectorLength (rootCountOf bytes)) (isVectorLength (slashingCountOf bytes)) v)
 
-    pub shaped : countOf bytes ≤ 2 ^ 24 → settingsShaped (settingsIn bytes) ≡ true → length registry ≡ 10 * countOf bytes → length slashings ≡ slashingCountOf bytes → true ≡ fileShaped bytes registry slashings
+    -- the last test is the slashings'
+    pub shaped : settingsShaped (settingsIn bytes) ≡ true → length registry ≡ 10 * countOf bytes → eqb (length slashings) (slashingCountOf bytes) ≡ fileShaped bytes registry slashings
     unfolding fileShaped settingsShaped contentsOf
-    shaped few vectors e f =
-        let v : (isVectorLength (rootCountOf bytes) && isVectorLength (slashingCountOf bytes)) ≡ true = rw (roots, slash) vectors in
+    shaped vectors e =
+        let c = counted bytes t in
+        let v : (isVectorLength (rootCountOf bytes) && isVectorLength (slashingCountOf bytes)) ≡ true = rw (c .roots, c .slashings) vectors in
         let p = both (isVectorLength (rootCountOf bytes)) (isVectorLength (slashingCountOf bytes)) v in
-        rw (le-leb _ _ few, p .first, p .second, eq-eqb _ _ roots, eq-eqb _ _ slash, eq-eqb _ _ e, eq-eqb _ _ f)
+        rw (c .few, p .first, p .second, eq-eqb _ _ (c .roots), eq-eqb _ _ (c .slashings), eq-eqb _ _ e)
 
   -- 6, 1, 2, 3
 

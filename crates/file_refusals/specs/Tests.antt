@@ -2,8 +2,8 @@
 use mathlib.Core.Path.{_≡_}
 use mathlib.Core.Bool.{Bool, cond, _&&_, not}
 use mathlib.Core.List.{List}
-use Prim.Native.Nat.{ℕ, _/_}
-use lib.Dec.{eqb}
+use Prim.Native.Nat.{ℕ, _/_, _^_}
+use lib.Dec.{leb, eqb}
 use lib.ListN.{length}
 use Rattle.definitions.specs.declared.Settings.{Settings}
 use Rattle.definitions.specs.declared.ExitQueue.{ExitQueue}
@@ -17,6 +17,10 @@ use Rattle.definitions_file.specs.File.{queueAt, fileLength, contentsOf, queueI
 -- the most that the number at k of an entry may be
 abbrev pub limitAt : ℕ → ℕ
 limitAt k = cond (eqb k 1) 1 (cond (eqb k 7) 255 (cond (eqb k 8) 255 18446744073709551615))
+
+-- test 1 of a header's counts: N in range, S and L like their settings
+unfoldable pub countsShaped : ℕ → ℕ → ℕ → ℕ → ℕ → Bool
+countsShaped n S L roots slashings = leb n (2 ^ 24) && eqb S roots && eqb L slashings
 
 -- the answer of the tests of reading, where reading stopped, and the pair
 pub record Answered (bytes registry slashings : List ℕ) (refusal at : ℕ) (queue : ExitQueue) : Type 0 where

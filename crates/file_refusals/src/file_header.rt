@@ -4,13 +4,23 @@ ghost use Prim.Native.Nat.{_^_, _≤_, _<_};
 ghost use lib.Dec.{eqb};
 ghost use lib.ListN.{length};
 ghost use Rattle.definitions_file.specs.File.{validatorsAt, fileLength, header, versionOf, countOf, rootCountOf, slashingCountOf, sameNumbers, goodHeader};
+use definitions_file::FINALITY_AT;
+use definitions_file::QUEUE_AT;
+use definitions_file::SETTINGS_AT;
+
+// Where settings, finality and pair stand, as a header and a refusal's position say it.
+pub const SETTINGS: u64 = SETTINGS_AT as u64;
+
+pub const FINALITY: u64 = FINALITY_AT as u64;
+
+pub const PAIR: u64 = QUEUE_AT as u64;
 
 // Behind the pair, which version 2 has.
 pub fn validators_at(version: u64) -> u64
     requires { ⌜ (1 ≤ version) × (version ≤ 2) ⌝ }
     ensures { λ r. ⌜ r ≡ validatorsAt version ⌝ }
 {
-    368 + 16 * (version - 1)
+    PAIR + 16 * (version - 1)
 }
 
 // Whether a file is as long as its counts call for. Each count is compared with what is left of the length, so nothing wraps.
@@ -54,8 +64,8 @@ pub fn header_of(version: u64, validators: u64, roots: u64, slashings: u64) -> [
         validators,
         roots,
         slashings,
-        80,
-        232,
+        SETTINGS,
+        FINALITY,
         from,
         roots_at,
         slashings_at,
@@ -78,7 +88,7 @@ fn same_numbers(a: &[u64], b: &[u64]) -> bool
 pub fn good_header(bytes: &[u8]) -> bool
     ensures { λ r. ⌜ r ≡ goodHeader (now (bytes .entry)) ⌝ }
 {
-    if bytes.len() < 80 {
+    if bytes.len() < SETTINGS_AT {
         return false;
     }
     let mut found = [0u64; 10];

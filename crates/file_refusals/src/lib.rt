@@ -6,13 +6,18 @@ ghost use Rattle.definitions.specs.Record.{decode};
 ghost use Rattle.definitions.specs.Checked.{codeOf};
 ghost use Rattle.definitions.specs.ExitQueue.{queueOf};
 ghost use Rattle.definitions_file.specs.File.{numbersFromBytes, validatorsAt, versionOf, countOf, fileShaped, stoppedAt, writeTests, contentsWith};
-ghost use Rattle.file_refusals.specs.Tests.{limitAt, nothingAt, Answered, QueueAnswered, sameQueue, writeShaped};
+ghost use Rattle.file_refusals.specs.Tests.{limitAt, countsShaped, nothingAt, Answered, QueueAnswered, sameQueue, writeShaped};
 
 pub mod file_header;
 
+use crate::file_header::Counts;
+use crate::file_header::FINALITY;
+use crate::file_header::PAIR;
+use crate::file_header::SETTINGS;
 use definitions::ExitQueue;
 use definitions::Finality;
 use definitions::Settings;
+use definitions_file::SETTINGS_AT;
 use exit_queue::exited;
 use exit_queue::queue_of;
 
@@ -48,6 +53,19 @@ fn first_bad(bytes: &[u8], from: usize, validators: usize) -> usize
     position
 }
 
+// Test 1 of the header's counts: N in range, S and L like the two settings that are lent as numbers.
+fn counts_shaped(counts: Counts, root_count: u64, slashing_count: u64) -> bool
+    ensures { λ r. ⌜ r ≡ countsShaped (counts .validators) (counts .roots) (counts .slashings) «root_count» «slashing_count» ⌝ }
+{
+    if 16777216 < counts.validators {
+        return false;
+    }
+    if counts.roots != root_count {
+        return false;
+    }
+    counts.slashings == slashing_count
+}
+
 // Test 1.
 fn file_shaped(bytes: &[u8], registry: &[u64], slashings: &[u64]) -> bool
     requires { ⌜ 368 ≤ length (now bytes) ⌝ }
@@ -55,13 +73,11 @@ fn file_shaped(bytes: &[u8], registry: &[u64], slashings: &[u64]) -> bool
 {
     let counts = crate::file_header::read_counts(bytes);
     let s = fields::read_settings(bytes);
-    if 16777216 < counts.validators {
-        return false;
-    }
-    if counts.roots != s.slots_per_historical_root {
-        return false;
-    }
-    if counts.slashings != s.epochs_per_slashings_vector {
+    if !counts_shaped(
+        counts,
+        s.slots_per_historical_root,
+        s.epochs_per_slashings_vector,
+    ) {
         return false;
     }
     if !refusals::settings_shaped(s) {
@@ -70,10 +86,7 @@ fn file_shaped(bytes: &[u8], registry: &[u64], slashings: &[u64]) -> bool
     if registry.len() as u64 != 10 * counts.validators {
         return false;
     }
-    if slashings.len() as u64 != counts.slashings {
-        return false;
-    }
-    true
+    slashings.len() as u64 == counts.slashings
 }
 
 // The pair of the validators' exit epochs, from the bytes: the registry goes into its buffer only once every test has passed.
@@ -138,7 +151,7 @@ fn queue_tests(bytes: &[u8], version: u64, from: usize, validators: usize) -> Te
     }
     let stored = fields::read_queue(bytes);
     if !same_queue(stored, own) {
-        return refused(8, 368);
+        return refused(8, PAIR);
     }
     Tested {
         refusal: 0,
@@ -151,20 +164,20 @@ fn queue_tests(bytes: &[u8], version: u64, from: usize, validators: usize) -> Te
 pub fn read_tests(bytes: &[u8], registry: &[u64], slashings: &[u64]) -> Tested
     ensures { λ r. ⌜ Answered (now (bytes .entry)) (now (registry .entry)) (now (slashings .entry)) (r .refusal) (r .position) (r .queue) ⌝ }
 {
-    if bytes.len() < 80 {
+    if bytes.len() < SETTINGS_AT {
         return refused(6, 0);
     }
     if !crate::file_header::good_header(bytes) {
-        return refused(6, 80);
+        return refused(6, SETTINGS);
     }
     if !file_shaped(bytes, registry, slashings) {
-        return refused(1, 232);
+        return refused(1, FINALITY);
     }
     if !refusals::good_settings(fields::read_settings(bytes)) {
-        return refused(2, 232);
+        return refused(2, FINALITY);
     }
     if !refusals::good_finality(fields::read_finality(bytes)) {
-        return refused(3, 368);
+        return refused(3, PAIR);
     }
     let counts = crate::file_header::read_counts(bytes);
     let version = counts.version;

@@ -8,7 +8,7 @@ ghost use Rattle.definitions_close.specs.FinalizingTest.{lastTest, finalizingTe
 use crate::is_linked;
 use definitions::Finality;
 use definitions::Settings;
-use leaf_refusals::current_epoch;
+use epochs::current_epoch;
 
 // A later test overrides, so the last one is asked first.
 fn last_test(epoch: u64, bits: u64, old: Finality) -> u64

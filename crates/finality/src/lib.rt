@@ -18,7 +18,7 @@ use definitions::Finality;
 use definitions::Number;
 use definitions::Settings;
 use definitions::Truth;
-use leaf_refusals::previous_epoch;
+use epochs::previous_epoch;
 use refusals::good_settings;
 use refusals::in_order;
 use refusals::is_small;

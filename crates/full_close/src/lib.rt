@@ -15,14 +15,15 @@ ghost use Rattle.full_close.specs.Worked.{FullWorked, FullUnder};
 use close::close_surveyed;
 use close::record_tests;
 use definitions::ExitQueue;
+use definitions::FAR_FUTURE_EPOCH;
 use definitions::Finality;
 use definitions::FullAnswer;
 use definitions::Rules;
 use definitions::Settings;
+use epochs::current_epoch;
+use epochs::previous_epoch;
 use exit_queue::queue_of;
 use finality::finalizing::finalizing_test;
-use leaf_refusals::current_epoch;
-use leaf_refusals::previous_epoch;
 use refusals::buffers::clear;
 use refusals::rules::settings_under;
 use survey::Findings;
@@ -193,7 +194,7 @@ pub fn full_close(
         return unclosed(refusal, finality, queue);
     }
     let s = settings_under(rules);
-    let mut kept = [18446744073709551615u64; 64];
+    let mut kept = [FAR_FUTURE_EPOCH; 64];
     full_tested(
         s,
         finality,

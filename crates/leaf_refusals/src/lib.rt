@@ -2,13 +2,14 @@
 ghost use mathlib.Core.Path.{_≡_};
 ghost use Prim.Native.Nat.{_<_};
 ghost use Rattle.definitions.specs.Checked.{codeOf};
-ghost use Rattle.definitions.specs.Document.Phase0.Helpers.{«get_current_epoch», «get_previous_epoch»};
 ghost use Rattle.definitions.specs.LeafRefusals.{entryTests, finalizedEntryTests, settingsEntryTests, slotEntryTests, isParticipationEpoch, participationEntryTests};
 
 pub mod finalized;
 pub mod registry_refusals;
 
 use definitions::Settings;
+use epochs::current_epoch;
+use epochs::previous_epoch;
 use refusals::good_entry;
 use refusals::good_settings;
 use refusals::is_small;
@@ -68,25 +69,6 @@ pub fn slot_entry_tests(s: Settings, state_slot: u64, entry: &[u64]) -> u64
         return 3;
     }
     0
-}
-
-pub fn current_epoch(s: Settings, state_slot: u64) -> u64
-    requires { ⌜ 0 < s .«slots_per_epoch» ⌝ }
-    ensures { λ r. ⌜ r ≡ «get_current_epoch» s «state_slot» ⌝ }
-{
-    state_slot / s.slots_per_epoch
-}
-
-// One less, and at the genesis epoch the genesis epoch.
-pub fn previous_epoch(s: Settings, state_slot: u64) -> u64
-    requires { ⌜ 0 < s .«slots_per_epoch» ⌝ }
-    ensures { λ r. ⌜ r ≡ «get_previous_epoch» s «state_slot» ⌝ }
-{
-    let current = current_epoch(s, state_slot);
-    if current == 0 {
-        return 0;
-    }
-    current - 1
 }
 
 pub fn is_participation_epoch(s: Settings, state_slot: u64, epoch: u64) -> bool

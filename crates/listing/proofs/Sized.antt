@@ -2,9 +2,9 @@
 use mathlib.Core.Bool.{Bool, true, false, not}
 use mathlib.Core.List.{List, [], _∷_, _++_}
 use mathlib.Core.Path.{_≡_, sym, ap, _∙_}
-use Prim.Native.Nat.{ℕ, _+_, _*_, _≤_, _<_}
+use Prim.Native.Nat.{ℕ, _+_, _*_, _/_, _≤_, _<_}
 use native.Mathlib.Omega.{arith}
-use borrow.Author.Tests.{leb-true, lt-ltb, le-ltb, not-true, not-false}
+use borrow.Author.Tests.{leb-true, lt-ltb, le-ltb, not-true}
 use lib.Dec.{leb}
 use lib.ListN.{length, take, drop}
 use lib.Seq.{length-take-le, sets-eq}
@@ -34,11 +34,15 @@ pub record AsLong (before after : Buffers) : Type 0 where
   pub closingRegistry : length (after .closingRegistry) ≡ length (before .closingRegistry)
   pub closingSlashings : length (after .closingSlashings) ≡ length (before .closingSlashings)
 
-room : (h : Header) (b : Buffers) → fits h b ≡ true → Room h b
+pub room : (h : Header) (b : Buffers) → fits h b ≡ true → Room h b
 unfolding fits
 room h b e =
     let t = tests (leb (10 * h .validators) (length (b .registry))) (leb (h .slashings) (length (b .slashings)) ∷ leb (10 * h .validators) (length (b .closingRegistry)) ∷ leb (h .slashings) (length (b .closingSlashings)) ∷ leb (207 + 127 * h .validators) (length (b .text)) ∷ []) e in
     record { registry = leb-true _ _ (t 0); slashings = leb-true _ _ (t 1); closingRegistry = leb-true _ _ (t 2); closingSlashings = leb-true _ _ (t 3); text = leb-true _ _ (t 4) }
+
+-- the registry's front asks no more text than there is
+pub front-text : {h : Header} {b : Buffers} → Room h b → 207 + 127 * (length (take (10 * h .validators) (b .registry)) / 10) ≤ length (b .text)
+front-text {h} {b} r = omega (arith, r .text, length-take-le (10 * h .validators) (b .registry) (r .registry))
 
 -- text put at the front
 put-front : {before text after : List ℕ} {end : ℕ} → Put before 0 text after end → end ≤ length before → after ≡ inFront before text
@@ -131,15 +135,14 @@ module _ (bytes : List ℕ) (b : Buffers) {h : Header} {t : Bool} (e : h ≡ siz
       let q : fits (sizes bytes) b ≡ false = ap (λ (k : Header). fits k b) (sym e) ∙ sym f ∙ not-true t n in
       (rw q, rw q)
 
-  module _ (n : not t ≡ false) where
-    fitting : fits (sizes bytes) b ≡ true
-    fitting = ap (λ (k : Header). fits k b) (sym e) ∙ sym f ∙ not-false t n
+-- buffers that fit
 
-    pub has-room : Room h b
-    has-room = room h b (sym f ∙ not-false t n)
+module _ (bytes : List ℕ) (b : Buffers) {h : Header} (e : h ≡ sizes bytes) (q : fits h b ≡ true) where
+  sized : fits (sizes bytes) b ≡ true
+  sized = ap (λ (k : Header). fits k b) (sym e) ∙ q
 
-    pub listed-long : {text : List ℕ} {end : ℕ} → 65536 < length bytes → Put (b .text) 0 (refusedLine 6) text end → end ≤ length (b .text) → (end ≡ listedLength bytes b) × (buffers (b .registry) (b .slashings) (b .closingRegistry) (b .closingSlashings) text ≡ listed bytes b)
-    listed-long l p r = long-listed bytes b l fitting p r
+  pub listed-long : {text : List ℕ} {end : ℕ} → 65536 < length bytes → Put (b .text) 0 (refusedLine 6) text end → end ≤ length (b .text) → (end ≡ listedLength bytes b) × (buffers (b .registry) (b .slashings) (b .closingRegistry) (b .closingSlashings) text ≡ listed bytes b)
+  listed-long l p r = long-listed bytes b l sized p r
 
-    pub listed-whole : {after : Buffers} {end : ℕ} → length bytes ≤ 65536 → Listed bytes (fronts h b) after end → AsLong (fronts h b) after → (end ≡ listedLength bytes b) × (buffers (after .registry ++ drop (10 * h .validators) (b .registry)) (after .slashings ++ drop (h .slashings) (b .slashings)) (after .closingRegistry ++ drop (10 * h .validators) (b .closingRegistry)) (after .closingSlashings ++ drop (h .slashings) (b .closingSlashings)) (after .text) ≡ listed bytes b)
-    listed-whole l g a = rw e (short-listed bytes b l fitting (rw e at g) (rw e at a))
+  pub listed-whole : {after : Buffers} {end : ℕ} → length bytes ≤ 65536 → Listed bytes (fronts h b) after end → AsLong (fronts h b) after → (end ≡ listedLength bytes b) × (buffers (after .registry ++ drop (10 * h .validators) (b .registry)) (after .slashings ++ drop (h .slashings) (b .slashings)) (after .closingRegistry ++ drop (10 * h .validators) (b .closingRegistry)) (after .closingSlashings ++ drop (h .slashings) (b .closingSlashings)) (after .text) ≡ listed bytes b)
+  listed-whole l g a = rw e (short-listed bytes b l sized (rw e at g) (rw e at a))

@@ -4,6 +4,7 @@ ghost use Prim.Native.Nat.{_≤_};
 ghost use lib.ListN.{length, take};
 ghost use Rattle.listing.specs.Printed.{printedText, printedLength};
 use crate::listing;
+use definitions_file::LONGEST_LISTING;
 
 // Long enough for the ten numbers of 814 validators, and for 8146 slashings: 65536 bytes hold no more.
 fn room() -> [u64; 8146]
@@ -19,7 +20,7 @@ pub fn list_file(bytes: &[u8], text: &mut [u8]) -> usize
     ensures { λ _. ⌜ now (text .exit) ≡ printedText (now (bytes .entry)) (now (text .entry)) ⌝ }
     ensures { λ r. ⌜ (r ≤ length (now (text .exit))) × (r ≡ length (take r (now (text .exit)))) ⌝ }
 {
-    if text.len() < 103585 {
+    if text.len() < LONGEST_LISTING {
         return 0;
     }
     let mut registry = room();

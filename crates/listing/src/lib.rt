@@ -1,5 +1,6 @@
 // The listing of a record file: the close as text, or the refusal. Nothing is written before all of it is known.
 ghost use mathlib.Core.Path.{_≡_};
+ghost use mathlib.Core.Bool.{true};
 ghost use Prim.Native.Nat.{_+_, _*_, _/_, _≤_};
 ghost use lib.ListN.{length};
 ghost use Rattle.listing.specs.Lent.{buffers, Listed, sizes as sizesOf, fits as fitsIn, listed, listedLength};
@@ -9,6 +10,7 @@ pub mod listing_close;
 
 use crate::listing_close::list_close;
 use definitions_file::Header;
+use definitions_file::MOST_INPUT;
 use listing_lines::text::put_refused;
 use record_file::file_roots;
 use record_file::read_file;
@@ -53,7 +55,7 @@ fn list_record(
 fn sizes(bytes: &[u8]) -> Header
     ensures { λ r. ⌜ r ≡ sizesOf (now (bytes .entry)) ⌝ }
 {
-    if 65536 < bytes.len() {
+    if MOST_INPUT < bytes.len() {
         return Header {
             refusal: 6,
             validators: 0,
@@ -100,6 +102,44 @@ fn fits(
     true
 }
 
+// Into the fronts of buffers that have room for what the file's header calls for.
+fn list_fitting(
+    h: Header,
+    bytes: &[u8],
+    registry: &mut [u64],
+    slashings: &mut [u64],
+    closing_registry: &mut [u64],
+    closing_slashings: &mut [u64],
+    text: &mut [u8],
+) -> usize
+    requires { ⌜ h ≡ sizesOf (now bytes) ⌝ }
+    requires { ⌜ fitsIn h (buffers (now registry) (now slashings) (now «closing_registry») (now «closing_slashings») (now text)) ≡ true ⌝ }
+    ensures { λ r. ⌜
+        r
+        ≡ listedLength (now (bytes .entry))
+        (buffers (now (registry .entry)) (now (slashings .entry)) (now («closing_registry» .entry)) (now («closing_slashings» .entry))
+        (now (text .entry))) ⌝ }
+    ensures { λ _. ⌜
+        buffers (now (registry .exit)) (now (slashings .exit)) (now («closing_registry» .exit)) (now («closing_slashings» .exit)) (now (text .exit))
+        ≡ listed (now (bytes .entry))
+        (buffers (now (registry .entry)) (now (slashings .entry)) (now («closing_registry» .entry)) (now («closing_slashings» .entry))
+        (now (text .entry))) ⌝ }
+{
+    if MOST_INPUT < bytes.len() {
+        return put_refused(text, 0, 6);
+    }
+    let n = 10 * (h.validators as usize);
+    let l = h.slashings as usize;
+    list_record(
+        bytes,
+        &mut registry[..n],
+        &mut slashings[..l],
+        &mut closing_registry[..n],
+        &mut closing_slashings[..l],
+        text,
+    )
+}
+
 // The text's length. The buffers may be of any length: where one is too short the answer is 0 and nothing is written.
 pub fn listing(
     bytes: &[u8],
@@ -131,17 +171,13 @@ pub fn listing(
     ) {
         return 0;
     }
-    if 65536 < bytes.len() {
-        return put_refused(text, 0, 6);
-    }
-    let n = 10 * (h.validators as usize);
-    let l = h.slashings as usize;
-    list_record(
+    list_fitting(
+        h,
         bytes,
-        &mut registry[..n],
-        &mut slashings[..l],
-        &mut closing_registry[..n],
-        &mut closing_slashings[..l],
+        registry,
+        slashings,
+        closing_registry,
+        closing_slashings,
         text,
     )
 }

@@ -15,7 +15,7 @@ use definitions::Settings;
 use definitions_file::Change;
 use definitions_file::Head;
 use definitions_file::Line;
-use leaf_refusals::current_epoch;
+use epochs::current_epoch;
 use leaf_refusals::registry_refusals::slot_registry_tests;
 use numbers::net_change;
 use numbers::no_head;

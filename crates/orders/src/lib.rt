@@ -12,14 +12,15 @@ ghost use Rattle.orders.specs.Tried.{entryMayExit, orderBy, Tries, AllTr
 
 pub mod ninth_call;
 
+use definitions::ACTIVATION_EPOCH;
+use definitions::EXIT_EPOCH;
 use definitions::ExitQueue;
+use definitions::FAR_FUTURE_EPOCH;
 use definitions_close::Running;
 use definitions_close::RunningAnswer;
 use entries::entry_is_active;
 use exit_queue::Turn;
 use validator_exit::exit_in_place;
-
-const FAR_FUTURE_EPOCH: u64 = 18446744073709551615;
 
 // After the first step and before the end.
 fn takes_orders(done: u64) -> bool
@@ -106,7 +107,7 @@ fn entry_may_exit(epoch: u64, entry: &[u64]) -> bool
     if !entry_is_active(entry, epoch) {
         return false;
     }
-    entry[4] == FAR_FUTURE_EPOCH
+    entry[EXIT_EPOCH] == FAR_FUTURE_EPOCH
 }
 
 // `activation` is at most the epoch, as an active validator's is.
@@ -154,7 +155,7 @@ fn try_order(
             queue: queue,
         };
     }
-    let activation = registry[10 * index + 3];
+    let activation = registry[10 * index + ACTIVATION_EPOCH];
     if !is_due(epoch, period, activation, start) {
         return Turn {
             refusal: 10,

@@ -14,7 +14,7 @@ use definitions::Rules;
 use definitions::Settings;
 use definitions_close::Running;
 use definitions_close::RunningAnswer;
-use leaf_refusals::current_epoch;
+use epochs::current_epoch;
 use refusals::good_finality;
 use refusals::good_settings;
 use refusals::is_small;

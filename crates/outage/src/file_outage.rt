@@ -7,6 +7,8 @@ ghost use Rattle.definitions_file.specs.Outage.{outage};
 ghost use Rattle.outage.specs.Lent.{Printed};
 ghost use Rattle.outage.specs.Text.{printedText, printedLength};
 use crate::put_text;
+use definitions_file::LONGEST_OUTAGE;
+use definitions_file::MOST_INPUT;
 use fields::reader::read_number;
 use listing_lines::text::put_refused;
 
@@ -41,7 +43,7 @@ fn put_input(input: &[u8], text: &mut [u8]) -> usize
     requires { ⌜ 964000 ≤ length (now text) ⌝ }
     ensures { λ r. ⌜ Printed (outage (now (input .entry))) (now (text .entry)) (now (text .exit)) r ⌝ }
 {
-    if 65536 < input.len() {
+    if MOST_INPUT < input.len() {
         return put_refused(text, 0, 6);
     }
     if input.len() < 80 {
@@ -76,7 +78,7 @@ pub fn try_outage(input: &[u8], text: &mut [u8]) -> usize
     ensures { λ _. ⌜ now (text .exit) ≡ printedText (now (input .entry)) (now (text .entry)) ⌝ }
     ensures { λ r. ⌜ (r ≤ length (now (text .exit))) × (r ≡ length (take r (now (text .exit)))) ⌝ }
 {
-    if text.len() < 964000 {
+    if text.len() < LONGEST_OUTAGE {
         return 0;
     }
     put_input(input, text)

@@ -8,10 +8,11 @@ ghost use Rattle.definitions_file.specs.OutageInput.{planOf};
 ghost use Rattle.definitions_file.specs.OutagePreparation.{lastSlotOfNext, putRoots, flagsAt, withFlags, withSlot};
 ghost use Rattle.outage.specs.Ready.{Ready, Prepares};
 use arithmetic::min;
+use definitions::CURRENT_EPOCH_PARTICIPATION;
 use definitions::Finality;
 use definitions::Settings;
+use epochs::current_epoch;
 use fields::put_bytes;
-use leaf_refusals::current_epoch;
 
 fn last_slot_of_next(s: Settings, slot: u64) -> u64
     requires { ⌜ (0 < s .«slots_per_epoch») × (s .«slots_per_epoch» < 2 ^ 48) × (slot < 2 ^ 48) ⌝ }
@@ -52,7 +53,7 @@ fn entry_flags(entry: &mut [u64], flags: u64)
         now (entry .exit)
         ≡ encodeOne (withParticipation (decodeOne (now (entry .entry)) .«previous_epoch_participation») flags (decodeOne (now (entry .entry)))) ⌝ }
 {
-    entry[8] = flags;
+    entry[CURRENT_EPOCH_PARTICIPATION] = flags;
 }
 
 // Current flags for the epoch to be closed.

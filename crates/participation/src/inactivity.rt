@@ -12,16 +12,18 @@ ghost use Rattle.laws.specs.Ran.{Settles, Ran};
 ghost use Rattle.definitions.specs.Closes.{Closes};
 use arithmetic::add64;
 use arithmetic::min;
+use definitions::INACTIVITY_SCORE;
 use definitions::Number;
 use definitions::Settings;
 use definitions::Truth;
 use entries::entry_is_eligible;
 use entries::entry_is_participating;
+use epochs::current_epoch;
+use epochs::previous_epoch;
 use finality::inactivity_leak;
-use leaf_refusals::current_epoch;
 use leaf_refusals::finalized::registry_tests;
-use leaf_refusals::previous_epoch;
 use refusals::buffers::copy;
+use refusals::buffers::put_back;
 
 // One less for a hit, the bias more for a miss.
 fn moved_score(s: Settings, participating: bool, score: u64) -> Number
@@ -69,10 +71,10 @@ pub fn entry_update_score(
         return 0;
     }
     let participating = entry_is_participating(current_epoch, 1, previous_epoch, entry);
-    let Number::Value(score) = new_score(s, participating, leaking, entry[9]) else {
+    let Number::Value(score) = new_score(s, participating, leaking, entry[INACTIVITY_SCORE]) else {
         return 5;
     };
-    entry[9] = score;
+    entry[INACTIVITY_SCORE] = score;
     0
 }
 
@@ -145,8 +147,6 @@ pub fn process_inactivity_updates(
     }
     copy(opening, closing);
     let done = inactivity_core(s, state_slot, finalized_epoch, closing);
-    if done != 0 {
-        copy(opening, closing);
-    }
+    put_back(done, opening, closing);
     done
 }

@@ -8,6 +8,8 @@ ghost use Rattle.definitions.specs.Refusals.{rotationTests};
 ghost use Rattle.definitions.specs.Document.Altair.EpochProcessing.{rotateParticipation};
 ghost use Rattle.definitions.specs.Rust.Altair.EpochProcessing.{«process_participation_flag_updates»};
 ghost use Rattle.definitions.specs.Closes.{Closes};
+use definitions::CURRENT_EPOCH_PARTICIPATION;
+use definitions::PREVIOUS_EPOCH_PARTICIPATION;
 use refusals::buffers::copy;
 use refusals::good_registry;
 use refusals::registry_shaped;
@@ -16,8 +18,8 @@ pub fn entry_rotate(entry: &mut [u64])
     requires { ⌜ length (now entry) ≡ 10 ⌝ }
     ensures { λ _. ⌜ now (entry .exit) ≡ encodeOne (rotateParticipation (decodeOne (now (entry .entry)))) ⌝ }
 {
-    entry[7] = entry[8];
-    entry[8] = 0;
+    entry[PREVIOUS_EPOCH_PARTICIPATION] = entry[CURRENT_EPOCH_PARTICIPATION];
+    entry[CURRENT_EPOCH_PARTICIPATION] = 0;
 }
 
 // The step in place.

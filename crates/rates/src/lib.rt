@@ -19,8 +19,10 @@ pub mod reward_balances;
 
 use crate::reward_balances::all_applied;
 use arithmetic::mul64;
+use definitions::BALANCE;
 use definitions::Deltas;
 use definitions::DeltasAnswer;
+use definitions::INACTIVITY_SCORE;
 use definitions::Number;
 use definitions::Settings;
 use entries::entry_is_eligible;
@@ -321,11 +323,11 @@ fn balance_by(
         target_is,
         rates.effective_balance,
         rates.most_score,
-        entry[9],
+        entry[INACTIVITY_SCORE],
     ) else {
         return Number::Refused(5);
     };
-    all_applied(entry[6], a, b, c, d)
+    all_applied(entry[BALANCE], a, b, c, d)
 }
 
 pub fn entry_reward_by(
@@ -362,6 +364,6 @@ pub fn entry_reward_by(
     ) else {
         return 5;
     };
-    entry[6] = balance;
+    entry[BALANCE] = balance;
     0
 }

@@ -13,6 +13,7 @@ ghost use Rattle.laws.specs.Ran.{Settles};
 ghost use Rattle.rewards.specs.Shared.{SharedBy, totalsOf};
 ghost use Rattle.rates.specs.Balances.{appliedBalance, rewardedBalance};
 use arithmetic::add64;
+use definitions::BALANCE;
 use definitions::Deltas;
 use definitions::DeltasAnswer;
 use definitions::Number;
@@ -101,7 +102,7 @@ fn new_balance(
     ) else {
         return Number::Refused(5);
     };
-    all_applied(entry[6], a, b, c, d)
+    all_applied(entry[BALANCE], a, b, c, d)
 }
 
 pub fn entry_reward(
@@ -126,6 +127,6 @@ pub fn entry_reward(
     else {
         return 5;
     };
-    entry[6] = balance;
+    entry[BALANCE] = balance;
     0
 }

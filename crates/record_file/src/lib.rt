@@ -2,9 +2,11 @@
 ghost use mathlib.Core.Path.{_≡_};
 ghost use mathlib.Core.Bool.{true};
 ghost use mathlib.Core.List.{[]};
+ghost use lib.ListN.{length};
+ghost use lib.Seq.{sets};
 ghost use Rattle.definitions.specs.Checked.{codeOf};
-ghost use Rattle.definitions_file.specs.File.{validatorsAt, versionOf, settingsFrom, noFinality, goodHeader, read, fileOf, writeTests, written, noHeader, headerRead, contentsWith};
-ghost use Rattle.record_file.specs.Sized.{Sized};
+ghost use Rattle.definitions_file.specs.File.{validatorsAt, fileLength, versionOf, settingsFrom, noFinality, goodHeader, read, fileOf, writeTests, written, noHeader, headerRead, contentsWith};
+ghost use Rattle.record_file.specs.Sized.{Sized, headOf};
 
 pub mod file_round_trips;
 
@@ -12,8 +14,12 @@ use definitions::Checkpoint;
 use definitions::ExitQueue;
 use definitions::Finality;
 use definitions::Settings;
+use definitions_file::FINALITY_AT;
 use definitions_file::Header;
+use definitions_file::QUEUE_AT;
 use definitions_file::ReadAnswer;
+use definitions_file::SETTINGS_AT;
+use definitions_file::VALIDATORS_AT;
 
 // The header
 
@@ -146,6 +152,29 @@ pub fn file_roots<'a>(bytes: &'a [u8], registry: &[u64], slashings: &[u64]) -> &
 
 // Writing
 
+// What stands before the validators: the header, the settings, the finality and the pair, each behind the one before.
+fn put_head(
+    settings: Settings,
+    finality: Finality,
+    queue: ExitQueue,
+    validators: u64,
+    file: &mut [u8],
+)
+    requires { ⌜ fileLength 2 validators (settings .«slots_per_historical_root») (settings .«epochs_per_slashings_vector») ≡ length (now file) ⌝ }
+    ensures { λ _. ⌜ now (file .exit) ≡ sets (now (file .entry)) 0 (headOf settings finality queue validators) ⌝ }
+{
+    let head = file_refusals::file_header::header_of(
+        2,
+        validators,
+        settings.slots_per_historical_root,
+        settings.epochs_per_slashings_vector,
+    );
+    fields::put_numbers(file, 0, &head);
+    fields::put_settings(file, SETTINGS_AT, settings);
+    fields::put_finality(file, FINALITY_AT, finality);
+    fields::put_queue(file, QUEUE_AT, queue);
+}
+
 // Part by part, each behind the one before. Nothing is tested.
 pub fn put_record(
     settings: Settings,
@@ -160,19 +189,10 @@ pub fn put_record(
     ensures { λ _. ⌜ now (file .exit) ≡ fileOf (contentsWith settings finality (now (registry .entry)) (now (roots .entry)) (now (slashings .entry))) queue ⌝ }
 {
     let validators = registry.len() / 10;
-    let roots_at = 384 + 80 * validators;
+    let roots_at = VALIDATORS_AT + 80 * validators;
     let slashings_at = roots_at + roots.len();
-    let head = file_refusals::file_header::header_of(
-        2,
-        validators as u64,
-        settings.slots_per_historical_root,
-        settings.epochs_per_slashings_vector,
-    );
-    fields::put_numbers(file, 0, &head);
-    fields::put_settings(file, 80, settings);
-    fields::put_finality(file, 232, finality);
-    fields::put_queue(file, 368, queue);
-    fields::put_numbers(file, 384, registry);
+    put_head(settings, finality, queue, validators as u64, file);
+    fields::put_numbers(file, VALIDATORS_AT, registry);
     fields::put_bytes(file, roots_at, roots);
     fields::put_numbers(file, slashings_at, slashings);
 }

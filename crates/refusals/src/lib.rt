@@ -12,7 +12,10 @@ ghost use Rattle.definitions.specs.Refusals.{inOrder, isSmall, isVectorLength, 
 pub mod buffers;
 pub mod rules;
 
+use definitions::CURRENT_EPOCH_PARTICIPATION;
 use definitions::Finality;
+use definitions::PREVIOUS_EPOCH_PARTICIPATION;
+use definitions::SLASHED;
 use definitions::Settings;
 
 // 0, or the number of the first test that failed.
@@ -153,13 +156,13 @@ pub fn good_entry(entry: &[u64]) -> bool
     requires { ⌜ length (now entry) ≡ 10 ⌝ }
     ensures { λ r. ⌜ r ≡ goodValidator (decodeOne (now (entry .entry))) ⌝ }
 {
-    if 1 < entry[1] {
+    if 1 < entry[SLASHED] {
         return false;
     }
-    if 255 < entry[7] {
+    if 255 < entry[PREVIOUS_EPOCH_PARTICIPATION] {
         return false;
     }
-    entry[8] <= 255
+    entry[CURRENT_EPOCH_PARTICIPATION] <= 255
 }
 
 pub fn good_registry(registry: &[u64]) -> bool

@@ -5,6 +5,8 @@ ghost use Prim.Native.Nat.{_-_, _*_, _≤_};
 ghost use lib.ListN.{length};
 ghost use Rattle.definitions.specs.Record.{decodeOne, encodeOne, decode, encode};
 ghost use Rattle.agreement.specs.Cut.{queuedAt, admitOne, admitted};
+use definitions::ACTIVATION_ELIGIBILITY_EPOCH;
+use definitions::ACTIVATION_EPOCH;
 use entries::entry_is_eligible_for_activation;
 
 // One validator: what is left of the quota after it.
@@ -22,18 +24,18 @@ pub fn admit_entry(
     if !entry_is_eligible_for_activation(finalized_epoch, entry) {
         return left;
     }
-    let since = entry[2];
+    let since = entry[ACTIVATION_ELIGIBILITY_EPOCH];
     if bound < since {
         return left;
     }
     if since < bound {
-        entry[3] = epoch;
+        entry[ACTIVATION_EPOCH] = epoch;
         return left;
     }
     if left == 0 {
         return 0;
     }
-    entry[3] = epoch;
+    entry[ACTIVATION_EPOCH] = epoch;
     left - 1
 }
 

@@ -9,6 +9,8 @@ ghost use Rattle.registry.specs.Updates.{turnBy};
 
 pub mod activation;
 
+use definitions::ACTIVATION_ELIGIBILITY_EPOCH;
+use definitions::EFFECTIVE_BALANCE;
 use definitions::ExitQueue;
 use definitions::Settings;
 use entries::entry_is_active;
@@ -23,7 +25,7 @@ fn entry_queue_eligible(s: Settings, epoch: u64, entry: &mut [u64])
     if !entry_is_eligible_for_activation_queue(s, &entry[..]) {
         return;
     }
-    entry[2] = epoch + 1;
+    entry[ACTIVATION_ELIGIBILITY_EPOCH] = epoch + 1;
 }
 
 fn entry_is_ejected(s: Settings, epoch: u64, entry: &[u64]) -> bool
@@ -33,7 +35,7 @@ fn entry_is_ejected(s: Settings, epoch: u64, entry: &[u64]) -> bool
     if !entry_is_active(entry, epoch) {
         return false;
     }
-    entry[0] <= s.ejection_balance
+    entry[EFFECTIVE_BALANCE] <= s.ejection_balance
 }
 
 // One validator's turn. An ejection takes its epoch from the exit queue's pair.

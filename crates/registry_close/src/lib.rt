@@ -9,12 +9,13 @@ ghost use Rattle.survey.specs.Found.{Finds};
 ghost use Rattle.write_steps.specs.Numbers.{Books};
 ghost use Rattle.registry_close.specs.Worked.{totalOf, stateNow, Tested, Worked};
 use definitions::CloseAnswer;
+use definitions::FAR_FUTURE_EPOCH;
 use definitions::Finality;
 use definitions::Settings;
 use definitions::TotalAnswer;
+use epochs::current_epoch;
+use epochs::previous_epoch;
 use justification::justification_core;
-use leaf_refusals::current_epoch;
-use leaf_refusals::previous_epoch;
 use survey::Findings;
 use survey::survey_registry;
 use totals::raising::answer_with;
@@ -135,7 +136,7 @@ pub fn close_registry(
         Worked s (stateNow finality (now (registry .entry)) (now (slashings .entry)) (now (roots .entry))) (now («closing_registry» .exit))
         (resetSlashings s (finality .slot) (now (slashings .entry))) r ⌝ }
 {
-    let mut kept = [18446744073709551615u64; 64];
+    let mut kept = [FAR_FUTURE_EPOCH; 64];
     close_kept(
         s,
         finality,

@@ -23,12 +23,13 @@ ghost use Rattle.exit_queue.specs.Queue.{Tracks};
 ghost use Rattle.registry.specs.Updates.{leastExit, updateAt, updatesBy};
 ghost use Rattle.survey.specs.Found.{Finds};
 use definitions::ExitQueue;
+use definitions::FAR_FUTURE_EPOCH;
 use definitions::QueueAnswer;
 use definitions::Settings;
+use epochs::current_epoch;
+use epochs::previous_epoch;
 use exit_queue::queue_of;
 use exit_queue::start_pair;
-use leaf_refusals::current_epoch;
-use leaf_refusals::previous_epoch;
 use refusals::buffers::copy;
 use refusals::good_settings;
 use refusals::is_small;
@@ -291,7 +292,7 @@ pub fn process_registry_updates_to(
             queue: queue,
         };
     }
-    let mut kept = [18446744073709551615u64; 64];
+    let mut kept = [FAR_FUTURE_EPOCH; 64];
     step_surveyed(
         stop,
         s,

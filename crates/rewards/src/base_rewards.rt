@@ -11,6 +11,7 @@ ghost use Rattle.definitions.specs.LeafRefusals.{totalTests, totalEntryTests};
 ghost use Rattle.definitions.specs.Rust.Altair.Helpers.{«get_base_reward_per_increment», «get_base_reward»};
 use arithmetic::integer_sqrt;
 use arithmetic::mul64;
+use definitions::EFFECTIVE_BALANCE;
 use definitions::Number;
 use definitions::Settings;
 use leaf_refusals::settings_entry_tests;
@@ -38,7 +39,10 @@ pub fn entry_base_reward(s: Settings, total: u64, per_increment: Number, entry: 
     let Number::Value(reward) = per_increment else {
         return Number::Refused(5);
     };
-    mul64(entry[0] / s.effective_balance_increment, reward)
+    mul64(
+        entry[EFFECTIVE_BALANCE] / s.effective_balance_increment,
+        reward,
+    )
 }
 
 fn total_tests(s: Settings, total: u64) -> u64

@@ -17,13 +17,15 @@ use crate::base_rewards::base_reward_per_increment;
 use arithmetic::mul64;
 use definitions::Deltas;
 use definitions::DeltasAnswer;
+use definitions::EFFECTIVE_BALANCE;
+use definitions::INACTIVITY_SCORE;
 use definitions::Number;
 use definitions::Rules;
 use definitions::Settings;
 use entries::entry_is_eligible;
 use entries::entry_is_participating;
-use leaf_refusals::current_epoch;
-use leaf_refusals::previous_epoch;
+use epochs::current_epoch;
+use epochs::previous_epoch;
 use leaf_refusals::slot_entry_tests;
 use refusals::rules::rules_refusal;
 use refusals::rules::settings_under;
@@ -185,7 +187,7 @@ pub fn penalty_deltas(
         };
         return DeltasAnswer::Value(none);
     }
-    let Number::Value(numerator) = mul64(entry[0], entry[9]) else {
+    let Number::Value(numerator) = mul64(entry[EFFECTIVE_BALANCE], entry[INACTIVITY_SCORE]) else {
         return DeltasAnswer::Refused(5);
     };
     let Number::Value(denominator) = product else {

@@ -12,13 +12,16 @@ use Rattle.definitions.specs.Rust.Phase0.EpochProcessing.{«is_in_inactivity_le
 use Rattle.definitions.specs.Rust.Phase0.Helpers.{«get_current_epoch», «get_previous_epoch», «get_active_validator_indices», «get_total_balance», «get_total_active_balance»}
 use Rattle.definitions.specs.Rust.Altair.Helpers.{isUnslashedParticipating, «get_unslashed_participating_indices», flagTotals}
 use Rattle.definitions.specs.Rust.Altair.EpochProcessing.{rewardAndPenalize, «process_rewards_and_penalties»}
-use Rattle.arithmetic.proofs.Answers.{Tells, answers-value, answers-overflow}
+use Rattle.arithmetic.proofs.Answers.{Tells, tells-number, tells-truth, answers-value, answers-overflow}
 use Rattle.arithmetic.proofs.Laws.{bind-value, bind-refused}
 use Rattle.arithmetic.proofs.Operations.{OnlyOverflow}
+use Rattle.totals.proofs.Sums.{only-total}
+use Rattle.finality.proofs.Passed.{only-leak}
 use Rattle.laws.specs.Ran.{Ran}
 use Rattle.laws.proofs.Loops.Ran.{ran-value}
 use Rattle.refusals.proofs.buffers.Chained.{ran-overflow}
 use Rattle.rewards_step.specs.Totals.{flagTotalsOf}
+use Rattle.rewards_step.specs.Step.{rewardsFromSource}
 
 -- An answer that the step works out before its loop
 module _ {A R : Type 0} {f : Checked A → R} {Yes : A → R} {No : ℕ → R} {m : Checked A} (k : A → Checked (List Validator)) {a : R} {xs : List ℕ} where
@@ -27,6 +30,9 @@ module _ {A R : Type 0} {f : Checked A → R} {Yes : A → R} {No : ℕ → R} {
 
   pub ran-stop : {q : ℕ} → OnlyOverflow m → Answers f m a → Tells f Yes No → a ≡ No q → Ran (bind m k) xs 5
   ran-stop o h t e = ran-overflow (bind-refused k (answers-overflow t h o e .0))
+
+-- `search (needs, ran-chain)` proves what the rest of the step returns
+pub ruleset ran-chain = (ran-next, ran-stop, tells-number, tells-truth, only-total, only-leak)
 
 once : {A B C D E : Type 0} (a : Checked A) (t : Checked B) (l : Checked C) (b c : Checked A) (f : A → B → C → D) (k : D → D → D → Checked E) → bind (bind a (λ x. bind t (λ y. bind l (λ z. value (f x y z))))) (λ source. bind (bind b (λ x. bind t (λ y. bind l (λ z. value (f x y z))))) (λ target. bind (bind c (λ x. bind t (λ y. bind l (λ z. value (f x y z))))) (λ head. k source target head))) ≡ bind a (λ x. bind t (λ y. bind l (λ z. bind b (λ v. bind c (λ w. k (f x y z) (f v y z) (f w y z))))))
 unfolding bind
@@ -42,7 +48,7 @@ module _ (s : Settings) (quotient stateSlot finalizedEpoch : ℕ) (vs : List Val
   unfolding «process_rewards_and_penalties»
   rewards-genesis z h = rw (← e, z) (ran-value h)
 
-  pub rewards-from : {previous : ℕ} → previous ≡ «get_previous_epoch» s stateSlot → (current ≡ 0 → ⊥) → {xs : List ℕ} {r : ℕ} → Ran (bind («get_total_balance» s (filter (isUnslashedParticipating current 0 previous) vs)) (λ source. bind («get_total_balance» s («get_active_validator_indices» vs current)) (λ total. bind («is_in_inactivity_leak» s stateSlot finalizedEpoch) (λ leaking. bind («get_total_balance» s (filter (isUnslashedParticipating current 1 previous) vs)) (λ target. bind («get_total_balance» s (filter (isUnslashedParticipating current 2 previous) vs)) (λ head. mapChecked (rewardAndPenalize s quotient current previous (flagTotalsOf s source total leaking) (flagTotalsOf s target total leaking) (flagTotalsOf s head total leaking)) vs)))))) xs r → Ran («process_rewards_and_penalties» s quotient stateSlot finalizedEpoch vs) xs r
+  pub rewards-from : {previous : ℕ} → previous ≡ «get_previous_epoch» s stateSlot → (current ≡ 0 → ⊥) → {xs : List ℕ} {r : ℕ} → Ran (bind («get_total_balance» s (filter (isUnslashedParticipating current 0 previous) vs)) (λ source. rewardsFromSource s quotient stateSlot finalizedEpoch current previous source vs)) xs r → Ran («process_rewards_and_penalties» s quotient stateSlot finalizedEpoch vs) xs r
   unfolding «process_rewards_and_penalties» flagTotals «get_unslashed_participating_indices» «get_total_active_balance»
   rewards-from {previous} p n h =
       rw (← e, ← p, ne-eqb _ _ n, once («get_total_balance» s (filter (isUnslashedParticipating current 0 previous) vs)) («get_total_balance» s («get_active_validator_indices» vs current)) («is_in_inactivity_leak» s stateSlot finalizedEpoch) («get_total_balance» s (filter (isUnslashedParticipating current 1 previous) vs)) («get_total_balance» s (filter (isUnslashedParticipating current 2 previous) vs)) (flagTotalsOf s) (λ source target head. mapChecked (rewardAndPenalize s quotient current previous source target head) vs))

@@ -13,6 +13,7 @@ ghost use Rattle.laws.specs.Ran.{Ran};
 ghost use Rattle.definitions.specs.Closes.{Closes};
 ghost use Rattle.rewards.specs.Shared.{SharedBy, totalsOf};
 ghost use Rattle.rewards_step.specs.Totals.{flagTotalsOf};
+ghost use Rattle.rewards_step.specs.Step.{rewardsFromLeak, rewardsFromSource};
 
 pub mod flag_rewards;
 
@@ -21,12 +22,13 @@ use definitions::Number;
 use definitions::Rules;
 use definitions::Settings;
 use definitions::Truth;
+use epochs::current_epoch;
+use epochs::previous_epoch;
 use finality::inactivity_leak;
-use leaf_refusals::current_epoch;
 use leaf_refusals::finalized::finalized_registry_tests;
-use leaf_refusals::previous_epoch;
 use rates::reward_balances::entry_reward;
 use refusals::buffers::copy;
+use refusals::buffers::put_back;
 use refusals::rules::rules_refusal;
 use refusals::rules::settings_under;
 use rewards::Shared;
@@ -109,6 +111,77 @@ fn reward_registry(
     )
 }
 
+// The flags' balances beside the source's, apart so that each chain of refusing calls is short.
+fn rewards_from_leak(
+    s: Settings,
+    quotient: u64,
+    current: u64,
+    previous: u64,
+    source: u64,
+    total: u64,
+    leaking: bool,
+    registry: &mut [u64],
+) -> u64
+    requires { ⌜ (0 < s .«effective_balance_increment») × (s .«effective_balance_increment» ≤ total) ⌝ }
+    requires { ⌜ (0 < s .«inactivity_score_bias») × (0 < quotient) ⌝ }
+    requires { ⌜ length (now registry) ≡ 10 * (length (now registry) / 10) ⌝ }
+    ensures { λ r. ⌜ Ran (rewardsFromLeak s quotient current previous source total leaking (decode (now (registry .entry)))) (now (registry .exit)) r ⌝ }
+{
+    let Number::Value(target) = total_participating(s, current, 1, previous, registry) else {
+        return 5;
+    };
+    let Number::Value(head) = total_participating(s, current, 2, previous, registry) else {
+        return 5;
+    };
+    reward_registry(
+        s,
+        quotient,
+        current,
+        previous,
+        source,
+        target,
+        head,
+        total,
+        leaking,
+        registry,
+    )
+}
+
+// What the three flags share, apart for the same reason.
+fn rewards_from_source(
+    s: Settings,
+    quotient: u64,
+    state_slot: u64,
+    finalized_epoch: u64,
+    current: u64,
+    previous: u64,
+    source: u64,
+    registry: &mut [u64],
+) -> u64
+    requires { ⌜ goodSettings s ≡ true ⌝ }
+    requires { ⌜ 0 < quotient ⌝ }
+    requires { ⌜ length (now registry) ≡ 10 * (length (now registry) / 10) ⌝ }
+    ensures { λ r. ⌜
+        Ran (rewardsFromSource s quotient «state_slot» «finalized_epoch» current previous source (decode (now (registry .entry)))) (now (registry .exit)) r ⌝ }
+{
+    let Number::Value(total) = total_active(s, current, registry) else {
+        return 5;
+    };
+    let Truth::Value(leaking) = inactivity_leak(s, state_slot, finalized_epoch) else {
+        return 5;
+    };
+    rewards_from_leak(
+        s,
+        quotient,
+        current,
+        previous,
+        source,
+        total,
+        leaking,
+        registry,
+    )
+}
+
 // In place, for callers that have tested the record and put the opening back on refusal.
 pub fn rewards_core(
     s: Settings,
@@ -131,28 +204,14 @@ pub fn rewards_core(
     let Number::Value(source) = total_participating(s, current, 0, previous, registry) else {
         return 5;
     };
-    let Number::Value(total) = total_active(s, current, registry) else {
-        return 5;
-    };
-    let Truth::Value(leaking) = inactivity_leak(s, state_slot, finalized_epoch) else {
-        return 5;
-    };
-    let Number::Value(target) = total_participating(s, current, 1, previous, registry) else {
-        return 5;
-    };
-    let Number::Value(head) = total_participating(s, current, 2, previous, registry) else {
-        return 5;
-    };
-    reward_registry(
+    rewards_from_source(
         s,
         quotient,
+        state_slot,
+        finalized_epoch,
         current,
         previous,
         source,
-        target,
-        head,
-        total,
-        leaking,
         registry,
     )
 }
@@ -199,8 +258,6 @@ pub fn process_rewards_and_penalties(
         finalized_epoch,
         closing,
     );
-    if done != 0 {
-        copy(opening, closing);
-    }
+    put_back(done, opening, closing);
     done
 }

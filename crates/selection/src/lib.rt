@@ -8,9 +8,11 @@ ghost use Rattle.selection.specs.Keep.{under, Highest, Kept, Blank, wait
 
 pub mod queue_cut;
 
+use definitions::ACTIVATION_ELIGIBILITY_EPOCH;
+use definitions::ACTIVATION_EPOCH;
+use definitions::EFFECTIVE_BALANCE;
+use definitions::FAR_FUTURE_EPOCH;
 use entries::becomes_eligible;
-
-const FAR_FUTURE_EPOCH: u64 = 18446744073709551615;
 
 // Activated are all that are queued since before `bound`, and the first `quota` that are queued since it.
 pub struct Cut {
@@ -69,13 +71,17 @@ pub fn waiting_since(max_effective_balance: u64, epoch: u64, entry: &[u64]) -> u
     requires { ⌜ (length (now entry) ≡ 10) × (epoch < 18446744073709551615) ⌝ }
     ensures { λ r. ⌜ r ≡ waitingSince «max_effective_balance» epoch (decodeOne (now (entry .entry))) ⌝ }
 {
-    if entry[3] != FAR_FUTURE_EPOCH {
+    if entry[ACTIVATION_EPOCH] != FAR_FUTURE_EPOCH {
         return FAR_FUTURE_EPOCH;
     }
-    if becomes_eligible(max_effective_balance, entry[0], entry[2]) {
+    if becomes_eligible(
+        max_effective_balance,
+        entry[EFFECTIVE_BALANCE],
+        entry[ACTIVATION_ELIGIBILITY_EPOCH],
+    ) {
         return epoch + 1;
     }
-    entry[2]
+    entry[ACTIVATION_ELIGIBILITY_EPOCH]
 }
 
 fn at_most_next(epoch: u64, finalized_epoch: u64) -> u64
@@ -111,6 +117,6 @@ pub fn cut_few(kept: &[u64], finalized_epoch: u64, limit: usize) -> Cut
     requires { ⌜ («finalized_epoch» < 18446744073709551615) × (0 < limit) × (limit ≤ 64) ⌝ }
     ensures { λ r. ⌜ CutOf limit «finalized_epoch» (now (kept .entry)) (r .bound) (r .quota) ⌝ }
 {
-    let mut first = [18446744073709551615u64; 64];
+    let mut first = [FAR_FUTURE_EPOCH; 64];
     pick(kept, finalized_epoch, &mut first[0..limit])
 }

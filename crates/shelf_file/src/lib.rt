@@ -18,6 +18,7 @@ use definitions::CloseAnswer;
 use definitions::Finality;
 use definitions::Rules;
 use definitions::Settings;
+use definitions_file::VALIDATORS_AT;
 use exit_queue::queue_of;
 use fields::put_bytes;
 use fields::read_finality;
@@ -58,7 +59,7 @@ fn read_opening(file: &[u8], a: usize, b: usize, numbers: &mut [u64])
     ensures { λ _. ⌜ Opened (now (file .entry)) a b (now (numbers .exit)) ⌝ }
 {
     let slashings_at = file.len() - 8 * (b - a);
-    read_numbers(file, 384, &mut numbers[..a]);
+    read_numbers(file, VALIDATORS_AT, &mut numbers[..a]);
     read_numbers(file, slashings_at, &mut numbers[a..b]);
 }
 
@@ -67,7 +68,7 @@ fn roots_of<'a>(file: &'a [u8], a: usize, b: usize) -> &'a [u8]
     requires { ⌜ Counts (now file) a b ⌝ }
     ensures { λ r. ⌜ now r ≡ contentsOf (now (file .entry)) .roots ⌝ }
 {
-    let from = 384 + 8 * a;
+    let from = VALIDATORS_AT + 8 * a;
     let to = file.len() - 8 * (b - a);
     &file[from..to]
 }

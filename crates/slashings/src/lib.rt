@@ -19,12 +19,16 @@ use arithmetic::add64;
 use arithmetic::min;
 use arithmetic::mul64;
 use balances::entry_decrease_balance;
+use definitions::EFFECTIVE_BALANCE;
 use definitions::Number;
 use definitions::Rules;
+use definitions::SLASHED;
 use definitions::Settings;
-use leaf_refusals::current_epoch;
+use definitions::WITHDRAWABLE_EPOCH;
+use epochs::current_epoch;
 use leaf_refusals::registry_refusals::slot_registry_tests;
 use refusals::buffers::copy;
+use refusals::buffers::put_back;
 use refusals::good_settings;
 use refusals::is_small;
 use refusals::rules::rules_refusal;
@@ -67,16 +71,16 @@ pub fn entry_slash(s: Settings, epoch: u64, total: u64, adjusted: u64, entry: &m
     requires { ⌜ (length (now entry) ≡ 10) × (0 < s .«effective_balance_increment») × (0 < total) ⌝ }
     ensures { λ r. ⌜ Settles (slash s epoch total adjusted) (now (entry .entry)) (now (entry .exit)) r ⌝ }
 {
-    if entry[1] != 1 {
+    if entry[SLASHED] != 1 {
         return 0;
     }
     let Number::Value(due) = add64(epoch, s.epochs_per_slashings_vector / 2) else {
         return 5;
     };
-    if due != entry[5] {
+    if due != entry[WITHDRAWABLE_EPOCH] {
         return 0;
     }
-    let increments = entry[0] / s.effective_balance_increment;
+    let increments = entry[EFFECTIVE_BALANCE] / s.effective_balance_increment;
     let Number::Value(numerator) = mul64(increments, adjusted) else {
         return 5;
     };
@@ -164,9 +168,7 @@ pub fn process_slashings(
     copy(opening, closing);
     let multiplier = s.proportional_slashing_multiplier_altair;
     let done = slashings_core(s, multiplier, state_slot, slashings, closing);
-    if done != 0 {
-        copy(opening, closing);
-    }
+    put_back(done, opening, closing);
     done
 }
 

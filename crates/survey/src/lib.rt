@@ -8,7 +8,13 @@ ghost use Rattle.definitions.specs.Record.{decodeOne};
 ghost use Rattle.selection.specs.Keep.{Blank};
 ghost use Rattle.survey.specs.Sums.{sumsOf, raisedTo};
 ghost use Rattle.survey.specs.Found.{overAfter, sumsAfter, oversAfter, foundAfter, allFit, Finds};
+use definitions::ACTIVATION_EPOCH;
+use definitions::CURRENT_EPOCH_PARTICIPATION;
+use definitions::EFFECTIVE_BALANCE;
+use definitions::EXIT_EPOCH;
 use definitions::ExitQueue;
+use definitions::PREVIOUS_EPOCH_PARTICIPATION;
+use definitions::SLASHED;
 use definitions::Settings;
 use entries::flags_at;
 use entries::is_active;
@@ -44,12 +50,12 @@ fn entry_sums(current_epoch: u64, previous_epoch: u64, entry: &[u64]) -> Sums
     requires { ⌜ length (now entry) ≡ 10 ⌝ }
     ensures { λ r. ⌜ r ≡ sumsOf «current_epoch» «previous_epoch» (decodeOne (now (entry .entry))) ⌝ }
 {
-    let balance = entry[0];
-    let slashed = entry[1];
-    let since = entry[3];
-    let exit = entry[4];
-    let before = entry[7];
-    let now = entry[8];
+    let balance = entry[EFFECTIVE_BALANCE];
+    let slashed = entry[SLASHED];
+    let since = entry[ACTIVATION_EPOCH];
+    let exit = entry[EXIT_EPOCH];
+    let before = entry[PREVIOUS_EPOCH_PARTICIPATION];
+    let now = entry[CURRENT_EPOCH_PARTICIPATION];
     let flags = flags_at(current_epoch, previous_epoch, now, before);
     let active = is_active(since, exit, current_epoch);
     let was_active = is_active(since, exit, previous_epoch);
@@ -156,10 +162,15 @@ fn survey_entry(current_epoch: u64, previous_epoch: u64, entry: &[u64], found: F
     let over = found.over;
     let queue = found.queue;
     let own = entry_sums(current_epoch, previous_epoch, entry);
-    let exit = entry[4];
-    let active = is_active(entry[3], exit, current_epoch);
+    let exit = entry[EXIT_EPOCH];
+    let active = is_active(entry[ACTIVATION_EPOCH], exit, current_epoch);
     Findings {
-        refusal: test_after(found.refusal, entry[1], entry[7], entry[8]),
+        refusal: test_after(
+            found.refusal,
+            entry[SLASHED],
+            entry[PREVIOUS_EPOCH_PARTICIPATION],
+            entry[CURRENT_EPOCH_PARTICIPATION],
+        ),
         sums: sums_after(sums, own),
         over: overs_after(over, sums, own),
         active: count_after(found.active, active),

@@ -22,6 +22,7 @@ ghost use Rattle.totals.specs.Totals.{totalFrom, balanceFor};
 pub mod raising;
 
 use arithmetic::max;
+use definitions::EFFECTIVE_BALANCE;
 use definitions::Number;
 use definitions::Settings;
 use definitions::Total;
@@ -29,8 +30,8 @@ use definitions::TotalAnswer;
 use entries::entry_is_active;
 use entries::entry_is_eligible;
 use entries::entry_is_participating;
-use leaf_refusals::current_epoch;
-use leaf_refusals::previous_epoch;
+use epochs::current_epoch;
+use epochs::previous_epoch;
 use leaf_refusals::registry_refusals::participation_tests;
 use leaf_refusals::registry_refusals::slot_registry_tests;
 
@@ -71,7 +72,7 @@ fn member_weight(members: Members, entry: &[u64]) -> u64
     ensures { λ r. ⌜ r ≡ cond (isMember members (decodeOne (now (entry .entry)))) (decodeOne (now (entry .entry)) .«effective_balance») 0 ⌝ }
 {
     if is_member(members, entry) {
-        return entry[0];
+        return entry[EFFECTIVE_BALANCE];
     }
     0
 }

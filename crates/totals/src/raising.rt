@@ -12,8 +12,8 @@ use definitions::Finality;
 use definitions::Raised;
 use definitions::Settings;
 use definitions::TotalAnswer;
-use leaf_refusals::current_epoch;
-use leaf_refusals::previous_epoch;
+use epochs::current_epoch;
+use epochs::previous_epoch;
 
 pub fn none_raised() -> Raised
     ensures { λ r. ⌜ r ≡ noneRaised ⌝ }

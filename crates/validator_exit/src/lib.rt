@@ -16,23 +16,23 @@ ghost use Rattle.validator_exit.specs.Exits.{Sees, ExitsAt};
 pub mod queue_tests;
 
 use crate::queue_tests::found_refusal;
+use definitions::EXIT_EPOCH;
 use definitions::ExitQueue;
+use definitions::FAR_FUTURE_EPOCH;
 use definitions::QueueAnswer;
 use definitions::Settings;
 use entries::entry_is_active;
+use epochs::current_epoch;
 use exit_queue::Turn;
 use exit_queue::exit_entry;
 use exit_queue::exited;
 use exit_queue::start_pair;
-use leaf_refusals::current_epoch;
 use refusals::good_entry;
 use refusals::good_settings;
 use refusals::is_small;
 use refusals::registry_shaped;
 use refusals::settings_shaped;
 use totals::churn_by;
-
-const FAR_FUTURE_EPOCH: u64 = 18446744073709551615;
 
 // What one pass over the registry finds: 3 where an entry fails test 3; else how many are active, and the exit queue's pair.
 pub struct Seen {
@@ -73,7 +73,7 @@ pub fn see_registry(registry: &[u64], epoch: u64) -> Seen
         }
         let on = entry_is_active(&registry[a..b], epoch);
         active = count_if(active, on);
-        queue = exited(queue, registry[10 * i + 4]);
+        queue = exited(queue, registry[10 * i + EXIT_EPOCH]);
     }
     Seen {
         refusal: 0,
@@ -141,7 +141,7 @@ pub fn exit_in_place(
             queue: queue,
         };
     }
-    let moved = exited(queue, registry[10 * index + 4]);
+    let moved = exited(queue, registry[10 * index + EXIT_EPOCH]);
     Turn {
         refusal: 0,
         queue: moved,

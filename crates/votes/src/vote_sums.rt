@@ -10,7 +10,11 @@ ghost use Rattle.definitions.specs.Record.{decodeOne, decode};
 ghost use Rattle.definitions_votes.specs.Filling.{previousUnknown, currentUnknown, uniform, noneSet, filledOne};
 ghost use Rattle.votes.specs.Sums.{weight, activeAt, hitsTarget, voteSumsOf, addedTo, sumsFor, Counted};
 use arithmetic::add64;
+use definitions::CURRENT_EPOCH_PARTICIPATION;
+use definitions::EFFECTIVE_BALANCE;
 use definitions::Number;
+use definitions::PREVIOUS_EPOCH_PARTICIPATION;
+use definitions::SLASHED;
 use entries::entry_is_active;
 use entries::flag_is_set;
 
@@ -84,7 +88,7 @@ fn weight_in_active(current_epoch: u64, mark: u64, entry: &[u64]) -> u64
     requires { ⌜ length (now entry) ≡ 10 ⌝ }
     ensures { λ r. ⌜ r ≡ weight (activeAt «current_epoch») (filledOne mark (noneSet 0) (decodeOne (now (entry .entry)))) ⌝ }
 {
-    let balance = entry[0];
+    let balance = entry[EFFECTIVE_BALANCE];
     active_weight(entry_is_active(entry, current_epoch), balance)
 }
 
@@ -99,9 +103,9 @@ fn weight_in_previous(
     requires { ⌜ «previous_epoch» < «current_epoch» ⌝ }
     ensures { λ r. ⌜ r ≡ weight (hitsTarget «current_epoch» «previous_epoch») (filledOne mark (uniform set set 0) (decodeOne (now (entry .entry)))) ⌝ }
 {
-    let balance = entry[0];
-    let slashed = entry[1];
-    let flags = entry[7];
+    let balance = entry[EFFECTIVE_BALANCE];
+    let slashed = entry[SLASHED];
+    let flags = entry[PREVIOUS_EPOCH_PARTICIPATION];
     let active = entry_is_active(entry, previous_epoch);
     let hit = filled_in(previous_unknown(mark), set, flag_is_set(flags, 1));
     weight_where(active, hit, slashed, balance)
@@ -111,9 +115,9 @@ fn weight_in_current(current_epoch: u64, mark: u64, set: bool, entry: &[u64]) ->
     requires { ⌜ length (now entry) ≡ 10 ⌝ }
     ensures { λ r. ⌜ r ≡ weight (hitsTarget «current_epoch» «current_epoch») (filledOne mark (uniform set set 0) (decodeOne (now (entry .entry)))) ⌝ }
 {
-    let balance = entry[0];
-    let slashed = entry[1];
-    let flags = entry[8];
+    let balance = entry[EFFECTIVE_BALANCE];
+    let slashed = entry[SLASHED];
+    let flags = entry[CURRENT_EPOCH_PARTICIPATION];
     let active = entry_is_active(entry, current_epoch);
     let hit = filled_in(current_unknown(mark), set, flag_is_set(flags, 1));
     weight_where(active, hit, slashed, balance)

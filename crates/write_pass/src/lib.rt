@@ -15,8 +15,10 @@ ghost use Rattle.write_turn.specs.Sweep.{sweep, dropped};
 ghost use Rattle.write_turn.specs.Planned.{Planned};
 ghost use Rattle.write_turn.specs.Written.{RatesFor, writtenWith};
 ghost use Rattle.write_pass.specs.Filled.{Given, flagAnswer, Charges, Gives, BooksPair, four, left, Fits, nineBy, Between, PutAt, Fills};
+use definitions::BALANCE;
 use definitions::Deltas;
 use definitions::ExitQueue;
+use definitions::INACTIVITY_SCORE;
 use definitions::Number;
 use definitions::Settings;
 use entries::entry_is_eligible;
@@ -229,11 +231,11 @@ fn fill_entry(s: Settings, p: Plan, rates: Rates, from: &[u64], to: &[u64], nine
 {
     let h = p.shared;
     if h.current_epoch == 0 {
-        put_nine(0, 0, 0, 0, 0, 0, 0, 0, from[6] - to[6], nine);
+        put_nine(0, 0, 0, 0, 0, 0, 0, 0, from[BALANCE] - to[BALANCE], nine);
         return;
     }
-    let pairs = pairs_by(s, p, rates, to[9], from);
-    put_amounts(pairs, from[6], to[6], nine)
+    let pairs = pairs_by(s, p, rates, to[INACTIVITY_SCORE], from);
+    put_amounts(pairs, from[BALANCE], to[BALANCE], nine)
 }
 
 // Of the validator with the number i. A list that has no room for its nine numbers is left: a close without amounts lends an empty one.

@@ -8,6 +8,7 @@ ghost use Rattle.write_turn.specs.Runs.{Runs};
 ghost use Rattle.write_turn.specs.Planned.{Planned, lastBy};
 ghost use Rattle.write_turn.specs.Written.{MemoFor, Pays, Moves, Writes};
 use balances::effective_balances::entry_update;
+use definitions::EFFECTIVE_BALANCE;
 use definitions::ExitQueue;
 use definitions::Number;
 use definitions::Settings;
@@ -100,7 +101,7 @@ fn entry_pay(s: Settings, p: Plan, carried: Memo, entry: &mut [u64]) -> Paid
             memo: carried,
         };
     }
-    let balance = entry[0];
+    let balance = entry[EFFECTIVE_BALANCE];
     let memo = rates_for(s, h, p.source, p.target, p.head, carried, balance);
     let rates = memo.last;
     let product = p.product;

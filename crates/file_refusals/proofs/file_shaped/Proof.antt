@@ -1,53 +1,40 @@
 use mathlib.Core.Path.{_≡_}
 use mathlib.Core.Bool.{true}
 use mathlib.Core.List.{List}
-use Prim.Native.Nat.{ℕ, _^_, _≤_}
+use Prim.Native.Nat.{ℕ}
+use native.Mathlib.Omega.{arith}
 use borrow.Author.Needs.{needs}
 use Rattle.definitions.specs.Refusals.{settingsShaped}
-use Rattle.definitions_file.specs.File.{countOf, rootCountOf, slashingCountOf}
+use Rattle.definitions_file.specs.File.{countOf}
 use Rattle.refusals.proofs.All.{fails, passes}
-use Rattle.file_refusals.proofs.ReadTests.{settingsIn, too-many, unlike-roots, unlike-slashings, not-vectors, other-registry, other-slashings, shaped}
+use Rattle.file_refusals.proofs.ReadTests.{settingsIn, countsIn, few, unlike-counts, not-vectors, other-registry, shaped}
 use Rattle.file_refusals.proofs.file_shaped.Statement.{statement}
 use Rattle.file_refusals.proofs.file_shaped.Tie as tie
 
--- what each passed test says of the bytes
-abbrev bytes : tie.Else1 → List ℕ
-bytes c = c .before .before .before .before .before .before .before .args .bytes .now
+-- what the two tests that are called say of the bytes
+abbrev bytes : tie.After-counts-shaped → List ℕ
+bytes c = c .before .before .before .before .before .before .args .bytes .now
 
-few : (c : tie.Else1) → countOf (bytes c) ≤ 2 ^ 24
-few c = rw (c .before .before .before .read-counts .ensures .0) at (c .if1 .left)
+counts : (c : tie.After-counts-shaped) → c .counts-shaped .result ≡ countsIn (bytes c)
+counts c = let n = c .before .before .read-counts .ensures in rw (n .0, n .1, n .2, c .before .read-settings .ensures) at (c .counts-shaped .ensures)
 
-roots : (c : tie.Else2) → rootCountOf (bytes (c .before .before .before)) ≡ settingsIn (bytes (c .before .before .before)) .«slots_per_historical_root»
-roots c = rw (c .before .before .before .before .before .before .read-counts .ensures .1, c .before .before .before .before .before .read-settings .ensures) at (c .if2 .left)
+vectors : (c : tie.After-settings-shaped) → c .settings-shaped .result ≡ settingsShaped (settingsIn (bytes (c .before .before)))
+vectors c = rw (c .before .before .before .read-settings .ensures) at (c .settings-shaped .ensures)
 
-slash : (c : tie.Else3) → slashingCountOf (bytes (c .before .before .before .before .before .before)) ≡ settingsIn (bytes (c .before .before .before .before .before .before)) .«epochs_per_slashings_vector»
-slash c = rw (c .before .before .before .before .before .before .before .before .before .read-counts .ensures .2, c .before .before .before .before .before .before .before .before .read-settings .ensures) at (c .if3 .left)
+like : (c : tie.Else1) → countsIn (bytes (c .before)) ≡ true
+like c = passes (counts (c .before)) (c .if1 .left)
 
-vectors : (c : tie.Else4) → settingsShaped (settingsIn (bytes (c .before .before .before .before .before .before .before .before))) ≡ true
-vectors c = passes (rw (c .before .before .before .before .before .before .before .before .before .before .read-settings .ensures) at (c .before .settings-shaped .ensures)) (c .if4 .left)
-
-returns : tie.Need-returns
-returns c = too-many _ _ _ (rw (c .before .before .before .read-counts .ensures .0) at (c .if1 .taken))
-
-returns-2 : tie.Need-returns-2
-returns-2 c = unlike-roots _ _ _ (rw (c .before .before .before .before .before .before .read-counts .ensures .1, c .before .before .before .before .before .read-settings .ensures) at (c .if2 .taken))
+many : (c : tie.Else2) → c .before .before .before .before .before .read-counts .result .validators ≡ countOf (bytes (c .before .before .before))
+many c = c .before .before .before .before .before .read-counts .ensures .0
 
 returns-3 : tie.Need-returns-3
-returns-3 c = unlike-slashings _ _ _ (rw (c .before .before .before .before .before .before .before .before .before .read-counts .ensures .2, c .before .before .before .before .before .before .before .before .read-settings .ensures) at (c .if3 .taken))
+returns-3 c = other-registry _ _ _ (rw (many (c .before .before)) at (c .if3 .taken))
 
 returns-4 : tie.Need-returns-4
-returns-4 c = not-vectors _ _ _ (roots (c .before .before .before .before .before)) (slash (c .before .before)) (fails (rw (c .before .before .before .before .before .before .before .before .before .before .read-settings .ensures) at (c .before .settings-shaped .ensures)) (c .if4 .taken))
-
-returns-5 : tie.Need-returns-5
-returns-5 c = other-registry _ _ _ (rw (c .before .before .before .before .before .before .before .before .before .before .before .before .before .read-counts .ensures .0) at (c .if5 .taken))
-
-returns-6 : tie.Need-returns-6
-returns-6 c = other-slashings _ _ _ (rw (c .before .before .before .before .before .before .before .before .before .before .before .before .before .before .before .read-counts .ensures .2) at (c .if6 .taken))
-
-returns-7 : tie.Need-returns-7
-returns-7 c =
-    let counts = c .before .before .before .before .before .before .before .before .before .before .before .before .before .before .before .read-counts .ensures in
-    shaped _ _ _ (roots (c .before .before .before .before .before .before .before .before .before)) (slash (c .before .before .before .before .before .before)) (few (c .before .before .before .before .before .before .before .before .before .before .before .before)) (vectors (c .before .before .before .before)) (rw (counts .0) at (c .before .before .if5 .left)) (rw (counts .2) at (c .if6 .left))
+returns-4 c =
+    let passed = c .before .before .before in
+    let long = rw (many passed) at (c .before .if3 .left) in
+    rw (passed .before .before .before .before .before .read-counts .ensures .2) (shaped _ _ _ (like (passed .before .before)) (passes (vectors (passed .before)) (passed .if2 .left)) long)
 
 pub file-shaped-spec : {M : Type 1} → statement M
 file-shaped-spec =
@@ -55,12 +42,10 @@ file-shaped-spec =
     (tie.spec
     (λ c κs. search needs)
     (λ c κs. search needs)
-    returns
-    returns-2
-    returns-3
     (λ c κs. search needs)
-    returns-4
-    (λ c. search needs)
-    returns-5
-    returns-6
-    returns-7)
+    (λ c. unlike-counts _ _ _ (fails (counts (c .before)) (c .if1 .taken)))
+    (λ c κs. search needs)
+    (λ c. not-vectors _ _ _ (like (c .before .before)) (fails (vectors (c .before)) (c .if2 .taken)))
+    (λ c. let e = c .before .before .before in omega (arith, many (c .before), few (bytes (e .before)) (like e)))
+    returns-3
+    returns-4)

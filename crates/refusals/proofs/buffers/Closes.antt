@@ -1,7 +1,10 @@
 -- What a closing buffer holds: the tests' number x, then the work. A step's exported form cites one of these at each return.
-use mathlib.Core.Path.{_≡_, refl, sym, ap, _∙_}
+use mathlib.Core.Path.{_≡_, refl, sym, ap, _∙_, subst}
+use mathlib.Core.Bool.{Bool, true, false, cond}
 use mathlib.Core.List.{List}
 use Prim.Native.Nat.{ℕ}
+use borrow.Author.Tests.{eqb-true, eqb-false}
+use lib.Dec.{eqb}
 use lib.ListN.{length}
 use Rattle.definitions.specs.Record.{Validator, decodeOne, encodeOne, decode, encode}
 use Rattle.definitions.specs.Checked.{Checked, value, refused, codeOf, bind}
@@ -38,6 +41,14 @@ module _ (step : List Validator → Checked (List Validator)) (tests : Checked (
   step-restored y k =
       let ran : Ran (step (decode opening)) xs r = rw copied at h in
       rw (passed tests e z) (record { number = ran .code; buffer = k ∙ ran-restored ran opening closing y })
+
+  -- as `put_back` leaves it
+  pub step-put-back : {after : List ℕ} → after ≡ cond (eqb r 0) xs opening → Closes encode tests (step (decode opening)) opening closing after r
+  step-put-back {after} = go (eqb r 0) refl
+    where
+      go : (t : Bool) → eqb r 0 ≡ t → after ≡ cond t xs opening → Closes encode tests (step (decode opening)) opening closing after r
+      go true q k = subst (λ (ys : List ℕ). Closes encode tests (step (decode opening)) opening closing ys r) (sym k) (step-done (eqb-true r 0 q))
+      go false q k = step-restored (eqb-false r 0 q) k
 
 -- One validator's ten numbers, worked on in place: as lent on every refusal
 pub entry-closes : (f : Validator → Checked Validator) (tests : Checked (Unit {0})) {entry after : List ℕ} {x r : ℕ} → x ≡ codeOf tests → x ≡ 0 → length entry ≡ 10 → Settles f entry after r → Closes encodeOne tests (f (decodeOne entry)) entry entry after r

@@ -14,6 +14,7 @@ use Rattle.definitions.specs.Rust.Phase0.Helpers.{«get_current_epoch», «get_
 use Rattle.definitions.specs.Rust.Altair.Helpers.{FlagTotals, isUnslashedParticipating, «get_unslashed_participating_indices», flagTotals, flagIndexDeltas, «get_flag_index_deltas»}
 use Rattle.laws.proofs.Checked.{bound, value-same}
 use Rattle.rewards_step.specs.Totals.{flagTotalsOf}
+use Rattle.rewards_step.specs.Step.{flagDeltasFrom}
 
 three : {A B C D E : Type 0} (a : Checked A) (b : Checked B) (d : Checked C) (f : A → B → C → D) (k : D → Checked E) → bind (bind a (λ x. bind b (λ y. bind d (λ z. value (f x y z))))) k ≡ bind a (λ x. bind b (λ y. bind d (λ z. k (f x y z))))
 unfolding bind
@@ -36,6 +37,6 @@ module _ (s : Settings) (stateSlot finalizedEpoch : ℕ) (vs : List Validator) (
   unfolding flagTotals «get_unslashed_participating_indices» «get_total_active_balance»
   totals-first k = rw (← e, ← p) (three _ _ _ (flagTotalsOf s) k)
 
-  pub flag-index : (v : Validator) {r : DeltasAnswer} → SaysDeltas (bind («get_total_balance» s (filter (isUnslashedParticipating current flagIndex previous) vs)) (λ participating. bind («get_total_balance» s («get_active_validator_indices» vs current)) (λ total. bind («is_in_inactivity_leak» s stateSlot finalizedEpoch) (λ leaking. flagIndexDeltas s current previous flagIndex (flagTotalsOf s participating total leaking) v)))) r → SaysDeltas («get_flag_index_deltas» s stateSlot finalizedEpoch vs flagIndex v) r
+  pub flag-index : (v : Validator) {r : DeltasAnswer} → SaysDeltas (bind («get_total_balance» s (filter (isUnslashedParticipating current flagIndex previous) vs)) (λ participating. flagDeltasFrom s stateSlot finalizedEpoch vs current previous flagIndex participating v)) r → SaysDeltas («get_flag_index_deltas» s stateSlot finalizedEpoch vs flagIndex v) r
   unfolding «get_flag_index_deltas»
   flag-index v h = rw (← e, ← p, totals-first (λ t. flagIndexDeltas s current previous flagIndex t v)) h

@@ -5,7 +5,7 @@ use Rattle.definitions.specs.Record.{encode}
 use Rattle.definitions.specs.Rules.{settingsUnder}
 use Rattle.definitions.specs.Rust.Altair.EpochProcessing.{«process_rewards_and_penalties»}
 use Rattle.refusals.proofs.Laws.{good-settings}
-use Rattle.refusals.proofs.buffers.Closes.{closes-refused, step-done, step-restored}
+use Rattle.refusals.proofs.buffers.Closes.{closes-refused, step-put-back}
 use Rattle.rewards_step.proofs.Tests.{rewards-passed}
 use borrow.Author.Needs.{needs}
 use Rattle.rewards_step.proofs.process_rewards_and_penalties.Statement.{statement}
@@ -23,30 +23,20 @@ rewards-core-requires c κs =
     let p = rewards-passed _ _ _ _ _ (u .before .before .rewards-tests .ensures) (u .before .if1 .left) in
     rw (u .settings-under .ensures) (p .good, (good-settings _ (p .good) .positive .«inactivity_penalty_quotient_altair», omega (arith, p .shape .long, ap length (c .before .before .before .copy .ensures))))
 
-copy-requires-2 : tie.Need-copy-requires-2
-copy-requires-2 c κs =
-    let u = c .before .before .before .before .before .before .before .before .before .before in
-    omega (arith, rewards-passed _ _ _ _ _ (u .before .before .rewards-tests .ensures) (u .before .if1 .left) .same)
+put-back-requires : tie.Need-put-back-requires
+put-back-requires c κs =
+    let t = c .before .before .before .before .before .before .before .before .before .before in
+    omega (arith, rewards-passed _ _ _ _ _ (t .before .rewards-tests .ensures) (t .if1 .left) .same)
 
 returns-2 : tie.Need-returns-2
 returns-2 c =
-    let k = c .before .before .before .before .before .before .before in
+    let k = c .before .before .before .before .before .before in
     let q = k .before .before .before .before in
     let u = q .before .before in
     let t = u .before in
     let a = t .before .before .before .before .before .args in
     let s = settingsUnder (a .rules) in
-    step-restored («process_rewards_and_penalties» s (s .«inactivity_penalty_quotient_altair») (a .state-slot) (a .finalized-epoch)) _ (t .before .rewards-tests .ensures) (t .if1 .left) (q .copy .ensures) (rw (u .settings-under .ensures) at (k .rewards-core .ensures)) (c .before .before .before .before .if2 .taken) (c .before .before .copy2 .ensures)
-
-returns-3 : tie.Need-returns-3
-returns-3 c =
-    let k = c .before .before .before in
-    let q = k .before .before .before .before in
-    let u = q .before .before in
-    let t = u .before in
-    let a = t .before .before .before .before .before .args in
-    let s = settingsUnder (a .rules) in
-    step-done («process_rewards_and_penalties» s (s .«inactivity_penalty_quotient_altair») (a .state-slot) (a .finalized-epoch)) _ (t .before .rewards-tests .ensures) (t .if1 .left) (q .copy .ensures) (rw (u .settings-under .ensures) at (k .rewards-core .ensures)) (c .if2 .left)
+    step-put-back («process_rewards_and_penalties» s (s .«inactivity_penalty_quotient_altair») (a .state-slot) (a .finalized-epoch)) _ (t .before .rewards-tests .ensures) (t .if1 .left) (q .copy .ensures) (rw (u .settings-under .ensures) at (k .rewards-core .ensures)) (c .before .before .put-back .ensures)
 
 pub process-rewards-and-penalties-spec : {M : Type 1} → statement M
 process-rewards-and-penalties-spec =
@@ -58,8 +48,6 @@ process-rewards-and-penalties-spec =
     (λ c κs. search needs)
     copy-requires
     rewards-core-requires
-    copy-requires-2
+    put-back-requires
     (λ c. search needs)
-    returns-2
-    (λ c. search needs)
-    returns-3)
+    returns-2)

@@ -3,7 +3,7 @@ use borrow.Author.Needs.{needs}
 use Rattle.definitions.specs.Record.{encode}
 use Rattle.definitions.specs.Rules.{settingsUnder}
 use Rattle.definitions.specs.Rust.Altair.EpochProcessing.{«process_slashings»}
-use Rattle.refusals.proofs.buffers.Closes.{closes-refused, step-done, step-restored}
+use Rattle.refusals.proofs.buffers.Closes.{closes-refused, step-put-back}
 use Rattle.slashings.proofs.Passed.{slashings-passed}
 use Rattle.slashings.proofs.process_slashings.Statement.{statement}
 use Rattle.slashings.proofs.process_slashings.Tie as tie
@@ -20,30 +20,20 @@ slashings-core-requires c κs =
     let p = slashings-passed _ _ _ _ _ (u .before .before .slashings-tests .ensures) (u .before .if1 .left) in
     (rw (c .before .before .before .copy .ensures) (p .shape .long), rw (u .settings-under .ensures) (p .good))
 
-copy-requires-2 : tie.Need-copy-requires-2
-copy-requires-2 c κs =
-    let u = c .before .before .before .before .before .before .before .before .before .before in
-    omega (arith, slashings-passed _ _ _ _ _ (u .before .before .slashings-tests .ensures) (u .before .if1 .left) .same)
+put-back-requires : tie.Need-put-back-requires
+put-back-requires c κs =
+    let t = c .before .before .before .before .before .before .before .before .before .before in
+    omega (arith, slashings-passed _ _ _ _ _ (t .before .slashings-tests .ensures) (t .if1 .left) .same)
 
 returns-2 : tie.Need-returns-2
 returns-2 c =
-    let k = c .before .before .before .before .before .before .before in
+    let k = c .before .before .before .before .before .before in
     let q = k .before .before .before .before in
     let u = q .before .before in
     let t = u .before in
     let a = t .before .before .before .before .before .before .args in
     let s = settingsUnder (a .rules) in
-    step-restored («process_slashings» s (s .«proportional_slashing_multiplier_altair») (a .state-slot) (a .slashings .now)) _ (t .before .slashings-tests .ensures) (t .if1 .left) (q .copy .ensures) (rw (u .settings-under .ensures) at (k .slashings-core .ensures)) (c .before .before .before .before .if2 .taken) (c .before .before .copy2 .ensures)
-
-returns-3 : tie.Need-returns-3
-returns-3 c =
-    let k = c .before .before .before in
-    let q = k .before .before .before .before in
-    let u = q .before .before in
-    let t = u .before in
-    let a = t .before .before .before .before .before .before .args in
-    let s = settingsUnder (a .rules) in
-    step-done («process_slashings» s (s .«proportional_slashing_multiplier_altair») (a .state-slot) (a .slashings .now)) _ (t .before .slashings-tests .ensures) (t .if1 .left) (q .copy .ensures) (rw (u .settings-under .ensures) at (k .slashings-core .ensures)) (c .if2 .left)
+    step-put-back («process_slashings» s (s .«proportional_slashing_multiplier_altair») (a .state-slot) (a .slashings .now)) _ (t .before .slashings-tests .ensures) (t .if1 .left) (q .copy .ensures) (rw (u .settings-under .ensures) at (k .slashings-core .ensures)) (c .before .before .put-back .ensures)
 
 pub process-slashings-spec : {M : Type 1} → statement M
 process-slashings-spec =
@@ -55,8 +45,6 @@ process-slashings-spec =
     (λ c κs. search needs)
     copy-requires
     slashings-core-requires
-    copy-requires-2
+    put-back-requires
     (λ c. search needs)
-    returns-2
-    (λ c. search needs)
-    returns-3)
+    returns-2)

@@ -3,7 +3,7 @@ use native.Mathlib.Omega.{arith}
 use lib.ListN.{length}
 use Rattle.definitions.specs.Record.{encode}
 use Rattle.definitions.specs.Rust.Altair.EpochProcessing.{«process_inactivity_updates»}
-use Rattle.refusals.proofs.buffers.Closes.{closes-refused, step-done, step-restored}
+use Rattle.refusals.proofs.buffers.Closes.{closes-refused, step-put-back}
 use Rattle.leaf_refusals.proofs.finalized.Tests.{registry-passed}
 use borrow.Author.Needs.{needs}
 use Rattle.participation.proofs.inactivity.process_inactivity_updates.Statement.{statement}
@@ -20,24 +20,18 @@ inactivity-core-requires c κs =
     let p = registry-passed _ _ _ _ _ (c .before .before .before .before .before .before .registry-tests .ensures) (c .before .before .before .before .before .if1 .left) in
     (p .opened .settings .good, omega (arith, p .opened .shape .long, ap length (c .before .before .before .copy .ensures)))
 
-copy-requires-2 : tie.Need-copy-requires-2
-copy-requires-2 c κs = let p = registry-passed _ _ _ _ _ (c .before .before .before .before .before .before .before .before .before .before .before .registry-tests .ensures) (c .before .before .before .before .before .before .before .before .before .before .if1 .left) in omega (arith, p .same)
+put-back-requires : tie.Need-put-back-requires
+put-back-requires c κs =
+    let t = c .before .before .before .before .before .before .before .before .before in
+    omega (arith, registry-passed _ _ _ _ _ (t .before .registry-tests .ensures) (t .if1 .left) .same)
 
 returns-2 : tie.Need-returns-2
 returns-2 c =
-    let k = c .before .before .before .before .before .before .before in
+    let k = c .before .before .before .before .before .before in
     let q = k .before .before .before .before in
     let t = q .before .before in
-    let a = t .before .before .before .before .before in
-    step-restored («process_inactivity_updates» (a .args .s) (a .args .state-slot) (a .args .finalized-epoch)) _ (t .before .registry-tests .ensures) (t .if1 .left) (q .copy .ensures) (k .inactivity-core .ensures) (c .before .before .before .before .if2 .taken) (c .before .before .copy2 .ensures)
-
-returns-3 : tie.Need-returns-3
-returns-3 c =
-    let k = c .before .before .before in
-    let q = k .before .before .before .before in
-    let t = q .before .before in
-    let a = t .before .before .before .before .before in
-    step-done («process_inactivity_updates» (a .args .s) (a .args .state-slot) (a .args .finalized-epoch)) _ (t .before .registry-tests .ensures) (t .if1 .left) (q .copy .ensures) (k .inactivity-core .ensures) (c .if2 .left)
+    let a = t .before .before .before .before .before .args in
+    step-put-back («process_inactivity_updates» (a .s) (a .state-slot) (a .finalized-epoch)) _ (t .before .registry-tests .ensures) (t .if1 .left) (q .copy .ensures) (k .inactivity-core .ensures) (c .before .before .put-back .ensures)
 
 pub process-inactivity-updates-spec : {M : Type 1} → statement M
 process-inactivity-updates-spec =
@@ -48,8 +42,6 @@ process-inactivity-updates-spec =
     returns
     copy-requires
     inactivity-core-requires
-    copy-requires-2
+    put-back-requires
     (λ c. search needs)
-    returns-2
-    (λ c. search needs)
-    returns-3)
+    returns-2)

@@ -1,8 +1,8 @@
 use borrow.Author.Needs.{needs}
 use borrow.Author.Tests.{ne-eqb}
 use Rattle.definitions.specs.Document.Phase0.Helpers.{«get_previous_epoch»}
-use Rattle.leaf_refusals.proofs.previous_epoch.Statement.{statement}
-use Rattle.leaf_refusals.proofs.previous_epoch.Tie as tie
+use Rattle.epochs.proofs.previous_epoch.Statement.{statement}
+use Rattle.epochs.proofs.previous_epoch.Tie as tie
 
 returns : tie.Need-returns
 unfolding «get_previous_epoch»
