@@ -1,6 +1,6 @@
 // What the contracts of every crate above mean: the definitions in specs/, and here the types by value.
 
-// An epoch that is none: phase0/mod.rs.
+// An epoch that is none: primitives.rs.
 pub const FAR_FUTURE_EPOCH: u64 = 18446744073709551615;
 
 // The places of a validator's ten numbers in the registry, in document 01's order: specs/Record.antt, `encodeOne`.

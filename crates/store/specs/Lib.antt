@@ -1,5 +1,4 @@
 -- What the contracts of reading and adding cite.
 pub mod Answers
--- What the contracts of a store's code cite.
 -- What the contracts of a close with a store cite.
 pub mod Called
