@@ -1,6 +1,6 @@
 -- What the tests keep inside 64 bits.
-use mathlib.Core.Path.{_≡_, refl, sym, _∙_}
-use mathlib.Core.Bool.{Bool, true, false, cond, _&&_, not, false≢true}
+use mathlib.Core.Path.{_≡_}
+use mathlib.Core.Bool.{Bool, true, false, cond, not}
 use mathlib.Core.List.{List, [], _∷_}
 use Prim.Native.Nat.{ℕ, zero, suc, _-_, _*_, _^_, _≤_, _<_}
 use native.Mathlib.Omega.{arith}
@@ -13,17 +13,16 @@ use Rattle.definitions.specs.declared.Finality.{Finality}
 use Rattle.definitions.specs.declared.Rules.{Rules}
 use Rattle.definitions.specs.Lists.{all}
 use Rattle.definitions.specs.Checked.{value, bind}
-use Rattle.definitions.specs.Refusals.{inOrder, isVectorLength, settingsShaped, goodFinality, goodRegistry, goodSettings, isSmall, settingsNumbers, divisors, justificationTests, registryTests, effectiveBalanceTests, slashingsResetTests}
+use Rattle.definitions.specs.Refusals.{isVectorLength, settingsShaped, goodFinality, goodSettings, isSmall, settingsNumbers, divisors, justificationTests, registryTests, effectiveBalanceTests, slashingsResetTests}
 use Rattle.definitions.specs.Rules.{settingsUnder, rulesShaped, goodRules, rewardsTests, slashingsTests, inactivityPenaltyTests}
 use Rattle.definitions.specs.Document.Phase0.Helpers as document
 use Rattle.definitions.specs.Document.Phase0.Helpers.{«compute_epoch_at_slot», «get_current_epoch», «get_previous_epoch»}
 use Rattle.definitions.specs.Rust.Phase0.Helpers as rust
 use Rattle.definitions.specs.Close.{Call, closeTests}
-use Rattle.laws.proofs.Checked.{not-value}
 use Rattle.laws.proofs.Rules.{shaped-under, good-under}
 use Rattle.agreement.specs.Bounds.{Passed, FinalityPassed, TestsPassed, RulesPassed, Bounds, Given}
 use Rattle.agreement.proofs.Fits.{add64-fits, mul64-fits}
-use Rattle.laws.proofs.Tests.{both}
+use Rattle.laws.proofs.Tests.{both, test, in-order-value}
 
 -- Tests
 
@@ -101,77 +100,46 @@ given s stateSlot h =
 
 -- From the tests of the close and of the steps
 
-pub in-order : (a b d : Bool) → inOrder a b d ≡ value tt → (a ≡ true) × (b ≡ true) × (d ≡ true)
-unfolding inOrder
-in-order true true true p = (refl, refl, refl)
-in-order true true false p = absurd (not-value p)
-in-order true false d p = absurd (not-value p)
-in-order false b d p = absurd (not-value p)
-
 -- slot and checkpoint epochs
-small-epochs : (f : Finality) → goodFinality f ≡ true → (isSmall (f .slot) ≡ true) × (isSmall (f .«previous_justified_checkpoint» .epoch) ≡ true) × (isSmall (f .«current_justified_checkpoint» .epoch) ≡ true) × (isSmall (f .«finalized_checkpoint» .epoch) ≡ true)
+finality-passed : (s : Settings) (f : Finality) → settingsShaped s ≡ true → goodSettings s ≡ true → goodFinality f ≡ true → FinalityPassed s f
 unfolding goodFinality
-small-epochs f h =
-    let slot = isSmall (f .slot) in
-    let bits = leb (f .«justification_bits») 15 in
-    let previous = isSmall (f .«previous_justified_checkpoint» .epoch) in
-    let current = isSmall (f .«current_justified_checkpoint» .epoch) in
-    let finalized = isSmall (f .«finalized_checkpoint» .epoch) in
-    let a = both (slot && bits && previous && current) finalized h in
-    let b = both (slot && bits && previous) current (a .0) in
-    let d = both (slot && bits) previous (b .0) in
-    (both slot bits (d .0) .0, d .1, b .1, a .1)
-
--- what a chain of tests that passed says of its first
-first-shaped : {t : Bool} (a : Bool) → t ≡ true → (a ≡ false → t ≡ false) → a ≡ true
-first-shaped true h f = refl
-first-shaped false h f = absurd (false≢true (sym (f refl) ∙ h))
-
-finality-passed : (s : Settings) (f : Finality) (recorded : Bool) → settingsShaped s ≡ true → goodSettings s ≡ true → (goodFinality f && recorded) ≡ true → FinalityPassed s f
-finality-passed s f recorded shaped good h =
-    let small = small-epochs f (both (goodFinality f) recorded h .0) in
+finality-passed s f shaped good h =
+    let small = test _ h in
     record {
-      passed = record { shaped = shaped; good = good; small = small .0 };
-      previousJustified = small .1;
-      currentJustified = small .2;
-      finalized = small .3;
+      passed = record { shaped = shaped; good = good; small = small 0 };
+      previousJustified = small 2;
+      currentJustified = small 3;
+      finalized = small 4;
     }
-
-slot-passed : (s : Settings) (stateSlot : ℕ) {shaped recorded : Bool} → inOrder shaped (goodSettings s) recorded ≡ value tt → (settingsShaped s ≡ false → shaped ≡ false) → (isSmall stateSlot ≡ false → recorded ≡ false) → Passed s stateSlot
-slot-passed s stateSlot {shaped} {recorded} h first small =
-    let tests = in-order shaped (goodSettings s) recorded h in
-    record { shaped = first-shaped (settingsShaped s) (tests .0) first; good = tests .1; small = first-shaped (isSmall stateSlot) (tests .2) small }
-
-finalized-small : (stateSlot finalizedEpoch : ℕ) (recorded : Bool) → (isSmall stateSlot && isSmall finalizedEpoch && recorded) ≡ true → isSmall finalizedEpoch ≡ true
-finalized-small stateSlot finalizedEpoch recorded h = both (isSmall stateSlot) (isSmall finalizedEpoch) (both (isSmall stateSlot && isSmall finalizedEpoch) recorded h .0) .1
 
 pub tests-passed : (s : Settings) → TestsPassed s
 unfolding justificationTests registryTests effectiveBalanceTests slashingsResetTests
 tests-passed s =
     record {
       justification = λ roots f registry h.
-          finality-passed s f (goodRegistry registry) (first-shaped (settingsShaped s) (in-order _ _ _ h .0) (λ e. rw e)) (in-order _ _ _ h .1) (in-order _ _ _ h .2);
+          let p = in-order-value _ _ _ h in
+          finality-passed s f (p .shaped 0) (p .settings 0) (p .recorded 0);
       registry = λ stateSlot finalizedEpoch opening closing h.
-          (slot-passed s stateSlot h (λ e. rw e) (λ e. rw e), finalized-small stateSlot finalizedEpoch (goodRegistry opening) (in-order _ _ _ h .2));
-      effectiveBalances = λ opening closing h. (first-shaped (settingsShaped s) (in-order _ _ _ h .0) (λ e. rw e), in-order _ _ _ h .1);
-      slashingsReset = λ stateSlot opening closing h. slot-passed s stateSlot h (λ e. rw e) (λ e. e);
+          let p = in-order-value _ _ _ h in
+          (record { shaped = p .shaped 0; good = p .settings 0; small = p .recorded 0 }, p .recorded 1);
+      effectiveBalances = λ opening closing h.
+          let p = in-order-value _ _ _ h in
+          (p .shaped 0, p .settings 0);
+      slashingsReset = λ stateSlot opening closing h.
+          let p = in-order-value _ _ _ h in
+          record { shaped = p .shaped 0; good = p .settings 0; small = p .recorded 0 };
     }
 
 -- The same of calls that are lent rules, for the settings under them
 
-rules-passed-slot : (r : Rules) (stateSlot : ℕ) {shaped recorded : Bool} → inOrder shaped (goodRules r) recorded ≡ value tt → (rulesShaped r ≡ false → shaped ≡ false) → (isSmall stateSlot ≡ false → recorded ≡ false) → Passed (settingsUnder r) stateSlot
-rules-passed-slot r stateSlot {shaped} {recorded} h first small =
-    let tests = in-order shaped (goodRules r) recorded h in
-    record {
-      shaped = shaped-under r (first-shaped (rulesShaped r) (tests .0) first);
-      good = good-under r (tests .1);
-      small = first-shaped (isSmall stateSlot) (tests .2) small;
-    }
+rules-slot : (r : Rules) (stateSlot : ℕ) → rulesShaped r ≡ true → goodRules r ≡ true → isSmall stateSlot ≡ true → Passed (settingsUnder r) stateSlot
+rules-slot r stateSlot shaped good small = record { shaped = shaped-under r shaped; good = good-under r good; small = small }
 
 pub close-passed : (c : Call) → closeTests c ≡ value tt → FinalityPassed (settingsUnder (c .rules)) (c .finality)
 unfolding closeTests
 close-passed c h =
-    finality-passed (settingsUnder (c .rules)) (c .finality) (goodRegistry (c .registry)) (shaped-under (c .rules) (first-shaped (rulesShaped (c .rules)) (in-order _ _ _ h .0) (λ e. rw e))) (good-under (c .rules) (in-order _ _ _ h .1)) (in-order _ _ _ h .2)
+    let p = in-order-value _ _ _ h in
+    finality-passed (settingsUnder (c .rules)) (c .finality) (shaped-under (c .rules) (p .shaped 0)) (good-under (c .rules) (p .settings 0)) (p .recorded 0)
 
 pub rules-passed : (r : Rules) → RulesPassed r
 unfolding rewardsTests slashingsTests inactivityPenaltyTests
@@ -179,7 +147,12 @@ rules-passed r =
     record {
       close = λ c e h. rw e at (close-passed c h);
       rewards = λ stateSlot finalizedEpoch opening closing h.
-          (rules-passed-slot r stateSlot h (λ e. rw e) (λ e. rw e), finalized-small stateSlot finalizedEpoch (goodRegistry opening) (in-order _ _ _ h .2));
-      slashings = λ stateSlot slashings opening closing h. rules-passed-slot r stateSlot h (λ e. rw e) (λ e. rw e);
-      inactivityPenalty = λ stateSlot entry h. rules-passed-slot r stateSlot h (λ e. rw e) (λ e. rw e);
+          let p = in-order-value _ _ _ h in
+          (rules-slot r stateSlot (p .shaped 0) (p .settings 0) (p .recorded 0), p .recorded 1);
+      slashings = λ stateSlot slashings opening closing h.
+          let p = in-order-value _ _ _ h in
+          rules-slot r stateSlot (p .shaped 0) (p .settings 0) (p .recorded 0);
+      inactivityPenalty = λ stateSlot entry h.
+          let p = in-order-value _ _ _ h in
+          rules-slot r stateSlot (p .shaped 0) (p .settings 0) (p .recorded 0);
     }

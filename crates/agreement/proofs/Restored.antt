@@ -5,12 +5,14 @@ use mathlib.Core.List.{List, [], _∷_, _++_}
 use mathlib.Core.Logic.{_⊎_, inl, inr}
 use Prim.Native.Nat.{ℕ, _≤_}
 use native.Mathlib.Omega.{arith}
+use Rattle.definitions.specs.Lists.{every}
 use Rattle.definitions.specs.Record.{BeaconState}
 use Rattle.definitions.specs.Checked.{Checked, Refusal, badShape, badSettings, badRecord, noRoot, overflow, value, refused, bind, numberOf}
 use Rattle.definitions.specs.Refusals.{inOrder, afterTests, closingBuffer}
 use Rattle.definitions.specs.Raised.{raisedUnlessRefused}
 use Rattle.definitions.specs.Rules.{settingsUnder}
 use Rattle.definitions.specs.Close.{Call, close, closed, closeTests, stateOf, «process_epoch»}
+use Rattle.laws.proofs.Tests.{tested}
 use Rattle.agreement.specs.Restored.{OneOf, Accepted, Untouched, Opening, Restored, StepBuffer}
 use Rattle.agreement.proofs.Refused.{work-refused}
 use Rattle.agreement.proofs.Agrees.{not-refused}
@@ -61,12 +63,15 @@ one-right n (x ∷ xs) ys o = inr (one-right n xs ys o)
 
 -- the number of a refusal by the tests, and of one after them
 
-pub tests-number : (a b d : Bool) (r : Refusal) → inOrder a b d ≡ refused r → OneOf (numberOf r) (1 ∷ 2 ∷ 3 ∷ [])
+pub tests-number : (shaped settings recorded : List Bool) (r : Refusal) → inOrder shaped settings recorded ≡ refused r → OneOf (numberOf r) (1 ∷ 2 ∷ 3 ∷ [])
 unfolding inOrder
-tests-number false b d r p = let e : r ≡ badShape = cc in rw e (inl refl)
-tests-number true false d r p = let e : r ≡ badSettings = cc in rw e (inr (inl refl))
-tests-number true true false r p = let e : r ≡ badRecord = cc in rw e (inr (inr (inl refl)))
-tests-number true true true r p = absurd (not-refused p)
+tests-number shaped settings recorded r p = go (every shaped) (every settings) (every recorded) p
+  where
+    go : (a b c : Bool) → tested a b c ≡ refused r → OneOf (numberOf r) (1 ∷ 2 ∷ 3 ∷ [])
+    go false b c p = let e : r ≡ badShape = cc in rw e (inl refl)
+    go true false c p = let e : r ≡ badSettings = cc in rw e (inr (inl refl))
+    go true true false p = let e : r ≡ badRecord = cc in rw e (inr (inr (inl refl)))
+    go true true true p = absurd (not-refused p)
 
 pub work-number : (r : Refusal) → (r ≡ overflow) ⊎ (r ≡ noRoot) → OneOf (numberOf r) (4 ∷ 5 ∷ [])
 work-number r (inl e) = rw e (inr (inl refl))

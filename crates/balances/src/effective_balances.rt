@@ -17,9 +17,13 @@ use definitions::BALANCE;
 use definitions::EFFECTIVE_BALANCE;
 use definitions::Number;
 use definitions::Settings;
-use leaf_refusals::registry_refusals::settings_registry_tests;
 use refusals::buffers::copy;
 use refusals::buffers::put_back;
+use refusals::good_registry;
+use refusals::good_settings;
+use refusals::in_order;
+use refusals::registry_shaped;
+use refusals::settings_shaped;
 
 // How far a balance may lie below and above the effective balance before that follows it.
 pub struct Thresholds {
@@ -115,10 +119,15 @@ pub fn effective_balances_core(s: Settings, registry: &mut [u64]) -> u64
 fn effective_balance_tests(s: Settings, opening: &[u64], closing: &[u64]) -> u64
     ensures { λ r. ⌜ r ≡ codeOf (effectiveBalanceTests s (now (opening .entry)) (now (closing .entry))) ⌝ }
 {
-    if closing.len() != opening.len() {
-        return 1;
-    }
-    settings_registry_tests(s, opening)
+    in_order(
+        &[
+            settings_shaped(s),
+            registry_shaped(opening),
+            closing.len() == opening.len(),
+        ],
+        &[good_settings(s)],
+        &[good_registry(opening)],
+    )
 }
 
 pub fn process_effective_balance_updates(s: Settings, opening: &[u64], closing: &mut [u64]) -> u64

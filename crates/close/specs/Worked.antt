@@ -1,7 +1,6 @@
 -- The tests as the code groups them, and what it promises of a close.
 use mathlib.Core.Path.{_≡_}
-use mathlib.Core.Bool.{_&&_}
-use mathlib.Core.List.{List}
+use mathlib.Core.List.{List, [], _∷_}
 use Prim.Native.Nat.{ℕ}
 use Rattle.definitions.specs.declared.Settings.{Settings}
 use Rattle.definitions.specs.declared.Rules.{Rules}
@@ -10,26 +9,18 @@ use Rattle.definitions.specs.declared.CloseAnswer.{CloseAnswer}
 use Rattle.definitions.specs.Record.{BeaconState, encode}
 use Rattle.definitions.specs.Checked.{Checked, value, codeOf, settle}
 use Rattle.definitions.specs.Raised.{raisedTotals, raisedUnlessRefused}
-use Rattle.definitions.specs.Refusals.{inOrder, settingsShaped, registryShaped, rootsShaped, slashingsShaped, sameLength, goodSettings, goodFinality, closingBuffer}
+use Rattle.definitions.specs.Refusals.{inOrder, registryShaped, rootsShaped, slashingsShaped, sameLength, goodFinality, closingBuffer}
 use Rattle.definitions.specs.Rules.{settingsUnder, rulesShaped, goodRules}
 use Rattle.definitions.specs.Close.{Call, Outcome, «process_epoch», close}
 use Rattle.close.specs.Called.{called}
 
--- Tests 1, 2 and 3 but for fork, pair and the registry's entries
-unfoldable pub settingsTests : Call → Checked (Unit {0})
-settingsTests c =
-    let s = c .rules .settings in
-    let opening = settingsShaped s && registryShaped (c .registry) && rootsShaped s (c .roots) && slashingsShaped s (c .slashings) in
-    let shaped = opening && sameLength (c .registry) (c .closingRegistry) && sameLength (c .slashings) (c .closingSlashings) in
-    inOrder shaped (goodSettings s) (goodFinality (c .finality))
-
--- but for the registry's entries
+-- Tests 1, 2 and 3 but for the registry's entries
 unfoldable pub recordTests : Call → Checked (Unit {0})
 recordTests c =
     let s = c .rules .settings in
-    let opening = rulesShaped (c .rules) && registryShaped (c .registry) && rootsShaped s (c .roots) && slashingsShaped s (c .slashings) in
-    let shaped = opening && sameLength (c .registry) (c .closingRegistry) && sameLength (c .slashings) (c .closingSlashings) in
-    inOrder shaped (goodRules (c .rules)) (goodFinality (c .finality))
+    let closing = sameLength (c .registry) (c .closingRegistry) ∷ sameLength (c .slashings) (c .closingSlashings) ∷ [] in
+    let shaped = rulesShaped (c .rules) ∷ registryShaped (c .registry) ∷ rootsShaped s (c .roots) ∷ slashingsShaped s (c .slashings) ∷ closing in
+    inOrder shaped (goodRules (c .rules) ∷ []) (goodFinality (c .finality) ∷ [])
 
 -- The eight steps on the state `before`, with the opening's registry and slashings put back where they are refused. What was lent to close into does
 -- not matter.

@@ -1,10 +1,8 @@
 // process_epoch, the eight steps of it: the close. One survey of the opening, justification by its sums, one pass that writes the closing
 // registry, and the slashings' reset.
 ghost use mathlib.Core.Path.{_≡_};
-ghost use mathlib.Core.Bool.{_&&_};
 ghost use lib.ListN.{length};
 ghost use Rattle.definitions.specs.Checked.{codeOf};
-ghost use Rattle.definitions.specs.Refusals.{settingsShaped, registryShaped, rootsShaped, slashingsShaped, sameLength};
 ghost use Rattle.definitions.specs.Rust.Phase0.Helpers.{«get_current_epoch», «get_previous_epoch»};
 ghost use Rattle.definitions.specs.Rules.{altairRules};
 ghost use Rattle.definitions.specs.Close.{close as closeOf};
@@ -13,7 +11,7 @@ ghost use Rattle.survey.specs.Found.{Finds};
 ghost use Rattle.write_steps.specs.Numbers.{Books};
 ghost use Rattle.close.specs.Called.{called, outcome};
 ghost use Rattle.registry_close.specs.Worked.{stateNow, Tested};
-ghost use Rattle.close.specs.Worked.{settingsTests, recordTests, StepsClosed, ClosedUnder};
+ghost use Rattle.close.specs.Worked.{recordTests, StepsClosed, ClosedUnder};
 use definitions::CloseAnswer;
 use definitions::FAR_FUTURE_EPOCH;
 use definitions::Finality;
@@ -21,9 +19,11 @@ use definitions::Rules;
 use definitions::Settings;
 use epochs::current_epoch;
 use epochs::previous_epoch;
+use epochs::roots::roots_shaped;
 use refusals::buffers::copy;
 use refusals::good_finality;
 use refusals::good_settings;
+use refusals::in_order;
 use refusals::registry_shaped;
 use refusals::rules::altair_rules;
 use refusals::rules::rules_refusal;
@@ -35,79 +35,7 @@ use survey::Findings;
 use survey::survey_registry;
 use totals::raising::none_raised;
 
-// Test 1 of everything lent but the fork.
-fn close_shaped(
-    s: Settings,
-    registry: &[u64],
-    slashings: &[u64],
-    roots: &[u8],
-    closing_registry: &[u64],
-    closing_slashings: &[u64],
-) -> bool
-    ensures { λ r. ⌜
-        r
-        ≡ (settingsShaped s
-        && registryShaped (now (registry .entry))
-        && rootsShaped s (now (roots .entry))
-        && slashingsShaped s (now (slashings .entry))
-        && sameLength (now (registry .entry)) (now («closing_registry» .entry))
-        && sameLength (now (slashings .entry)) (now («closing_slashings» .entry))) ⌝ }
-{
-    if !settings_shaped(s) {
-        return false;
-    }
-    if !registry_shaped(registry) {
-        return false;
-    }
-    if roots.len() != 32 * (s.slots_per_historical_root as usize) {
-        return false;
-    }
-    if slashings.len() as u64 != s.epochs_per_slashings_vector {
-        return false;
-    }
-    if closing_registry.len() != registry.len() {
-        return false;
-    }
-    closing_slashings.len() == slashings.len()
-}
-
-// Tests 1, 2 and 3 by the settings, but for the registry's entries, which the survey tests: 0, or the number of the first that failed.
-fn settings_tests(
-    rules: Rules,
-    finality: Finality,
-    registry: &[u64],
-    slashings: &[u64],
-    roots: &[u8],
-    closing_registry: &[u64],
-    closing_slashings: &[u64],
-) -> u64
-    ensures { λ r. ⌜
-        r
-        ≡ codeOf
-        (settingsTests (called rules finality (now (registry .entry)) (now (slashings .entry)) (now (roots .entry)) (now («closing_registry» .entry))
-        (now («closing_slashings» .entry)))) ⌝ }
-{
-    let s = rules.settings;
-    if !close_shaped(
-        s,
-        registry,
-        slashings,
-        roots,
-        closing_registry,
-        closing_slashings,
-    ) {
-        return 1;
-    }
-    if !good_settings(s) {
-        return 2;
-    }
-    if !good_finality(finality) {
-        return 3;
-    }
-    0
-}
-
-// With fork and pair.
+// Tests 1, 2 and 3 but for the registry's entries, which the survey tests: 0, or the number of the first that failed.
 pub fn record_tests(
     rules: Rules,
     finality: Finality,
@@ -122,14 +50,18 @@ pub fn record_tests(
         ≡ codeOf (recordTests (called rules finality (now (registry .entry)) (now (slashings .entry)) (now (roots .entry)) (now («closing_registry» .entry))
         (now («closing_slashings» .entry)))) ⌝ }
 {
-    let by_settings = settings_tests(
-        rules,
-        finality,
-        registry,
-        slashings,
-        roots,
-        closing_registry,
-        closing_slashings,
+    let s = rules.settings;
+    let by_settings = in_order(
+        &[
+            settings_shaped(s),
+            registry_shaped(registry),
+            roots_shaped(s, roots),
+            slashings.len() as u64 == s.epochs_per_slashings_vector,
+            closing_registry.len() == registry.len(),
+            closing_slashings.len() == slashings.len(),
+        ],
+        &[good_settings(s)],
+        &[good_finality(finality)],
     );
     rules_refusal(rules, by_settings)
 }

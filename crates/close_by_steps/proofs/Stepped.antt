@@ -1,7 +1,8 @@
 -- The tests once passed, and the calls as the definition has them.
+use Rattle.laws.proofs.Tests.{record-fewer}
 use mathlib.Core.Path.{_≡_, refl, sym, ap, _∙_, subst}
-use mathlib.Core.Bool.{Bool, true, false, cond, _&&_}
-use mathlib.Core.List.{List}
+use mathlib.Core.Bool.{Bool, true, false, cond}
+use mathlib.Core.List.{List, [], _∷_}
 use Prim.Native.Nat.{ℕ, _+_, _*_, _/_, _≤_, _<_}
 use native.Mathlib.Omega.{arith}
 use borrow.Author.Tests.{eq-eqb, ne-eqb, eqb-true, le-leb, lt-leb}
@@ -10,13 +11,12 @@ use lib.ListN.{length, replicate}
 use Rattle.definitions.specs.declared.Settings.{Settings}
 use Rattle.definitions.specs.declared.Finality.{Finality}
 use Rattle.definitions.specs.declared.FullAnswer.{FullAnswer}
-use Rattle.definitions.specs.Lists.{all}
+use Rattle.definitions.specs.Lists.{all, every}
 use Rattle.definitions.specs.Record.{BeaconState, decode}
 use Rattle.definitions.specs.Checked.{Refusal, badShape, wrongQueue, numberOf, Checked, value, refused, bind, codeOf, settle}
 use Rattle.definitions.specs.ExitQueue.{queueOf, isQueueOf, queueTest}
 use Rattle.definitions.specs.Raised.{wasRaised, raisedTotals}
 use Rattle.definitions.specs.Refusals.{inOrder, settingsShaped, goodSettings, goodValidator, registryShaped, rootsShaped, goodFinality, goodRegistry, justificationTests, afterTests, closingBuffer}
-use Rattle.definitions.specs.Rules.{goodRules}
 use Rattle.definitions.specs.Rust.Altair.EpochProcessing.{«process_justification_and_finalization»}
 use Rattle.definitions.specs.Rust.Phase0.Helpers.{«compute_epoch_at_slot», «get_current_epoch», «get_previous_epoch»}
 use Rattle.definitions.specs.Rust.Altair.Helpers.{«get_unslashed_participating_indices»}
@@ -46,13 +46,6 @@ where-true : (t : Bool) → _≡_ {A = Checked (Unit {0})} (cond t (value tt) (r
 where-true true e = refl
 where-true false e = absurd (not-value e)
 
-fewer : (a b d g : Bool) → inOrder a b (d && g) ≡ value tt → codeOf (inOrder a b d) ≡ 0
-unfolding inOrder
-fewer true true true g e = refl
-fewer true true false g e = absurd (not-value e)
-fewer true false d g e = absurd (not-value e)
-fewer false b d g e = absurd (not-value e)
-
 shaped-bind : (t : Bool) {m : Checked (Unit {0})} → cond t m (refused badShape) ≡ value tt → m ≡ value tt
 shaped-bind true e = e
 shaped-bind false e = absurd (not-value e)
@@ -66,14 +59,14 @@ parts c t =
 
 record-code : (c : Call) → closeTests c ≡ value tt → codeOf (recordTests c) ≡ 0
 unfolding closeTests recordTests
-record-code c t = fewer _ (goodRules (c .rules)) (goodFinality (c .finality)) (goodRegistry (c .registry)) t
+record-code c t = record-fewer _ _ (goodFinality (c .finality) ∷ []) (goodRegistry (c .registry) ∷ []) t
 
 pair-is : (c : FullCall) → queueTest (c .queue) (decode (c .call .registry)) ≡ value tt → c .queue ≡ queueOf (decode (c .call .registry))
 unfolding queueTest
 pair-is c t = is-queue (c .queue) (decode (c .call .registry)) (where-true (isQueueOf (c .queue) (decode (c .call .registry))) t)
 
 justifying : (s : Settings) (roots : List ℕ) (f : Finality) (registry : List ℕ) → settingsShaped s ≡ true → rootsShaped s roots ≡ true → registryShaped registry ≡ true → goodSettings s ≡ true → goodFinality f ≡ true → all goodValidator (decode registry) ≡ true → justificationTests s roots f registry ≡ value tt
-unfolding justificationTests inOrder goodRegistry
+unfolding justificationTests inOrder goodRegistry every
 justifying s roots f registry a b d e g h = rw (a, b, d, e, g, h)
 
 pub ready : (c : FullCall) {x : ℕ} → x ≡ codeOf (fullTests c) → x ≡ 0 → Ready (settingsOf c) (c .call .finality) (c .queue) (c .call .registry) (c .call .slashings) (c .call .roots) (c .call .closingRegistry) (c .call .closingSlashings) (c .amounts)

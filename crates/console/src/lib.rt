@@ -6,7 +6,7 @@ pub mod outage_console;
 
 use definitions_file::LONGEST_LISTING;
 use definitions_file::MOST_INPUT;
-use listing::file_listing::list_file;
+use listing::list_file;
 
 // One byte more than a record file may have: input that fills it is too long.
 fn input() -> [u8; MOST_INPUT + 1]

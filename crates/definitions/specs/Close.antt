@@ -1,5 +1,5 @@
 -- The whole close: the eight steps in order, what it is handed, what it hands back and what the buffers hold. And `charged`.
-use mathlib.Core.Bool.{cond, _&&_}
+use mathlib.Core.Bool.{cond}
 use mathlib.Core.List.{List, [], _∷_}
 use Prim.Native.Nat.{ℕ}
 use lib.Dec.{eqb}
@@ -85,9 +85,9 @@ stateOf c =
 unfoldable pub closeTests : Call → Checked (Unit {0})
 closeTests c =
     let s = c .rules .settings in
-    let opening = rulesShaped (c .rules) && registryShaped (c .registry) && rootsShaped s (c .roots) && slashingsShaped s (c .slashings) in
-    let shaped = opening && sameLength (c .registry) (c .closingRegistry) && sameLength (c .slashings) (c .closingSlashings) in
-    inOrder shaped (goodRules (c .rules)) (goodFinality (c .finality) && goodRegistry (c .registry))
+    let closing = sameLength (c .registry) (c .closingRegistry) ∷ sameLength (c .slashings) (c .closingSlashings) ∷ [] in
+    let shaped = rulesShaped (c .rules) ∷ registryShaped (c .registry) ∷ rootsShaped s (c .roots) ∷ slashingsShaped s (c .slashings) ∷ closing in
+    inOrder shaped (goodRules (c .rules) ∷ []) (goodFinality (c .finality) ∷ goodRegistry (c .registry) ∷ [])
 
 -- the closed state, or the refusal
 unfoldable pub closed : Call → Checked BeaconState

@@ -13,6 +13,11 @@ unfoldable pub all : {A : Type 0} → (A → Bool) → List A → Bool
 all p [] = true
 all p (x ∷ xs) = p x && all p xs
 
+-- whether each of them holds
+unfoldable pub every : List Bool → Bool
+every [] = true
+every (t ∷ ts) = t && every ts
+
 unfoldable pub sum : List ℕ → ℕ
 sum [] = 0
 sum (x ∷ xs) = x + sum xs

@@ -1,19 +1,19 @@
 -- Tests 1, 2 and 3 of document 01, "What is returned", in their order, and what the closing buffers then hold.
-use mathlib.Core.Bool.{Bool, true, cond, _&&_, not}
+use mathlib.Core.Bool.{Bool, cond, _&&_, not}
 use mathlib.Core.List.{List, [], _∷_}
 use Prim.Native.Nat.{ℕ, _*_, _/_, _%_, _^_}
 use lib.Dec.{leb, ltb, eqb}
 use lib.ListN.{length}
 use Rattle.definitions.specs.declared.Settings.{Settings}
 use Rattle.definitions.specs.declared.Finality.{Finality}
-use Rattle.definitions.specs.Lists.{all}
+use Rattle.definitions.specs.Lists.{all, every}
 use Rattle.definitions.specs.Record.{Validator, decode}
 use Rattle.definitions.specs.Checked.{Checked, value, refused, badShape, badSettings, badRecord, bind}
 
--- 1, then 2, then 3; a call that is lent nothing which a test asks about passes that test
-unfoldable pub inOrder : Bool → Bool → Bool → Checked (Unit {0})
+-- the tests that are numbered 1, then those numbered 2, then 3: a call lists what it tests of all that it is lent, under each number
+unfoldable pub inOrder : List Bool → List Bool → List Bool → Checked (Unit {0})
 inOrder shaped settings recorded =
-    cond shaped (cond settings (cond recorded (value tt) (refused badRecord)) (refused badSettings)) (refused badShape)
+    cond (every shaped) (cond (every settings) (cond (every recorded) (value tt) (refused badRecord)) (refused badSettings)) (refused badShape)
 
 -- Test 1: N over 2^24, S or L outside 1 to 65536, or a lent length that is not exactly the one called for
 
@@ -86,14 +86,17 @@ goodSettings s = all (λ n. not (eqb n 0)) (divisors s) && all isSmall (settings
 
 unfoldable pub goodFinality : Finality → Bool
 goodFinality f =
+    every (
     isSmall (f .slot)
-    && leb (f .«justification_bits») 15
-    && isSmall (f .«previous_justified_checkpoint» .epoch)
-    && isSmall (f .«current_justified_checkpoint» .epoch)
-    && isSmall (f .«finalized_checkpoint» .epoch)
+    ∷ leb (f .«justification_bits») 15
+    ∷ isSmall (f .«previous_justified_checkpoint» .epoch)
+    ∷ isSmall (f .«current_justified_checkpoint» .epoch)
+    ∷ isSmall (f .«finalized_checkpoint» .epoch)
+    ∷ []
+    )
 
 unfoldable pub goodValidator : Validator → Bool
-goodValidator v = leb (v .slashed) 1 && leb (v .«previous_epoch_participation») 255 && leb (v .«current_epoch_participation») 255
+goodValidator v = every (leb (v .slashed) 1 ∷ leb (v .«previous_epoch_participation») 255 ∷ leb (v .«current_epoch_participation») 255 ∷ [])
 
 unfoldable pub goodRegistry : List ℕ → Bool
 goodRegistry registry = all goodValidator (decode registry)
@@ -114,22 +117,22 @@ closingBuffer contents (value u) (value a) opening closing = contents a
 
 unfoldable pub justificationTests : Settings → List ℕ → Finality → List ℕ → Checked (Unit {0})
 justificationTests s roots f registry =
-    inOrder (settingsShaped s && rootsShaped s roots && registryShaped registry) (goodSettings s) (goodFinality f && goodRegistry registry)
+    inOrder (settingsShaped s ∷ rootsShaped s roots ∷ registryShaped registry ∷ []) (goodSettings s ∷ []) (goodFinality f ∷ goodRegistry registry ∷ [])
 
 -- inactivity and registry
 unfoldable pub registryTests : Settings → ℕ → ℕ → List ℕ → List ℕ → Checked (Unit {0})
 registryTests s stateSlot finalizedEpoch opening closing =
-    let shaped = settingsShaped s && registryShaped opening && sameLength opening closing in
-    inOrder shaped (goodSettings s) (isSmall stateSlot && isSmall finalizedEpoch && goodRegistry opening)
+    let shaped = settingsShaped s ∷ registryShaped opening ∷ sameLength opening closing ∷ [] in
+    inOrder shaped (goodSettings s ∷ []) (isSmall stateSlot ∷ isSmall finalizedEpoch ∷ goodRegistry opening ∷ [])
 
 unfoldable pub effectiveBalanceTests : Settings → List ℕ → List ℕ → Checked (Unit {0})
 effectiveBalanceTests s opening closing =
-    inOrder (settingsShaped s && registryShaped opening && sameLength opening closing) (goodSettings s) (goodRegistry opening)
+    inOrder (settingsShaped s ∷ registryShaped opening ∷ sameLength opening closing ∷ []) (goodSettings s ∷ []) (goodRegistry opening ∷ [])
 
 unfoldable pub slashingsResetTests : Settings → ℕ → List ℕ → List ℕ → Checked (Unit {0})
 slashingsResetTests s stateSlot opening closing =
-    inOrder (settingsShaped s && slashingsShaped s opening && sameLength opening closing) (goodSettings s) (isSmall stateSlot)
+    inOrder (settingsShaped s ∷ slashingsShaped s opening ∷ sameLength opening closing ∷ []) (goodSettings s ∷ []) (isSmall stateSlot ∷ [])
 
 -- flag rotation is lent no settings
 unfoldable pub rotationTests : List ℕ → List ℕ → Checked (Unit {0})
-rotationTests opening closing = inOrder (registryShaped opening && sameLength opening closing) true (goodRegistry opening)
+rotationTests opening closing = inOrder (registryShaped opening ∷ sameLength opening closing ∷ []) [] (goodRegistry opening ∷ [])

@@ -46,5 +46,5 @@ registryUpdatesTo stop s stateSlot finalizedEpoch vs =
 -- the registry step's tests, and "above N it is refusal 1"
 unfoldable pub registryToTests : ℕ → Settings → ℕ → ℕ → List ℕ → List ℕ → Checked (Unit {0})
 registryToTests stop s stateSlot finalizedEpoch opening closing =
-    let shaped = settingsShaped s && registryShaped opening && sameLength opening closing && leb stop (length opening / 10) in
-    inOrder shaped (goodSettings s) (isSmall stateSlot && isSmall finalizedEpoch && goodRegistry opening)
+    let shaped = settingsShaped s ∷ registryShaped opening ∷ sameLength opening closing ∷ leb stop (length opening / 10) ∷ [] in
+    inOrder shaped (goodSettings s ∷ []) (isSmall stateSlot ∷ isSmall finalizedEpoch ∷ goodRegistry opening ∷ [])

@@ -1,6 +1,6 @@
 -- 02, R-3: settings, fork and the Bellatrix pair.
 use mathlib.Core.Bool.{Bool, cond, _&&_, _||_, not}
-use mathlib.Core.List.{List}
+use mathlib.Core.List.{List, [], _∷_}
 use Prim.Native.Nat.{ℕ}
 use lib.Dec.{leb, eqb}
 use Rattle.definitions.specs.declared.Settings.{Settings}
@@ -9,6 +9,7 @@ use Rattle.definitions.specs.declared.Rules.{Rules}
 use Rattle.definitions.specs.Checked.{Checked}
 use Rattle.definitions.specs.Refusals.{inOrder, isSmall, settingsShaped, goodSettings, registryShaped, slashingsShaped, sameLength, goodRegistry}
 use Rattle.definitions.specs.LeafRefusals.{entryShaped, goodEntry}
+use Rattle.definitions.specs.Lists.{every}
 
 -- the forks' numbers, as 02 has them in R-10
 abbrev pub «ALTAIR» : ℕ
@@ -67,9 +68,12 @@ rulesShaped r = settingsShaped (r .settings) && leb (r .fork) «BELLATRIX»
 
 unfoldable pub goodBellatrix : Bellatrix → Bool
 goodBellatrix b =
+    every (
     not (eqb (b .«inactivity_penalty_quotient_bellatrix») 0)
-    && isSmall (b .«inactivity_penalty_quotient_bellatrix»)
-    && isSmall (b .«proportional_slashing_multiplier_bellatrix»)
+    ∷ isSmall (b .«inactivity_penalty_quotient_bellatrix»)
+    ∷ isSmall (b .«proportional_slashing_multiplier_bellatrix»)
+    ∷ []
+    )
 
 unfoldable pub goodRules : Rules → Bool
 goodRules r = goodSettings (r .settings) && (isAltair r || goodBellatrix (r .bellatrix))
@@ -79,14 +83,14 @@ goodRules r = goodSettings (r .settings) && (isAltair r || goodBellatrix (r .bel
 -- process_rewards_and_penalties
 unfoldable pub rewardsTests : Rules → ℕ → ℕ → List ℕ → List ℕ → Checked (Unit {0})
 rewardsTests r stateSlot finalizedEpoch opening closing =
-    let shaped = rulesShaped r && registryShaped opening && sameLength opening closing in
-    inOrder shaped (goodRules r) (isSmall stateSlot && isSmall finalizedEpoch && goodRegistry opening)
+    let shaped = rulesShaped r ∷ registryShaped opening ∷ sameLength opening closing ∷ [] in
+    inOrder shaped (goodRules r ∷ []) (isSmall stateSlot ∷ isSmall finalizedEpoch ∷ goodRegistry opening ∷ [])
 
 unfoldable pub slashingsTests : Rules → ℕ → List ℕ → List ℕ → List ℕ → Checked (Unit {0})
 slashingsTests r stateSlot slashings opening closing =
-    let shaped = rulesShaped r && slashingsShaped (r .settings) slashings && registryShaped opening && sameLength opening closing in
-    inOrder shaped (goodRules r) (isSmall stateSlot && goodRegistry opening)
+    let shaped = rulesShaped r ∷ slashingsShaped (r .settings) slashings ∷ registryShaped opening ∷ sameLength opening closing ∷ [] in
+    inOrder shaped (goodRules r ∷ []) (isSmall stateSlot ∷ goodRegistry opening ∷ [])
 
 -- get_inactivity_penalty_deltas
 unfoldable pub inactivityPenaltyTests : Rules → ℕ → List ℕ → Checked (Unit {0})
-inactivityPenaltyTests r stateSlot entry = inOrder (rulesShaped r && entryShaped entry) (goodRules r) (isSmall stateSlot && goodEntry entry)
+inactivityPenaltyTests r stateSlot entry = inOrder (rulesShaped r ∷ entryShaped entry ∷ []) (goodRules r ∷ []) (isSmall stateSlot ∷ goodEntry entry ∷ [])

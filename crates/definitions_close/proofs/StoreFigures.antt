@@ -4,7 +4,7 @@ use mathlib.Core.Path.{_≡_, refl}
 use Prim.Native.Nat.{ℕ}
 use lib.ListN.{replicate}
 use Rattle.definitions.specs.declared.Bellatrix.{Bellatrix}
-use Rattle.definitions.specs.Lists.{all, filter}
+use Rattle.definitions.specs.Lists.{all, filter, every}
 use Rattle.definitions.specs.Checked.{value, refused, badShape, badSettings, lateStart, noEntry, bind}
 use Rattle.definitions.specs.Refusals.{inOrder, afterTests, settingsShaped, goodSettings}
 use Rattle.definitions.specs.Rules.{rulesShaped, goodRules, goodBellatrix}
@@ -60,7 +60,7 @@ pub record Figures : Type 0 where
   pub full : addEntry (of altair bellatrix) (entry 144_897 0 none) ≡ refused badShape
 
 pub figures : Figures
-unfolding all filter bind inOrder afterTests settingsShaped goodSettings rulesShaped goodRules goodBellatrix entriesFrom lastOf keeps follows inSequence storeShaped goodEntries storeTests entryFor rulesAt readRules ofLast additionShaped startTest additionTests withEntry addEntry
+unfolding all filter bind inOrder afterTests settingsShaped goodSettings rulesShaped goodRules goodBellatrix entriesFrom lastOf keeps follows inSequence storeShaped goodEntries storeTests entryFor rulesAt readRules ofLast additionShaped startTest additionTests withEntry addEntry every
 figures =
     record {
       below = refl;

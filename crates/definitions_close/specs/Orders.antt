@@ -120,10 +120,10 @@ closingValidators c = decode (c .closingRegistry)
 -- as a later step's, of what it is lent, and 2 where the period is 2^48 or more
 unfoldable pub ninthTests : NinthCall → Checked (Unit {0})
 ninthTests c =
-    let lists = ordersShaped (c .running .orders) (c .orders) && lengthIs (room (c .orders)) (c .answers) in
-    let shaped = rulesShaped (c .rules) && registryShaped (c .closingRegistry) && lists in
-    let recorded = goodFinality (c .running .answer .finality) && goodRegistry (c .closingRegistry) in
-    bind (inOrder shaped (goodRules (c .rules) && isSmall (c .period)) recorded) (λ _.
+    let lists = ordersShaped (c .running .orders) (c .orders) ∷ lengthIs (room (c .orders)) (c .answers) ∷ [] in
+    let shaped = rulesShaped (c .rules) ∷ registryShaped (c .closingRegistry) ∷ lists in
+    let recorded = goodFinality (c .running .answer .finality) ∷ goodRegistry (c .closingRegistry) ∷ [] in
+    bind (inOrder shaped (goodRules (c .rules) ∷ isSmall (c .period) ∷ []) recorded) (λ _.
     queueTest (c .running .answer .queue) (closingValidators c))
 
 pub record NinthOutcome : Type 0 where

@@ -1,8 +1,7 @@
 -- The other calls that are lent the exit queue's pair (02, R-8), besides close and files: the registry step, and the exit of one validator.
 -- And the call that works the pair out.
 use mathlib.Core.Path.{_≡_}
-use mathlib.Core.Bool.{true}
-use mathlib.Core.List.{List}
+use mathlib.Core.List.{List, [], _∷_}
 use Prim.Native.Nat.{ℕ}
 use Rattle.definitions.specs.declared.Settings.{Settings}
 use Rattle.definitions.specs.declared.ExitQueue.{ExitQueue}
@@ -47,5 +46,5 @@ pub record QueueCloses (tests : Checked (Unit {0})) (work : Checked (List Valida
 -- the pair of a register, which is lent alone
 unfoldable pub foundQueue : List ℕ → QueueAnswer
 foundQueue registry =
-    let tests = inOrder (registryShaped registry) true (goodRegistry registry) in
+    let tests = inOrder (registryShaped registry ∷ []) [] (goodRegistry registry ∷ []) in
     queueAnswer (afterTests tests (value (decode registry))) (record { «last_epoch» = 0; number = 0 })

@@ -7,7 +7,7 @@ use lib.Dec.{leb, ltb, eqb}
 use lib.ListN.{length, getD, take, drop}
 use Rattle.definitions.specs.declared.Settings.{Settings}
 use Rattle.definitions.specs.declared.Rules.{Rules}
-use Rattle.definitions.specs.Lists.{all, filter}
+use Rattle.definitions.specs.Lists.{all, filter, every}
 use Rattle.definitions.specs.Checked.{Checked, value, refused, lateStart, noEntry, bind, codeOf, settle}
 use Rattle.definitions.specs.Refusals.{inOrder, afterTests, settingsNumbers}
 use Rattle.definitions.specs.Rules.{rulesShaped, goodRules}
@@ -81,9 +81,12 @@ lastOf (e ∷ f ∷ es) = lastOf (f ∷ es)
 -- "slots_per_epoch, S and L may not change"
 unfoldable pub keeps : Settings → Settings → Bool
 keeps s t =
+    every (
     eqb (s .«slots_per_epoch») (t .«slots_per_epoch»)
-    && eqb (s .«slots_per_historical_root») (t .«slots_per_historical_root»)
-    && eqb (s .«epochs_per_slashings_vector») (t .«epochs_per_slashings_vector»)
+    ∷ eqb (s .«slots_per_historical_root») (t .«slots_per_historical_root»)
+    ∷ eqb (s .«epochs_per_slashings_vector») (t .«epochs_per_slashings_vector»)
+    ∷ []
+    )
 
 -- "in a lent store starts must strictly rise": f stands behind e
 unfoldable pub follows : Entry → Entry → Bool
@@ -102,17 +105,20 @@ room s = length (s .numbers) / 23
 -- "and the count stay within the room", "forks are 0 or 1"; S and L of each entry are in range: `rulesShaped`
 unfoldable pub storeShaped : Store → Bool
 storeShaped s =
+    every (
     eqb (length (s .numbers) % 23) 0
-    && leb (s .count) (room s)
-    && all (λ e. rulesShaped (e .rules)) (entries s)
-    && inSequence (entries s)
+    ∷ leb (s .count) (room s)
+    ∷ all (λ e. rulesShaped (e .rules)) (entries s)
+    ∷ inSequence (entries s)
+    ∷ []
+    )
 
 -- Test 2, "which is asked of every entry (of its pair under fork 1 only)": `goodRules`
 unfoldable pub goodEntries : List Entry → Bool
 goodEntries es = all (λ e. goodRules (e .rules)) es
 
 unfoldable pub storeTests : Store → Checked (Unit {0})
-storeTests s = inOrder (storeShaped s) (goodEntries (entries s)) true
+storeTests s = inOrder (storeShaped s ∷ []) (goodEntries (entries s) ∷ []) []
 
 -- Reading: "the last entry whose start is not above its epoch"; "13, a read or close before the first start, or with an empty store"
 
@@ -143,7 +149,13 @@ ofLast test (refused r) = true
 -- "slots_per_epoch, S and L may not change, a full store takes no entry, forks are 0 or 1"
 unfoldable pub additionShaped : Store → Entry → Bool
 additionShaped s new =
-    storeShaped s && ltb (s .count) (room s) && rulesShaped (new .rules) && ofLast (λ e. keeps (e .rules .settings) (new .rules .settings)) (lastOf (entries s))
+    every (
+    storeShaped s
+    ∷ ltb (s .count) (room s)
+    ∷ rulesShaped (new .rules)
+    ∷ ofLast (λ e. keeps (e .rules .settings) (new .rules .settings)) (lastOf (entries s))
+    ∷ []
+    )
 
 -- "12, a new start not above the last one"
 unfoldable pub startTest : Store → Entry → Checked (Unit {0})
@@ -151,7 +163,7 @@ startTest s new = cond (ofLast (λ e. ltb (e .start) (new .start)) (lastOf (entr
 
 unfoldable pub additionTests : Store → Entry → Checked (Unit {0})
 additionTests s new =
-    afterTests (inOrder (additionShaped s new) (goodEntries (entries s) && goodRules (new .rules)) true) (startTest s new)
+    afterTests (inOrder (additionShaped s new ∷ []) (goodEntries (entries s) ∷ goodRules (new .rules) ∷ []) []) (startTest s new)
 
 -- the new entry stands behind those in use, and all else stays
 unfoldable pub withEntry : Store → Entry → Store

@@ -1,7 +1,7 @@
 -- The close with a store in place of settings, fork and pair. Document 02, R-10: "a read or close uses the last entry whose start is not above
 -- its epoch".
-use mathlib.Core.Bool.{Bool, true, _&&_}
-use mathlib.Core.List.{List}
+use mathlib.Core.Bool.{Bool, _&&_}
+use mathlib.Core.List.{List, [], _∷_}
 use Prim.Native.Nat.{ℕ, _/_}
 use Rattle.definitions.specs.declared.Rules.{Rules}
 use Rattle.definitions.specs.declared.Finality.{Finality}
@@ -12,6 +12,7 @@ use Rattle.definitions.specs.Raised.{noneRaised}
 use Rattle.definitions_close.specs.Amounts.{amountsShaped}
 use Rattle.definitions_close.specs.FullClose.{FullCall, FullOutcome, fullClose}
 use Rattle.definitions_close.specs.Store.{Entry, Store, entries, lastOf, ofLast, storeShaped, goodEntries, rulesAt}
+use Rattle.definitions.specs.Lists.{every}
 
 -- All that such a close is handed
 pub record StoreCall : Type 0 where
@@ -46,12 +47,10 @@ callBy c rules =
 -- Test 1: S and L are the same in all entries; "with an empty store, where tests that need a setting are skipped"
 unfoldable pub storeCallShaped : StoreCall → Bool
 storeCallShaped c =
-    let lent = registryShaped (c .registry) && sameLength (c .registry) (c .closingRegistry) && sameLength (c .slashings) (c .closingSlashings) in
+    let closing = sameLength (c .registry) (c .closingRegistry) ∷ sameLength (c .slashings) (c .closingSlashings) ∷ [] in
     let bySettings : Entry → Bool = λ e. rootsShaped (e .rules .settings) (c .roots) && slashingsShaped (e .rules .settings) (c .slashings) in
-    storeShaped (c .store)
-    && lent
-    && amountsShaped (c .registry) (c .amounts)
-    && ofLast bySettings (lastOf (entries (c .store)))
+    let lent = amountsShaped (c .registry) (c .amounts) ∷ ofLast bySettings (lastOf (entries (c .store))) ∷ closing in
+    every (storeShaped (c .store) ∷ registryShaped (c .registry) ∷ lent)
 
 -- "The epoch of a close is slot / slots_per_epoch", which is the same in all entries
 unfoldable pub rulesAtSlot : ℕ → List Entry → Checked Rules
@@ -61,7 +60,7 @@ rulesAtSlot slot es = bind (lastOf es) (λ e. rulesAt (slot / e .rules .settings
 unfoldable pub rulesFor : StoreCall → Checked Rules
 rulesFor c =
     let es = entries (c .store) in
-    afterTests (inOrder (storeCallShaped c) (goodEntries es) true) (rulesAtSlot (c .finality .slot) es)
+    afterTests (inOrder (storeCallShaped c ∷ []) (goodEntries es ∷ []) []) (rulesAtSlot (c .finality .slot) es)
 
 -- turned away by these: nothing is written
 abbrev pub turnedAway : StoreCall → ℕ → FullOutcome

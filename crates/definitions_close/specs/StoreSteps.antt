@@ -1,7 +1,7 @@
 -- A close by steps with a store in place of settings, fork and pair: 02, R-9 with R-10. Each call is lent the store, reads the rules for the epoch
 -- of the record that it finds, and is then the call with these rules. Words in quotation marks are the requests'.
-use mathlib.Core.Bool.{true, cond, _&&_}
-use mathlib.Core.List.{List}
+use mathlib.Core.Bool.{cond}
+use mathlib.Core.List.{List, [], _∷_}
 use Prim.Native.Nat.{ℕ}
 use lib.Dec.{eqb}
 use Rattle.definitions.specs.declared.Rules.{Rules}
@@ -89,9 +89,9 @@ ninthOf c = ninthBy c noRules
 unfoldable pub ninthRules : StoreNinthCall → Checked Rules
 ninthRules c =
     let es = entries (c .store) in
-    let lists = ordersShaped (c .running .orders) (c .orders) && lengthIs (room (c .orders)) (c .answers) in
-    let shaped = storeShaped (c .store) && registryShaped (c .closingRegistry) && lists in
-    afterTests (inOrder shaped (goodEntries es && isSmall (c .period)) true) (rulesAtSlot (c .running .answer .finality .slot) es)
+    let lists = ordersShaped (c .running .orders) (c .orders) ∷ lengthIs (room (c .orders)) (c .answers) ∷ [] in
+    let shaped = storeShaped (c .store) ∷ registryShaped (c .closingRegistry) ∷ lists in
+    afterTests (inOrder shaped (goodEntries es ∷ isSmall (c .period) ∷ []) []) (rulesAtSlot (c .running .answer .finality .slot) es)
 
 unfoldable pub carryBy : StoreNinthCall → Checked Rules → NinthOutcome
 carryBy c (value rules) = carryOut (ninthBy c rules)

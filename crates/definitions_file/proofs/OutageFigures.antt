@@ -4,7 +4,7 @@ use mathlib.Core.List.{List, [], _∷_, _++_, map}
 use mathlib.Core.Path.{_≡_, refl}
 use Prim.Native.Nat.{ℕ, _+_, _*_, _-_, _^_}
 use lib.ListN.{getD, replicate}
-use Rattle.definitions.specs.Lists.{range}
+use Rattle.definitions.specs.Lists.{range, every}
 use Rattle.definitions.specs.Record.{Validator, encode, decode, decodeFirst}
 use Rattle.definitions.specs.Checked.{bind}
 use Rattle.definitions_file.specs.File.{Contents, settingsFrom, noFinality, fromLittleEndian, numbersFromBytes, goodHeader, readTests, readFile, read}
@@ -66,7 +66,7 @@ pub record Figures : Type 0 where
   pub no-input : outage [] ≡ ascii "refused 6\n"
 
 pub figures : Figures
-unfolding prepared lastSlotOfNext putRoots withFlags flagsAt mapBelow encode decode decodeFirst range «compute_epoch_at_slot» «get_current_epoch» «compute_start_slot_at_epoch» outage textOf goodTail fromLittleEndian numbersFromBytes goodHeader readTests readFile read bind runText linesText changeTests netChange fitsSigned lines digits decimal signedDecimal
+unfolding prepared lastSlotOfNext putRoots withFlags flagsAt mapBelow encode decode decodeFirst range «compute_epoch_at_slot» «get_current_epoch» «compute_start_slot_at_epoch» outage textOf goodTail fromLittleEndian numbersFromBytes goodHeader readTests readFile read bind runText linesText changeTests netChange fitsSigned lines digits decimal signedDecimal every
 figures =
     record {
       slot = refl;

@@ -1,6 +1,6 @@
 -- The close of one file of a shelf, as if no other stood beside it. Document 02, R-5, and R-8: version 1 files "on a shelf .. get 6".
 use mathlib.Core.Bool.{cond, _&&_}
-use mathlib.Core.List.{List}
+use mathlib.Core.List.{List, [], _∷_}
 use Prim.Native.Nat.{ℕ}
 use lib.Dec.{leb, eqb}
 use Rattle.definitions.specs.declared.Bellatrix.{Bellatrix}
@@ -26,8 +26,8 @@ stateIn file =
 unfoldable pub fileTests : ℕ → Bellatrix → List ℕ → Checked (Unit {0})
 fileTests fork pair file =
     let c = contentsOf file in
-    let shaped = fileShaped file (c .registry) (c .slashings) && leb fork «BELLATRIX» in
-    let others = inOrder shaped (goodRules (rulesIn fork pair file)) (goodFinality (c .finality) && goodRegistry (c .registry)) in
+    let shaped = fileShaped file (c .registry) (c .slashings) ∷ leb fork «BELLATRIX» ∷ [] in
+    let others = inOrder shaped (goodRules (rulesIn fork pair file) ∷ []) (goodFinality (c .finality) ∷ goodRegistry (c .registry) ∷ []) in
     cond (goodHeader file && eqb (versionOf file) 2) (bind others (λ _. queueTest (queueIn file) (decode (c .registry)))) (refused badFile)
 
 -- the eight steps, as in every close

@@ -13,6 +13,7 @@ use Rattle.definitions.specs.Record.{Validator, decode}
 use Rattle.definitions.specs.Checked.{Checked, value, refused, badFile, numberOf, bind, codeOf, settle}
 use Rattle.definitions.specs.Refusals.{inOrder, isVectorLength, settingsShaped, registryShaped, rootsShaped, slashingsShaped, lengthIs, settingsNumbers, goodSettings, goodFinality, goodValidator, goodRegistry}
 use Rattle.definitions.specs.ExitQueue.{queueOf, isQueueOf, queueTest}
+use Rattle.definitions.specs.Lists.{every}
 
 -- Numbers: 8 bytes, little-endian
 
@@ -112,8 +113,8 @@ unfoldable pub writeTests : Contents → ExitQueue → List ℕ → Checked (Uni
 writeTests c q file =
     let s = c .settings in
     let called = fileLength 2 (length (c .registry) / 10) (s .«slots_per_historical_root») (s .«epochs_per_slashings_vector») in
-    let opening = settingsShaped s && registryShaped (c .registry) && rootsShaped s (c .roots) && slashingsShaped s (c .slashings) in
-    let others = inOrder (opening && lengthIs called file) (goodSettings s) (goodFinality (c .finality) && goodRegistry (c .registry)) in
+    let lent = rootsShaped s (c .roots) ∷ slashingsShaped s (c .slashings) ∷ lengthIs called file ∷ [] in
+    let others = inOrder (settingsShaped s ∷ registryShaped (c .registry) ∷ lent) (goodSettings s ∷ []) (goodFinality (c .finality) ∷ goodRegistry (c .registry) ∷ []) in
     bind others (λ _. queueTest q (decode (c .registry)))
 
 -- the lent file afterwards: untouched where it is refused
@@ -209,30 +210,36 @@ goodHeader bytes =
     let n = countOf bytes in
     let S = rootCountOf bytes in
     let L = slashingCountOf bytes in
+    every (
     leb 80 (length bytes)
-    && leb 1 version
-    && leb version 2
-    && sameNumbers (numbersFromBytes 10 bytes) (header version n S L)
-    && eqb (length bytes) (fileLength version n S L)
+    ∷ leb 1 version
+    ∷ leb version 2
+    ∷ sameNumbers (numbersFromBytes 10 bytes) (header version n S L)
+    ∷ eqb (length bytes) (fileLength version n S L)
+    ∷ []
+    )
 
 -- Test 1: N, S and L in range, S and L like their settings, and the two lent buffers as long as called for
 unfoldable pub fileShaped : List ℕ → List ℕ → List ℕ → Bool
 fileShaped bytes registry slashings =
     let s = contentsOf bytes .settings in
+    every (
     leb (countOf bytes) (2 ^ 24)
-    && isVectorLength (rootCountOf bytes)
-    && isVectorLength (slashingCountOf bytes)
-    && eqb (rootCountOf bytes) (s .«slots_per_historical_root»)
-    && eqb (slashingCountOf bytes) (s .«epochs_per_slashings_vector»)
-    && lengthIs (10 * countOf bytes) registry
-    && lengthIs (slashingCountOf bytes) slashings
+    ∷ isVectorLength (rootCountOf bytes)
+    ∷ isVectorLength (slashingCountOf bytes)
+    ∷ eqb (rootCountOf bytes) (s .«slots_per_historical_root»)
+    ∷ eqb (slashingCountOf bytes) (s .«epochs_per_slashings_vector»)
+    ∷ lengthIs (10 * countOf bytes) registry
+    ∷ lengthIs (slashingCountOf bytes) slashings
+    ∷ []
+    )
 
 -- 6, then 1, 2, 3, and R-8: "8, where a stored pair is not that of the register; tested after 3"
 unfoldable pub readTests : List ℕ → List ℕ → List ℕ → Checked (Unit {0})
 readTests bytes registry slashings =
     let c = contentsOf bytes in
-    let recorded = goodFinality (c .finality) && goodRegistry (c .registry) in
-    let others = inOrder (fileShaped bytes registry slashings) (goodSettings (c .settings)) recorded in
+    let recorded = goodFinality (c .finality) ∷ goodRegistry (c .registry) ∷ [] in
+    let others = inOrder (fileShaped bytes registry slashings ∷ []) (goodSettings (c .settings) ∷ []) recorded in
     cond (goodHeader bytes) (bind others (λ _. queueTest (queueIn bytes) (decode (c .registry)))) (refused badFile)
 
 -- what is read, or the refusal; `registry` and `slashings` are the lent buffers

@@ -1,6 +1,5 @@
 -- What the lines tell, as numbers: refusal 0, or the refusal's number and zeros.
-use mathlib.Core.Bool.{true, _&&_}
-use mathlib.Core.List.{List}
+use mathlib.Core.List.{List, [], _∷_}
 use Prim.Native.Nat.{ℕ}
 use lib.IntN.{ℤ, pos}
 use lib.ListN.{getD}
@@ -21,7 +20,7 @@ use Rattle.definitions_file.specs.NetChange.{netChange}
 
 unfoldable pub headTests : Settings → ℕ → Finality → List ℕ → Checked (Unit {0})
 headTests s stateSlot closing opening =
-    inOrder (settingsShaped s && registryShaped opening) (goodSettings s) (goodFinality closing && (isSmall stateSlot && goodRegistry opening))
+    inOrder (settingsShaped s ∷ registryShaped opening ∷ []) (goodSettings s ∷ []) (goodFinality closing ∷ isSmall stateSlot ∷ goodRegistry opening ∷ [])
 
 abbrev pub headNumbers : Settings → ℕ → Finality → List ℕ → Head
 headNumbers s stateSlot closing opening =
@@ -50,7 +49,7 @@ headOf s stateSlot closing opening =
 -- The line of one validator
 
 unfoldable pub lineTests : List ℕ → List ℕ → ℕ → Checked (Unit {0})
-lineTests opening closing index = inOrder (registryShaped opening && sameLength opening closing && isIndex index opening) true true
+lineTests opening closing index = inOrder (registryShaped opening ∷ sameLength opening closing ∷ isIndex index opening ∷ []) [] []
 
 abbrev pub lineNumbers : List ℕ → List ℕ → ℕ → ℤ → Line
 lineNumbers opening closing index change =

@@ -1,13 +1,13 @@
 -- A shelf of records in one call. Document 02, R-5: "Record files of any lengths stand one behind another in a lent buffer, with a list of
 -- their lengths. The closing buffer is as long and takes the closed records as files in the same places."
 use mathlib.Core.Path.{_≡_}
-use mathlib.Core.Bool.{Bool, cond, _&&_}
+use mathlib.Core.Bool.{Bool, cond}
 use mathlib.Core.List.{List, [], _∷_, _++_}
 use Prim.Native.Nat.{ℕ, _*_}
 use lib.Dec.{leb, eqb}
 use lib.ListN.{length, take, drop}
 use Rattle.definitions.specs.declared.Bellatrix.{Bellatrix}
-use Rattle.definitions.specs.Lists.{sum, maximum}
+use Rattle.definitions.specs.Lists.{sum, maximum, every}
 use Rattle.definitions.specs.Checked.{numberOf, badShape}
 use Rattle.definitions.specs.Refusals.{lengthIs}
 use Rattle.definitions_file.specs.ClosedFile.{answerFor, partFor}
@@ -29,11 +29,14 @@ holdsLongest lengths numbers = leb (maximum 0 lengths) (8 * length numbers)
 -- of lengths, get refusal 1 for the whole call, and nothing is written."
 unfoldable pub shelfShaped : Shelf → Bool
 shelfShaped s =
+    every (
     eqb (sum (s .lengths)) (length (s .files))
-    && lengthIs (length (s .files)) (s .closing)
-    && holdsLongest (s .lengths) (s .openingNumbers)
-    && holdsLongest (s .lengths) (s .closingNumbers)
-    && lengthIs (length (s .lengths)) (s .answers)
+    ∷ lengthIs (length (s .files)) (s .closing)
+    ∷ holdsLongest (s .lengths) (s .openingNumbers)
+    ∷ holdsLongest (s .lengths) (s .closingNumbers)
+    ∷ lengthIs (length (s .lengths)) (s .answers)
+    ∷ []
+    )
 
 unfoldable pub shelfRefusal : Shelf → ℕ
 shelfRefusal s = cond (shelfShaped s) 0 (numberOf badShape)

@@ -1,5 +1,5 @@
 -- The same answer, worked out: from the registry with no unknown flag set and with all set.
-use mathlib.Core.Bool.{Bool, cond, _&&_}
+use mathlib.Core.Bool.{Bool, cond}
 use mathlib.Core.List.{List, [], _∷_}
 use Prim.Native.Nat.{ℕ, _+_, _/_}
 use lib.Dec.{leb, ltb, eqb}
@@ -58,8 +58,8 @@ votes b =
 -- Tests 1, 2 and 3: justification's, one mark a validator, and no mark over 3
 unfoldable pub votesTests : Settings → List ℕ → Finality → List ℕ → List ℕ → Checked (Unit {0})
 votesTests s roots f registry marks =
-    let shaped = settingsShaped s && rootsShaped s roots && registryShaped registry && lengthIs (length registry / 10) marks in
-    inOrder shaped (goodSettings s) (goodFinality f && goodRegistry registry && all goodMark marks)
+    let shaped = settingsShaped s ∷ rootsShaped s roots ∷ registryShaped registry ∷ lengthIs (length registry / 10) marks ∷ [] in
+    inOrder shaped (goodSettings s ∷ []) (goodFinality f ∷ goodRegistry registry ∷ all goodMark marks ∷ [])
 
 abbrev pub ballotOf : Settings → List ℕ → Finality → List ℕ → List ℕ → Ballot
 ballotOf s roots f registry marks = record { settings = s; roots = roots; finality = f; validators = decode registry; marks = marks }

@@ -22,14 +22,18 @@ use refusals::settings_shaped;
 pub fn settings_refusal(s: Settings) -> u64
     ensures { λ r. ⌜ r ≡ codeOf (settingsTests s) ⌝ }
 {
-    in_order(settings_shaped(s), good_settings(s), true)
+    in_order(&[settings_shaped(s)], &[good_settings(s)], &[])
 }
 
 // And test 3 on the state's slot.
 pub fn slot_refusal(s: Settings, state_slot: u64) -> u64
     ensures { λ r. ⌜ r ≡ codeOf (slotTests s «state_slot») ⌝ }
 {
-    in_order(settings_shaped(s), good_settings(s), is_small(state_slot))
+    in_order(
+        &[settings_shaped(s)],
+        &[good_settings(s)],
+        &[is_small(state_slot)],
+    )
 }
 
 // What is worked out once the tests have passed.

@@ -19,23 +19,22 @@ use refusals::in_order;
 use refusals::is_small;
 use refusals::settings_shaped;
 
-// Test 1 on S and L, and on the roots' length.
 pub fn roots_shaped(s: Settings, roots: &[u8]) -> bool
-    ensures { λ r. ⌜ r ≡ (settingsShaped s && rootsShaped s (now (roots .entry))) ⌝ }
+    ensures { λ r. ⌜ r ≡ rootsShaped s (now (roots .entry)) ⌝ }
 {
-    if !settings_shaped(s) {
+    if roots.len() % 32 != 0 {
         return false;
     }
-    roots.len() == 32 * (s.slots_per_historical_root as usize)
+    (roots.len() / 32) as u64 == s.slots_per_historical_root
 }
 
 pub fn root_refusal(s: Settings, roots: &[u8], state_slot: u64) -> u64
     ensures { λ r. ⌜ r ≡ codeOf (rootTests s (now (roots .entry)) «state_slot») ⌝ }
 {
     in_order(
-        roots_shaped(s, roots),
-        good_settings(s),
-        is_small(state_slot),
+        &[settings_shaped(s), roots_shaped(s, roots)],
+        &[good_settings(s)],
+        &[is_small(state_slot)],
     )
 }
 

@@ -1,121 +1,128 @@
--- The tests of reading: what is answered and where reading stops, test by test.
-use mathlib.Core.Path.{_≡_, refl, ap, _∙_}
+-- The tests of reading: what is answered and where reading stops.
+use mathlib.Core.Path.{_≡_, refl, sym, ap, _∙_}
 use mathlib.Core.Bool.{Bool, true, false, _&&_, and-false, and-assoc}
 use mathlib.Core.List.{List, [], _∷_}
 use Prim.Native.Nat.{ℕ, _*_, _^_, _≤_, _<_}
-use borrow.Author.Tests.{lt-ltb, le-ltb, lt-leb, eq-eqb, ne-eqb, leb-true, eqb-true}
+use native.Mathlib.Omega.{arith}
+use borrow.Author.Tests.{lt-ltb, le-ltb, lt-leb, ne-eqb, eqb-true}
 use lib.Dec.{leb, eqb}
-use lib.ListN.{length, drop}
+use lib.ListN.{length}
 use Rattle.definitions.specs.declared.Settings.{Settings}
 use Rattle.definitions.specs.declared.ExitQueue.{ExitQueue}
+use Rattle.definitions.specs.Lists.{every}
 use Rattle.definitions.specs.Record.{decode}
-use Rattle.definitions.specs.Checked.{bind}
-use Rattle.definitions.specs.Refusals.{inOrder, isVectorLength, settingsShaped, goodSettings, goodFinality, goodRegistry}
+use Rattle.definitions.specs.Checked.{Checked, value, refused, bind, codeOf}
+use Rattle.definitions.specs.Refusals.{inOrder, isVectorLength, settingsShaped, lengthIs, goodSettings, goodFinality, goodRegistry}
 use Rattle.definitions.specs.ExitQueue.{queueOf, isQueueOf, queueTest}
-use Rattle.definitions_file.specs.File.{numbersFromBytes, versionOf, validatorsAt, queueFrom, queueIn, noQueue, read, settingsAt, settingsFrom, countOf, rootCountOf, slashingCountOf, contentsOf, goodHeader, fileShaped, readTests, stoppedAt, position}
-use Rattle.refusals.proofs.All.{both}
-use Rattle.round_trip.proofs.Tests.{tests}
-use Rattle.file_refusals.specs.Tests.{countsShaped, Answered, QueueAnswered, sameQueue}
+use Rattle.definitions_file.specs.File.{versionOf, validatorsAt, queueFrom, queueIn, noQueue, read, countOf, rootCountOf, slashingCountOf, contentsOf, goodHeader, fileShaped, readTests, stoppedAt, position}
+use Rattle.laws.proofs.Tests.{and-true, in-order}
 use Rattle.laws.proofs.Queue.{is-its-own}
+use Rattle.refusals.proofs.Answers.{passed}
+use Rattle.round_trip.proofs.Passed.{good-header}
+use Rattle.file_refusals.specs.Tests.{otherTests, Answered, QueueAnswered, sameQueue}
 
--- Test 1
+-- 1, 2 and 3
 
-abbrev pub settingsIn : List ℕ → Settings
-settingsIn bytes = settingsFrom (numbersFromBytes 19 (drop settingsAt bytes))
-
-abbrev pub countsIn : List ℕ → Bool
-countsIn bytes = countsShaped (countOf bytes) (rootCountOf bytes) (slashingCountOf bytes) (settingsIn bytes .«slots_per_historical_root») (settingsIn bytes .«epochs_per_slashings_vector»)
-
--- the definition's tests of the vectors stand between those of the counts
-vectors-fail : (a b c : Bool) → (b && c) ≡ false → (a && b && c) ≡ false
-vectors-fail a b c e = and-assoc a b c ∙ ap (λ (t : Bool). a && t) e ∙ and-false a
-
-counts-fail : (a b c d e : Bool) → (a && d && e) ≡ false → (a && b && c && d && e) ≡ false
-counts-fail false b c d e f = refl
-counts-fail true false c d e f = refl
-counts-fail true true false d e f = refl
-counts-fail true true true d e f = f
-
-record Counted (bytes : List ℕ) : Type 0 where
-  few : leb (countOf bytes) (2 ^ 24) ≡ true
-  roots : rootCountOf bytes ≡ settingsIn bytes .«slots_per_historical_root»
-  slashings : slashingCountOf bytes ≡ settingsIn bytes .«epochs_per_slashings_vector»
-
-counted : (bytes : List ℕ) → countsIn bytes ≡ true → Counted bytes
-unfolding countsShaped
-counted bytes t =
-    let s = settingsIn bytes in
-    let test = tests (leb (countOf bytes) (2 ^ 24)) (eqb (rootCountOf bytes) (s .«slots_per_historical_root») ∷ eqb (slashingCountOf bytes) (s .«epochs_per_slashings_vector») ∷ []) t in
-    record { few = test 0; roots = eqb-true _ _ (test 1); slashings = eqb-true _ _ (test 2) }
-
-pub few : (bytes : List ℕ) → countsIn bytes ≡ true → countOf bytes ≤ 2 ^ 24
-few bytes t = leb-true _ _ (counted bytes t .few)
+-- S and L are the settings' own, or the tests fail: so the settings may be tested in their place
+vectors : (S L : ℕ) (s : Settings) (more : Bool) → (settingsShaped s && (eqb S (s .«slots_per_historical_root») && (eqb L (s .«epochs_per_slashings_vector») && more))) ≡ (isVectorLength S && (isVectorLength L && (eqb S (s .«slots_per_historical_root») && (eqb L (s .«epochs_per_slashings_vector») && more))))
+unfolding settingsShaped
+vectors S L s more = go (eqb S (s .«slots_per_historical_root»)) (eqb L (s .«epochs_per_slashings_vector»)) refl refl
+  where
+    go : (a b : Bool) → eqb S (s .«slots_per_historical_root») ≡ a → eqb L (s .«epochs_per_slashings_vector») ≡ b → ((isVectorLength (s .«slots_per_historical_root») && isVectorLength (s .«epochs_per_slashings_vector»)) && (a && (b && more))) ≡ (isVectorLength S && (isVectorLength L && (a && (b && more))))
+    go true true e f = rw (eqb-true S (s .«slots_per_historical_root») e, eqb-true L (s .«epochs_per_slashings_vector») f) (and-assoc (isVectorLength (s .«slots_per_historical_root»)) (isVectorLength (s .«epochs_per_slashings_vector»)) more)
+    go true false e f = simp and-false
+    go false b e f = simp and-false
 
 module _ (bytes registry slashings : List ℕ) where
-  pub unlike-counts : countsIn bytes ≡ false → false ≡ fileShaped bytes registry slashings
-  unfolding fileShaped contentsOf countsShaped
-  unlike-counts e = rw (counts-fail _ (isVectorLength (rootCountOf bytes)) (isVectorLength (slashingCountOf bytes)) _ _ e)
+  -- the tests under 1, as they are made
+  abbrev pub shapeTests : List Bool
+  shapeTests =
+      let s = contentsOf bytes .settings in
+      leb (countOf bytes) (2 ^ 24)
+      ∷ settingsShaped s
+      ∷ eqb (rootCountOf bytes) (s .«slots_per_historical_root»)
+      ∷ eqb (slashingCountOf bytes) (s .«epochs_per_slashings_vector»)
+      ∷ lengthIs (10 * countOf bytes) registry
+      ∷ lengthIs (slashingCountOf bytes) slashings
+      ∷ []
 
-  pub other-registry : (length registry ≡ 10 * countOf bytes → ⊥) → false ≡ fileShaped bytes registry slashings
-  unfolding fileShaped
-  other-registry z = rw (ne-eqb _ _ z, and-false)
+  pub shape-tested : (settings recorded : List Bool) → inOrder shapeTests settings recorded ≡ inOrder (fileShaped bytes registry slashings ∷ []) settings recorded
+  unfolding inOrder fileShaped every
+  shape-tested settings recorded = rw vectors (simp and-true)
 
-  module _ (t : countsIn bytes ≡ true) where
-    pub not-vectors : settingsShaped (settingsIn bytes) ≡ false → false ≡ fileShaped bytes registry slashings
-    unfolding fileShaped settingsShaped
-    not-vectors e =
-        let c = counted bytes t in
-        let v : (isVectorLength (rootCountOf bytes) && isVectorLength (slashingCountOf bytes)) ≡ false = rw (c .roots, c .slashings) e in
-        rw (vectors-fail (leb (countOf bytes) (2 ^ 24)) (isVectorLength (rootCountOf bytes)) (isVectorLength (slashingCountOf bytes)) v)
+-- refused, and not with 3: the shape or the settings failed. With 3: neither, but one of the last two
+sooner : (t s f r : Bool) → let x = codeOf (inOrder (t ∷ []) (s ∷ []) (f ∷ r ∷ [])) in (x ≡ 0 → ⊥) → (x ≡ 3 → ⊥) → (t && s) ≡ false
+unfolding inOrder every
+sooner true true true true z n = absurd (z refl)
+sooner true true true false z n = absurd (n refl)
+sooner true true false r z n = absurd (n refl)
+sooner true false f r z n = refl
+sooner false s f r z n = refl
 
-    -- the last test is the slashings'
-    pub shaped : settingsShaped (settingsIn bytes) ≡ true → length registry ≡ 10 * countOf bytes → eqb (length slashings) (slashingCountOf bytes) ≡ fileShaped bytes registry slashings
-    unfolding fileShaped settingsShaped contentsOf
-    shaped vectors e =
-        let c = counted bytes t in
-        let v : (isVectorLength (rootCountOf bytes) && isVectorLength (slashingCountOf bytes)) ≡ true = rw (c .roots, c .slashings) vectors in
-        let p = both (isVectorLength (rootCountOf bytes)) (isVectorLength (slashingCountOf bytes)) v in
-        rw (c .few, p .first, p .second, eq-eqb _ _ (c .roots), eq-eqb _ _ (c .slashings), eq-eqb _ _ e)
+third : (t s f r : Bool) → codeOf (inOrder (t ∷ []) (s ∷ []) (f ∷ r ∷ [])) ≡ 3 → ((t && s) ≡ true) × ((f && r) ≡ false)
+unfolding inOrder every
+third true true true true e = absurd (omega (arith, e))
+third true true true false e = (refl, refl)
+third true true false r e = (refl, refl)
+third true false f r e = absurd (omega (arith, e))
+third false s f r e = absurd (omega (arith, e))
 
-  -- 6, 1, 2, 3
+-- 6, then these: what is answered
 
+module _ (bytes registry slashings : List ℕ) where
   pub answered-short : length bytes < 80 → Answered bytes registry slashings 6 0 noQueue
-  unfolding readTests position goodHeader read bind
+  unfolding readTests position goodHeader read bind every
   answered-short l = record { number = rw (lt-leb _ _ l); place = rw (lt-ltb _ _ l); pair = rw (lt-leb _ _ l) }
 
-  module _ (l : 80 ≤ length bytes) where
-    pub answered-header : goodHeader bytes ≡ false → Answered bytes registry slashings 6 80 noQueue
+  pub answered-header : 80 ≤ length bytes → goodHeader bytes ≡ false → Answered bytes registry slashings 6 80 noQueue
+  unfolding readTests position read bind
+  answered-header l h = record { number = rw h; place = rw (le-ltb _ _ l, h); pair = rw h }
+
+  abbrev others : Checked (Unit {0})
+  others = otherTests bytes registry slashings (goodRegistry (contentsOf bytes .registry))
+
+  module _ (h : goodHeader bytes ≡ true) {x : ℕ} (e : x ≡ codeOf others) where
+    enough : 80 ≤ length bytes
+    enough = good-header bytes h .enough
+
+    others-refused : (x ≡ 0 → ⊥) → {at : ℕ} → at ≡ position bytes registry slashings → Answered bytes registry slashings x at noQueue
+    unfolding readTests read bind
+    others-refused z {at} p = go others refl
+      where
+        go : (m : Checked (Unit {0})) → others ≡ m → Answered bytes registry slashings x at noQueue
+        go (value u) q = absurd (z (e ∙ ap codeOf q))
+        go (refused r) q = record { number = rw (h, q) (e ∙ ap codeOf q); place = p; pair = rw (h, q) }
+
+    pub answered-sooner : (x ≡ 0 → ⊥) → (x ≡ 3 → ⊥) → Answered bytes registry slashings x 232 noQueue
+    unfolding position
+    answered-sooner z n =
+        let t = sooner (fileShaped bytes registry slashings) (goodSettings (contentsOf bytes .settings)) (goodFinality (contentsOf bytes .finality)) (goodRegistry (contentsOf bytes .registry)) (λ y. z (e ∙ y)) (λ y. n (e ∙ y)) in
+        others-refused z (rw (le-ltb _ _ enough, h, t))
+
+    module _ (n : x ≡ 3) where
+      among : ((fileShaped bytes registry slashings && goodSettings (contentsOf bytes .settings)) ≡ true) × ((goodFinality (contentsOf bytes .finality) && goodRegistry (contentsOf bytes .registry)) ≡ false)
+      among = third _ _ _ _ (sym e ∙ n)
+
+      pub answered-finality : goodFinality (contentsOf bytes .finality) ≡ false → Answered bytes registry slashings 3 368 noQueue
+      unfolding position
+      answered-finality f = rw n at (others-refused (λ y. omega (arith, y, n)) {at = 368} (rw (le-ltb _ _ enough, h, among .0, f)))
+
+      pub answered-registry : goodFinality (contentsOf bytes .finality) ≡ true → Answered bytes registry slashings 3 (stoppedAt (validatorsAt (versionOf bytes)) (decode (contentsOf bytes .registry))) noQueue
+      unfolding position
+      answered-registry f =
+          let r : goodRegistry (contentsOf bytes .registry) ≡ false = rw f at (among .1) in
+          rw n at (others-refused (λ y. omega (arith, y, n)) {at = stoppedAt (validatorsAt (versionOf bytes)) (decode (contentsOf bytes .registry))} (rw (le-ltb _ _ enough, h, among .0, f, r)))
+
+    pub answered-queue : x ≡ 0 → {y at : ℕ} {q : ExitQueue} → QueueAnswered bytes y at q → Answered bytes registry slashings y at q
     unfolding readTests position read bind
-    answered-header h = record { number = rw h; place = rw (le-ltb _ _ l, h); pair = rw h }
-
-    module _ (h : goodHeader bytes ≡ true) where
-      pub answered-shape : fileShaped bytes registry slashings ≡ false → Answered bytes registry slashings 1 232 noQueue
-      unfolding readTests position inOrder read bind
-      answered-shape t = record { number = rw (h, t); place = rw (le-ltb _ _ l, h, t); pair = rw (h, t) }
-
-      module _ (t : fileShaped bytes registry slashings ≡ true) where
-        pub answered-settings : goodSettings (contentsOf bytes .settings) ≡ false → Answered bytes registry slashings 2 232 noQueue
-        unfolding readTests position inOrder read bind
-        answered-settings s = record { number = rw (h, t, s); place = rw (le-ltb _ _ l, h, t, s); pair = rw (h, t, s) }
-
-        module _ (s : goodSettings (contentsOf bytes .settings) ≡ true) where
-          pub answered-finality : goodFinality (contentsOf bytes .finality) ≡ false → Answered bytes registry slashings 3 368 noQueue
-          unfolding readTests position inOrder read bind
-          answered-finality f = record { number = rw (h, t, s, f); place = rw (le-ltb _ _ l, h, t, s, f); pair = rw (h, t, s, f) }
-
-          module _ (f : goodFinality (contentsOf bytes .finality) ≡ true) where
-            pub answered-registry : goodRegistry (contentsOf bytes .registry) ≡ false → Answered bytes registry slashings 3 (stoppedAt (validatorsAt (versionOf bytes)) (decode (contentsOf bytes .registry))) noQueue
-            unfolding readTests position inOrder read bind
-            answered-registry r = record { number = rw (h, t, s, f, r); place = rw (le-ltb _ _ l, h, t, s, f, r); pair = rw (h, t, s, f, r) }
-
-            pub answered-queue : goodRegistry (contentsOf bytes .registry) ≡ true → {x at : ℕ} {q : ExitQueue} → QueueAnswered bytes x at q → Answered bytes registry slashings x at q
-            unfolding readTests position inOrder read bind
-            answered-queue r a =
-                record {
-                  number = rw (h, t, s, f, r) (a .number);
-                  place = rw (le-ltb _ _ l, h, t, s, f, r) (a .place);
-                  pair = rw (h, t, s, f, r) (a .pair);
-                }
+    answered-queue z a =
+        let p = in-order _ _ _ (sym e ∙ z) in
+        let m = passed others e z in
+        record {
+          number = rw (h, m) (a .number);
+          place = rw (le-ltb _ _ enough, h, p .shaped 0, p .settings 0, p .recorded 0, p .recorded 1) (a .place);
+          pair = rw (h, m) (a .pair);
+        }
 
 -- Test 8
 

@@ -4,16 +4,16 @@ use mathlib.Core.Bool.{Bool, true, false, cond}
 use mathlib.Core.List.{List, [], _∷_}
 use Prim.Native.Nat.{ℕ, zero, suc, _+_, _*_, _/_, _-_, _^_, _≤_, _<_}
 use native.Mathlib.Omega.{arith}
-use borrow.Author.Tests.{le-leb, lt-leb, eqb-true}
+use borrow.Author.Tests.{le-leb, lt-leb, eq-eqb, ne-eqb, eqb-true}
 use lib.Dec.{eqb}
 use lib.ListN.{length, getD, drop}
 use lib.Seq.{drop-drop}
 use Rattle.definitions.specs.Record.{Validator, decodeOne, decodeFirst, decode}
-use Rattle.definitions.specs.Lists.{all}
+use Rattle.definitions.specs.Lists.{all, every}
 use Rattle.definitions.specs.Refusals.{goodValidator, goodRegistry}
 use Rattle.definitions_file.specs.File.{numbersFromBytes, numberAt, badPlace, stoppedAt}
 use Rattle.laws.proofs.Encode.{length-decode}
-use Rattle.refusals.proofs.All.{both}
+use Rattle.laws.proofs.Tests.{both}
 use Rattle.round_trip.proofs.Numbers.{number-at, length-from-bytes}
 use Rattle.round_trip.proofs.Stopped.{stopped-at, small-place}
 use Rattle.file_refusals.specs.Tests.{limitAt}
@@ -49,7 +49,7 @@ module _ (bytes : List ℕ) (at m : ℕ) where
   number k l = number-at (10 * suc m) k (drop at bytes) (omega arith) ∙ rw drop-drop
 
   first-good : Allowed bytes at 10 → goodValidator first ≡ true
-  unfolding goodValidator first
+  unfolding goodValidator first every
   first-good a =
       rw (
         number 1 (omega arith),
@@ -66,7 +66,7 @@ module _ (bytes : List ℕ) (at m : ℕ) where
 
   -- a number above its limit is at one of the three places that have one
   bad-slashed : 1 < numberAt (at + 8) bytes → Bad 1
-  unfolding goodValidator badPlace first
+  unfolding goodValidator badPlace first every
   bad-slashed b =
       record {
         fails = rw (number 1 (omega arith), lt-leb _ _ b);
@@ -74,7 +74,7 @@ module _ (bytes : List ℕ) (at m : ℕ) where
       }
 
   bad-previous : Allowed bytes at 7 → 255 < numberAt (at + 56) bytes → Bad 7
-  unfolding goodValidator badPlace first
+  unfolding goodValidator badPlace first every
   bad-previous a b =
       record {
         fails = rw (number 1 (omega arith), number 7 (omega arith), le-leb _ _ (a 1 (omega arith)), lt-leb _ _ b);
@@ -82,7 +82,7 @@ module _ (bytes : List ℕ) (at m : ℕ) where
       }
 
   bad-current : Allowed bytes at 8 → 255 < numberAt (at + 64) bytes → Bad 8
-  unfolding goodValidator badPlace first
+  unfolding goodValidator badPlace first every
   bad-current a b =
       record {
         fails = rw (number 1 (omega arith), number 7 (omega arith), number 8 (omega arith), le-leb _ _ (a 1 (omega arith)), le-leb _ _ (a 7 (omega arith)), lt-leb _ _ b);
@@ -151,7 +151,7 @@ unfolding all stoppedAt
 stopped-end offset [] e = omega arith
 stopped-end offset (v ∷ vs) e =
     let p = both (goodValidator v) (all goodValidator vs) e in
-    rw (p .first) (stopped-end (offset + 80) vs (p .second) ∙ omega arith)
+    rw (p .0) (stopped-end (offset + 80) vs (p .1) ∙ omega arith)
 
 stopped-short : (offset : ℕ) (vs : List Validator) → all goodValidator vs ≡ false → stoppedAt offset vs < offset + 80 * length vs
 stopped-short offset vs e = let s = stopped-at offset vs e in omega (arith, small-place (s .first), s .inside, s .there)
@@ -160,21 +160,13 @@ module _ (bytes : List ℕ) (from n : ℕ) where
   count : length (registryIn bytes from n) ≡ n
   count = length-decode n (numbersFromBytes (10 * n) (drop from bytes)) (length-from-bytes (10 * n) (drop from bytes))
 
-  pub registry-good : stoppedAt from (registryIn bytes from n) ≡ from + 80 * n → goodRegistry (numbersFromBytes (10 * n) (drop from bytes)) ≡ true
+  pub registry-tested : eqb (stoppedAt from (registryIn bytes from n)) (from + 80 * n) ≡ goodRegistry (numbersFromBytes (10 * n) (drop from bytes))
   unfolding goodRegistry
-  registry-good e = go (all goodValidator (registryIn bytes from n)) refl
+  registry-tested = go (all goodValidator (registryIn bytes from n)) refl
     where
-      go : (t : Bool) → all goodValidator (registryIn bytes from n) ≡ t → all goodValidator (registryIn bytes from n) ≡ true
-      go true g = g
-      go false g = absurd (omega (arith, stopped-short from (registryIn bytes from n) g, count))
-
-  pub registry-bad : (stoppedAt from (registryIn bytes from n) ≡ from + 80 * n → ⊥) → goodRegistry (numbersFromBytes (10 * n) (drop from bytes)) ≡ false
-  unfolding goodRegistry
-  registry-bad z = go (all goodValidator (registryIn bytes from n)) refl
-    where
-      go : (t : Bool) → all goodValidator (registryIn bytes from n) ≡ t → all goodValidator (registryIn bytes from n) ≡ false
-      go true g = absurd (z (stopped-end from (registryIn bytes from n) g ∙ omega (arith, count)))
-      go false g = g
+      go : (t : Bool) → all goodValidator (registryIn bytes from n) ≡ t → eqb (stoppedAt from (registryIn bytes from n)) (from + 80 * n) ≡ t
+      go true g = eq-eqb _ _ (stopped-end from (registryIn bytes from n) g ∙ omega (arith, count))
+      go false g = ne-eqb _ _ (λ (e : stoppedAt from (registryIn bytes from n) ≡ from + 80 * n). omega (arith, stopped-short from (registryIn bytes from n) g, count))
 
 -- The pair: an exit epoch is the fourth number of its entry
 

@@ -107,10 +107,7 @@ pub fn good_header(bytes: &[u8]) -> bool
         return false;
     }
     let called_for = header_of(version, validators, roots, slashings);
-    if !same_numbers(&found, &called_for) {
-        return false;
-    }
-    true
+    same_numbers(&found, &called_for)
 }
 
 // N, S, L and the version.

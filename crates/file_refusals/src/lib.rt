@@ -1,25 +1,36 @@
 // The tests of a record file: what reading answers and where it stops, and what writing answers.
+ghost use mathlib.Core.Bool.{true};
 ghost use mathlib.Core.Path.{_≡_};
 ghost use Prim.Native.Nat.{_+_, _*_, _≤_};
 ghost use lib.ListN.{length, drop};
 ghost use Rattle.definitions.specs.Record.{decode};
 ghost use Rattle.definitions.specs.Checked.{codeOf};
 ghost use Rattle.definitions.specs.ExitQueue.{queueOf};
-ghost use Rattle.definitions_file.specs.File.{numbersFromBytes, validatorsAt, versionOf, countOf, fileShaped, stoppedAt, writeTests, contentsWith};
-ghost use Rattle.file_refusals.specs.Tests.{limitAt, countsShaped, nothingAt, Answered, QueueAnswered, sameQueue, writeShaped};
+ghost use Rattle.definitions_file.specs.File.{numbersFromBytes, validatorsAt, versionOf, countOf, goodHeader, stoppedAt, writeTests, contentsWith};
+ghost use Rattle.file_refusals.specs.Tests.{limitAt, otherTests, nothingAt, Answered, QueueAnswered, sameQueue};
 
 pub mod file_header;
 
-use crate::file_header::Counts;
 use crate::file_header::FINALITY;
 use crate::file_header::PAIR;
 use crate::file_header::SETTINGS;
+use crate::file_header::as_long;
+use crate::file_header::good_header;
+use crate::file_header::read_counts;
+use crate::file_header::validators_at;
 use definitions::ExitQueue;
 use definitions::Finality;
 use definitions::Settings;
 use definitions_file::SETTINGS_AT;
+use epochs::roots::roots_shaped;
 use exit_queue::exited;
 use exit_queue::queue_of;
+use refusals::good_finality;
+use refusals::good_registry;
+use refusals::good_settings;
+use refusals::in_order;
+use refusals::registry_shaped;
+use refusals::settings_shaped;
 
 // Reading
 
@@ -53,40 +64,26 @@ fn first_bad(bytes: &[u8], from: usize, validators: usize) -> usize
     position
 }
 
-// Test 1 of the header's counts: N in range, S and L like the two settings that are lent as numbers.
-fn counts_shaped(counts: Counts, root_count: u64, slashing_count: u64) -> bool
-    ensures { λ r. ⌜ r ≡ countsShaped (counts .validators) (counts .roots) (counts .slashings) «root_count» «slashing_count» ⌝ }
+// 1, then 2 and 3, of a file whose header is good. `whole` tells whether every number of the registry is.
+fn other_tests(bytes: &[u8], registry: &[u64], slashings: &[u64], whole: bool) -> u64
+    requires { ⌜ goodHeader (now bytes) ≡ true ⌝ }
+    ensures { λ r. ⌜ r ≡ codeOf (otherTests (now (bytes .entry)) (now (registry .entry)) (now (slashings .entry)) whole) ⌝ }
 {
-    if 16777216 < counts.validators {
-        return false;
-    }
-    if counts.roots != root_count {
-        return false;
-    }
-    counts.slashings == slashing_count
-}
-
-// Test 1.
-fn file_shaped(bytes: &[u8], registry: &[u64], slashings: &[u64]) -> bool
-    requires { ⌜ 368 ≤ length (now bytes) ⌝ }
-    ensures { λ r. ⌜ r ≡ fileShaped (now (bytes .entry)) (now (registry .entry)) (now (slashings .entry)) ⌝ }
-{
-    let counts = crate::file_header::read_counts(bytes);
+    let counts = read_counts(bytes);
     let s = fields::read_settings(bytes);
-    if !counts_shaped(
-        counts,
-        s.slots_per_historical_root,
-        s.epochs_per_slashings_vector,
-    ) {
-        return false;
-    }
-    if !refusals::settings_shaped(s) {
-        return false;
-    }
-    if registry.len() as u64 != 10 * counts.validators {
-        return false;
-    }
-    slashings.len() as u64 == counts.slashings
+    let f = fields::read_finality(bytes);
+    in_order(
+        &[
+            counts.validators <= 16777216,
+            settings_shaped(s),
+            counts.roots == s.slots_per_historical_root,
+            counts.slashings == s.epochs_per_slashings_vector,
+            registry.len() as u64 == 10 * counts.validators,
+            slashings.len() as u64 == counts.slashings,
+        ],
+        &[good_settings(s)],
+        &[good_finality(f), whole],
+    )
 }
 
 // The pair of the validators' exit epochs, from the bytes: the registry goes into its buffer only once every test has passed.
@@ -167,63 +164,29 @@ pub fn read_tests(bytes: &[u8], registry: &[u64], slashings: &[u64]) -> Tested
     if bytes.len() < SETTINGS_AT {
         return refused(6, 0);
     }
-    if !crate::file_header::good_header(bytes) {
+    if !good_header(bytes) {
         return refused(6, SETTINGS);
     }
-    if !file_shaped(bytes, registry, slashings) {
-        return refused(1, FINALITY);
-    }
-    if !refusals::good_settings(fields::read_settings(bytes)) {
-        return refused(2, FINALITY);
-    }
-    if !refusals::good_finality(fields::read_finality(bytes)) {
-        return refused(3, PAIR);
-    }
-    let counts = crate::file_header::read_counts(bytes);
+    let counts = read_counts(bytes);
     let version = counts.version;
     let validators = counts.validators as usize;
-    let from = crate::file_header::validators_at(version) as usize;
+    let from = validators_at(version) as usize;
     let stopped = first_bad(bytes, from, validators);
-    if stopped != from + 80 * validators {
-        return refused(3, stopped as u64);
+    let whole = stopped == from + 80 * validators;
+    let others = other_tests(bytes, registry, slashings, whole);
+    if others == 0 {
+        return queue_tests(bytes, version, from, validators);
     }
-    queue_tests(bytes, version, from, validators)
+    if others != 3 {
+        return refused(others, FINALITY);
+    }
+    if !good_finality(fields::read_finality(bytes)) {
+        return refused(3, PAIR);
+    }
+    refused(3, stopped as u64)
 }
 
 // Writing
-
-// Test 1.
-fn write_shaped(
-    settings: Settings,
-    registry: &[u64],
-    roots: &[u8],
-    slashings: &[u64],
-    file: &[u8],
-) -> bool
-    ensures { λ r. ⌜ r ≡ writeShaped settings (now (registry .entry)) (now (roots .entry)) (now (slashings .entry)) (now (file .entry)) ⌝ }
-{
-    if !refusals::settings_shaped(settings) {
-        return false;
-    }
-    if !refusals::registry_shaped(registry) {
-        return false;
-    }
-    let root_count = settings.slots_per_historical_root;
-    let slashing_count = settings.epochs_per_slashings_vector;
-    if roots.len() as u64 != 32 * root_count {
-        return false;
-    }
-    if slashings.len() as u64 != slashing_count {
-        return false;
-    }
-    crate::file_header::as_long(
-        file.len() as u64,
-        2,
-        (registry.len() / 10) as u64,
-        root_count,
-        slashing_count,
-    )
-}
 
 // 1, then 2, 3, then 8.
 pub fn write_tests(
@@ -240,17 +203,22 @@ pub fn write_tests(
         ≡ codeOf
         (writeTests (contentsWith settings finality (now (registry .entry)) (now (roots .entry)) (now (slashings .entry))) queue (now (file .entry))) ⌝ }
 {
-    if !write_shaped(settings, registry, roots, slashings, file) {
-        return 1;
-    }
-    if !refusals::good_settings(settings) {
-        return 2;
-    }
-    if !refusals::good_finality(finality) {
-        return 3;
-    }
-    if !refusals::good_registry(registry) {
-        return 3;
+    let n = (registry.len() / 10) as u64;
+    let root_count = settings.slots_per_historical_root;
+    let slashing_count = settings.epochs_per_slashings_vector;
+    let others = in_order(
+        &[
+            settings_shaped(settings),
+            registry_shaped(registry),
+            roots_shaped(settings, roots),
+            slashings.len() as u64 == slashing_count,
+            as_long(file.len() as u64, 2, n, root_count, slashing_count),
+        ],
+        &[good_settings(settings)],
+        &[good_finality(finality), good_registry(registry)],
+    );
+    if others != 0 {
+        return others;
     }
     let own = queue_of(registry);
     if !same_queue(queue, own) {

@@ -1,13 +1,11 @@
 -- What the tests of the finality leaves give once passed. `x` is the number that their code gave.
 use mathlib.Core.Path.{_≡_, sym, _∙_}
-use mathlib.Core.Bool.{_&&_}
 use Prim.Native.Nat.{ℕ, _^_, _<_}
 use Rattle.definitions.specs.declared.Settings.{Settings}
 use Rattle.definitions.specs.Checked.{codeOf}
-use Rattle.definitions.specs.Refusals.{settingsShaped, isSmall, goodSettings}
 use Rattle.definitions.specs.LeafRefusals.{finalizedTests}
-use Rattle.refusals.proofs.All.{both}
-use Rattle.refusals.proofs.Laws.{in-order, settings-shaped, good-settings, small}
+use Rattle.laws.proofs.Tests.{in-order}
+use Rattle.refusals.proofs.Laws.{settings-shaped, good-settings, small}
 use Rattle.epochs.proofs.Passed.{SlotPassed}
 use Rattle.definitions.specs.Rust.Phase0.EpochProcessing.{«get_finality_delay», «is_in_inactivity_leak»}
 use Rattle.arithmetic.proofs.Operations.{OnlyOverflow, only-value, only-sub64, only-bind}
@@ -19,11 +17,10 @@ pub record FinalizedPassed (s : Settings) (stateSlot finalizedEpoch : ℕ) : Typ
 pub finalized-passed : (s : Settings) (stateSlot finalizedEpoch : ℕ) {x : ℕ} → x ≡ codeOf (finalizedTests s stateSlot finalizedEpoch) → x ≡ 0 → FinalizedPassed s stateSlot finalizedEpoch
 unfolding finalizedTests
 finalized-passed s stateSlot finalizedEpoch e z =
-    let p = in-order (settingsShaped s) (goodSettings s) (isSmall stateSlot && isSmall finalizedEpoch) (sym e ∙ z) in
-    let q = both (isSmall stateSlot) (isSmall finalizedEpoch) (p .third) in
+    let p = in-order _ _ _ (sym e ∙ z) in
     record {
-      slot = record { settings = record { shape = settings-shaped s (p .first); good = good-settings s (p .second) }; slot = small stateSlot (q .first) };
-      finalized = small finalizedEpoch (q .second);
+      slot = record { settings = record { shape = settings-shaped s (p .shaped 0); good = good-settings s (p .settings 0) }; slot = small stateSlot (p .recorded 0) };
+      finalized = small finalizedEpoch (p .recorded 1);
     }
 
 -- the delay and the leak are refused only by overflow

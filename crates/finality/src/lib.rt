@@ -5,7 +5,7 @@ ghost use Prim.Native.Nat.{_+_, _/_, _%_, _^_, _≤_, _<_};
 ghost use lib.Dec.{eqb};
 ghost use Rattle.definitions.specs.Answers.{Says, SaysTruth};
 ghost use Rattle.definitions.specs.Checked.{codeOf};
-ghost use Rattle.definitions.specs.Refusals.{isSmall, afterTests};
+ghost use Rattle.definitions.specs.Refusals.{afterTests};
 ghost use Rattle.definitions.specs.LeafRefusals.{finalizedTests};
 ghost use Rattle.definitions.specs.Document.Phase0.EpochProcessing.{justifiedBits, finalizedBy, weighed};
 ghost use Rattle.definitions.specs.Rust.Phase0.EpochProcessing.{«get_finality_delay», «is_in_inactivity_leak»};
@@ -24,22 +24,13 @@ use refusals::in_order;
 use refusals::is_small;
 use refusals::settings_shaped;
 
-fn are_small(a: u64, b: u64) -> bool
-    ensures { λ r. ⌜ r ≡ (isSmall a && isSmall b) ⌝ }
-{
-    if !is_small(a) {
-        return false;
-    }
-    is_small(b)
-}
-
 pub fn finalized_refusal(s: Settings, state_slot: u64, finalized_epoch: u64) -> u64
     ensures { λ r. ⌜ r ≡ codeOf (finalizedTests s «state_slot» «finalized_epoch») ⌝ }
 {
     in_order(
-        settings_shaped(s),
-        good_settings(s),
-        are_small(state_slot, finalized_epoch),
+        &[settings_shaped(s)],
+        &[good_settings(s)],
+        &[is_small(state_slot), is_small(finalized_epoch)],
     )
 }
 

@@ -1,27 +1,27 @@
 -- An accepted close has the interface, so that demand 3 holds of the whole close.
 use mathlib.Core.Path.{_≡_, refl, sym, ap, _∙_, subst, subst₂}
-use mathlib.Core.Bool.{Bool, true, false, cond, _&&_, not}
+use mathlib.Core.Bool.{Bool, true, false, cond}
 use mathlib.Core.List.{List, [], _∷_, map, map-map, head-eq-of-cons-eq, tail-eq-of-cons-eq}
-use Prim.Native.Nat.{ℕ, zero, suc, _/_, _^_, _<_}
+use Prim.Native.Nat.{ℕ, _/_, _^_, _<_}
 use native.Mathlib.Nat.{div-le-self}
 use native.Mathlib.Omega.{arith}
-use lib.Dec.{T, leb, eqb, eqb→eq, ltb→lt}
-use lib.ListN.{length, getD, replicate}
+use borrow.Author.Tests.{ltb-true}
+use lib.Dec.{T, eqb, eqb→eq}
+use lib.ListN.{length, replicate}
 use Rattle.definitions.specs.declared.Settings.{Settings}
-use Rattle.definitions.specs.declared.Finality.{Finality}
-use Rattle.definitions.specs.Lists.{all, filter}
+use Rattle.definitions.specs.Lists.{filter}
 use Rattle.definitions.specs.Record.{BeaconState, encode, decode}
 use Rattle.definitions.specs.Checked.{Checked, value, refused, numberOf, codeOf, settle}
-use Rattle.definitions.specs.Refusals.{inOrder, isSmall, settingsNumbers, divisors, goodSettings, goodFinality, goodRegistry, afterTests, closingBuffer}
+use Rattle.definitions.specs.Refusals.{afterTests, closingBuffer}
 use Rattle.definitions.specs.Rust.Phase0.Helpers.{«compute_epoch_at_slot», «get_current_epoch», «get_validator_churn_limit»}
-use Rattle.definitions.specs.Rules.{settingsUnder, goodRules}
+use Rattle.definitions.specs.Rules.{settingsUnder}
 use Rattle.definitions.specs.Close.{«process_epoch», Call, stateOf, closeTests, closed, close}
-use Rattle.laws.proofs.Checked.{number-not-zero, not-value, bound}
+use Rattle.laws.proofs.Checked.{number-not-zero, bound}
 use Rattle.laws.proofs.Encode.{decode-encode}
-use Rattle.laws.proofs.Rules.{good-under, shared}
+use Rattle.laws.proofs.Rules.{shared}
+use Rattle.agreement.proofs.Bounds.{setting-small, close-passed}
 use Rattle.history.specs.Events.{Event, accepts, accepted, Least, Premises, Claim}
 use Rattle.history.specs.Demand3.{Close, returnedBy, event, closeOf, Demand3}
-use Rattle.history.proofs.Counting.{T-left, T-right}
 use Rattle.history.proofs.Shape.{EventShape, Shaped, EachShaped}
 use Rattle.history.proofs.Premises.{AtMost, least}
 use Rattle.history.proofs.Registry.{churn-enough}
@@ -30,38 +30,10 @@ use Rattle.history.proofs.EveryList.{claim}
 
 -- The tests: slot and lookahead are small, so that the activation epoch that a close gives is below FAR
 
-all-at : (p : ℕ → Bool) (xs : List ℕ) (i : ℕ) → i < length xs → T (all p xs) → T (p (getD xs i 0))
-unfolding all
-all-at p [] i l t = absurd (omega arith)
-all-at p (x ∷ xs) zero l t = T-left (p x) (all p xs) t
-all-at p (x ∷ xs) (suc i) l t = all-at p xs i (omega arith) (T-right (p x) (all p xs) t)
-
-passed : (a b c : Bool) {u : Unit {0}} → inOrder a b c ≡ value u → (b ≡ true) × T c
-unfolding inOrder
-passed true true true p = (refl, tt)
-passed true true false p = absurd (not-value p)
-passed true false c p = absurd (not-value p)
-passed false b c p = absurd (not-value p)
-
-small-lookahead : (s : Settings) → goodSettings s ≡ true → s .«max_seed_lookahead» < 2 ^ 48
-unfolding goodSettings
-small-lookahead s e = ltb→lt (s .«max_seed_lookahead») (2 ^ 48) (all-at isSmall (settingsNumbers s) 14 (omega arith) (T-right (all (λ n. not (eqb n 0)) (divisors s)) (all isSmall (settingsNumbers s)) (subst T (sym e) tt)))
-
-first-of : (a b c d e : Bool) → T (a && b && c && d && e) → T a
-first-of true b c d e t = tt
-first-of false b c d e t = t
-
-small-slot : (f : Finality) → T (goodFinality f) → f .slot < 2 ^ 48
-unfolding goodFinality
-small-slot f t =
-    ltb→lt (f .slot) (2 ^ 48)
-    (first-of (isSmall (f .slot)) (leb (f .«justification_bits») 15) (isSmall (f .«previous_justified_checkpoint» .epoch)) (isSmall (f .«current_justified_checkpoint» .epoch)) (isSmall (f .«finalized_checkpoint» .epoch)) t)
-
 tests-passed : (c : Call) {u : Unit {0}} → closeTests c ≡ value u → (c .finality .slot < 2 ^ 48) × (settingsUnder (c .rules) .«max_seed_lookahead» < 2 ^ 48)
-unfolding closeTests
 tests-passed c p =
-    let t = passed _ (goodRules (c .rules)) (goodFinality (c .finality) && goodRegistry (c .registry)) p in
-    (small-slot (c .finality) (T-left (goodFinality (c .finality)) (goodRegistry (c .registry)) (t .1)), small-lookahead (settingsUnder (c .rules)) (good-under (c .rules) (t .0)))
+    let t = close-passed c p .passed in
+    (ltb-true _ _ (t .small), setting-small (settingsUnder (c .rules)) (t .good) 14 (omega arith))
 
 -- The outcome of an accepted close
 

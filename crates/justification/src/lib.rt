@@ -23,7 +23,9 @@ use epochs::roots::roots_shaped;
 use refusals::good_finality;
 use refusals::good_registry;
 use refusals::good_settings;
+use refusals::in_order;
 use refusals::registry_shaped;
+use refusals::settings_shaped;
 use totals::active_total;
 use totals::balance_of;
 use totals::participating_total;
@@ -35,22 +37,15 @@ use weighing::weigh;
 pub fn justification_refusal(s: Settings, roots: &[u8], finality: Finality, registry: &[u64]) -> u64
     ensures { λ r. ⌜ r ≡ codeOf (justificationTests s (now (roots .entry)) finality (now (registry .entry))) ⌝ }
 {
-    if !roots_shaped(s, roots) {
-        return 1;
-    }
-    if !registry_shaped(registry) {
-        return 1;
-    }
-    if !good_settings(s) {
-        return 2;
-    }
-    if !good_finality(finality) {
-        return 3;
-    }
-    if !good_registry(registry) {
-        return 3;
-    }
-    0
+    in_order(
+        &[
+            settings_shaped(s),
+            roots_shaped(s, roots),
+            registry_shaped(registry),
+        ],
+        &[good_settings(s)],
+        &[good_finality(finality), good_registry(registry)],
+    )
 }
 
 // The weighing by the three totals of the registry, once the tests have passed. Each is an answer: it may have left 64 bits, and is wanted

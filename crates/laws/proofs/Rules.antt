@@ -1,6 +1,6 @@
 -- The settings under rules: the same but for the two that the pair takes the places of, and good where the rules are.
 use mathlib.Core.Path.{_≡_, refl}
-use mathlib.Core.Bool.{Bool, true, false, cond, _&&_, _||_, not}
+use mathlib.Core.Bool.{Bool, true, false, cond, _||_, not}
 use mathlib.Core.List.{List, [], _∷_}
 use Prim.Native.Nat.{ℕ, zero, suc}
 use lib.Dec.{leb, eqb}
@@ -11,7 +11,7 @@ use Rattle.definitions.specs.declared.Rules.{Rules}
 use Rattle.definitions.specs.Lists.{all}
 use Rattle.definitions.specs.Refusals.{isSmall, settingsShaped, settingsNumbers, divisors, goodSettings}
 use Rattle.definitions.specs.Rules.{isAltair, inPlace, settingsUnder, rulesShaped, goodBellatrix, goodRules}
-use Rattle.laws.proofs.Tests.{both}
+use Rattle.laws.proofs.Tests.{both, test}
 
 -- what holds of the settings with the pair in place or without
 pub by-fork : (r : Rules) (P : Settings → Type 0) → P (r .settings) → P (inPlace (r .bellatrix) (r .settings)) → P (settingsUnder r)
@@ -56,10 +56,9 @@ in-place-good b s h k =
     let multiplier = b .«proportional_slashing_multiplier_bellatrix» in
     let positive : ℕ → Bool = λ n. not (eqb n 0) in
     let old = both (all positive (divisors s)) (all isSmall (settingsNumbers s)) h in
-    let small = both (positive quotient && isSmall quotient) (isSmall multiplier) k in
-    let first = both (positive quotient) (isSmall quotient) (small .0) in
-    let places : all positive (divisors (inPlace b s)) ≡ true = all-set positive (divisors s) 4 quotient (old .0) (first .0) in
-    let numbers : all isSmall (settingsNumbers (inPlace b s)) ≡ true = all-set isSmall (set (settingsNumbers s) 12 quotient) 13 multiplier (all-set isSmall (settingsNumbers s) 12 quotient (old .1) (first .1)) (small .1) in
+    let pair = test _ k in
+    let places : all positive (divisors (inPlace b s)) ≡ true = all-set positive (divisors s) 4 quotient (old .0) (pair 0) in
+    let numbers : all isSmall (settingsNumbers (inPlace b s)) ≡ true = all-set isSmall (set (settingsNumbers s) 12 quotient) 13 multiplier (all-set isSmall (settingsNumbers s) 12 quotient (old .1) (pair 1)) (pair 2) in
     rw (places, numbers)
 
 pub good-under : (r : Rules) → goodRules r ≡ true → goodSettings (settingsUnder r) ≡ true

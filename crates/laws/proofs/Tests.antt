@@ -1,11 +1,15 @@
--- Truth values, and what is chosen by them.
-use mathlib.Core.Path.{_≡_, refl}
+-- Truth values, lists of tests, and what is chosen by them.
+use mathlib.Core.Path.{_≡_, refl, ap}
 use mathlib.Core.Bool.{Bool, true, false, cond, _&&_, _||_, false≢true}
-use Prim.Native.Nat.{ℕ, _-_, min}
+use mathlib.Core.List.{List, [], _∷_, _++_}
+use Prim.Native.Nat.{ℕ, zero, suc, _-_, min}
 use native.Mathlib.Omega.{arith}
 use borrow.Author.Tests.{ltb-true, ltb-false}
 use lib.Dec.{ltb}
-use Rattle.definitions.specs.Checked.{Checked, value}
+use lib.ListN.{getD}
+use Rattle.definitions.specs.Lists.{all, every}
+use Rattle.definitions.specs.Checked.{Checked, value, refused, badShape, badSettings, badRecord, codeOf}
+use Rattle.definitions.specs.Refusals.{inOrder}
 
 pub both : (a b : Bool) → (a && b) ≡ true → (a ≡ true) × (b ≡ true)
 both true b p = (refl, p)
@@ -13,6 +17,14 @@ both false b p = absurd (false≢true p)
 
 pub and-both : {a b : Bool} → a ≡ true → b ≡ true → (a && b) ≡ true
 and-both h k = rw (h, k)
+
+pub and-true : (b : Bool) → (b && true) ≡ b
+and-true true = refl
+and-true false = refl
+
+pub and-false : (b : Bool) → (b && false) ≡ false
+and-false true = refl
+and-false false = refl
 
 pub and-right : (a b c : Bool) → (b ≡ true → c ≡ true) → (a && b) ≡ true → (a && c) ≡ true
 and-right true b c h e = h e
@@ -35,3 +47,102 @@ lowered a b = go (ltb a b) refl
     go : (t : Bool) → ltb a b ≡ t → cond t 0 (a - b) ≡ a - min a b
     go true q = let l = ltb-true a b q in omega (arith, l)
     go false q = let l = ltb-false a b q in omega (arith, l)
+
+-- Lists of tests
+
+-- those that passed together: each, by its place
+pub test : (ts : List Bool) → every ts ≡ true → (i : ℕ) → getD ts i true ≡ true
+unfolding every
+test [] e i = refl
+test (t ∷ ts) e zero = both t (every ts) e .0
+test (t ∷ ts) e (suc i) = test ts (both t (every ts) e .1) i
+
+pub every-all : (ts : List Bool) → every ts ≡ all (λ t. t) ts
+unfolding every all
+every-all [] = refl
+every-all (true ∷ ts) = every-all ts
+every-all (false ∷ ts) = refl
+
+pub every-append : (ts us : List Bool) → every (ts ++ us) ≡ (every ts && every us)
+unfolding every
+every-append [] us = refl
+every-append (true ∷ ts) us = every-append ts us
+every-append (false ∷ ts) us = refl
+
+-- none of 1, 2 and 3 refused
+pub record InOrder (first second third : List Bool) : Type 0 where
+  pub shaped : (i : ℕ) → getD first i true ≡ true
+  pub settings : (i : ℕ) → getD second i true ≡ true
+  pub recorded : (i : ℕ) → getD third i true ≡ true
+
+-- by three truth values
+abbrev pub tested : Bool → Bool → Bool → Checked (Unit {0})
+tested a b c = cond a (cond b (cond c (value tt) (refused badRecord)) (refused badSettings)) (refused badShape)
+
+abbrev pub numbered : Bool → Bool → Bool → ℕ
+numbered a b c = codeOf (tested a b c)
+
+pub in-order : (shaped settings recorded : List Bool) → codeOf (inOrder shaped settings recorded) ≡ 0 → InOrder shaped settings recorded
+unfolding inOrder
+in-order shaped settings recorded e =
+    let all = go (every shaped) (every settings) (every recorded) e in
+    record { shaped = test shaped (all .0); settings = test settings (all .1); recorded = test recorded (all .2) }
+  where
+    go : (a b c : Bool) → numbered a b c ≡ 0 → (a ≡ true) × (b ≡ true) × (c ≡ true)
+    go true true true e = (refl, refl, refl)
+    go true true false e = absurd (omega arith)
+    go true false c e = absurd (omega arith)
+    go false b c e = absurd (omega arith)
+
+pub in-order-value : (shaped settings recorded : List Bool) {u : Unit {0}} → inOrder shaped settings recorded ≡ value u → InOrder shaped settings recorded
+in-order-value shaped settings recorded e = in-order shaped settings recorded (ap codeOf e)
+
+-- Tests made after others of their number, or after the number before. `x` is the number that the others gave.
+
+stays : (a b c d : Bool) {x : ℕ} → x ≡ numbered a b c → (x ≡ 0 → ⊥) → (x ≡ numbered a b (c && d)) × (x ≡ numbered a b (d && c))
+stays true true true d e n = absurd (n e)
+stays true true false true e n = (e, e)
+stays true true false false e n = (e, e)
+stays true false c d e n = (e, e)
+stays false b c d e n = (e, e)
+
+follows : (a b c d : Bool) {x : ℕ} → x ≡ numbered a b c → x ≡ 0 → (numbered a b (c && d) ≡ cond d 0 3) × (numbered a b (d && c) ≡ cond d 0 3)
+follows true true true true e z = (refl, refl)
+follows true true true false e z = (refl, refl)
+follows true true false d e z = absurd (omega (arith, e, z))
+follows true false c d e z = absurd (omega (arith, e, z))
+follows false b c d e z = absurd (omega (arith, e, z))
+
+module _ (shaped settings recorded more : List Bool) {x : ℕ} (e : x ≡ codeOf (inOrder shaped settings recorded)) where
+  -- the new ones stand behind the others, or before them
+  pub record-refused : (x ≡ 0 → ⊥) → (x ≡ codeOf (inOrder shaped settings (recorded ++ more))) × (x ≡ codeOf (inOrder shaped settings (more ++ recorded)))
+  unfolding inOrder
+  record-refused n = rw (every-append recorded more, every-append more recorded) (stays (every shaped) (every settings) (every recorded) (every more) e n)
+
+  pub record-tested : x ≡ 0 → (codeOf (inOrder shaped settings (recorded ++ more)) ≡ cond (every more) 0 3) × (codeOf (inOrder shaped settings (more ++ recorded)) ≡ cond (every more) 0 3)
+  unfolding inOrder
+  record-tested z = rw (every-append recorded more, every-append more recorded) (follows (every shaped) (every settings) (every recorded) (every more) e z)
+
+-- fewer pass where more do
+pub record-fewer : (shaped settings recorded more : List Bool) {u : Unit {0}} → inOrder shaped settings (recorded ++ more) ≡ value u → codeOf (inOrder shaped settings recorded) ≡ 0
+unfolding inOrder
+record-fewer shaped settings recorded more e = go (every shaped) (every settings) (every recorded) (rw (every-append recorded more) at (ap codeOf e))
+  where
+    go : (a b c : Bool) → numbered a b (c && every more) ≡ 0 → numbered a b c ≡ 0
+    go true true true e = refl
+    go true true false e = e
+    go true false c e = e
+    go false b c e = e
+
+-- A test that failed
+
+failed : (ts : List Bool) (i : ℕ) → getD ts i true ≡ false → every ts ≡ false
+unfolding every
+failed [] i e = e
+failed (t ∷ ts) zero e = rw e
+failed (true ∷ ts) (suc i) e = failed ts i e
+failed (false ∷ ts) (suc i) e = refl
+
+pub shape-failed : (shaped settings recorded : List Bool) (i : ℕ) → getD shaped i true ≡ false → 1 ≡ codeOf (inOrder shaped settings recorded)
+unfolding inOrder
+shape-failed shaped settings recorded i e = rw (failed shaped i e)

@@ -1,3 +1,2 @@
 -- Laws of the leaves' tests.
-pub mod Order
 pub mod Passed

@@ -4,7 +4,6 @@ ghost use Prim.Native.Nat.{_<_};
 ghost use Rattle.definitions.specs.Checked.{codeOf};
 ghost use Rattle.definitions.specs.LeafRefusals.{entryTests, finalizedEntryTests, settingsEntryTests, slotEntryTests, isParticipationEpoch, participationEntryTests};
 
-pub mod finalized;
 pub mod registry_refusals;
 
 use definitions::Settings;
@@ -12,6 +11,7 @@ use epochs::current_epoch;
 use epochs::previous_epoch;
 use refusals::good_entry;
 use refusals::good_settings;
+use refusals::in_order;
 use refusals::is_small;
 use refusals::settings_shaped;
 
@@ -21,54 +21,42 @@ pub fn entry_tests(entry: &[u64]) -> u64
     if entry.len() != 10 {
         return 1;
     }
-    if !good_entry(entry) {
-        return 3;
-    }
-    0
+    in_order(&[], &[], &[good_entry(entry)])
 }
 
 pub fn finalized_entry_tests(finalized_epoch: u64, entry: &[u64]) -> u64
     ensures { λ r. ⌜ r ≡ codeOf (finalizedEntryTests «finalized_epoch» (now (entry .entry))) ⌝ }
 {
-    let refusal = entry_tests(entry);
-    if refusal != 0 {
-        return refusal;
+    if entry.len() != 10 {
+        return 1;
     }
-    if !is_small(finalized_epoch) {
-        return 3;
-    }
-    0
+    in_order(&[], &[], &[is_small(finalized_epoch), good_entry(entry)])
 }
 
 pub fn settings_entry_tests(s: Settings, entry: &[u64]) -> u64
     ensures { λ r. ⌜ r ≡ codeOf (settingsEntryTests s (now (entry .entry))) ⌝ }
 {
-    if !settings_shaped(s) {
-        return 1;
-    }
     if entry.len() != 10 {
         return 1;
     }
-    if !good_settings(s) {
-        return 2;
-    }
-    if !good_entry(entry) {
-        return 3;
-    }
-    0
+    in_order(
+        &[settings_shaped(s)],
+        &[good_settings(s)],
+        &[good_entry(entry)],
+    )
 }
 
 pub fn slot_entry_tests(s: Settings, state_slot: u64, entry: &[u64]) -> u64
     ensures { λ r. ⌜ r ≡ codeOf (slotEntryTests s «state_slot» (now (entry .entry))) ⌝ }
 {
-    let refusal = settings_entry_tests(s, entry);
-    if refusal != 0 {
-        return refusal;
+    if entry.len() != 10 {
+        return 1;
     }
-    if !is_small(state_slot) {
-        return 3;
-    }
-    0
+    in_order(
+        &[settings_shaped(s)],
+        &[good_settings(s)],
+        &[is_small(state_slot), good_entry(entry)],
+    )
 }
 
 pub fn is_participation_epoch(s: Settings, state_slot: u64, epoch: u64) -> bool
@@ -92,11 +80,16 @@ pub fn participation_entry_tests(
 ) -> u64
     ensures { λ r. ⌜ r ≡ codeOf (participationEntryTests s «state_slot» «flag_index» epoch (now (entry .entry))) ⌝ }
 {
-    if 2 < flag_index {
+    if entry.len() != 10 {
         return 1;
     }
-    if !is_participation_epoch(s, state_slot, epoch) {
-        return 1;
-    }
-    slot_entry_tests(s, state_slot, entry)
+    in_order(
+        &[
+            settings_shaped(s),
+            flag_index <= 2,
+            is_participation_epoch(s, state_slot, epoch),
+        ],
+        &[good_settings(s)],
+        &[is_small(state_slot), good_entry(entry)],
+    )
 }

@@ -1,11 +1,9 @@
 -- What a close gives, by its refusal; of the closing buffers it asks the lengths alone.
 use mathlib.Core.List.{List}
-use mathlib.Core.Path.{_≡_, refl, _∙_}
+use mathlib.Core.Path.{_≡_, _∙_}
 use Prim.Native.Nat.{ℕ}
 use lib.ListN.{length}
-use Rattle.definitions_file.specs.File.{Contents, nothing}
-use Rattle.definitions.specs.Refusals.{inOrder, settingsShaped, closingBuffer}
-use Rattle.definitions.specs.Rules.{rulesShaped}
+use Rattle.definitions_file.specs.File.{Contents}
 use Rattle.definitions.specs.Close.{closeTests, closed, close}
 use Rattle.definitions_file.specs.Listing.{callOf}
 use Rattle.refusals.proofs.Answers.{same-buffer}
@@ -32,14 +30,3 @@ module _ (c : Contents) (xs ys : List ℕ) (us vs : List ℕ) (l : length xs ≡
   pub same-registry : close (callOf c xs ys) .refusal ≡ 0 → close (callOf c xs ys) .closingRegistry ≡ close (callOf c us vs) .closingRegistry
   unfolding close closed
   same-registry e = same-buffer _ (closeTests (callOf c xs ys)) _ (c .registry) xs us e ∙ rw same-tests
-
--- Nothing was read: the close refuses, and leaves its buffers
-
-module _ (registry slashings xs ys : List ℕ) where
-  pub nothing-registry : close (callOf (nothing registry slashings) xs ys) .closingRegistry ≡ xs
-  unfolding close closeTests inOrder rulesShaped settingsShaped closingBuffer
-  nothing-registry = refl
-
-  pub nothing-slashings : close (callOf (nothing registry slashings) xs ys) .closingSlashings ≡ ys
-  unfolding close closeTests inOrder rulesShaped settingsShaped closingBuffer
-  nothing-slashings = refl

@@ -1,6 +1,5 @@
--- Laws of a listing: reading, closing, the text, and the buffers.
+-- Laws of a listing: reading, closing, the text, and its room.
 pub mod Opened
 pub mod Closing
 pub mod Printed
-pub mod Same
-pub mod Sized
+pub mod Enough

@@ -1,56 +1,42 @@
--- What reading gives, by its refusal; of the lent buffers it asks the lengths alone.
-use mathlib.Core.Bool.{true, false}
-use mathlib.Core.List.{List, []}
-use mathlib.Core.Path.{_≡_}
-use Prim.Native.Nat.{ℕ}
-use native.Mathlib.Omega.{arith}
-use lib.ListN.{length}
-use Rattle.definitions.specs.Checked.{codeOf}
-use Rattle.definitions_file.specs.File.{contentsOf, nothing, goodHeader, fileShaped, readTests, readFile, read}
+-- What reading gives; of the lent buffers it asks the lengths alone.
+use mathlib.Core.Bool.{Bool, true, false}
+use mathlib.Core.List.{List}
+use mathlib.Core.Path.{_≡_, refl}
+use Prim.Native.Nat.{ℕ, _*_}
+use lib.ListN.{length, length-replicate, replicate}
+use Rattle.definitions_file.specs.File.{countOf, slashingCountOf, contentsOf, goodHeader, fileShaped, readTests, readFile, read, headerRead}
+use Rattle.definitions_file.specs.Listing.{opened}
 use Rattle.laws.proofs.Loops.Ran.{code-value}
-use Rattle.round_trip.proofs.Passed.{Passed, read-passed, Accepted, accepted}
+use Rattle.round_trip.proofs.Passed.{read-passed, Accepted, accepted}
 use Rattle.record_file.proofs.Reading as reading
-use Rattle.record_file.proofs.Reading.{code-bind}
 
-module _ (bytes registry slashings : List ℕ) where
-  code : read bytes registry slashings .refusal ≡ codeOf (readTests bytes registry slashings)
-  unfolding read readFile
-  code = code-bind (readTests bytes registry slashings) (contentsOf bytes)
+module _ (bytes registry slashings : List ℕ) (z : read bytes registry slashings .refusal ≡ 0) where
+  pub read-accepted : read bytes registry slashings .contents ≡ contentsOf bytes
+  read-accepted = reading.read-accepted bytes registry slashings (reading.read-code bytes registry slashings) z .contents
 
-  pub read-refused : (read bytes registry slashings .refusal ≡ 0 → ⊥) → read bytes registry slashings .contents ≡ nothing registry slashings
-  read-refused z = reading.read-refused bytes registry slashings code z .contents
+  pub read-lengths : reading.Lengths bytes registry slashings
+  read-lengths = reading.read-lengths bytes registry slashings (reading.read-code bytes registry slashings) z
 
-  module _ (z : read bytes registry slashings .refusal ≡ 0) where
-    pub read-accepted : read bytes registry slashings .contents ≡ contentsOf bytes
-    read-accepted = reading.read-accepted bytes registry slashings code z .contents
+  pub read-record : Accepted bytes
+  unfolding read
+  read-record =
+      accepted bytes registry slashings (read-passed bytes registry slashings (code-value (readFile bytes registry slashings) (contentsOf bytes) z))
 
-    pub read-lengths : reading.Lengths bytes registry slashings
-    read-lengths = reading.read-lengths bytes registry slashings code z
+pub opened-contents : (bytes : List ℕ) → opened bytes .refusal ≡ 0 → opened bytes .contents ≡ contentsOf bytes
+opened-contents bytes z = read-accepted bytes (replicate (10 * countOf bytes) 0) (replicate (slashingCountOf bytes) 0) z
 
-    tests-passed : Passed bytes registry slashings
-    unfolding read
-    tests-passed = read-passed bytes registry slashings (code-value (readFile bytes registry slashings) (contentsOf bytes) z)
+-- Buffers as long as those into which `opened` reads
 
-    pub read-header : goodHeader bytes ≡ true
-    read-header = tests-passed .header
+pub opened-same : (bytes registry slashings : List ℕ) → length registry ≡ 10 * countOf bytes → length slashings ≡ slashingCountOf bytes → read bytes registry slashings .refusal ≡ opened bytes .refusal
+unfolding read readFile readTests fileShaped
+opened-same bytes registry slashings l m =
+    rw (l, m, length-replicate {A = ℕ} (10 * countOf bytes) 0, length-replicate {A = ℕ} (slashingCountOf bytes) 0)
 
-    pub read-record : Accepted bytes
-    read-record = accepted bytes registry slashings tests-passed
+by-header : (bytes registry slashings : List ℕ) (g : Bool) → goodHeader bytes ≡ g → length registry ≡ 10 * headerRead bytes .validators → length slashings ≡ headerRead bytes .slashings → read bytes registry slashings .refusal ≡ opened bytes .refusal
+unfolding headerRead read readFile readTests
+by-header bytes registry slashings true q l m = opened-same bytes registry slashings (rw q at l) (rw q at m)
+by-header bytes registry slashings false q l m = rw q
 
--- no file is read into empty buffers: there is a slashing
-pub none-read : (bytes : List ℕ) → read bytes [] [] .refusal ≡ 0 → ⊥
-none-read bytes z =
-    let l = read-lengths bytes [] [] z in
-    let a = read-record bytes [] [] z in
-    omega (arith, l .sums, a .slashing-count, a .good .some-slashings)
-
-module _ (bytes registry slashings otherRegistry otherSlashings : List ℕ) where
-  -- buffers as long
-  pub alike : length registry ≡ length otherRegistry → length slashings ≡ length otherSlashings → read bytes registry slashings .refusal ≡ read bytes otherRegistry otherSlashings .refusal
-  unfolding read readFile readTests fileShaped
-  alike a b = rw (a, b)
-
-  -- no buffer serves
-  pub headless : goodHeader bytes ≡ false → read bytes registry slashings .refusal ≡ read bytes otherRegistry otherSlashings .refusal
-  unfolding read readFile readTests
-  headless h = rw h
+-- without a header no buffer serves
+pub header-same : (bytes registry slashings : List ℕ) → length registry ≡ 10 * headerRead bytes .validators → length slashings ≡ headerRead bytes .slashings → read bytes registry slashings .refusal ≡ opened bytes .refusal
+header-same bytes registry slashings l m = by-header bytes registry slashings (goodHeader bytes) refl l m

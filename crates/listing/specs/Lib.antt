@@ -1,6 +1,4 @@
--- What a listing leaves in lent buffers.
-pub mod Lent
 -- What the contract of a listed close cites.
 pub mod Listed
--- What the contract of listing a file cites.
+-- What the contracts of listing a file cite.
 pub mod Printed

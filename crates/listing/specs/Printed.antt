@@ -1,11 +1,24 @@
--- What listing a file leaves in the lent text.
+-- The buffers that a file is listed with, and what it leaves in the lent text.
 use mathlib.Core.Bool.{cond}
-use mathlib.Core.List.{List}
-use Prim.Native.Nat.{ℕ}
+use mathlib.Core.List.{List, _++_}
+use mathlib.Core.Path.{_≡_}
+use Prim.Native.Nat.{ℕ, _+_, _*_, _≤_}
 use lib.Dec.{leb}
-use lib.ListN.{length}
+use lib.ListN.{length, drop}
+use Rattle.definitions_file.specs.File.{headerRead}
 use Rattle.definitions_file.specs.Listing.{listing}
-use Rattle.listing.specs.Lent.{inFront}
+
+-- a file that is not too long, buffers as long as its header calls for, and text for the longest head and the longest line of each validator
+pub record Exact (bytes registry slashings closingRegistry closingSlashings text : List ℕ) : Type 0 where
+  pub short : length bytes ≤ 65536
+  pub entries : length registry ≡ 10 * headerRead bytes .validators
+  pub sums : length slashings ≡ headerRead bytes .slashings
+  pub closing-entries : length closingRegistry ≡ length registry
+  pub closing-sums : length closingSlashings ≡ length slashings
+  pub room : 207 + 127 * headerRead bytes .validators ≤ length text
+
+abbrev pub inFront : List ℕ → List ℕ → List ℕ
+inFront before xs = xs ++ drop (length xs) before
 
 -- the longest text: the head line and the lines of 814 validators, which are all that 65536 bytes hold
 abbrev pub longest : ℕ

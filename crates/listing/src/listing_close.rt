@@ -68,8 +68,7 @@ pub fn list_close(
     requires { ⌜ 207 + 127 * (length (now registry) / 10) ≤ length (now text) ⌝ }
     ensures { λ r. ⌜
         ListedClose (called (altairRules s) finality (now (registry .entry)) (now (slashings .entry)) (now (roots .entry)) (now («closing_registry» .entry))
-        (now («closing_slashings» .entry))) (now («closing_registry» .exit)) (now («closing_slashings» .exit)) (now (text .entry))
-        (now (text .exit)) r ⌝ }
+        (now («closing_slashings» .entry))) (now (text .entry)) (now (text .exit)) r ⌝ }
 {
     let closed = close_as_altair(
         s,

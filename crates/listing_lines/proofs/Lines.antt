@@ -12,7 +12,7 @@ use Rattle.definitions.specs.Refusals.{registryShaped}
 use Rattle.laws.proofs.Encode.{length-decode}
 use Rattle.refusals.proofs.Laws.{registry-shaped}
 use Rattle.fields.specs.Put.{Put}
-use Rattle.fields.proofs.decimals.Put.{put, put-more, put-length}
+use Rattle.fields.proofs.decimals.Put.{put-more, put-length}
 use Rattle.laws.proofs.Loops.Entry.{number-at}
 use Rattle.definitions_file.specs.Lines.{validatorLine, lines}
 

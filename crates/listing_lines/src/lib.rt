@@ -5,7 +5,8 @@ ghost use lib.ListN.{length};
 ghost use Rattle.definitions.specs.Record.{decode};
 ghost use Rattle.definitions.specs.Checked.{codeOf};
 ghost use Rattle.definitions_file.specs.NetChange.{changeTests};
-ghost use Rattle.definitions_file.specs.ListingAnswers.{headNumbers, headOf, lineOf};
+ghost use Rattle.definitions_file.specs.ListingAnswers.{headTests, headNumbers, headOf, lineTests, lineFor, lineOf};
+ghost use Rattle.listing_lines.specs.Told.{lineTold};
 
 pub mod numbers;
 pub mod text;
@@ -16,12 +17,16 @@ use definitions_file::Change;
 use definitions_file::Head;
 use definitions_file::Line;
 use epochs::current_epoch;
-use leaf_refusals::registry_refusals::slot_registry_tests;
 use numbers::net_change;
 use numbers::no_head;
 use numbers::no_line;
 use refusals::good_finality;
+use refusals::good_registry;
+use refusals::good_settings;
+use refusals::in_order;
+use refusals::is_small;
 use refusals::registry_shaped;
+use refusals::settings_shaped;
 use totals::charged_count;
 use totals::raising::raised_totals;
 
@@ -47,33 +52,37 @@ pub fn head_core(s: Settings, state_slot: u64, closing: Finality, opening: &[u64
     }
 }
 
+fn head_tests(s: Settings, state_slot: u64, closing: Finality, opening: &[u64]) -> u64
+    ensures { λ r. ⌜ r ≡ codeOf (headTests s «state_slot» closing (now (opening .entry))) ⌝ }
+{
+    in_order(
+        &[settings_shaped(s), registry_shaped(opening)],
+        &[good_settings(s)],
+        &[
+            good_finality(closing),
+            is_small(state_slot),
+            good_registry(opening),
+        ],
+    )
+}
+
 // Of the opening's slot and registry, and of what the close made of its finality.
 pub fn head(s: Settings, state_slot: u64, closing: Finality, opening: &[u64]) -> Head
     ensures { λ r. ⌜ r ≡ headOf s «state_slot» closing (now (opening .entry)) ⌝ }
 {
-    let refusal = slot_registry_tests(s, state_slot, opening);
+    let refusal = head_tests(s, state_slot, closing, opening);
     if refusal != 0 {
         return no_head(refusal);
-    }
-    if !good_finality(closing) {
-        return no_head(3);
     }
     head_core(s, state_slot, closing, opening)
 }
 
-// Of the validator's ten numbers in either registry.
-pub fn line(opening: &[u64], closing: &[u64], index: u64) -> Line
-    ensures { λ r. ⌜ r ≡ lineOf (now (opening .entry)) (now (closing .entry)) index ⌝ }
+// Of a validator that is known, from registries of a length.
+fn line_core(opening: &[u64], closing: &[u64], index: u64) -> Line
+    requires { ⌜ (length (now opening) ≡ 10 * (length (now opening) / 10)) × (length (now closing) ≡ length (now opening)) ⌝ }
+    requires { ⌜ index < length (now opening) / 10 ⌝ }
+    ensures { λ r. ⌜ r ≡ lineFor (lineTold (now (opening .entry)) (now (closing .entry)) index) ⌝ }
 {
-    if !registry_shaped(opening) {
-        return no_line(1);
-    }
-    if closing.len() != opening.len() {
-        return no_line(1);
-    }
-    if (opening.len() / 10) as u64 <= index {
-        return no_line(1);
-    }
     let a = 10 * (index as usize);
     let balance_at = a + 6;
     let score_at = a + 9;
@@ -91,6 +100,31 @@ pub fn line(opening: &[u64], closing: &[u64], index: u64) -> Line
         inactivity_score: closing[score_at],
         net_change: change,
     }
+}
+
+fn line_tests(opening: &[u64], closing: &[u64], index: u64) -> u64
+    ensures { λ r. ⌜ r ≡ codeOf (lineTests (now (opening .entry)) (now (closing .entry)) index) ⌝ }
+{
+    in_order(
+        &[
+            registry_shaped(opening),
+            closing.len() == opening.len(),
+            index < (opening.len() / 10) as u64,
+        ],
+        &[],
+        &[],
+    )
+}
+
+// Of the validator's ten numbers in either registry.
+pub fn line(opening: &[u64], closing: &[u64], index: u64) -> Line
+    ensures { λ r. ⌜ r ≡ lineOf (now (opening .entry)) (now (closing .entry)) index ⌝ }
+{
+    let refusal = line_tests(opening, closing, index);
+    if refusal != 0 {
+        return no_line(refusal);
+    }
+    line_core(opening, closing, index)
 }
 
 // Whether every validator's net change fits: 0, or 7 at the first that does not.

@@ -19,7 +19,7 @@ use Rattle.definitions_close.specs.Orders.{Order, ordersIn, room, mayExit, isDu
 use Rattle.laws.proofs.Encode.{length-decode, encode-decode, decode-encode}
 use Rattle.laws.proofs.Checked.{not-value}
 use Rattle.laws.proofs.Loops.Entry.{entryAt, entry-is, number-at}
-use Rattle.refusals.proofs.All.{both}
+use Rattle.laws.proofs.Tests.{both}
 use Rattle.exit_queue.specs.Exits.{exitAt, Leaves}
 use Rattle.exit_queue.proofs.exits.Exits.{exit-by-numbers}
 use Rattle.exit_queue.specs.declared.Turn.{Turn}
@@ -65,7 +65,7 @@ module _ (epoch period least limit delay n : ℕ) (xs : List ℕ) (long : length
     unfolding mayExit
     may e =
         let a = both («is_active_validator» v epoch) (eqb (v .«exit_epoch») «FAR_FUTURE_EPOCH») e in
-        rw (inside, a .first, a .second)
+        rw (inside, a .0, a .1)
 
     pub early : entryMayExit epoch v ≡ true → isDue epoch period v start ≡ false → {q : ExitQueue} → q ≡ queueOf vs → Tries m xs xs (record { refusal = 10; queue = q })
     unfolding orderBy
@@ -84,7 +84,7 @@ module _ (epoch period least limit delay n : ℕ) (xs : List ℕ) (long : length
     unfolding «is_active_validator»
     active-since e =
         let a = both («is_active_validator» v epoch) (eqb (v .«exit_epoch») «FAR_FUTURE_EPOCH») e in
-        leb-true (v .«activation_epoch») epoch (both (leb (v .«activation_epoch») epoch) (ltb epoch (v .«exit_epoch»)) (a .first) .first)
+        leb-true (v .«activation_epoch») epoch (both (leb (v .«activation_epoch») epoch) (ltb epoch (v .«exit_epoch»)) (a .0) .0)
 
     -- by the validator's part of the registry, and its activation epoch there
     pub may-part : entryMayExit epoch (decodeOne (entryAt xs validator)) ≡ true → entryMayExit epoch v ≡ true

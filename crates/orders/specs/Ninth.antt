@@ -1,7 +1,6 @@
 -- The tests of the ninth call as the code groups them, and what it does once they have passed.
 use mathlib.Core.Path.{_≡_}
-use mathlib.Core.Bool.{Bool, true, _&&_}
-use mathlib.Core.List.{List, _++_}
+use mathlib.Core.List.{List, [], _∷_, _++_}
 use Prim.Native.Nat.{ℕ, _*_, _/_, _≤_}
 use lib.ListN.{length, drop}
 use Rattle.definitions.specs.declared.Settings.{Settings}
@@ -16,18 +15,11 @@ use Rattle.agreement.specs.Bounds.{Passed}
 use Rattle.definitions_close.specs.declared.Running.{Running}
 use Rattle.definitions_close.specs.Orders.{room, ordersIn, ordersShaped, carriedOut, answersTo, NinthOutcome, endedWith}
 
-abbrev pub listsShaped : ℕ → List ℕ → List ℕ → Bool
-listsShaped count orders answers = ordersShaped count orders && lengthIs (room orders) answers
-
--- tests 1 and 2, but for the period
-unfoldable pub rulesTests : Rules → ℕ → List ℕ → List ℕ → List ℕ → Checked (Unit {0})
-rulesTests r count registry orders answers =
-    inOrder (rulesShaped r && (registryShaped registry && listsShaped count orders answers)) (goodRules r) true
-
--- but for 3 of the registry's entries, and 8
+-- the tests but for 3 of the registry's entries, and 8
 unfoldable pub lentTests : Rules → ℕ → Finality → ℕ → List ℕ → List ℕ → List ℕ → Checked (Unit {0})
 lentTests r period f count registry orders answers =
-    inOrder (rulesShaped r && registryShaped registry && listsShaped count orders answers) (goodRules r && isSmall period) (goodFinality f)
+    inOrder (rulesShaped r ∷ registryShaped registry ∷ ordersShaped count orders ∷ lengthIs (room orders) answers ∷ []) (goodRules r ∷ isSmall period ∷ [])
+    (goodFinality f ∷ [])
 
 -- What they tell once passed, by the settings under the rules
 pub record Ready (s : Settings) (running : Running) (registry orders answers : List ℕ) : Type 0 where

@@ -26,10 +26,7 @@ use validator_exit::exit_in_place;
 fn takes_orders(done: u64) -> bool
     ensures { λ r. ⌜ r ≡ (leb 1 done && leb done 8) ⌝ }
 {
-    if done < 1 {
-        return false;
-    }
-    done <= 8
+    (1 <= done) & (done <= 8)
 }
 
 // Two numbers an order, and no more orders in use than there is room for.
@@ -37,10 +34,7 @@ pub fn orders_shaped(count: u64, orders: &[u64]) -> bool
     ensures { λ r. ⌜ r ≡ ordersShaped count (now (orders .entry)) ⌝ }
 {
     let n = orders.len();
-    if n % 2 != 0 {
-        return false;
-    }
-    count <= (n / 2) as u64
+    (n % 2 == 0) & (count <= (n / 2) as u64)
 }
 
 fn put_order(count: usize, validator: u64, start: u64, orders: &mut [u64])
@@ -104,10 +98,7 @@ fn entry_may_exit(epoch: u64, entry: &[u64]) -> bool
     requires { ⌜ length (now entry) ≡ 10 ⌝ }
     ensures { λ r. ⌜ r ≡ entryMayExit epoch (decodeOne (now (entry .entry))) ⌝ }
 {
-    if !entry_is_active(entry, epoch) {
-        return false;
-    }
-    entry[EXIT_EPOCH] == FAR_FUTURE_EPOCH
+    entry_is_active(entry, epoch) & (entry[EXIT_EPOCH] == FAR_FUTURE_EPOCH)
 }
 
 // `activation` is at most the epoch, as an active validator's is.

@@ -1,11 +1,9 @@
 // The ninth call of a close by steps: its tests, and the orders carried out in order of arrival.
 ghost use mathlib.Core.Path.{_≡_};
-ghost use mathlib.Core.Bool.{true, _&&_};
 ghost use Rattle.definitions.specs.Checked.{codeOf};
-ghost use Rattle.definitions.specs.Refusals.{inOrder, settingsShaped, registryShaped, goodSettings};
 ghost use Rattle.definitions_close.specs.Orders.{ninthTests, carryOut};
 ghost use Rattle.definitions_close.specs.Calls.{ninthCalled, ninthOutcome};
-ghost use Rattle.orders.specs.Ninth.{listsShaped, rulesTests, lentTests, Ready, carriedUnder};
+ghost use Rattle.orders.specs.Ninth.{lentTests, Ready, carriedUnder};
 use crate::orders_shaped;
 use crate::try_all;
 use definitions::Finality;
@@ -17,57 +15,17 @@ use definitions_close::RunningAnswer;
 use epochs::current_epoch;
 use refusals::good_finality;
 use refusals::good_settings;
+use refusals::in_order;
 use refusals::is_small;
 use refusals::registry_shaped;
 use refusals::rules::rules_refusal;
 use refusals::rules::settings_under;
 use refusals::settings_shaped;
 use totals::churn_limit;
-use validator_exit::queue_tests::queue_refusal;
+use validator_exit::queue_tests::found_refusal;
 use validator_exit::see_registry;
 
-// Both lists: the second is as many orders long.
-pub fn lists_shaped(count: u64, orders: &[u64], answers: &[u64]) -> bool
-    ensures { λ r. ⌜ r ≡ listsShaped count (now (orders .entry)) (now (answers .entry)) ⌝ }
-{
-    if !orders_shaped(count, orders) {
-        return false;
-    }
-    answers.len() == orders.len() / 2
-}
-
-// Tests 1 and 2 by the settings.
-fn settings_tests(s: Settings, count: u64, registry: &[u64], orders: &[u64], answers: &[u64]) -> u64
-    ensures { λ r. ⌜
-        r
-        ≡ codeOf (inOrder (settingsShaped s && (registryShaped (now (registry .entry)) && listsShaped count (now (orders .entry)) (now (answers .entry))))
-        (goodSettings s) true) ⌝ }
-{
-    if !settings_shaped(s) {
-        return 1;
-    }
-    if !registry_shaped(registry) {
-        return 1;
-    }
-    if !lists_shaped(count, orders, answers) {
-        return 1;
-    }
-    if !good_settings(s) {
-        return 2;
-    }
-    0
-}
-
-// With fork and pair.
-fn rules_tests(rules: Rules, count: u64, registry: &[u64], orders: &[u64], answers: &[u64]) -> u64
-    ensures { λ r. ⌜ r ≡ codeOf (rulesTests rules count (now (registry .entry)) (now (orders .entry)) (now (answers .entry))) ⌝ }
-{
-    let s = rules.settings;
-    let by_settings = settings_tests(s, count, registry, orders, answers);
-    rules_refusal(rules, by_settings)
-}
-
-// With the period and the finality so far.
+// Tests 1 and 2, and 3 of the finality so far.
 fn lent_tests(
     rules: Rules,
     period: u64,
@@ -79,17 +37,18 @@ fn lent_tests(
 ) -> u64
     ensures { λ r. ⌜ r ≡ codeOf (lentTests rules period finality count (now (registry .entry)) (now (orders .entry)) (now (answers .entry))) ⌝ }
 {
-    let refusal = rules_tests(rules, count, registry, orders, answers);
-    if refusal != 0 {
-        return refusal;
-    }
-    if !is_small(period) {
-        return 2;
-    }
-    if !good_finality(finality) {
-        return 3;
-    }
-    0
+    let s = rules.settings;
+    let by_settings = in_order(
+        &[
+            settings_shaped(s),
+            registry_shaped(registry),
+            orders_shaped(count, orders),
+            answers.len() == orders.len() / 2,
+        ],
+        &[good_settings(s), is_small(period)],
+        &[good_finality(finality)],
+    );
+    rules_refusal(rules, by_settings)
 }
 
 // And with 3 of the registry's entries and 8, from one pass.
@@ -111,12 +70,9 @@ fn ninth_tests(
         return refusal;
     }
     let seen = see_registry(registry, 0);
-    if seen.refusal != 0 {
-        return 3;
-    }
     let queue = so_far.queue;
     let found = seen.queue;
-    queue_refusal(queue, found)
+    found_refusal(seen.refusal, queue, found)
 }
 
 // Once the tests have passed, by the settings under the rules. The churn limit stays while exits are made; the pair is moved at each.

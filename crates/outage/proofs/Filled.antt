@@ -14,15 +14,14 @@ use Rattle.definitions.specs.Refusals.{registryShaped, lengthIs}
 use Rattle.definitions_file.specs.File.{Contents, numbersFromBytes, countOf, slashingCountOf, contentsOf, read, contentsWith}
 use Rattle.definitions_file.specs.Listing.{opened}
 use Rattle.fields.proofs.Stores.{sets-whole}
-use Rattle.refusals.proofs.All.{both}
+use Rattle.laws.proofs.Tests.{both}
 use Rattle.refusals.proofs.Laws.{good-settings, good-finality}
 use Rattle.round_trip.proofs.Passed.{Accepted}
-use Rattle.listing.proofs.Opened.{read-accepted, read-record}
+use Rattle.listing.proofs.Opened.{opened-same, read-accepted, read-record}
 use Rattle.definitions_file.specs.OutageInput.{epochsIn, planOf, planFrom, goodTail}
 use Rattle.outage.specs.Ready.{Ready}
 use Rattle.outage.specs.Went.{Room}
 use Rattle.outage.specs.Lent.{Exact, Opened}
-use Rattle.outage.proofs.Text.{opened-same}
 
 -- the tail
 pub record Tail (n : ℕ) (tail : List ℕ) : Type 0 where
@@ -33,7 +32,7 @@ pub good-tail : (n : ℕ) (tail : List ℕ) → goodTail n tail ≡ true → Tai
 unfolding goodTail
 good-tail n tail e =
     let b = both (lengthIs (40 + 16 * n) tail) (leb (epochsIn tail) 4096) e in
-    record { long = eqb-true (length tail) (40 + 16 * n) (b .first); few = leb-true (epochsIn tail) 4096 (b .second) }
+    record { long = eqb-true (length tail) (40 + 16 * n) (b .0); few = leb-true (epochsIn tail) 4096 (b .1) }
 
 -- `t` is what the code says of the tail
 module _ (tail : List ℕ) {t : Bool} {k n : ℕ} (e : t ≡ goodTail k tail) (same : k ≡ n) where
@@ -65,19 +64,13 @@ module _ {file opening absences registry slashings roots closingRegistry closing
   recorded : Accepted file
   recorded = read-record file (replicate (10 * countOf file) 0) (replicate (slashingCountOf file) 0) (o .accepted)
 
-  pub read-contents : read file registry slashings .contents ≡ contentsOf file
-  read-contents = read-accepted file registry slashings (opened-same file registry slashings (x .entries) (x .sums) ∙ o .accepted)
-
-  pub roots-read : {part : List ℕ} → part ≡ read file registry slashings .contents .roots → part ≡ contentsOf file .roots
-  roots-read e = e ∙ ap (λ (c : Contents). c .roots) read-contents
-
-  pub roots-long : {part : List ℕ} → part ≡ read file registry slashings .contents .roots → length part ≡ length roots
-  roots-long e = ap length (roots-read e) ∙ omega (arith, recorded .good .roots, recorded .root-count, x .places)
+  pub roots-long : {part : List ℕ} → part ≡ contentsOf file .roots → length part ≡ length roots
+  roots-long e = ap length e ∙ omega (arith, recorded .good .roots, recorded .root-count, x .places)
 
   -- the record that the run is handed
-  pub filled : {copied part newRoots : List ℕ} → copied ≡ registry → part ≡ read file registry slashings .contents .roots → newRoots ≡ sets roots 0 part → contentsWith s f copied newRoots slashings ≡ contentsOf file
+  pub filled : {copied part newRoots : List ℕ} → copied ≡ registry → part ≡ contentsOf file .roots → newRoots ≡ sets roots 0 part → contentsWith s f copied newRoots slashings ≡ contentsOf file
   filled {part = part} a b d =
-      let r = d ∙ sets-whole roots part (roots-long b) ∙ roots-read b in
+      let r = d ∙ sets-whole roots part (roots-long b) ∙ b in
       let e = a ∙ o .entries in
       λ i. record { settings = o .settings i; finality = o .finality i; registry = e i; roots = r i; slashings = o .sums i }
 

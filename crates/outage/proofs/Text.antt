@@ -2,23 +2,17 @@
 use mathlib.Core.Bool.{true, false}
 use mathlib.Core.List.{List}
 use mathlib.Core.Path.{_≡_, sym, _∙_}
-use Prim.Native.Nat.{ℕ, _*_}
+use Prim.Native.Nat.{ℕ}
 use native.Mathlib.Omega.{arith}
-use lib.ListN.{length, length-replicate, replicate}
 use Rattle.definitions.specs.Checked.{bind}
-use Rattle.definitions_file.specs.File.{Contents, goodHeader, countOf, slashingCountOf, contentsOf, readTests, readFile, read}
+use Rattle.definitions_file.specs.File.{Contents, goodHeader, countOf, contentsOf, readTests, readFile, read}
 use Rattle.definitions_file.specs.Lines.{refusedLine}
 use Rattle.definitions_file.specs.Listing.{opened}
 use Rattle.listing.proofs.listing_close.Printed.{or-refused, or-text}
-use Rattle.listing.proofs.Opened.{read-accepted, alike}
+use Rattle.listing.proofs.Opened.{opened-contents}
 use Rattle.definitions_file.specs.OutageInput.{Plan, epochsIn, planFrom, goodTail}
 use Rattle.definitions_file.specs.OutageRun.{run}
 use Rattle.definitions_file.specs.Outage.{runText, textOf}
-
--- the buffers into which `opened` reads
-pub opened-same : (file registry slashings : List ℕ) → length registry ≡ 10 * countOf file → length slashings ≡ slashingCountOf file → read file registry slashings .refusal ≡ opened file .refusal
-opened-same file registry slashings l m =
-    alike file registry slashings (replicate (10 * countOf file) 0) (replicate (slashingCountOf file) 0) (l ∙ sym (length-replicate (10 * countOf file) 0)) (m ∙ sym (length-replicate (slashingCountOf file) 0))
 
 headless-six : (file : List ℕ) → goodHeader file ≡ false → 6 ≡ opened file .refusal
 unfolding read readFile readTests bind
@@ -37,10 +31,7 @@ module _ (file tail : List ℕ) where
     unfolding textOf
     text-tail g = or-text _ z ∙ rw g
 
-    opened-contents : opened file .contents ≡ contentsOf file
-    opened-contents = read-accepted file (replicate (10 * countOf file) 0) (replicate (slashingCountOf file) 0) z
-
     -- `c` is the file's record
     pub text-run : {c : Contents} {p : Plan} {epochs : ℕ} → c ≡ contentsOf file → p ≡ planFrom (countOf file) tail → epochs ≡ epochsIn tail → goodTail (countOf file) tail ≡ true → runText c (run p epochs c) ≡ textOf file tail
     unfolding textOf
-    text-run a b d g = rw (a, b, d) (sym (or-text _ z ∙ rw (g, opened-contents)))
+    text-run a b d g = rw (a, b, d) (sym (or-text _ z ∙ rw (g, opened-contents file z)))

@@ -123,7 +123,7 @@ fn put_read(
     ensures { λ r. ⌜ Printed (textOf (now (file .entry)) (now (tail .entry))) (now (text .entry)) (now (text .exit)) r ⌝ }
 {
     copy(&registry[..], opening);
-    let read_roots = file_roots(file, &registry[..], &slashings[..]);
+    let read_roots = file_roots(file);
     put_bytes(roots, 0, read_roots);
     read_numbers(tail, 40, absences);
     let epochs = read_number(tail, 0);

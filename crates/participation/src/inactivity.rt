@@ -21,7 +21,7 @@ use entries::entry_is_participating;
 use epochs::current_epoch;
 use epochs::previous_epoch;
 use finality::inactivity_leak;
-use leaf_refusals::finalized::registry_tests;
+use leaf_refusals::registry_refusals::registry_tests;
 use refusals::buffers::copy;
 use refusals::buffers::put_back;
 

@@ -12,6 +12,7 @@ use definitions::CURRENT_EPOCH_PARTICIPATION;
 use definitions::PREVIOUS_EPOCH_PARTICIPATION;
 use refusals::buffers::copy;
 use refusals::good_registry;
+use refusals::in_order;
 use refusals::registry_shaped;
 
 pub fn entry_rotate(entry: &mut [u64])
@@ -38,16 +39,11 @@ pub fn participation_flags_core(registry: &mut [u64])
 fn rotation_tests(opening: &[u64], closing: &[u64]) -> u64
     ensures { λ r. ⌜ r ≡ codeOf (rotationTests (now (opening .entry)) (now (closing .entry))) ⌝ }
 {
-    if !registry_shaped(opening) {
-        return 1;
-    }
-    if closing.len() != opening.len() {
-        return 1;
-    }
-    if !good_registry(opening) {
-        return 3;
-    }
-    0
+    in_order(
+        &[registry_shaped(opening), closing.len() == opening.len()],
+        &[],
+        &[good_registry(opening)],
+    )
 }
 
 pub fn process_participation_flag_updates(opening: &[u64], closing: &mut [u64]) -> u64

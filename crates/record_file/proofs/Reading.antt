@@ -1,17 +1,15 @@
 -- What a read answers and leaves, by what the tests gave.
 use mathlib.Core.Path.{_≡_, refl, sym, _∙_}
 use mathlib.Core.Bool.{true, false}
-use mathlib.Core.List.{List, [], _∷_}
-use Prim.Native.Nat.{ℕ, _+_, _-_, _*_, _^_}
+use mathlib.Core.List.{List}
+use Prim.Native.Nat.{ℕ, _-_, _*_}
 use native.Mathlib.Omega.{arith}
 use borrow.Author.Tests.{eqb-true}
-use lib.Dec.{leb, eqb}
-use lib.ListN.{length, take, drop}
+use lib.ListN.{length, drop}
 use Rattle.definitions.specs.Checked.{Checked, value, refused, bind, codeOf, settle}
-use Rattle.definitions.specs.Refusals.{isVectorLength, lengthIs}
-use Rattle.definitions_file.specs.File.{Contents, versionOf, validatorsAt, numbersFromBytes, slashingsAt, countOf, rootCountOf, slashingCountOf, rootsAt, fileLength, contentsOf, goodHeader, fileShaped, readTests, readFile, nothing, read, noHeader, headerRead}
+use Rattle.definitions_file.specs.File.{Contents, versionOf, validatorsAt, numbersFromBytes, slashingsAt, countOf, rootCountOf, slashingCountOf, fileLength, contentsOf, goodHeader, fileShaped, readTests, readFile, nothing, read, noHeader, headerRead}
 use Rattle.refusals.proofs.Answers.{passed}
-use Rattle.round_trip.proofs.Tests.{tests}
+use Rattle.laws.proofs.Tests.{test}
 use Rattle.round_trip.proofs.Passed.{Passed, read-passed, good-header}
 use Rattle.definitions_file.specs.declared.Header.{Header}
 
@@ -30,7 +28,7 @@ header-accepted bytes g n S L = rw (g, n, S, L)
 
 -- The whole file
 
-pub code-bind : {A : Type 0} (m : Checked (Unit {0})) (a : A) → codeOf (bind m (λ _. value a)) ≡ codeOf m
+code-bind : {A : Type 0} (m : Checked (Unit {0})) (a : A) → codeOf (bind m (λ _. value a)) ≡ codeOf m
 unfolding bind
 code-bind (value u) a = refl
 code-bind (refused r) a = refl
@@ -39,6 +37,10 @@ settle-refused : {A : Type 0} (m : Checked (Unit {0})) (a b : A) → (codeOf m �
 unfolding bind
 settle-refused (value u) a b z = absurd (z refl)
 settle-refused (refused r) a b z = refl
+
+pub read-code : (bytes registry slashings : List ℕ) → read bytes registry slashings .refusal ≡ codeOf (readTests bytes registry slashings)
+unfolding read readFile
+read-code bytes registry slashings = code-bind (readTests bytes registry slashings) (contentsOf bytes)
 
 -- the outcome of a read
 pub record Gives (bytes registry slashings : List ℕ) (refusal : ℕ) (c : Contents) : Type 0 where
@@ -55,19 +57,15 @@ pub record Lengths (bytes registry slashings : List ℕ) : Type 0 where
 lengths : {bytes registry slashings : List ℕ} → Passed bytes registry slashings → Lengths bytes registry slashings
 unfolding fileShaped
 lengths {bytes} {registry} {slashings} p =
-    let c = contentsOf bytes in
-    let n = countOf bytes in
-    let S = rootCountOf bytes in
-    let L = slashingCountOf bytes in
-    let test = tests (leb n (2 ^ 24)) (isVectorLength S ∷ isVectorLength L ∷ eqb S (c .settings .«slots_per_historical_root») ∷ eqb L (c .settings .«epochs_per_slashings_vector») ∷ lengthIs (10 * n) registry ∷ lengthIs L slashings ∷ []) (p .shaped) in
-    record { header = p .header; file = good-header bytes (p .header) .long; entries = eqb-true _ _ (test 5); sums = eqb-true _ _ (test 6) }
+    let sizes = test _ (p .shaped) in
+    record { header = p .header; file = good-header bytes (p .header) .long; entries = eqb-true _ _ (sizes 5); sums = eqb-true _ _ (sizes 6) }
 
 module _ (bytes registry slashings : List ℕ) {x : ℕ} (e : x ≡ codeOf (readTests bytes registry slashings)) where
   pub read-refused : (x ≡ 0 → ⊥) → Gives bytes registry slashings x (nothing registry slashings)
   unfolding read readFile
   read-refused z =
       record {
-        number = e ∙ sym (code-bind (readTests bytes registry slashings) (contentsOf bytes));
+        number = e ∙ sym (read-code bytes registry slashings);
         contents = settle-refused (readTests bytes registry slashings) (contentsOf bytes) (nothing registry slashings) (λ c. z (e ∙ c));
       }
 
@@ -89,13 +87,6 @@ module _ {bytes registry slashings : List ℕ} (l : Lengths bytes registry slash
   pub registry-part : numbersFromBytes (length registry) (drop (validatorsAt (versionOf bytes)) bytes) ≡ contentsOf bytes .registry
   unfolding contentsOf
   registry-part = rw (l .entries)
-
-  pub roots-part : take (length bytes - 8 * length slashings - (validatorsAt (versionOf bytes) + 8 * length registry)) (drop (validatorsAt (versionOf bytes) + 8 * length registry) bytes) ≡ contentsOf bytes .roots
-  unfolding contentsOf
-  roots-part =
-      let from : validatorsAt (versionOf bytes) + 8 * length registry ≡ rootsAt (versionOf bytes) (countOf bytes) = omega arith in
-      let size : length bytes - 8 * length slashings - rootsAt (versionOf bytes) (countOf bytes) ≡ 32 * rootCountOf bytes = omega arith in
-      rw (from, size)
 
   pub slashings-part : numbersFromBytes (length slashings) (drop (length bytes - 8 * length slashings) bytes) ≡ contentsOf bytes .slashings
   unfolding contentsOf

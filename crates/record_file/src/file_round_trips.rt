@@ -38,18 +38,19 @@ fn write_then_roots<'a>(
     roots: &[u8],
     slashings: &[u64],
     file: &'a mut [u8],
-    registry_read: &[u64],
-    slashings_read: &[u64],
 ) -> &'a [u8]
     ensures { λ r. ⌜
         (Passes (contentsWith settings finality (now (registry .entry)) (now (roots .entry)) (now (slashings .entry))) queue (now (file .entry))
-        (now («registry_read» .entry)) (now («slashings_read» .entry))
+        (now (registry .entry)) (now (slashings .entry))
         → now r
         ≡ now (roots .entry)) ⌝ }
 {
-    crate::write_file(settings, finality, queue, registry, roots, slashings, file);
+    let refusal = crate::write_file(settings, finality, queue, registry, roots, slashings, file);
     let bytes = &file[..];
-    crate::file_roots(bytes, registry_read, slashings_read)
+    if refusal != 0 {
+        return &bytes[0..0];
+    }
+    crate::file_roots(bytes)
 }
 
 // An accepted file of version 2, read and then written, is the same bytes.
@@ -63,8 +64,11 @@ fn read_then_write(
         (Accepted (now (bytes .entry)) (now (registry .entry)) (now (slashings .entry)) (now (file .entry))
         → SameBytes (now (bytes .entry)) r (now (file .exit))) ⌝ }
 {
-    let roots = crate::file_roots(bytes, &registry[..], &slashings[..]);
     let read = crate::read_file(bytes, registry, slashings);
+    if read.refusal != 0 {
+        return read.refusal;
+    }
+    let roots = crate::file_roots(bytes);
     let settings = read.settings;
     let finality = read.finality;
     let queue = read.queue;

@@ -5,7 +5,7 @@ ghost use mathlib.Core.List.{[]};
 ghost use lib.ListN.{length};
 ghost use lib.Seq.{sets};
 ghost use Rattle.definitions.specs.Checked.{codeOf};
-ghost use Rattle.definitions_file.specs.File.{validatorsAt, fileLength, versionOf, settingsFrom, noFinality, goodHeader, read, fileOf, writeTests, written, noHeader, headerRead, contentsWith};
+ghost use Rattle.definitions_file.specs.File.{validatorsAt, fileLength, versionOf, settingsFrom, noFinality, goodHeader, contentsOf, read, fileOf, writeTests, written, noHeader, headerRead, contentsWith};
 ghost use Rattle.record_file.specs.Sized.{Sized, headOf};
 
 pub mod file_round_trips;
@@ -137,16 +137,14 @@ pub fn read_file(bytes: &[u8], registry: &mut [u64], slashings: &mut [u64]) -> R
     }
 }
 
-// The part of the file that holds the roots, or an empty part where a read into these buffers is refused.
-pub fn file_roots<'a>(bytes: &'a [u8], registry: &[u64], slashings: &[u64]) -> &'a [u8]
-    ensures { λ r. ⌜ now r ≡ read (now (bytes .entry)) (now (registry .entry)) (now (slashings .entry)) .contents .roots ⌝ }
+// The part of the file that holds the roots.
+pub fn file_roots<'a>(bytes: &'a [u8]) -> &'a [u8]
+    requires { ⌜ goodHeader (now bytes) ≡ true ⌝ }
+    ensures { λ r. ⌜ now r ≡ contentsOf (now (bytes .entry)) .roots ⌝ }
 {
-    let tested = file_refusals::read_tests(bytes, registry, slashings);
-    if tested.refusal != 0 {
-        return &bytes[0..0];
-    }
-    let from = registry_at(bytes) + 8 * registry.len();
-    let to = bytes.len() - 8 * slashings.len();
+    let counts = file_refusals::file_header::read_counts(bytes);
+    let from = registry_at(bytes) + 80 * (counts.validators as usize);
+    let to = bytes.len() - 8 * (counts.slashings as usize);
     &bytes[from..to]
 }
 

@@ -1,5 +1,5 @@
 -- A loop that looks at one after the other, and stops at the first that fails.
-use mathlib.Core.Bool.{Bool, true, false, not, _&&_, false≢true}
+use mathlib.Core.Bool.{Bool, true, false, not, _&&_}
 use mathlib.Core.List.{List, [], _∷_}
 use mathlib.Core.Path.{_≡_, refl, sym, _∙_}
 use Prim.Native.Nat.{ℕ, zero, suc, _+_, _≤_, _<_}
@@ -9,14 +9,7 @@ use borrow.Author.Tests.{not-true, not-false}
 use lib.ListN.{length, getD, drop, drop-of-length-le}
 use lib.Seq.{drop-cons}
 use Rattle.definitions.specs.Lists.{all}
-
-pub record Both (a b : Bool) : Type 0 where
-  pub first : a ≡ true
-  pub second : b ≡ true
-
-pub both : (a b : Bool) → (a && b) ≡ true → Both a b
-both true b p = record { first = refl; second = p }
-both false b p = absurd (false≢true p)
+use Rattle.laws.proofs.Tests.{both}
 
 -- what the code's `if !test` tells of the definition's test
 pub fails : {t u : Bool} → t ≡ u → not t ≡ true → u ≡ false
@@ -29,8 +22,8 @@ passes {t} e p = sym e ∙ not-false t p
 pub all-at : {A : Type 0} (p : A → Bool) (xs : List A) (i : ℕ) (d : A) → i < length xs → all p xs ≡ true → p (getD xs i d) ≡ true
 unfolding all
 all-at p [] i d l h = absurd (omega arith)
-all-at p (x ∷ xs) zero d l h = both (p x) (all p xs) h .first
-all-at p (x ∷ xs) (suc i) d l h = all-at p xs i d (omega arith) (both (p x) (all p xs) h .second)
+all-at p (x ∷ xs) zero d l h = both (p x) (all p xs) h .0
+all-at p (x ∷ xs) (suc i) d l h = all-at p xs i d (omega arith) (both (p x) (all p xs) h .1)
 
 -- the first i pass
 pub record Passed {A : Type 0} (p : A → Bool) (xs : List A) (i : ℕ) : Type 0 where

@@ -1,7 +1,7 @@
 -- What the tests give once passed.
-use mathlib.Core.Bool.{Bool, true, false, not, _&&_}
+use mathlib.Core.Bool.{true, not}
 use mathlib.Core.List.{List}
-use mathlib.Core.Path.{_≡_, refl}
+use mathlib.Core.Path.{_≡_}
 use Prim.Native.Nat.{ℕ, _*_, _/_, _%_, _^_, _≤_, _<_}
 use native.Mathlib.Omega.{arith}
 use borrow.Author.Tests.{ltb-true, leb-true, eqb-true, eqb-false, not-true}
@@ -9,25 +9,11 @@ use lib.Dec.{leb, eqb}
 use lib.ListN.{length, getD}
 use Rattle.definitions.specs.declared.Finality.{Finality}
 use Rattle.definitions.specs.declared.Settings.{Settings}
-use Rattle.definitions.specs.Checked.{codeOf}
 use Rattle.definitions.specs.Lists.{all}
 use Rattle.definitions.specs.Record.{Validator}
-use Rattle.definitions.specs.Refusals.{inOrder, isVectorLength, settingsShaped, registryShaped, isSmall, settingsNumbers, divisors, goodSettings, goodFinality, goodValidator}
-use Rattle.refusals.proofs.All.{both, all-at}
-
--- no test refused
-
-pub record InOrder (shaped settings recorded : Bool) : Type 0 where
-  pub first : shaped ≡ true
-  pub second : settings ≡ true
-  pub third : recorded ≡ true
-
-pub in-order : (shaped settings recorded : Bool) → codeOf (inOrder shaped settings recorded) ≡ 0 → InOrder shaped settings recorded
-unfolding inOrder
-in-order true true true e = record { first = refl; second = refl; third = refl }
-in-order true true false e = absurd (omega arith)
-in-order true false recorded e = absurd (omega arith)
-in-order false settings recorded e = absurd (omega arith)
+use Rattle.definitions.specs.Refusals.{isVectorLength, settingsShaped, registryShaped, isSmall, settingsNumbers, divisors, goodSettings, goodFinality, goodValidator}
+use Rattle.laws.proofs.Tests.{both, test}
+use Rattle.refusals.proofs.All.{all-at}
 
 -- Test 1
 
@@ -38,7 +24,7 @@ pub record VectorLength (n : ℕ) : Type 0 where
 vector-length : (n : ℕ) → isVectorLength n ≡ true → VectorLength n
 vector-length n e =
     let p = both (leb 1 n) (leb n 65536) e in
-    record { least = leb-true 1 n (p .first); most = leb-true n 65536 (p .second) }
+    record { least = leb-true 1 n (p .0); most = leb-true n 65536 (p .1) }
 
 pub record SettingsShape (s : Settings) : Type 0 where
   pub roots : VectorLength (s .«slots_per_historical_root»)
@@ -48,7 +34,7 @@ pub settings-shaped : (s : Settings) → settingsShaped s ≡ true → SettingsS
 unfolding settingsShaped
 settings-shaped s e =
     let p = both (isVectorLength (s .«slots_per_historical_root»)) (isVectorLength (s .«epochs_per_slashings_vector»)) e in
-    record { roots = vector-length _ (p .first); slashings = vector-length _ (p .second) }
+    record { roots = vector-length _ (p .0); slashings = vector-length _ (p .1) }
 
 pub record RegistryShape (xs : List ℕ) : Type 0 where
   pub long : length xs ≡ 10 * (length xs / 10)
@@ -58,8 +44,8 @@ pub registry-shaped : (xs : List ℕ) → registryShaped xs ≡ true → Registr
 unfolding registryShaped
 registry-shaped xs e =
     let p = both (eqb (length xs % 10) 0) (leb (length xs / 10) (2 ^ 24)) e in
-    let tens = eqb-true (length xs % 10) 0 (p .first) in
-    record { long = omega arith; few = leb-true (length xs / 10) (2 ^ 24) (p .second) }
+    let tens = eqb-true (length xs % 10) 0 (p .0) in
+    record { long = omega arith; few = leb-true (length xs / 10) (2 ^ 24) (p .1) }
 
 -- Test 2
 
@@ -135,13 +121,13 @@ good-settings s e =
   where
     divisor : (i : ℕ) → i < 6 → 0 < getD (divisors s) i 0
     divisor i l =
-        let p = both (all (λ n. not (eqb n 0)) (divisors s)) (all isSmall (settingsNumbers s)) e .first in
+        let p = both (all (λ n. not (eqb n 0)) (divisors s)) (all isSmall (settingsNumbers s)) e .0 in
         let z = eqb-false (getD (divisors s) i 0) 0 (not-true _ (all-at (λ n. not (eqb n 0)) (divisors s) i 0 l p)) in
         omega arith
 
     number : (i : ℕ) → i < 19 → getD (settingsNumbers s) i 0 < 2 ^ 48
     number i l =
-        let p = both (all (λ n. not (eqb n 0)) (divisors s)) (all isSmall (settingsNumbers s)) e .second in
+        let p = both (all (λ n. not (eqb n 0)) (divisors s)) (all isSmall (settingsNumbers s)) e .1 in
         ltb-true (getD (settingsNumbers s) i 0) (2 ^ 48) (all-at isSmall (settingsNumbers s) i 0 l p)
 
 -- Test 3
@@ -159,15 +145,8 @@ pub record GoodFinality (f : Finality) : Type 0 where
 pub good-finality : (f : Finality) → goodFinality f ≡ true → GoodFinality f
 unfolding goodFinality
 good-finality f e =
-    let a = isSmall (f .slot) in
-    let b = leb (f .«justification_bits») 15 in
-    let c = isSmall (f .«previous_justified_checkpoint» .epoch) in
-    let d = isSmall (f .«current_justified_checkpoint» .epoch) in
-    let p = both (a && b && c && d) (isSmall (f .«finalized_checkpoint» .epoch)) e in
-    let q = both (a && b && c) d (p .first) in
-    let r = both (a && b) c (q .first) in
-    let t = both a b (r .first) in
-    record { slot = small _ (t .first); bits = leb-true _ 15 (t .second); previous = small _ (r .second); current = small _ (q .second); finalized = small _ (p .second) }
+    let t = test _ e in
+    record { slot = small _ (t 0); bits = leb-true _ 15 (t 1); previous = small _ (t 2); current = small _ (t 3); finalized = small _ (t 4) }
 
 pub record GoodValidator (v : Validator) : Type 0 where
   pub slashed : v .slashed ≤ 1
@@ -177,8 +156,5 @@ pub record GoodValidator (v : Validator) : Type 0 where
 pub good-validator : (v : Validator) → goodValidator v ≡ true → GoodValidator v
 unfolding goodValidator
 good-validator v e =
-    let a = leb (v .slashed) 1 in
-    let b = leb (v .«previous_epoch_participation») 255 in
-    let p = both (a && b) (leb (v .«current_epoch_participation») 255) e in
-    let q = both a b (p .first) in
-    record { slashed = leb-true _ 1 (q .first); previous = leb-true _ 255 (q .second); current = leb-true _ 255 (p .second) }
+    let t = test _ e in
+    record { slashed = leb-true _ 1 (t 0); previous = leb-true _ 255 (t 1); current = leb-true _ 255 (t 2) }

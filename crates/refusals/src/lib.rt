@@ -4,7 +4,7 @@ ghost use mathlib.Core.Bool.{not};
 ghost use Prim.Native.Nat.{_*_};
 ghost use lib.Dec.{eqb};
 ghost use lib.ListN.{length};
-ghost use Rattle.definitions.specs.Lists.{all};
+ghost use Rattle.definitions.specs.Lists.{all, every};
 ghost use Rattle.definitions.specs.Record.{decodeOne};
 ghost use Rattle.definitions.specs.Checked.{codeOf};
 ghost use Rattle.definitions.specs.Refusals.{inOrder, isSmall, isVectorLength, settingsShaped, goodSettings, goodFinality, registryShaped, goodValidator, goodRegistry};
@@ -18,17 +18,28 @@ use definitions::PREVIOUS_EPOCH_PARTICIPATION;
 use definitions::SLASHED;
 use definitions::Settings;
 
-// 0, or the number of the first test that failed.
-pub fn in_order(shaped: bool, settings: bool, recorded: bool) -> u64
-    ensures { λ r. ⌜ r ≡ codeOf (inOrder shaped settings recorded) ⌝ }
+pub fn all_pass(tests: &[bool]) -> bool
+    ensures { λ r. ⌜ r ≡ every (now (tests .entry)) ⌝ }
 {
-    if !shaped {
+    for i in 0..tests.len() {
+        if !tests[i] {
+            return false;
+        }
+    }
+    true
+}
+
+// 0, or the number of the first test that failed: those under 1, then those under 2, then 3.
+pub fn in_order(shaped: &[bool], settings: &[bool], recorded: &[bool]) -> u64
+    ensures { λ r. ⌜ r ≡ codeOf (inOrder (now (shaped .entry)) (now (settings .entry)) (now (recorded .entry))) ⌝ }
+{
+    if !all_pass(shaped) {
         return 1;
     }
-    if !settings {
+    if !all_pass(settings) {
         return 2;
     }
-    if !recorded {
+    if !all_pass(recorded) {
         return 3;
     }
     0
@@ -136,19 +147,15 @@ pub fn good_finality(f: Finality) -> bool
     let previous = f.previous_justified_checkpoint;
     let current = f.current_justified_checkpoint;
     let finalized = f.finalized_checkpoint;
-    if !is_small(f.slot) {
-        return false;
-    }
-    if 15 < f.justification_bits {
-        return false;
-    }
-    if !is_small(previous.epoch) {
-        return false;
-    }
-    if !is_small(current.epoch) {
-        return false;
-    }
-    is_small(finalized.epoch)
+    all_pass(
+        &[
+            is_small(f.slot),
+            f.justification_bits <= 15,
+            is_small(previous.epoch),
+            is_small(current.epoch),
+            is_small(finalized.epoch),
+        ],
+    )
 }
 
 // One validator's ten numbers.

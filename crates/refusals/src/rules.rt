@@ -2,6 +2,7 @@
 ghost use mathlib.Core.Path.{_≡_};
 ghost use Rattle.definitions.specs.Rules.{settingsUnder, goodBellatrix, altairRules};
 ghost use Rattle.refusals.specs.Refusal.{rulesRefusal};
+use crate::all_pass;
 use crate::is_small;
 use definitions::Bellatrix;
 use definitions::Rules;
@@ -10,13 +11,9 @@ use definitions::Settings;
 fn good_bellatrix(b: Bellatrix) -> bool
     ensures { λ r. ⌜ r ≡ goodBellatrix b ⌝ }
 {
-    if b.inactivity_penalty_quotient_bellatrix == 0 {
-        return false;
-    }
-    if !is_small(b.inactivity_penalty_quotient_bellatrix) {
-        return false;
-    }
-    is_small(b.proportional_slashing_multiplier_bellatrix)
+    let quotient = b.inactivity_penalty_quotient_bellatrix;
+    let multiplier = b.proportional_slashing_multiplier_bellatrix;
+    all_pass(&[quotient != 0, is_small(quotient), is_small(multiplier)])
 }
 
 // The refusal of a call's tests, 0 for none, once those by the settings have answered: a fork over 1 is 1, and the pair of fork 1, and of no

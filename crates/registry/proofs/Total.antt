@@ -17,7 +17,7 @@ use Rattle.definitions.specs.Document.Phase0.EpochProcessing.{dequeued}
 use Rattle.definitions.specs.Rust.Phase0.Helpers.{«get_current_epoch», «get_total_balance», «get_total_active_balance», «get_validator_churn_limit»}
 use Rattle.definitions.specs.Rust.Phase0.EpochProcessing.{updateRegistryAt, «process_registry_updates»}
 use Rattle.laws.proofs.Checked.{bound, value-same}
-use Rattle.refusals.proofs.All.{both}
+use Rattle.laws.proofs.Tests.{both}
 use Rattle.agreement.specs.Queue.{ahead, mapBelow, activatedAt, activated}
 use Rattle.agreement.proofs.ActivationQueue.Dequeued.{dequeued-is}
 use Rattle.registry.specs.Updates.{leastExit, updateAt}
@@ -45,7 +45,7 @@ module _ (epoch least limit finalizedEpoch : ℕ) (vs : List Validator) where
     where
       go : (t b : Bool) → leb (v .«activation_eligibility_epoch») finalizedEpoch && eqb (v .«activation_epoch») «FAR_FUTURE_EPOCH» ≡ t → unfold «is_active_validator» in («is_active_validator» (cond (t && b) (withActivation least v) v) epoch ≡ «is_active_validator» v epoch)
       go true true e =
-          let q = eqb-true (v .«activation_epoch») «FAR_FUTURE_EPOCH» (both (leb (v .«activation_eligibility_epoch») finalizedEpoch) (eqb (v .«activation_epoch») «FAR_FUTURE_EPOCH») e .second) in
+          let q = eqb-true (v .«activation_epoch») «FAR_FUTURE_EPOCH» (both (leb (v .«activation_eligibility_epoch») finalizedEpoch) (eqb (v .«activation_epoch») «FAR_FUTURE_EPOCH») e .1) in
           rw (lt-leb least epoch l, q, lt-leb «FAR_FUTURE_EPOCH» epoch far)
       go true false e = refl
       go false b e = refl

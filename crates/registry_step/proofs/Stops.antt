@@ -14,7 +14,7 @@ use Rattle.definitions.specs.RegisterOrder.{registryUpdatesTo}
 use Rattle.definitions.specs.Rust.Phase0.EpochProcessing.{«process_registry_updates»}
 use Rattle.definitions_close.specs.QueueCalls.{registryToQueueTests, registryQueueTests, QueueCloses}
 use Rattle.laws.proofs.Encode.{length-decode}
-use Rattle.leaf_refusals.proofs.finalized.Tests.{within, registry-passed}
+use Rattle.leaf_refusals.proofs.registry_refusals.Passed.{within, registry-passed}
 use Rattle.agreement.proofs.ActivationQueue.Stopped.{stopped}
 use Rattle.validator_exit.proofs.queue_tests.Queue.{queue-passed}
 

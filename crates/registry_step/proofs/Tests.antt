@@ -1,8 +1,8 @@
 -- The tests of the registry step as the code makes them: 1, 2 and 3 of slot and finalized epoch, then 3 of the entries and 8 from the survey.
 -- `x` is the number that the first tests' code gave.
 use mathlib.Core.Path.{_≡_, refl, sym, _∙_}
-use mathlib.Core.Bool.{Bool, true, _&&_}
-use mathlib.Core.List.{List}
+use mathlib.Core.Bool.{true}
+use mathlib.Core.List.{List, [], _∷_}
 use Prim.Native.Nat.{ℕ, _*_, _/_, _^_, _≤_, _<_}
 use borrow.Author.Tests.{leb-true, eqb-true}
 use lib.Dec.{leb}
@@ -16,8 +16,8 @@ use Rattle.definitions.specs.Refusals.{inOrder, settingsShaped, registryShaped,
 use Rattle.definitions.specs.RegisterOrder.{registryToTests, registryUpdatesTo}
 use Rattle.definitions.specs.ExitQueue.{queueOf}
 use Rattle.definitions_close.specs.QueueCalls.{registryToQueueTests, QueueCloses}
-use Rattle.refusals.proofs.All.{both}
-use Rattle.refusals.proofs.Laws.{in-order, good-settings, PositiveDivisors, registry-shaped, small}
+use Rattle.laws.proofs.Tests.{in-order}
+use Rattle.refusals.proofs.Laws.{good-settings, PositiveDivisors, registry-shaped, small}
 use Rattle.refusals.proofs.Answers.{passed}
 use Rattle.refusals.proofs.buffers.Closes.{closes-refused}
 use Rattle.exit_queue.proofs.QueueOf.{tracks-is}
@@ -39,11 +39,9 @@ pub record StepPassed (stop : ℕ) (s : Settings) (stateSlot finalizedEpoch : �
   pub stops : stop ≤ length opening / 10
 
 module _ (stop : ℕ) (s : Settings) (stateSlot finalizedEpoch : ℕ) (queue : ExitQueue) (opening closing : List ℕ) where
-  abbrev shaped : Bool
-  shaped = settingsShaped s && registryShaped opening && sameLength opening closing && leb stop (length opening / 10)
-
-  abbrev smalls : Bool
-  smalls = isSmall stateSlot && isSmall finalizedEpoch
+  abbrev first : Checked (Unit {0})
+  first =
+      inOrder (settingsShaped s ∷ registryShaped opening ∷ sameLength opening closing ∷ leb stop (length opening / 10) ∷ []) (goodSettings s ∷ []) (isSmall stateSlot ∷ isSmall finalizedEpoch ∷ [])
 
   abbrev tests : Checked (Unit {0})
   tests = registryToQueueTests stop s stateSlot finalizedEpoch queue opening closing
@@ -55,32 +53,28 @@ module _ (stop : ℕ) (s : Settings) (stateSlot finalizedEpoch : ℕ) (queue : E
   pub turned-away : {x : ℕ} → x ≡ codeOf tests → (x ≡ 0 → ⊥) → QueueCloses tests step queue opening closing closing (record { refusal = x; queue = queue })
   turned-away e z = queue-closes tests step (closes-refused encode tests e step z) (λ n. absurd (z n)) (λ _. refl)
 
-  module _ {x : ℕ} (e : x ≡ codeOf (inOrder shaped (goodSettings s) smalls)) where
+  module _ {x : ℕ} (e : x ≡ codeOf first) where
     pub step-refused : (x ≡ 0 → ⊥) → QueueCloses tests step queue opening closing closing (record { refusal = x; queue = queue })
     unfolding registryToTests
-    step-refused z = turned-away (early-refused shaped (goodSettings s) smalls queue opening e z) z
+    step-refused z = turned-away (early-refused _ _ _ queue opening e z) z
 
     module _ (z : x ≡ 0) where
       pub step-passed : StepPassed stop s stateSlot finalizedEpoch opening closing
       step-passed =
-          let p = in-order shaped (goodSettings s) smalls (sym e ∙ z) in
-          let d = both (settingsShaped s && registryShaped opening && sameLength opening closing) (leb stop (length opening / 10)) (p .first) in
-          let f = both (settingsShaped s && registryShaped opening) (sameLength opening closing) (d .first) in
-          let g = both (settingsShaped s) (registryShaped opening) (f .first) in
-          let t = both (isSmall stateSlot) (isSmall finalizedEpoch) (p .third) in
+          let p = in-order _ _ _ (sym e ∙ z) in
           record {
-            good = p .second;
-            positive = good-settings s (p .second) .positive;
-            slot = small stateSlot (t .first);
-            finalized = small finalizedEpoch (t .second);
-            long = registry-shaped opening (g .second) .long;
-            same = eqb-true _ _ (f .second);
-            stops = leb-true stop (length opening / 10) (d .second);
+            good = p .settings 0;
+            positive = good-settings s (p .settings 0) .positive;
+            slot = small stateSlot (p .recorded 0);
+            finalized = small finalizedEpoch (p .recorded 1);
+            long = registry-shaped opening (p .shaped 1) .long;
+            same = eqb-true _ _ (p .shaped 2);
+            stops = leb-true stop (length opening / 10) (p .shaped 3);
           }
 
       pub found-tests : {current previous : ℕ} {kept : List ℕ} {found : Findings} {t : ℕ} → Finds s current previous opening kept found → t ≡ foundTests (found .refusal) queue (found .queue) → t ≡ codeOf tests
       unfolding registryToTests
-      found-tests f h = found-code shaped (goodSettings s) smalls queue opening e z (f .tested) (λ _. tracks-is (f .queue)) h
+      found-tests f h = found-code _ _ _ queue opening e z (f .tested) (λ _. tracks-is (f .queue)) h
 
   module _ {x : ℕ} (e : x ≡ codeOf tests) (z : x ≡ 0) where
     pub true-pair : queue ≡ queueOf (decode opening)

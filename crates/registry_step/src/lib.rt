@@ -3,7 +3,8 @@
 // test 3 and the pair for test 8, the copy, what the cut of the activation queue needs, one for the turns, one for activation, and one for the
 // pair.
 ghost use mathlib.Core.Path.{_≡_};
-ghost use mathlib.Core.Bool.{true, _&&_};
+ghost use mathlib.Core.Bool.{true};
+ghost use mathlib.Core.List.{[], _∷_};
 ghost use Prim.Native.Nat.{_*_, _/_, _^_, _≤_, _<_};
 ghost use lib.Dec.{leb};
 ghost use lib.ListN.{length};
@@ -32,6 +33,7 @@ use exit_queue::queue_of;
 use exit_queue::start_pair;
 use refusals::buffers::copy;
 use refusals::good_settings;
+use refusals::in_order;
 use refusals::is_small;
 use refusals::registry_shaped;
 use refusals::settings_shaped;
@@ -194,33 +196,18 @@ fn step_tests(
 ) -> u64
     ensures { λ r. ⌜
         r
-        ≡ codeOf (inOrder (settingsShaped s
-        && registryShaped (now (opening .entry))
-        && sameLength (now (opening .entry)) (now (closing .entry))
-        && leb stop (length (now (opening .entry)) / 10)) (goodSettings s) (isSmall «state_slot» && isSmall «finalized_epoch»)) ⌝ }
+        ≡ codeOf (inOrder (settingsShaped s ∷ registryShaped (now (opening .entry)) ∷ sameLength (now (opening .entry)) (now (closing .entry)) ∷ leb stop (length (now (opening .entry)) / 10) ∷ []) (goodSettings s ∷ []) (isSmall «state_slot» ∷ isSmall «finalized_epoch» ∷ [])) ⌝ }
 {
-    if !settings_shaped(s) {
-        return 1;
-    }
-    if !registry_shaped(opening) {
-        return 1;
-    }
-    if closing.len() != opening.len() {
-        return 1;
-    }
-    if opening.len() / 10 < stop {
-        return 1;
-    }
-    if !good_settings(s) {
-        return 2;
-    }
-    if !is_small(state_slot) {
-        return 3;
-    }
-    if !is_small(finalized_epoch) {
-        return 3;
-    }
-    0
+    in_order(
+        &[
+            settings_shaped(s),
+            registry_shaped(opening),
+            closing.len() == opening.len(),
+            stop <= opening.len() / 10,
+        ],
+        &[good_settings(s)],
+        &[is_small(state_slot), is_small(finalized_epoch)],
+    )
 }
 
 // The rest of the tests, from the survey, and the step.
@@ -236,8 +223,8 @@ fn step_surveyed(
 ) -> QueueAnswer
     requires { ⌜
         codeOf
-        (inOrder (settingsShaped s && registryShaped (now opening) && sameLength (now opening) (now closing) && leb stop (length (now opening) / 10))
-        (goodSettings s) (isSmall «state_slot» && isSmall «finalized_epoch»)) ≡ 0 ⌝ }
+        (inOrder (settingsShaped s ∷ registryShaped (now opening) ∷ sameLength (now opening) (now closing) ∷ leb stop (length (now opening) / 10) ∷ [])
+        (goodSettings s ∷ []) (isSmall «state_slot» ∷ isSmall «finalized_epoch» ∷ [])) ≡ 0 ⌝ }
     requires { ⌜ (length (now kept) ≡ 64) × Blank (now kept) ⌝ }
     ensures { λ r. ⌜
         QueueCloses

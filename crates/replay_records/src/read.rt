@@ -1,4 +1,4 @@
-// read_file and file_roots: what they answer is what stands in the file, or zeros and nothing where they refuse.
+// read_file and file_roots: what they answer is what stands in the file, or zeros where it is refused.
 use definitions::Finality;
 use definitions::Settings;
 use definitions_file::ReadAnswer;
@@ -105,6 +105,9 @@ pub fn read_file(
 ) -> u64 {
     let file = bytes_part(bytes, r.file, r.file_bytes);
     let answer = record_file::read_file(file, registry, slashings);
-    let roots = record_file::file_roots(file, &registry[..], &slashings[..]);
+    if answer.refusal != 0 {
+        return in_answer(answer, &file[0..0], o, r.file, words, bytes);
+    }
+    let roots = record_file::file_roots(file);
     in_answer(answer, roots, o, r.file, words, bytes)
 }

@@ -15,7 +15,9 @@ use definitions::EFFECTIVE_BALANCE;
 use definitions::Number;
 use definitions::Settings;
 use leaf_refusals::settings_entry_tests;
+use refusals::good_entry;
 use refusals::good_settings;
+use refusals::in_order;
 use refusals::settings_shaped;
 
 pub fn base_reward_per_increment(s: Settings, total: u64) -> Number
@@ -48,25 +50,20 @@ pub fn entry_base_reward(s: Settings, total: u64, per_increment: Number, entry: 
 fn total_tests(s: Settings, total: u64) -> u64
     ensures { λ r. ⌜ r ≡ codeOf (totalTests s total) ⌝ }
 {
-    if total == 0 {
-        return 1;
-    }
-    if !settings_shaped(s) {
-        return 1;
-    }
-    if !good_settings(s) {
-        return 2;
-    }
-    0
+    in_order(&[settings_shaped(s), total != 0], &[good_settings(s)], &[])
 }
 
 fn total_entry_tests(s: Settings, total: u64, entry: &[u64]) -> u64
     ensures { λ r. ⌜ r ≡ codeOf (totalEntryTests s total (now (entry .entry))) ⌝ }
 {
-    if total == 0 {
+    if entry.len() != 10 {
         return 1;
     }
-    settings_entry_tests(s, entry)
+    in_order(
+        &[settings_shaped(s), total != 0],
+        &[good_settings(s)],
+        &[good_entry(entry)],
+    )
 }
 
 pub fn get_base_reward_per_increment(s: Settings, total: u64) -> Number

@@ -18,7 +18,12 @@ use definitions::Truth;
 use epochs::current_epoch;
 use epochs::previous_epoch;
 use finality::inactivity_leak;
-use leaf_refusals::finalized::finalized_registry_tests;
+use refusals::good_registry;
+use refusals::good_settings;
+use refusals::in_order;
+use refusals::is_small;
+use refusals::registry_shaped;
+use refusals::settings_shaped;
 use rewards::base_rewards::entry_base_reward;
 use rewards::flag_deltas;
 use rewards::shared_numbers;
@@ -62,13 +67,20 @@ fn flag_deltas_tests(
 ) -> u64
     ensures { λ r. ⌜ r ≡ codeOf (flagDeltasTests s «state_slot» «finalized_epoch» «flag_index» index (now (registry .entry))) ⌝ }
 {
-    if 2 < flag_index {
-        return 1;
-    }
-    if registry.len() / 10 <= index {
-        return 1;
-    }
-    finalized_registry_tests(s, state_slot, finalized_epoch, registry)
+    in_order(
+        &[
+            settings_shaped(s),
+            registry_shaped(registry),
+            flag_index <= 2,
+            index < registry.len() / 10,
+        ],
+        &[good_settings(s)],
+        &[
+            is_small(state_slot),
+            is_small(finalized_epoch),
+            good_registry(registry),
+        ],
+    )
 }
 
 // From the participants' balance, apart so that each chain of refusing calls is short.

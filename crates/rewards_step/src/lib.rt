@@ -25,7 +25,7 @@ use definitions::Truth;
 use epochs::current_epoch;
 use epochs::previous_epoch;
 use finality::inactivity_leak;
-use leaf_refusals::finalized::finalized_registry_tests;
+use leaf_refusals::registry_refusals::registry_tests;
 use rates::reward_balances::entry_reward;
 use refusals::buffers::copy;
 use refusals::buffers::put_back;
@@ -225,11 +225,8 @@ fn rewards_tests(
 ) -> u64
     ensures { λ r. ⌜ r ≡ codeOf (rewardsTests rules «state_slot» «finalized_epoch» (now (opening .entry)) (now (closing .entry))) ⌝ }
 {
-    if closing.len() != opening.len() {
-        return 1;
-    }
-    let settings = rules.settings;
-    let by_settings = finalized_registry_tests(settings, state_slot, finalized_epoch, opening);
+    let s = rules.settings;
+    let by_settings = registry_tests(s, state_slot, finalized_epoch, opening, closing);
     rules_refusal(rules, by_settings)
 }
 

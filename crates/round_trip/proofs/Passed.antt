@@ -5,17 +5,18 @@ use mathlib.Core.List.{List, [], _∷_}
 use Prim.Native.Nat.{ℕ, _*_, _^_, _≤_}
 use native.Mathlib.Omega.{arith}
 use borrow.Author.Tests.{leb-true, eqb-true}
-use lib.Dec.{leb, eqb}
+use lib.Dec.{eqb}
 use lib.ListN.{length, drop, length-drop}
 use lib.Seq.{length-take-le}
 use Rattle.definitions.specs.Record.{decode}
 use Rattle.definitions.specs.Checked.{Checked, value, refused, badFile}
-use Rattle.definitions.specs.Refusals.{isVectorLength, lengthIs, goodSettings, goodFinality, goodRegistry}
+use Rattle.definitions.specs.Refusals.{goodSettings, goodFinality, goodRegistry}
 use Rattle.definitions.specs.ExitQueue.{isQueueOf, queueTest}
 use Rattle.definitions_file.specs.File.{Contents, numbersFromBytes, versionOf, validatorsAt, queueIn, header, countOf, rootCountOf, slashingCountOf, rootsAt, slashingsAt, fileLength, contentsOf, sameNumbers, goodHeader, fileShaped, readTests, readFile}
 use Rattle.laws.proofs.Checked.{not-value, bound}
+use Rattle.laws.proofs.Tests.{both, test, in-order-value}
 use Rattle.round_trip.proofs.Numbers.{length-from-bytes}
-use Rattle.round_trip.proofs.Tests.{Good, countIn, rootCountIn, slashingCountIn, tests, in-order, vector-length, queue-passed}
+use Rattle.round_trip.proofs.Tests.{Good, countIn, rootCountIn, slashingCountIn, vector-length, queue-passed}
 
 -- every test passes
 pub record Passed (bytes lentRegistry lentSlashings : List ℕ) : Type 0 where
@@ -36,10 +37,9 @@ read-passed bytes registry slashings e =
     let c = contentsOf bytes in
     let read = bound (readTests bytes registry slashings) (λ _. value c) e in
     let first = header-passed (goodHeader bytes) _ (read .gave) in
-    let both = bound _ (λ _. queueTest (queueIn bytes) (decode (c .registry))) (first .1) in
-    let order = in-order _ _ _ (both .gave) in
-    let recorded = tests (goodFinality (c .finality)) (goodRegistry (c .registry) ∷ []) (order .recorded) in
-    record { header = first .0; shaped = order .shaped; settings = order .settings; finality = recorded 0; registry = recorded 1; queue = queue-passed (queueIn bytes) (decode (c .registry)) (both .then) }
+    let then = bound _ (λ _. queueTest (queueIn bytes) (decode (c .registry))) (first .1) in
+    let order = in-order-value _ _ _ (then .gave) in
+    record { header = first .0; shaped = order .shaped 0; settings = order .settings 0; finality = order .recorded 0; registry = order .recorded 1; queue = queue-passed (queueIn bytes) (decode (c .registry)) (then .then) }
 
 -- Test 6
 
@@ -56,22 +56,19 @@ same-equal [] [] e = refl
 same-equal [] (y ∷ ys) e = absurd (false≢true e)
 same-equal (x ∷ xs) [] e = absurd (false≢true e)
 same-equal (x ∷ xs) (y ∷ ys) e =
-    let t = tests (eqb x y) (sameNumbers xs ys ∷ []) e in
-    ap₂ _∷_ (eqb-true x y (t 0)) (same-equal xs ys (t 1))
+    let t = both (eqb x y) (sameNumbers xs ys) e in
+    ap₂ _∷_ (eqb-true x y (t .0)) (same-equal xs ys (t .1))
 
 pub good-header : (bytes : List ℕ) → goodHeader bytes ≡ true → Header bytes
 unfolding goodHeader
 good-header bytes e =
-    let version = versionOf bytes in
-    let own = header version (countOf bytes) (rootCountOf bytes) (slashingCountOf bytes) in
-    let long = fileLength version (countOf bytes) (rootCountOf bytes) (slashingCountOf bytes) in
-    let test = tests (leb 80 (length bytes)) (leb 1 version ∷ leb version 2 ∷ sameNumbers (numbersFromBytes 10 bytes) own ∷ eqb (length bytes) long ∷ []) e in
+    let t = test _ e in
     record {
-      enough = leb-true 80 (length bytes) (test 0);
-      some-version = leb-true 1 version (test 1);
-      known-version = leb-true version 2 (test 2);
-      numbers = same-equal (numbersFromBytes 10 bytes) own (test 3);
-      long = eqb-true (length bytes) long (test 4);
+      enough = leb-true _ _ (t 0);
+      some-version = leb-true _ _ (t 1);
+      known-version = leb-true _ _ (t 2);
+      numbers = same-equal _ _ (t 3);
+      long = eqb-true _ _ (t 4);
     }
 
 -- All of them
@@ -104,7 +101,7 @@ accepted bytes registry slashings p =
     let L = slashingCountOf bytes in
     let c = contentsOf bytes in
     let head = good-header bytes (p .header) in
-    let shape = tests (leb n (2 ^ 24)) (isVectorLength S ∷ isVectorLength L ∷ eqb S (rootCountIn c) ∷ eqb L (slashingCountIn c) ∷ lengthIs (10 * n) registry ∷ lengthIs L slashings ∷ []) (p .shaped) in
+    let shape = test _ (p .shaped) in
     let few = leb-true n (2 ^ 24) (shape 0) in
     let some-roots = vector-length S (shape 1) in
     let some-slashings = vector-length L (shape 2) in

@@ -11,16 +11,16 @@ use lib.ListN.{take, drop, replicate, getD-replicate}
 use Rattle.definitions.specs.declared.Settings.{Settings}
 use Rattle.definitions.specs.declared.Checkpoint.{Checkpoint}
 use Rattle.definitions.specs.declared.ExitQueue.{ExitQueue}
-use Rattle.definitions.specs.Lists.{all, filter, maximum}
+use Rattle.definitions.specs.Lists.{all, filter, maximum, every}
 use Rattle.definitions.specs.Record.{decodeFirst, decode}
 use Rattle.definitions.specs.Checked.{value, refused, badFile, bind}
 use Rattle.definitions.specs.Refusals.{inOrder, settingsNumbers, settingsShaped, registryShaped, goodSettings, goodFinality, goodValidator, goodRegistry}
 use Rattle.definitions.specs.ExitQueue.{queueOf, isQueueOf, queueTest}
 use Rattle.definitions_file.specs.File.{Contents, header, finalityToBytes, queueToBytes, queueIn, readTests, readFile, littleEndian, fromLittleEndian, numbersToBytes, numbersFromBytes, contentsOf, fileOf, sameNumbers, goodHeader, fileShaped, badPlace, stoppedAt, position, writeTests}
+use Rattle.laws.proofs.Tests.{both}
 use Rattle.round_trip.specs.RoundTrip.{Below, TypedCheckpoint, Typed, SameRecord}
 use Rattle.round_trip.specs.Refused.{StoppedInRegistry, StoppedAtQueue}
 use Rattle.round_trip.proofs.Numbers.{below-nil, below-cons}
-use Rattle.round_trip.proofs.Tests.{tests}
 use Rattle.round_trip.proofs.Written.{written-read}
 use Rattle.round_trip.proofs.Stopped.{registry-refused, queue-refused}
 
@@ -28,8 +28,8 @@ below-by : (n : ℕ) (xs : List ℕ) → all (λ x. ltb x n) xs ≡ true → Bel
 unfolding all
 below-by n [] e = below-nil
 below-by n (x ∷ xs) e =
-    let t = tests (ltb x n) (all (λ x. ltb x n) xs ∷ []) e in
-    below-cons (ltb-true x n (t 0)) (below-by n xs (t 1))
+    let t = both (ltb x n) (all (λ x. ltb x n) xs) e in
+    below-cons (ltb-true x n (t .0)) (below-by n xs (t .1))
 
 -- mainnet's settings, but one root and one slashing
 abbrev settings : Settings
@@ -97,7 +97,7 @@ sample-typed =
     }
 
 sample-passes : writeTests (sample 7) (pair 1) (replicate 584 0) ≡ value tt
-unfolding writeTests bind inOrder settingsShaped registryShaped goodSettings goodFinality goodRegistry goodValidator decode decodeFirst all queueTest isQueueOf queueOf maximum filter
+unfolding writeTests bind inOrder settingsShaped registryShaped goodSettings goodFinality goodRegistry goodValidator decode decodeFirst all queueTest isQueueOf queueOf maximum filter every
 sample-passes = refl
 
 pub sample-same : SameRecord (sample 7) (pair 1) (replicate 584 0) (replicate 20 0) (replicate 1 0)
@@ -111,16 +111,16 @@ sample-header = refl
 
 -- flags over 255 in place 7 of entry 1
 pub sample-stops : StoppedInRegistry (fileOf (sample 256) (pair 1)) (replicate 20 0) (replicate 1 0)
-unfolding fileOf numbersToBytes littleEndian contentsOf numbersFromBytes fromLittleEndian sameNumbers goodHeader fileShaped goodSettings goodFinality goodRegistry goodValidator decode decodeFirst all
+unfolding fileOf numbersToBytes littleEndian contentsOf numbersFromBytes fromLittleEndian sameNumbers goodHeader fileShaped goodSettings goodFinality goodRegistry goodValidator decode decodeFirst all every
 sample-stops = registry-refused (fileOf (sample 256) (pair 1)) (replicate 20 0) (replicate 1 0) refl refl refl refl refl
 
 pub sample-position : position (fileOf (sample 256) (pair 1)) (replicate 20 0) (replicate 1 0) ≡ 520
-unfolding position fileOf numbersToBytes littleEndian contentsOf numbersFromBytes fromLittleEndian sameNumbers goodHeader fileShaped goodSettings goodFinality goodRegistry goodValidator decode decodeFirst all badPlace stoppedAt
+unfolding position fileOf numbersToBytes littleEndian contentsOf numbersFromBytes fromLittleEndian sameNumbers goodHeader fileShaped goodSettings goodFinality goodRegistry goodValidator decode decodeFirst all badPlace stoppedAt every
 sample-position = refl
 
 -- a stored pair that says two where one leaves
 pub sample-wrong : StoppedAtQueue (fileOf (sample 7) (pair 2)) (replicate 20 0) (replicate 1 0)
-unfolding fileOf numbersToBytes littleEndian contentsOf numbersFromBytes fromLittleEndian sameNumbers goodHeader fileShaped goodSettings goodFinality goodRegistry goodValidator decode decodeFirst all queueIn isQueueOf queueOf maximum filter
+unfolding fileOf numbersToBytes littleEndian contentsOf numbersFromBytes fromLittleEndian sameNumbers goodHeader fileShaped goodSettings goodFinality goodRegistry goodValidator decode decodeFirst all queueIn isQueueOf queueOf maximum filter every
 sample-wrong = queue-refused (fileOf (sample 7) (pair 2)) (replicate 20 0) (replicate 1 0) refl refl refl refl refl refl
 
 -- Version 1: the same record, with no pair
@@ -137,7 +137,7 @@ fileWith numbers queue =
     ++ numbersToBytes (sample 7 .slashings)
 
 pub first-read : readFile (fileWith (header 1 2 1 1) []) (replicate 20 0) (replicate 1 0) ≡ value (sample 7)
-unfolding readFile readTests bind inOrder numbersToBytes littleEndian contentsOf numbersFromBytes fromLittleEndian sameNumbers goodHeader fileShaped goodSettings goodFinality goodRegistry goodValidator decode decodeFirst all queueIn queueTest isQueueOf queueOf maximum filter
+unfolding readFile readTests bind inOrder numbersToBytes littleEndian contentsOf numbersFromBytes fromLittleEndian sameNumbers goodHeader fileShaped goodSettings goodFinality goodRegistry goodValidator decode decodeFirst all queueIn queueTest isQueueOf queueOf maximum filter every
 first-read = refl
 
 pub first-queue : queueIn (fileWith (header 1 2 1 1) []) ≡ pair 1
@@ -146,5 +146,5 @@ first-queue = refl
 
 -- version 1 with the offsets of version 2, pair and all, gets 6
 pub first-mixed : readFile (fileWith (1 ∷ drop 1 (header 2 2 1 1)) (queueToBytes (pair 1))) (replicate 20 0) (replicate 1 0) ≡ refused badFile
-unfolding readFile readTests bind numbersToBytes littleEndian numbersFromBytes fromLittleEndian sameNumbers goodHeader
+unfolding readFile readTests bind numbersToBytes littleEndian numbersFromBytes fromLittleEndian sameNumbers goodHeader every
 first-mixed = refl

@@ -8,7 +8,7 @@ use borrow.Author.Tests.{leb-true, leb-false, le-ltb, ne-eqb, eqb-true, eqb-fals
 use lib.Dec.{leb, eqb}
 use lib.ListN.{length, getD, take, drop}
 use lib.Seq.{drop-drop, getD-take, getD-drop}
-use Rattle.definitions.specs.Lists.{all}
+use Rattle.definitions.specs.Lists.{all, every}
 use Rattle.definitions.specs.Record.{Validator, encodeOne, decode, nobody}
 use Rattle.definitions.specs.Checked.{refused, badRecord, bind}
 use Rattle.definitions.specs.Refusals.{inOrder, goodValidator, goodRegistry}
@@ -21,10 +21,10 @@ use Rattle.round_trip.proofs.Passed.{good-header, length-registry}
 use Rattle.laws.proofs.Queue.{is-its-own}
 
 first-bad : (v : Validator) → goodValidator v ≡ false → FirstBad v (badPlace v)
-unfolding goodValidator badPlace
+unfolding goodValidator badPlace every
 first-bad v = by (leb (v .slashed) 1) (leb (v .«previous_epoch_participation») 255) (leb (v .«current_epoch_participation») 255) refl refl refl
   where
-    by : (a b c : Bool) → leb (v .slashed) 1 ≡ a → leb (v .«previous_epoch_participation») 255 ≡ b → leb (v .«current_epoch_participation») 255 ≡ c → (a && b && c) ≡ false → FirstBad v (cond a (cond b (cond c 10 8) 7) 1)
+    by : (a b c : Bool) → leb (v .slashed) 1 ≡ a → leb (v .«previous_epoch_participation») 255 ≡ b → leb (v .«current_epoch_participation») 255 ≡ c → every (a ∷ b ∷ c ∷ []) ≡ false → FirstBad v (cond a (cond b (cond c 10 8) 7) 1)
     by true true true p q r e = absurd (true≢false e)
     by true true false p q r e = bad-current (leb-true _ _ p) (leb-true _ _ q) (leb-false _ _ r)
     by true false c p q r e = bad-previous (leb-true _ _ p) (leb-false _ _ q)
@@ -103,7 +103,7 @@ stops-in-registry bytes registry slashings answer e bad =
     }
 
 pub registry-refused : RegistryRefused
-unfolding position readFile readTests inOrder bind
+unfolding position readFile readTests inOrder bind every
 registry-refused bytes registry slashings header shaped settings finality bad =
     stops-in-registry bytes registry slashings
     (rw (header, shaped, settings, finality, bad))
@@ -120,7 +120,7 @@ stores bytes wrong true e = eqb-true (versionOf bytes) 2 e
 stores bytes wrong false e = absurd (true≢false (sym (first-own bytes (eqb-false (versionOf bytes) 2 e)) ∙ wrong))
 
 pub queue-refused : QueueRefused
-unfolding position readFile readTests inOrder bind queueTest
+unfolding position readFile readTests inOrder bind queueTest every
 queue-refused bytes registry slashings header shaped settings finality good wrong =
     record {
       answer = rw (header, shaped, settings, finality, good, wrong);

@@ -9,6 +9,7 @@ use lib.Dec.{lit<}
 use lib.ListN.{length, getD, length-append}
 use Rattle.definitions.specs.declared.Checkpoint.{Checkpoint}
 use Rattle.definitions.specs.declared.ExitQueue.{ExitQueue}
+use Rattle.definitions.specs.Lists.{every}
 use Rattle.definitions.specs.Record.{decode}
 use Rattle.definitions.specs.Checked.{value, bind}
 use Rattle.definitions.specs.Refusals.{inOrder, settingsNumbers}
@@ -177,11 +178,11 @@ module _ (c : Contents) (q : ExitQueue) (t : Typed c) (u : TypedQueue q) (g : Go
       below-append (below-append (below-append (below-append (below-append (below-append (to-bytes-below (headerOf c)) (to-bytes-below (settingsNumbers (c .settings)))) (finality-below t)) (below-append (little-below 8 (q .«last_epoch»)) (little-below 8 (q .number)))) (to-bytes-below (c .registry))) (t .roots)) (to-bytes-below (c .slashings))
 
   header-good : goodHeader (fileOf c q) ≡ true
-  unfolding goodHeader
+  unfolding goodHeader every
   header-good = rw (version, count, root-count, slashing-count, header-read, same-numbers, le-leb 80 (length (fileOf c q)) (omega (arith, length-file)), eq-eqb _ _ length-file)
 
   shape-good : (registry slashings : List ℕ) → length registry ≡ length (c .registry) → length slashings ≡ length (c .slashings) → fileShaped (fileOf c q) registry slashings ≡ true
-  unfolding fileShaped
+  unfolding fileShaped every
   shape-good registry slashings r s =
       rw (
         contents-read,
@@ -200,7 +201,7 @@ module _ (c : Contents) (q : ExitQueue) (t : Typed c) (u : TypedQueue q) (g : Go
       )
 
   file-read : isQueueOf q (decode (c .registry)) ≡ true → (registry slashings : List ℕ) → length registry ≡ length (c .registry) → length slashings ≡ length (c .slashings) → readFile (fileOf c q) registry slashings ≡ value c
-  unfolding readFile readTests inOrder bind queueTest
+  unfolding readFile readTests inOrder bind queueTest every
   file-read p registry slashings r s = rw (contents-read, queue-read, header-good, shape-good registry slashings r s, g .settings, g .finality, g .registry, p)
 
 pub is-file : (c : Contents) (q : ExitQueue) (file : List ℕ) → writeTests c q file ≡ value tt → written c q file ≡ fileOf c q

@@ -1,20 +1,18 @@
 -- The loop over a shelf: the first i files are closed, and what is left makes of the rest what the whole makes of the shelf.
 use mathlib.Core.Path.{_≡_, refl, sym, _∙_}
-use mathlib.Core.Bool.{true, _&&_}
+use mathlib.Core.Bool.{true}
 use mathlib.Core.List.{List, [], _∷_, _++_, append-assoc, append-nil}
 use Prim.Native.Nat.{ℕ, _+_, _-_, _*_, _≤_, _<_}
 use native.Mathlib.Omega.{arith}
 use native.Mathlib.Numerals.{add-one}
 use borrow.Author.Tests.{eqb-true, leb-true}
-use lib.Dec.{eqb}
 use lib.ListN.{length, getD, set, take, drop, length-set, length-append, length-take, length-drop, drop-of-length-le}
 use lib.Seq.{take-at, drop-at, take-all, drop-cons, drop-drop, take-suc-set}
 use Rattle.definitions.specs.declared.Bellatrix.{Bellatrix}
 use Rattle.definitions.specs.Lists.{sum, maximum}
-use Rattle.definitions.specs.Refusals.{lengthIs}
-use Rattle.refusals.proofs.All.{both}
+use Rattle.laws.proofs.Tests.{test}
 use Rattle.definitions_file.specs.ClosedFile.{answerFor, partFor}
-use Rattle.definitions_file.specs.Shelf.{Shelf, holdsLongest, shelfShaped, answersFor, partsFor}
+use Rattle.definitions_file.specs.Shelf.{Shelf, shelfShaped, answersFor, partsFor}
 use Rattle.shelf.proofs.Lengths.{sum-more, sum-none}
 
 module _ (fork : ℕ) (pair : Bellatrix) (lengths files lent : List ℕ) where
@@ -88,19 +86,11 @@ pub record Shaped (s : Shelf) : Type 0 where
 pub shaped : (s : Shelf) → shelfShaped s ≡ true → Shaped s
 unfolding shelfShaped
 shaped s e =
-    let a = eqb (sum (s .lengths)) (length (s .files)) in
-    let b = lengthIs (length (s .files)) (s .closing) in
-    let c = holdsLongest (s .lengths) (s .openingNumbers) in
-    let d = holdsLongest (s .lengths) (s .closingNumbers) in
-    let f = lengthIs (length (s .lengths)) (s .answers) in
-    let q4 = both (a && b && c && d) f e in
-    let q3 = both (a && b && c) d (q4 .first) in
-    let q2 = both (a && b) c (q3 .first) in
-    let q1 = both a b (q2 .first) in
+    let t = test _ e in
     record {
-      sums = eqb-true _ _ (q1 .first);
-      closing-long = eqb-true _ _ (q1 .second);
-      opening-room = leb-true _ _ (q2 .second);
-      closing-room = leb-true _ _ (q3 .second);
-      many = eqb-true _ _ (q4 .second);
+      sums = eqb-true _ _ (t 0);
+      closing-long = eqb-true _ _ (t 1);
+      opening-room = leb-true _ _ (t 2);
+      closing-room = leb-true _ _ (t 3);
+      many = eqb-true _ _ (t 4);
     }

@@ -6,6 +6,7 @@ ghost use lib.ListN.{length};
 ghost use Rattle.definitions.specs.Lists.{sum};
 ghost use Rattle.definitions_file.specs.Shelf.{holdsLongest, shelfShaped, shelfRefusal, answersFor, partsFor, answersAfter, closingAfter, Working, shelfOf};
 use definitions::Bellatrix;
+use refusals::all_pass;
 use shelf_file::close_file;
 
 // Nothing wraps: each length is taken from what is left of the total.
@@ -50,22 +51,15 @@ fn shelf_shaped(
         (shelfOf (now (files .entry)) (now (lengths .entry)) (now (closing .entry)) (now («opening_numbers» .entry)) (now («closing_numbers» .entry))
         (now (answers .entry))) ⌝ }
 {
-    if !sums_to(lengths, files.len() as u64) {
-        return false;
-    }
-    if closing.len() != files.len() {
-        return false;
-    }
-    if !holds_longest(lengths, opening_numbers) {
-        return false;
-    }
-    if !holds_longest(lengths, closing_numbers) {
-        return false;
-    }
-    if answers.len() != lengths.len() {
-        return false;
-    }
-    true
+    all_pass(
+        &[
+            sums_to(lengths, files.len() as u64),
+            closing.len() == files.len(),
+            holds_longest(lengths, opening_numbers),
+            holds_longest(lengths, closing_numbers),
+            answers.len() == lengths.len(),
+        ],
+    )
 }
 
 // File by file, each in its own part, to the last, whatever was answered before.

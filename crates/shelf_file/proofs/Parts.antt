@@ -14,13 +14,6 @@ module _ {file : List ℕ} {a b : ℕ} (p : Counts file a b) where
   pub counts-long : length file ≡ 384 + 80 * countOf file + 32 * rootCountOf file + 8 * slashingCountOf file
   counts-long = omega (arith, good-header file (p .header) .long, p .second)
 
-  pub roots-part : take (length file - 8 * (b - a) - (384 + 8 * a)) (drop (384 + 8 * a) file) ≡ contentsOf file .roots
-  unfolding contentsOf
-  roots-part =
-      let from : 384 + 8 * a ≡ 384 + 80 * countOf file = omega (arith, p) in
-      let size : length file - 8 * (b - a) - (384 + 80 * countOf file) ≡ 32 * rootCountOf file = omega (arith, p, counts-long) in
-      rw (from, size, p .second)
-
 module _ {file : List ℕ} {a b : ℕ} {numbers : List ℕ} (p : Counted file a b numbers) where
   pub front-length : length (take a numbers) ≡ a
   front-length = length-take-le a numbers (omega (arith, p .counts, p .room))

@@ -1,7 +1,7 @@
 -- The tests of one file of a shelf: by its reading's and by the rules, and what holds once they have passed.
 use mathlib.Core.Path.{_≡_, refl, sym, ap, ap₂, subst, _∙_}
 use mathlib.Core.Bool.{Bool, true, false, cond, _&&_, _||_}
-use mathlib.Core.List.{List}
+use mathlib.Core.List.{List, [], _∷_}
 use Prim.Native.Nat.{ℕ, _*_, _/_, _%_}
 use native.Mathlib.Omega.{arith}
 use borrow.Author.Tests.{le-leb, eq-eqb, eqb-true}
@@ -12,6 +12,7 @@ use Rattle.definitions.specs.declared.Finality.{Finality}
 use Rattle.definitions.specs.declared.CloseAnswer.{CloseAnswer}
 use Rattle.definitions.specs.declared.Bellatrix.{Bellatrix}
 use Rattle.definitions.specs.declared.Rules.{Rules}
+use Rattle.definitions.specs.Lists.{every}
 use Rattle.definitions.specs.Record.{BeaconState, decode}
 use Rattle.definitions.specs.Checked.{Checked, value, refused, badFile, wrongQueue, bind, codeOf, settle}
 use Rattle.definitions.specs.Refusals.{inOrder, settingsShaped, registryShaped, goodSettings, goodFinality, goodRegistry, afterTests, closingBuffer}
@@ -22,9 +23,10 @@ use Rattle.definitions.specs.Close.{Call}
 use Rattle.definitions_file.specs.File.{Contents, versionOf, countOf, rootCountOf, slashingCountOf, contentsOf, queueIn, goodHeader, fileShaped, readTests, fileLength, fileOf, contentsWith}
 use Rattle.definitions_file.specs.ClosedFile.{rulesIn, stateIn, fileTests, work, closedContents, closedFile, answerFor, partFor}
 use Rattle.laws.proofs.Checked.{not-value, bound}
-use Rattle.refusals.proofs.All.{both}
+use Rattle.laws.proofs.Tests as laws
+use Rattle.laws.proofs.Tests.{both}
 use Rattle.refusals.specs.Refusal.{rulesRefusal}
-use Rattle.round_trip.proofs.Tests.{in-order, queue-passed}
+use Rattle.round_trip.proofs.Tests.{queue-passed}
 use Rattle.round_trip.proofs.Passed.{Passed, Accepted, accepted, length-registry, length-slashings}
 use Rattle.close.specs.Called.{called}
 use Rattle.registry_close.specs.Worked.{stateNow, Tested, Worked}
@@ -40,8 +42,8 @@ abbrev eight : Bool → Checked (Unit {0})
 eight t = cond t (value tt) (refused wrongQueue)
 
 -- fork (f) and pair (p) beside the tests of reading: 1 (a), 2 (g), 3 (r), 8 (t)
-beside : (f a p g r t : Bool) → let x = codeOf (bind (inOrder a g r) (λ _. eight t)) in cond f (cond (eqb x 1) 1 (cond p x 2)) 1 ≡ codeOf (bind (inOrder (a && f) (g && p) r) (λ _. eight t))
-unfolding inOrder bind
+beside : (f a p g r t : Bool) → let x = codeOf (bind (laws.tested (a && true) (g && true) r) (λ _. eight t)) in cond f (cond (eqb x 1) 1 (cond p x 2)) 1 ≡ codeOf (bind (laws.tested (a && (f && true)) ((g && p) && true) r) (λ _. eight t))
+unfolding bind
 beside false true p g r t = refl
 beside false false p g r t = refl
 beside true false p g r t = refl
@@ -78,12 +80,12 @@ module _ (fork : ℕ) (pair : Bellatrix) (file : List ℕ) where
     shape = same-shape file xs ys (c .registry) (c .slashings) (l ∙ sym (length-registry file)) (m ∙ sym (length-slashings file))
 
     pub tested : {x y : ℕ} → y ≡ rulesRefusal r x → x ≡ codeOf (readTests file xs ys) → y ≡ codeOf (fileTests fork pair file)
-    unfolding readTests fileTests rulesRefusal goodRules queueTest
+    unfolding readTests fileTests rulesRefusal goodRules queueTest inOrder every
     tested {x} {y} e f =
-        let recorded = goodFinality (c .finality) && goodRegistry (c .registry) in
+        let recorded = goodFinality (c .finality) ∷ goodRegistry (c .registry) ∷ [] in
         let t = isQueueOf (queueIn file) (decode (c .registry)) in
-        let number : x ≡ codeOf (bind (inOrder (fileShaped file (c .registry) (c .slashings)) (goodSettings (c .settings)) recorded) (λ _. eight t)) = f ∙ rw (h, shape) in
-        e ∙ rw (h, v, number) (beside (leb fork «BELLATRIX») (fileShaped file (c .registry) (c .slashings)) (isAltair r || goodBellatrix pair) (goodSettings (c .settings)) recorded t)
+        let number : x ≡ codeOf (bind (inOrder (fileShaped file (c .registry) (c .slashings) ∷ []) (goodSettings (c .settings) ∷ []) recorded) (λ _. eight t)) = f ∙ rw (h, shape) in
+        e ∙ rw (h, v, number) (beside (leb fork «BELLATRIX») (fileShaped file (c .registry) (c .slashings)) (isAltair r || goodBellatrix pair) (goodSettings (c .settings)) (every recorded) t)
 
   -- refused: the part stays
   pub refused-tests : {x : ℕ} → x ≡ codeOf (fileTests fork pair file) → (x ≡ 0 → ⊥) → (part : List ℕ) → FileClosed fork pair file part part x
@@ -109,29 +111,26 @@ module _ (fork : ℕ) (pair : Bellatrix) (file : List ℕ) where
     pub passes : Passes
     unfolding fileTests goodRules
     passes =
-        let shaped = fileShaped file (c .registry) (c .slashings) in
         let first = first-passed (goodHeader file && eqb (versionOf file) 2) _ e in
         let head = both (goodHeader file) (eqb (versionOf file) 2) (first .0) in
         let then = bound _ (λ _. queueTest (queueIn file) (decode (c .registry))) (first .1) in
-        let order = in-order _ _ _ (then .gave) in
-        let shape = both shaped (leb fork «BELLATRIX») (order .shaped) in
-        let recorded = both (goodFinality (c .finality)) (goodRegistry (c .registry)) (order .recorded) in
-        let settings = both (goodSettings (c .settings)) (isAltair r || goodBellatrix pair) (order .settings) in
+        let order = laws.in-order-value _ _ _ (then .gave) in
+        let settings = both (goodSettings (c .settings)) (isAltair r || goodBellatrix pair) (order .settings 0) in
         let p : Passed file (c .registry) (c .slashings) =
         record {
-          header = head .first;
-          shaped = shape .first;
-          settings = settings .first;
-          finality = recorded .first;
-          registry = recorded .second;
+          header = head .0;
+          shaped = order .shaped 0;
+          settings = settings .0;
+          finality = order .recorded 0;
+          registry = order .recorded 1;
           queue = queue-passed (queueIn file) (decode (c .registry)) (then .then);
         }
         in
         record {
-          header = head .first;
-          second = eqb-true (versionOf file) 2 (head .second);
-          fork-known = shape .second;
-          rules = order .settings;
+          header = head .0;
+          second = eqb-true (versionOf file) 2 (head .1);
+          fork-known = order .shaped 1;
+          rules = order .settings 0;
           accepts = accepted file (c .registry) (c .slashings) p;
         }
 
@@ -139,7 +138,7 @@ module _ (fork : ℕ) (pair : Bellatrix) (file : List ℕ) where
     call = called r (c .finality) (c .registry) (c .slashings) (c .roots) (c .registry) (c .slashings)
 
     record-passes : 0 ≡ codeOf (recordTests call)
-    unfolding recordTests rulesShaped settingsShaped registryShaped inOrder
+    unfolding recordTests rulesShaped settingsShaped registryShaped inOrder every
     record-passes =
         let p = passes in
         let g = p .accepts .good in

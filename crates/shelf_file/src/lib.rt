@@ -12,7 +12,7 @@ ghost use Rattle.definitions_file.specs.File.{versionOf, contentsOf, goodHeader
 ghost use Rattle.definitions_file.specs.ClosedFile.{fileTests, answerFor, partFor};
 ghost use Rattle.record_file.specs.Sized.{Sized};
 ghost use Rattle.registry_close.specs.Worked.{stateNow, Tested, Worked};
-ghost use Rattle.shelf_file.specs.Parts.{Counts, Counted, numbersBehind, Opened, FileClosed};
+ghost use Rattle.shelf_file.specs.Parts.{Counted, numbersBehind, Opened, FileClosed};
 use definitions::Bellatrix;
 use definitions::CloseAnswer;
 use definitions::Finality;
@@ -27,6 +27,7 @@ use fields::read_settings;
 use file_refusals::file_header::good_header;
 use file_refusals::file_header::read_counts;
 use file_refusals::read_tests;
+use record_file::file_roots;
 use record_file::put_record;
 use refusals::rules::rules_refusal;
 use refusals::rules::settings_under;
@@ -61,16 +62,6 @@ fn read_opening(file: &[u8], a: usize, b: usize, numbers: &mut [u64])
     let slashings_at = file.len() - 8 * (b - a);
     read_numbers(file, VALIDATORS_AT, &mut numbers[..a]);
     read_numbers(file, slashings_at, &mut numbers[a..b]);
-}
-
-// Roots stay in the file's bytes.
-fn roots_of<'a>(file: &'a [u8], a: usize, b: usize) -> &'a [u8]
-    requires { ⌜ Counts (now file) a b ⌝ }
-    ensures { λ r. ⌜ now r ≡ contentsOf (now (file .entry)) .roots ⌝ }
-{
-    let from = VALIDATORS_AT + 8 * a;
-    let to = file.len() - 8 * (b - a);
-    &file[from..to]
 }
 
 fn close_opening(
@@ -139,7 +130,7 @@ fn close_passed(
     let s = settings_under(rules);
     let finality = read_finality(file);
     read_opening(file, a, b, numbers);
-    let roots = roots_of(file, a, b);
+    let roots = file_roots(file);
     let answer = close_opening(s, finality, roots, &numbers[..], a, b, closing);
     if answer.refusal != 0 {
         put_bytes(part, 0, file);

@@ -26,11 +26,13 @@ use definitions::SLASHED;
 use definitions::Settings;
 use definitions::WITHDRAWABLE_EPOCH;
 use epochs::current_epoch;
-use leaf_refusals::registry_refusals::slot_registry_tests;
 use refusals::buffers::copy;
 use refusals::buffers::put_back;
+use refusals::good_registry;
 use refusals::good_settings;
+use refusals::in_order;
 use refusals::is_small;
+use refusals::registry_shaped;
 use refusals::rules::rules_refusal;
 use refusals::rules::settings_under;
 use refusals::settings_shaped;
@@ -137,14 +139,17 @@ fn slashings_tests(
 ) -> u64
     ensures { λ r. ⌜ r ≡ codeOf (slashingsTests rules «state_slot» (now (slashings .entry)) (now (opening .entry)) (now (closing .entry))) ⌝ }
 {
-    let settings = rules.settings;
-    if slashings.len() as u64 != settings.epochs_per_slashings_vector {
-        return 1;
-    }
-    if closing.len() != opening.len() {
-        return 1;
-    }
-    let by_settings = slot_registry_tests(settings, state_slot, opening);
+    let s = rules.settings;
+    let by_settings = in_order(
+        &[
+            settings_shaped(s),
+            slashings.len() as u64 == s.epochs_per_slashings_vector,
+            registry_shaped(opening),
+            closing.len() == opening.len(),
+        ],
+        &[good_settings(s)],
+        &[is_small(state_slot), good_registry(opening)],
+    );
     rules_refusal(rules, by_settings)
 }
 
@@ -185,22 +190,15 @@ pub fn slashings_reset_core(s: Settings, state_slot: u64, slashings: &mut [u64])
 fn slashings_reset_tests(s: Settings, state_slot: u64, opening: &[u64], closing: &[u64]) -> u64
     ensures { λ r. ⌜ r ≡ codeOf (slashingsResetTests s «state_slot» (now (opening .entry)) (now (closing .entry))) ⌝ }
 {
-    if !settings_shaped(s) {
-        return 1;
-    }
-    if opening.len() as u64 != s.epochs_per_slashings_vector {
-        return 1;
-    }
-    if closing.len() != opening.len() {
-        return 1;
-    }
-    if !good_settings(s) {
-        return 2;
-    }
-    if !is_small(state_slot) {
-        return 3;
-    }
-    0
+    in_order(
+        &[
+            settings_shaped(s),
+            opening.len() as u64 == s.epochs_per_slashings_vector,
+            closing.len() == opening.len(),
+        ],
+        &[good_settings(s)],
+        &[is_small(state_slot)],
+    )
 }
 
 pub fn process_slashings_reset(

@@ -4,7 +4,7 @@ ghost use Prim.Native.Nat.{_*_, _≤_};
 ghost use lib.Dec.{ltb};
 ghost use lib.ListN.{length};
 ghost use Rattle.definitions.specs.Checked.{codeOf};
-ghost use Rattle.definitions_close.specs.Store.{entriesFrom, keeps, lastOf, ofLast, storeTests, rulesAt, readRules, rulesAnswerFor, numbersOf, additionShaped, additionTests, added};
+ghost use Rattle.definitions_close.specs.Store.{entriesFrom, keeps, lastOf, ofLast, storeTests, rulesAt, readRules, rulesAnswerFor, numbersOf, additionTests, added};
 ghost use Rattle.definitions_close.specs.Calls.{lent, newEntry, addOutcome};
 ghost use Rattle.store.specs.Answers.{Finds, turnedAway};
 
@@ -23,6 +23,7 @@ use definitions::Settings;
 use definitions_close::CountAnswer;
 use definitions_close::RulesAnswer;
 use refusals::buffers::copy;
+use refusals::in_order;
 
 // The place of the last of the first n entries whose start is not above the epoch; n where there is none.
 fn find_entry(store: &[u64], n: usize, epoch: u64) -> usize
@@ -93,17 +94,19 @@ pub fn rules_at(store: &[u64], n: usize, epoch: u64) -> RulesAnswer
     RulesAnswer { refusal: 0, rules }
 }
 
-// Tests 1 and 2: 0, or the number of the first that failed.
+// Tests 1 and 2: 0, or the number of the first that failed. An entry is read only where the count is within the room.
 fn store_tests(store: &[u64], count: u64) -> u64
     ensures { λ r. ⌜ r ≡ codeOf (storeTests (lent (now (store .entry)) count)) ⌝ }
 {
-    if !store_shaped(store, count) {
+    let n = count as usize;
+    if store.len() / 23 < n {
         return 1;
     }
-    if !good_entries(store, count as usize) {
-        return 2;
-    }
-    0
+    in_order(
+        &[store_shaped(store, count)],
+        &[good_entries(store, n)],
+        &[],
+    )
 }
 
 pub fn read_rules(store: &[u64], count: u64, epoch: u64) -> RulesAnswer
@@ -142,37 +145,28 @@ fn starts_after(store: &[u64], n: usize, start: u64) -> bool
     store[a] < start
 }
 
-// Test 1 of an addition.
-fn addition_shaped(store: &[u64], count: u64, start: u64, rules: Rules) -> bool
-    ensures { λ r. ⌜ r ≡ additionShaped (lent (now (store .entry)) count) (newEntry start rules) ⌝ }
-{
-    if !store_shaped(store, count) {
-        return false;
-    }
-    let n = count as usize;
-    if store.len() / 23 <= n {
-        return false;
-    }
-    if !rules_shaped(rules) {
-        return false;
-    }
-    keeps_last(store, n, rules.settings)
-}
-
 // Tests 1, 2 and 12.
 fn addition_tests(store: &[u64], count: u64, start: u64, rules: Rules) -> u64
     ensures { λ r. ⌜ r ≡ codeOf (additionTests (lent (now (store .entry)) count) (newEntry start rules)) ⌝ }
 {
-    if !addition_shaped(store, count, start, rules) {
+    let n = count as usize;
+    if store.len() / 23 < n {
         return 1;
     }
-    if !good_entries(store, count as usize) {
-        return 2;
+    let refusal = in_order(
+        &[
+            store_shaped(store, count),
+            n < store.len() / 23,
+            rules_shaped(rules),
+            keeps_last(store, n, rules.settings),
+        ],
+        &[good_entries(store, n), good_rules(rules)],
+        &[],
+    );
+    if refusal != 0 {
+        return refusal;
     }
-    if !good_rules(rules) {
-        return 2;
-    }
-    if !starts_after(store, count as usize, start) {
+    if !starts_after(store, n, start) {
         return 12;
     }
     0

@@ -6,6 +6,7 @@ ghost use Rattle.definitions.specs.Lists.{all};
 ghost use Rattle.definitions.specs.Rules.{rulesShaped, goodRules};
 ghost use Rattle.definitions_close.specs.Store.{entryOf, entriesFrom, keeps, follows, inSequence, storeShaped, goodEntries};
 ghost use Rattle.definitions_close.specs.Calls.{lent};
+ghost use Rattle.store.specs.Answers.{rulesPass};
 use definitions::Bellatrix;
 use definitions::Rules;
 use definitions::Settings;
@@ -53,10 +54,7 @@ pub fn entry_rules(entry: &[u64]) -> Rules
 pub fn rules_shaped(rules: Rules) -> bool
     ensures { λ r. ⌜ r ≡ rulesShaped rules ⌝ }
 {
-    if !settings_shaped(rules.settings) {
-        return false;
-    }
-    rules.fork <= 1
+    settings_shaped(rules.settings) & (rules.fork <= 1)
 }
 
 // The pair is asked under any fork but Altair's, as fork 1 asks it.
@@ -65,31 +63,21 @@ pub fn good_rules(rules: Rules) -> bool
 {
     let settings = rules.settings;
     let bellatrix = rules.bellatrix;
-    if !good_settings(settings) {
-        return false;
-    }
-    if rules.fork == 0 {
-        return true;
-    }
     let asked = Rules {
         settings,
         fork: 1,
         bellatrix,
     };
-    rules_refusal(asked, 0) == 0
+    good_settings(settings) & ((rules.fork == 0) | (rules_refusal(asked, 0) == 0))
 }
 
 // What may not change from one entry to the next.
 pub fn keeps(s: Settings, t: Settings) -> bool
     ensures { λ r. ⌜ r ≡ keeps s t ⌝ }
 {
-    if s.slots_per_epoch != t.slots_per_epoch {
-        return false;
-    }
-    if s.slots_per_historical_root != t.slots_per_historical_root {
-        return false;
-    }
-    s.epochs_per_slashings_vector == t.epochs_per_slashings_vector
+    (s.slots_per_epoch == t.slots_per_epoch)
+        & (s.slots_per_historical_root == t.slots_per_historical_root)
+        & (s.epochs_per_slashings_vector == t.epochs_per_slashings_vector)
 }
 
 // Two entries, one behind the other.
@@ -97,23 +85,30 @@ fn follows(entry: &[u64], next: &[u64]) -> bool
     requires { ⌜ (length (now entry) ≡ 23) × (length (now next) ≡ 23) ⌝ }
     ensures { λ r. ⌜ r ≡ follows (entryOf (now (entry .entry))) (entryOf (now (next .entry))) ⌝ }
 {
-    if next[0] <= entry[0] {
-        return false;
-    }
     let before = entry_rules(entry);
     let after = entry_rules(next);
-    keeps(before.settings, after.settings)
+    (entry[0] < next[0]) & keeps(before.settings, after.settings)
 }
 
-// Test 1 of each of the first n entries.
-fn entries_shaped(store: &[u64], n: usize) -> bool
+// Test 1 or 2 of an entry's rules, by its number.
+fn rules_pass(rules: Rules, test: u64) -> bool
+    ensures { λ r. ⌜ r ≡ rulesPass test rules ⌝ }
+{
+    if test == 1 {
+        return rules_shaped(rules);
+    }
+    good_rules(rules)
+}
+
+// The same of each of the first n entries.
+fn entries_pass(store: &[u64], n: usize, test: u64) -> bool
     requires { ⌜ 23 * n ≤ length (now store) ⌝ }
-    ensures { λ r. ⌜ r ≡ all (λ e. rulesShaped (e .rules)) (entriesFrom n (now (store .entry))) ⌝ }
+    ensures { λ r. ⌜ r ≡ all (λ e. rulesPass test (e .rules)) (entriesFrom n (now (store .entry))) ⌝ }
 {
     for i in 0..n {
         let a = 23 * i;
         let b = a + 23;
-        if !rules_shaped(entry_rules(&store[a..b])) {
+        if !rules_pass(entry_rules(&store[a..b]), test) {
             return false;
         }
     }
@@ -142,16 +137,10 @@ pub fn store_shaped(store: &[u64], count: u64) -> bool
 {
     let long = store.len();
     let n = count as usize;
-    if long % 23 != 0 {
-        return false;
-    }
     if long / 23 < n {
         return false;
     }
-    if !entries_shaped(store, n) {
-        return false;
-    }
-    in_sequence(store, n)
+    (long % 23 == 0) & entries_pass(store, n, 1) & in_sequence(store, n)
 }
 
 // Test 2 of each of the first n entries.
@@ -159,12 +148,5 @@ pub fn good_entries(store: &[u64], n: usize) -> bool
     requires { ⌜ 23 * n ≤ length (now store) ⌝ }
     ensures { λ r. ⌜ r ≡ goodEntries (entriesFrom n (now (store .entry))) ⌝ }
 {
-    for i in 0..n {
-        let a = 23 * i;
-        let b = a + 23;
-        if !good_rules(entry_rules(&store[a..b])) {
-            return false;
-        }
-    }
-    true
+    entries_pass(store, n, 2)
 }

@@ -3,12 +3,12 @@ ghost use mathlib.Core.Path.{_≡_};
 ghost use mathlib.Core.Bool.{true, _&&_};
 ghost use Prim.Native.Nat.{_*_, _≤_};
 ghost use lib.ListN.{length};
-ghost use Rattle.definitions.specs.Refusals.{registryShaped, rootsShaped, slashingsShaped, sameLength};
-ghost use Rattle.definitions_close.specs.Amounts.{amountsShaped};
+ghost use Rattle.definitions.specs.Checked.{codeOf};
+ghost use Rattle.definitions.specs.Refusals.{rootsShaped, slashingsShaped};
 ghost use Rattle.definitions_close.specs.Store.{entriesFrom, lastOf, ofLast, goodEntries, rulesAnswerFor};
 ghost use Rattle.definitions_close.specs.StoreClose.{rulesAtSlot};
 ghost use Rattle.definitions_close.specs.Calls.{lent};
-ghost use Rattle.store.specs.Called.{shapedWith, rulesWith};
+ghost use Rattle.store.specs.Called.{testsWith, rulesWith};
 use crate::rules_at;
 use crate::store_entries::entry_rules;
 use crate::store_entries::good_entries;
@@ -16,34 +16,8 @@ use crate::store_entries::store_shaped;
 use crate::turned_away;
 use definitions::Settings;
 use definitions_close::RulesAnswer;
+use refusals::in_order;
 use refusals::registry_shaped;
-
-// Test 1 of what is lent, where no setting is asked.
-fn lent_shaped(
-    registry: &[u64],
-    slashings: &[u64],
-    closing_registry: &[u64],
-    closing_slashings: &[u64],
-    amounts: &[u64],
-) -> bool
-    ensures { λ r. ⌜
-        r
-        ≡ (registryShaped (now (registry .entry))
-        && sameLength (now (registry .entry)) (now («closing_registry» .entry))
-        && sameLength (now (slashings .entry)) (now («closing_slashings» .entry))
-        && amountsShaped (now (registry .entry)) (now (amounts .entry))) ⌝ }
-{
-    if !registry_shaped(registry) {
-        return false;
-    }
-    if closing_registry.len() != registry.len() {
-        return false;
-    }
-    if closing_slashings.len() != slashings.len() {
-        return false;
-    }
-    amounts.len() == 9 * (registry.len() / 10)
-}
 
 // Test 1 by S and L.
 fn fits_settings(s: Settings, slashings: &[u64], roots: &[u8]) -> bool
@@ -76,8 +50,8 @@ fn fits_last(store: &[u64], n: usize, slashings: &[u64], roots: &[u8]) -> bool
     fits_settings(last.settings, slashings, roots)
 }
 
-// Test 1.
-fn call_shaped(
+// Tests 1 and 2: 0, or the number of the first that failed.
+fn call_tests(
     store: &[u64],
     count: u64,
     registry: &[u64],
@@ -86,25 +60,28 @@ fn call_shaped(
     closing_registry: &[u64],
     closing_slashings: &[u64],
     amounts: &[u64],
-) -> bool
+) -> u64
     ensures { λ r. ⌜
         r
-        ≡ shapedWith (lent (now (store .entry)) count) (now (registry .entry)) (now (slashings .entry)) (now (roots .entry))
-        (now («closing_registry» .entry)) (now («closing_slashings» .entry)) (now (amounts .entry)) ⌝ }
+        ≡ codeOf (testsWith (lent (now (store .entry)) count) (now (registry .entry)) (now (slashings .entry)) (now (roots .entry))
+        (now («closing_registry» .entry)) (now («closing_slashings» .entry)) (now (amounts .entry))) ⌝ }
 {
-    if !store_shaped(store, count) {
-        return false;
+    let n = count as usize;
+    if store.len() / 23 < n {
+        return 1;
     }
-    if !lent_shaped(
-        registry,
-        slashings,
-        closing_registry,
-        closing_slashings,
-        amounts,
-    ) {
-        return false;
-    }
-    fits_last(store, count as usize, slashings, roots)
+    in_order(
+        &[
+            store_shaped(store, count),
+            registry_shaped(registry),
+            amounts.len() == 9 * (registry.len() / 10),
+            fits_last(store, n, slashings, roots),
+            closing_registry.len() == registry.len(),
+            closing_slashings.len() == slashings.len(),
+        ],
+        &[good_entries(store, n)],
+        &[],
+    )
 }
 
 // The rules of a slot's epoch; slots_per_epoch is the same in all entries, and not 0 once they are good.
@@ -138,7 +115,7 @@ pub fn rules_for(
         ≡ rulesAnswerFor (rulesWith (lent (now (store .entry)) count) slot (now (registry .entry)) (now (slashings .entry)) (now (roots .entry))
         (now («closing_registry» .entry)) (now («closing_slashings» .entry)) (now (amounts .entry))) ⌝ }
 {
-    if !call_shaped(
+    let refusal = call_tests(
         store,
         count,
         registry,
@@ -147,12 +124,9 @@ pub fn rules_for(
         closing_registry,
         closing_slashings,
         amounts,
-    ) {
-        return turned_away(1);
+    );
+    if refusal != 0 {
+        return turned_away(refusal);
     }
-    let n = count as usize;
-    if !good_entries(store, n) {
-        return turned_away(2);
-    }
-    rules_at_slot(store, n, slot)
+    rules_at_slot(store, count as usize, slot)
 }

@@ -1,23 +1,28 @@
 -- A call with a store, from the answer that its rules were asked with.
 use mathlib.Core.Bool.{Bool, true, false, cond, _&&_}
+use mathlib.Core.List.{List}
 use mathlib.Core.Path.{_≡_, refl, sym, ap, _∙_}
 use Prim.Native.Nat.{ℕ, _+_, _≤_, _<_}
 use native.Mathlib.Omega.{arith}
 use borrow.Author.Tests.{eq-eqb, ne-eqb, eqb-true, le-leb, lt-leb}
 use lib.Dec.{leb, eqb}
 use Rattle.definitions.specs.declared.Rules.{Rules}
-use Rattle.definitions.specs.Checked.{Checked}
+use Rattle.definitions.specs.Checked.{Checked, codeOf}
 use Rattle.definitions_close.specs.declared.RunningAnswer.{RunningAnswer}
 use Rattle.definitions_close.specs.CloseBySteps.{inTurn, endedBy, unwritten, closeStep}
 use Rattle.definitions_close.specs.Orders.{carryOut}
 use Rattle.definitions_close.specs.declared.RulesAnswer.{RulesAnswer}
-use Rattle.definitions_close.specs.Store.{rulesAnswerFor}
-use Rattle.definitions_close.specs.StoreClose.{rulesFor}
+use Rattle.definitions_close.specs.Store.{Store, entries, rulesAnswerFor}
+use Rattle.definitions_close.specs.StoreClose.{rulesAtSlot, rulesFor}
 use Rattle.definitions_close.specs.StoreSteps.{StoreStepCall, stepBy, stepOf, storeSoFar, storeFound, stepRefused, storeStepBy, storeStep, StoreNinthCall, ninthBy, ninthRules, carryBy, storeCarryOut}
 use Rattle.close_by_steps.specs.Called.{endedAnswer}
 use Rattle.definitions_close.specs.Calls.{stepOutcome, ninthOutcome}
+use Rattle.laws.proofs.Tests.{in-order}
+use Rattle.refusals.proofs.Answers.{after-passed, after-refused}
+use Rattle.store.specs.Answers.{turnedAway}
+use Rattle.store.proofs.Passed.{StorePassed, store-shaped}
 use Rattle.store.proofs.store_rules.Given.{rules-given, rules-turned}
-use Rattle.store_steps.specs.Called.{firstStep, laterStep, ninthRulesWith}
+use Rattle.store_steps.specs.Called.{firstStep, laterStep, ninthTestsWith, ninthRulesWith}
 
 -- the first eight calls
 
@@ -83,8 +88,26 @@ module _ (c : StoreStepCall) (n : c .running .done ≡ 9 → ⊥) where
 
 -- the ninth
 
+module _ (store : Store) (period count : ℕ) (registry orders answers : List ℕ) {x : ℕ} (e : x ≡ codeOf (ninthTestsWith store period count registry orders answers)) where
+  pub with-passed : x ≡ 0 → StorePassed store
+  unfolding ninthTestsWith
+  with-passed z =
+      let q = in-order _ _ _ (sym e ∙ z) in
+      record { shape = store-shaped store (q .shaped 0); entries-good = q .settings 0 }
+
+  module _ (slot : ℕ) where
+    pub with-refused : (x ≡ 0 → ⊥) → turnedAway x ≡ rulesAnswerFor (ninthRulesWith store period slot count registry orders answers)
+    unfolding ninthRulesWith
+    with-refused z =
+        let r = after-refused (ninthTestsWith store period count registry orders answers) (rulesAtSlot slot (entries store)) e z in
+        rw (r .is) (ap turnedAway (r .number))
+
+    pub with-rules : x ≡ 0 → ninthRulesWith store period slot count registry orders answers ≡ rulesAtSlot slot (entries store)
+    unfolding ninthRulesWith
+    with-rules z = after-passed _ _ e z
+
 pub ninth-with : (c : StoreNinthCall) → ninthRulesWith (c .store) (c .period) (c .running .answer .finality .slot) (c .running .orders) (c .closingRegistry) (c .orders) (c .answers) ≡ ninthRules c
-unfolding ninthRulesWith ninthRules
+unfolding ninthRulesWith ninthTestsWith ninthRules
 ninth-with c = refl
 
 module _ (c : StoreNinthCall) {a : RulesAnswer} (e : a ≡ rulesAnswerFor (ninthRules c)) (d : c .running .done ≡ 8) where

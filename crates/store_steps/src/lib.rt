@@ -3,10 +3,11 @@ ghost use mathlib.Core.Path.{_≡_};
 ghost use mathlib.Core.Bool.{_&&_};
 ghost use Prim.Native.Nat.{_+_, _≤_};
 ghost use lib.Dec.{leb, eqb};
+ghost use Rattle.definitions.specs.Checked.{codeOf};
 ghost use Rattle.definitions_close.specs.Store.{rulesAnswerFor};
 ghost use Rattle.definitions_close.specs.StoreSteps.{storeStep, storeCarryOut};
 ghost use Rattle.definitions_close.specs.Calls.{stepOutcome, ninthOutcome, lent, storeCalled, storeStepCalled, storeNinthCalled};
-ghost use Rattle.store_steps.specs.Called.{firstStep, laterStep, ninthRulesWith};
+ghost use Rattle.store_steps.specs.Called.{firstStep, laterStep, ninthTestsWith, ninthRulesWith};
 
 pub mod store_close;
 
@@ -18,7 +19,8 @@ use definitions_close::RulesAnswer;
 use definitions_close::Running;
 use definitions_close::RunningAnswer;
 use orders::ninth_call::carry_out;
-use orders::ninth_call::lists_shaped;
+use orders::orders_shaped;
+use refusals::in_order;
 use refusals::is_small;
 use refusals::registry_shaped;
 use store::store_entries::good_entries;
@@ -214,7 +216,38 @@ pub fn store_step(
     )
 }
 
-// The rules that the ninth call goes by: 1 of all that is lent, 2 of every entry and of the period, then 13.
+// Tests 1 and 2 of all that is lent to the ninth call: 0, or the number of the first that failed.
+fn ninth_tests(
+    store: &[u64],
+    count: u64,
+    period: u64,
+    taken: u64,
+    registry: &[u64],
+    orders: &[u64],
+    answers: &[u64],
+) -> u64
+    ensures { λ r. ⌜
+        r
+        ≡ codeOf
+        (ninthTestsWith (lent (now (store .entry)) count) period taken (now (registry .entry)) (now (orders .entry)) (now (answers .entry))) ⌝ }
+{
+    let n = count as usize;
+    if store.len() / 23 < n {
+        return 1;
+    }
+    in_order(
+        &[
+            store_shaped(store, count),
+            registry_shaped(registry),
+            orders_shaped(taken, orders),
+            answers.len() == orders.len() / 2,
+        ],
+        &[good_entries(store, n), is_small(period)],
+        &[],
+    )
+}
+
+// The rules that it goes by: or 1, 2 or 13.
 fn ninth_rules(
     store: &[u64],
     count: u64,
@@ -230,23 +263,11 @@ fn ninth_rules(
         ≡ rulesAnswerFor
         (ninthRulesWith (lent (now (store .entry)) count) period slot taken (now (registry .entry)) (now (orders .entry)) (now (answers .entry))) ⌝ }
 {
-    if !store_shaped(store, count) {
-        return turned_away(1);
+    let refusal = ninth_tests(store, count, period, taken, registry, orders, answers);
+    if refusal != 0 {
+        return turned_away(refusal);
     }
-    if !registry_shaped(registry) {
-        return turned_away(1);
-    }
-    if !lists_shaped(taken, orders, answers) {
-        return turned_away(1);
-    }
-    let n = count as usize;
-    if !good_entries(store, n) {
-        return turned_away(2);
-    }
-    if !is_small(period) {
-        return turned_away(2);
-    }
-    rules_at_slot(store, n, slot)
+    rules_at_slot(store, count as usize, slot)
 }
 
 pub fn store_carry_out(

@@ -15,7 +15,7 @@ use Rattle.definitions.specs.Refusals.{goodValidator, goodRegistry}
 use Rattle.definitions.specs.Rust.Phase0.Helpers.{«get_active_validator_indices»}
 use Rattle.definitions.specs.Rust.Altair.Helpers.{isUnslashedParticipating}
 use Rattle.laws.proofs.Encode.{length-decode}
-use Rattle.refusals.proofs.All.{both}
+use Rattle.laws.proofs.Tests.{test}
 use Rattle.laws.proofs.Loops.Entry.{entryAt}
 use Rattle.laws.proofs.Loops.Filtered.{filter-last, filter-le, sum64-filter}
 use Rattle.laws.proofs.Loops.Reading.{Reading, reading-none, reading-more, reading-is, prefix-all, prefix-more}
@@ -195,16 +195,11 @@ seeing-all s {current} {previous} {n} {xs} {i} {ks} {r} g l =
 pub plain-sums : {s : Settings} {current previous : ℕ} {xs ks : List ℕ} {r : Findings} → Finds s current previous xs ks r → allFit (r .over) ≡ true → PlainSums current previous (decode xs) (r .sums)
 unfolding allFit
 plain-sums {r = r} f h =
-    let none : ℕ → Bool = λ n. eqb n 0 in
-    let o = r .over in
-    let d = both (none (o .active) && none (o .source) && none (o .target) && none (o .head)) (none (o .«current_target»)) h in
-    let c = both (none (o .active) && none (o .source) && none (o .target)) (none (o .head)) (d .first) in
-    let b = both (none (o .active) && none (o .source)) (none (o .target)) (c .first) in
-    let a = both (none (o .active)) (none (o .source)) (b .first) in
+    let t = test _ h in
     record {
-      active = f .active .fits (eqb-true _ 0 (a .first));
-      source = f .source .fits (eqb-true _ 0 (a .second));
-      target = f .target .fits (eqb-true _ 0 (b .second));
-      head = f .head .fits (eqb-true _ 0 (c .second));
-      «current_target» = f .«current_target» .fits (eqb-true _ 0 (d .second));
+      active = f .active .fits (eqb-true _ 0 (t 0));
+      source = f .source .fits (eqb-true _ 0 (t 1));
+      target = f .target .fits (eqb-true _ 0 (t 2));
+      head = f .head .fits (eqb-true _ 0 (t 3));
+      «current_target» = f .«current_target» .fits (eqb-true _ 0 (t 4));
     }

@@ -1,7 +1,7 @@
 -- What one pass over the opening registry finds.
 use mathlib.Core.Path.{_≡_}
-use mathlib.Core.Bool.{Bool, cond, _&&_}
-use mathlib.Core.List.{List}
+use mathlib.Core.Bool.{Bool, cond}
+use mathlib.Core.List.{List, [], _∷_}
 use Prim.Native.Nat.{ℕ, _+_, _%_, _^_}
 use lib.Dec.{ltb, eqb}
 use lib.ListN.{length}
@@ -17,6 +17,7 @@ use Rattle.exit_queue.specs.Queue.{Tracks, joined}
 use Rattle.survey.specs.declared.Sums.{Sums}
 use Rattle.survey.specs.declared.Findings.{Findings}
 use Rattle.survey.specs.Sums.{activeAt, sumsOf, balanceOf}
+use Rattle.definitions.specs.Lists.{every}
 
 -- a plain sum: a number where `over` is 0, and else it has left 64 bits
 pub record PlainSum (p : Validator → Bool) (vs : List Validator) (sum over : ℕ) : Type 0 where
@@ -72,4 +73,5 @@ foundAfter current previous r v =
 
 -- whether no sum has left 64 bits
 unfoldable pub allFit : Sums → Bool
-allFit over = eqb (over .active) 0 && eqb (over .source) 0 && eqb (over .target) 0 && eqb (over .head) 0 && eqb (over .«current_target») 0
+allFit over =
+    every (eqb (over .active) 0 ∷ eqb (over .source) 0 ∷ eqb (over .target) 0 ∷ eqb (over .head) 0 ∷ eqb (over .«current_target») 0 ∷ [])

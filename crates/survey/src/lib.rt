@@ -1,9 +1,11 @@
 // One pass over the registry for all that a close asks of it as a whole.
 ghost use mathlib.Core.Path.{_≡_};
-ghost use mathlib.Core.Bool.{cond, _&&_};
+ghost use mathlib.Core.Bool.{cond};
+ghost use mathlib.Core.List.{[], _∷_};
 ghost use Prim.Native.Nat.{_+_, _*_, _/_, _<_};
 ghost use lib.Dec.{leb};
 ghost use lib.ListN.{length};
+ghost use Rattle.definitions.specs.Lists.{every};
 ghost use Rattle.definitions.specs.Record.{decodeOne};
 ghost use Rattle.selection.specs.Keep.{Blank};
 ghost use Rattle.survey.specs.Sums.{sumsOf, raisedTo};
@@ -21,6 +23,7 @@ use entries::is_active;
 use entries::participates;
 use exit_queue::last_after;
 use exit_queue::number_after;
+use refusals::all_pass;
 use selection::keep;
 use selection::waiting_since;
 use std::num::wrapping_add_u64;
@@ -130,7 +133,7 @@ fn overs_after(over: Sums, t: Sums, own: Sums) -> Sums
 
 // Test 3 of one validator after those before it: 0 or 3.
 fn test_after(refusal: u64, slashed: u64, previous: u64, current: u64) -> u64
-    ensures { λ r. ⌜ r ≡ cond (leb slashed 1 && leb previous 255 && leb current 255) refusal 3 ⌝ }
+    ensures { λ r. ⌜ r ≡ cond (every (leb slashed 1 ∷ leb previous 255 ∷ leb current 255 ∷ [])) refusal 3 ⌝ }
 {
     if 1 < slashed {
         return 3;
@@ -237,17 +240,13 @@ pub fn survey_registry(
 pub fn all_fit(over: Sums) -> bool
     ensures { λ r. ⌜ r ≡ allFit over ⌝ }
 {
-    if over.active != 0 {
-        return false;
-    }
-    if over.source != 0 {
-        return false;
-    }
-    if over.target != 0 {
-        return false;
-    }
-    if over.head != 0 {
-        return false;
-    }
-    over.current_target == 0
+    all_pass(
+        &[
+            over.active == 0,
+            over.source == 0,
+            over.target == 0,
+            over.head == 0,
+            over.current_target == 0,
+        ],
+    )
 }

@@ -5,6 +5,7 @@ use mathlib.Core.List.{List}
 use Prim.Native.Nat.{ℕ}
 use native.Mathlib.Omega.{arith}
 use Rattle.definitions.specs.declared.ExitQueue.{ExitQueue}
+use Rattle.definitions.specs.Lists.{every}
 use Rattle.definitions.specs.Checked.{bind}
 use Rattle.definitions.specs.Refusals.{inOrder, registryShaped, goodRegistry, afterTests}
 use Rattle.definitions_close.specs.QueueCalls.{queueAfter, foundQueue}
@@ -19,12 +20,12 @@ graded passed = cond passed 0 3
 
 module _ (registry : List ℕ) where
   pub found-shape : registryShaped registry ≡ false → record { refusal = 1; queue = none } ≡ foundQueue registry
-  unfolding foundQueue inOrder afterTests bind queueAfter
+  unfolding foundQueue inOrder afterTests bind queueAfter every
   found-shape s = rw s
 
   module _ (s : registryShaped registry ≡ true) {epoch : ℕ} {seen : Seen} (f : Sees epoch registry seen) where
     pub found-record : (seen .refusal ≡ 0 → ⊥) → record { refusal = 3; queue = none } ≡ foundQueue registry
-    unfolding foundQueue inOrder afterTests bind queueAfter
+    unfolding foundQueue inOrder afterTests bind queueAfter every
     found-record z = go (goodRegistry registry) refl (f .tested)
       where
         go : (b : Bool) → goodRegistry registry ≡ b → seen .refusal ≡ graded b → record { refusal = 3; queue = none } ≡ foundQueue registry
@@ -32,7 +33,7 @@ module _ (registry : List ℕ) where
         go false g e = rw (s, g)
 
     pub found-pair : seen .refusal ≡ 0 → record { refusal = 0; queue = seen .queue } ≡ foundQueue registry
-    unfolding foundQueue inOrder afterTests bind queueAfter
+    unfolding foundQueue inOrder afterTests bind queueAfter every
     found-pair z = go (goodRegistry registry) refl (f .tested)
       where
         go : (b : Bool) → goodRegistry registry ≡ b → seen .refusal ≡ graded b → record { refusal = 0; queue = seen .queue } ≡ foundQueue registry

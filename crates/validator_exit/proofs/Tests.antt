@@ -1,8 +1,8 @@
 -- The tests of an exit as the code makes them: 1, 2 and 3 of the slot, then 3 of the registry and 8 from one pass; and what the caller has
 -- at the end. `x` is the number that the first tests' code gave.
 use mathlib.Core.Path.{_≡_, refl, sym, ap, _∙_}
-use mathlib.Core.Bool.{Bool, true, _&&_}
-use mathlib.Core.List.{List}
+use mathlib.Core.Bool.{Bool, true}
+use mathlib.Core.List.{List, [], _∷_}
 use Prim.Native.Nat.{ℕ, _+_, _*_, _/_, max, _<_}
 use native.Mathlib.Omega.{arith}
 use native.Mathlib.Nat.{div-le-self}
@@ -15,8 +15,8 @@ use Rattle.definitions.specs.LeafRefusals.{isIndex, exitTests}
 use Rattle.definitions.specs.Refusals.{settingsShaped, registryShaped, goodSettings, isSmall, inOrder, afterTests, closingBuffer}
 use Rattle.definitions.specs.ExitQueue.{queueOf}
 use Rattle.definitions.specs.Rust.Phase0.Helpers.{«compute_epoch_at_slot», «get_current_epoch», «get_active_validator_indices», «get_validator_churn_limit», «initiate_validator_exit»}
-use Rattle.refusals.proofs.All.{both}
-use Rattle.refusals.proofs.Laws.{InOrder, in-order, PositiveDivisors, good-settings, registry-shaped, small}
+use Rattle.laws.proofs.Tests.{InOrder, in-order}
+use Rattle.refusals.proofs.Laws.{PositiveDivisors, good-settings, registry-shaped, small}
 use Rattle.refusals.proofs.Answers.{passed}
 use Rattle.definitions.specs.Closes.{Closes}
 use Rattle.refusals.proofs.buffers.Closes.{closes-refused}
@@ -38,8 +38,8 @@ unfolding «get_current_epoch» «compute_epoch_at_slot»
 real s stateSlot g l = omega (arith, small stateSlot l, good-settings s g .small .«max_seed_lookahead», div-le-self stateSlot (s .«slots_per_epoch»))
 
 module _ (s : Settings) (stateSlot index : ℕ) (queue : ExitQueue) (registry : List ℕ) where
-  abbrev shaped : Bool
-  shaped = settingsShaped s && registryShaped registry && isIndex index registry
+  abbrev shaped : List Bool
+  shaped = settingsShaped s ∷ registryShaped registry ∷ isIndex index registry ∷ []
 
   abbrev tests : Checked (Unit {0})
   tests = exitQueueTests s stateSlot index queue registry
@@ -51,26 +51,26 @@ module _ (s : Settings) (stateSlot index : ℕ) (queue : ExitQueue) (registry : 
   pub turned-away : {x : ℕ} → x ≡ codeOf tests → (x ≡ 0 → ⊥) → QueueCloses tests exit queue registry registry registry (record { refusal = x; queue = queue })
   turned-away e z = queue-closes tests exit (closes-refused encode tests e exit z) (λ n. absurd (z n)) (λ _. refl)
 
-  module _ {x : ℕ} (e : x ≡ codeOf (inOrder shaped (goodSettings s) (isSmall stateSlot))) where
+  module _ {x : ℕ} (e : x ≡ codeOf (inOrder shaped (goodSettings s ∷ []) (isSmall stateSlot ∷ []))) where
     pub shape-refused : (x ≡ 0 → ⊥) → QueueCloses tests exit queue registry registry registry (record { refusal = x; queue = queue })
     unfolding exitTests
-    shape-refused z = turned-away (early-refused shaped (goodSettings s) (isSmall stateSlot) queue registry e z) z
+    shape-refused z = turned-away (early-refused _ _ _ queue registry e z) z
 
     -- before the registry is looked at
     module _ (z : x ≡ 0) where
-      shape-passed : InOrder shaped (goodSettings s) (isSmall stateSlot)
-      shape-passed = in-order shaped (goodSettings s) (isSmall stateSlot) (sym e ∙ z)
+      shape-passed : InOrder shaped (goodSettings s ∷ []) (isSmall stateSlot ∷ [])
+      shape-passed = in-order _ _ _ (sym e ∙ z)
 
       pub positive : PositiveDivisors s
-      positive = good-settings s (shape-passed .second) .positive
+      positive = good-settings s (shape-passed .settings 0) .positive
 
       pub long : length registry ≡ 10 * (length registry / 10)
-      long = registry-shaped registry (both (settingsShaped s) (registryShaped registry) (both (settingsShaped s && registryShaped registry) (isIndex index registry) (shape-passed .first) .first) .second) .long
+      long = registry-shaped registry (shape-passed .shaped 1) .long
 
       -- what the pass found
       pub seen-code : {epoch : ℕ} {seen : Seen} {t : ℕ} → Sees epoch registry seen → t ≡ foundTests (seen .refusal) queue (seen .queue) → t ≡ codeOf tests
       unfolding exitTests
-      seen-code f h = found-code shaped (goodSettings s) (isSmall stateSlot) queue registry e z (f .tested) (f .queue) h
+      seen-code f h = found-code _ _ _ queue registry e z (f .tested) (f .queue) h
 
   -- All tests passed
   module _ {x : ℕ} (e : x ≡ codeOf tests) (z : x ≡ 0) where

@@ -1,7 +1,8 @@
 // initiate_validator_exit by the exit queue's pair, which is lent with the registry (R-8): phase0/helpers.rs 1035 without its rescans. One
 // pass makes test 3, counts the active and finds the pair for test 8; the pair is then moved by one exit. And the pair of a registry.
 ghost use mathlib.Core.Path.{_≡_};
-ghost use mathlib.Core.Bool.{cond, _&&_};
+ghost use mathlib.Core.Bool.{cond};
+ghost use mathlib.Core.List.{[], _∷_};
 ghost use Prim.Native.Nat.{_+_, _*_, _/_, _<_};
 ghost use lib.ListN.{length};
 ghost use Rattle.definitions.specs.Record.{decode};
@@ -29,6 +30,7 @@ use exit_queue::exited;
 use exit_queue::start_pair;
 use refusals::good_entry;
 use refusals::good_settings;
+use refusals::in_order;
 use refusals::is_small;
 use refusals::registry_shaped;
 use refusals::settings_shaped;
@@ -86,26 +88,18 @@ pub fn see_registry(registry: &[u64], epoch: u64) -> Seen
 fn shape_tests(s: Settings, state_slot: u64, index: u64, registry: &[u64]) -> u64
     ensures { λ r. ⌜
         r
-        ≡ codeOf (inOrder (settingsShaped s && registryShaped (now (registry .entry)) && isIndex index (now (registry .entry))) (goodSettings s)
-        (isSmall «state_slot»)) ⌝ }
+        ≡ codeOf (inOrder (settingsShaped s ∷ registryShaped (now (registry .entry)) ∷ isIndex index (now (registry .entry)) ∷ []) (goodSettings s ∷ [])
+        (isSmall «state_slot» ∷ [])) ⌝ }
 {
-    if !settings_shaped(s) {
-        return 1;
-    }
-    if !registry_shaped(registry) {
-        return 1;
-    }
-    let n = registry.len() / 10;
-    if n <= index as usize {
-        return 1;
-    }
-    if !good_settings(s) {
-        return 2;
-    }
-    if !is_small(state_slot) {
-        return 3;
-    }
-    0
+    in_order(
+        &[
+            settings_shaped(s),
+            registry_shaped(registry),
+            index < (registry.len() / 10) as u64,
+        ],
+        &[good_settings(s)],
+        &[is_small(state_slot)],
+    )
 }
 
 // The exit of one validator in place, once the record is tested and the numbers are worked out: `least` is the activation exit epoch of the

@@ -20,7 +20,7 @@ use Rattle.definitions_votes.specs.Answers.{verdictNumber, firstThree, turnedAw
 use Rattle.votes.specs.Sums.{Counted}
 use Rattle.votes.specs.Weighed.{weighedSums}
 use Rattle.votes.proofs.Weighed.{votes-early, votes-missing, votes-by-sums, votes-over}
-use Rattle.laws.proofs.Tests.{and-both}
+use Rattle.laws.proofs.Tests.{and-both, and-false}
 
 found : (m : Checked (List ℕ)) {x : ℕ} → x ≡ codeOf m → x ≡ 0 → isFound m ≡ true
 found m e z = ap isFound (given m e z .is)
@@ -28,10 +28,6 @@ found m e z = ap isFound (given m e z .is)
 lost : (m : Checked (List ℕ)) {x : ℕ} → x ≡ codeOf m → (x ≡ 0 → ⊥) → isFound m ≡ false
 lost (value r) e z = absurd (z e)
 lost (refused r) e z = refl
-
-and-false : (a : Bool) {b : Bool} → b ≡ false → (a && b) ≡ false
-and-false true h = h
-and-false false h = refl
 
 abbrev pub lookup : Ballot → ℕ → Checked (List ℕ)
 lookup b epoch = «get_block_root» (b .settings) (b .roots) (b .finality .slot) epoch
@@ -54,7 +50,7 @@ module _ (b : Ballot) where
 
     module _ (z : x ≡ 0) {y : ℕ} (f : y ≡ codeOf (lookup b (currentOf b))) where
       pub ends-lost-2 : (y ≡ 0 → ⊥) → {a : VotesAnswer} → a ≡ turnedAway 4 → a ≡ votesAnswerFor (votes b)
-      ends-lost-2 w h = answers (votes-missing b l (and-false (rootFound b (previousOf b)) (lost (lookup b (currentOf b)) f w))) h
+      ends-lost-2 w h = answers (votes-missing b l (rw (lost (lookup b (currentOf b)) f w) (and-false (rootFound b (previousOf b))))) h
 
       module _ (w : y ≡ 0) {c : VoteSumsAnswer} (g : Counted (currentOf b) (previousOf b) (b .marks) (b .validators) c) where
         both : rootsFound b ≡ true

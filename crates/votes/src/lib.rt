@@ -25,7 +25,9 @@ use epochs::roots::roots_shaped;
 use refusals::good_finality;
 use refusals::good_registry;
 use refusals::good_settings;
+use refusals::in_order;
 use refusals::registry_shaped;
+use refusals::settings_shaped;
 
 fn good_marks(marks: &[u64]) -> bool
     ensures { λ r. ⌜ r ≡ all goodMark (now (marks .entry)) ⌝ }
@@ -47,28 +49,20 @@ pub fn votes_refusal(
 ) -> u64
     ensures { λ r. ⌜ r ≡ codeOf (votesTests s (now (roots .entry)) finality (now (registry .entry)) (now (marks .entry))) ⌝ }
 {
-    if !roots_shaped(s, roots) {
-        return 1;
-    }
-    if !registry_shaped(registry) {
-        return 1;
-    }
-    if marks.len() != registry.len() / 10 {
-        return 1;
-    }
-    if !good_settings(s) {
-        return 2;
-    }
-    if !good_finality(finality) {
-        return 3;
-    }
-    if !good_registry(registry) {
-        return 3;
-    }
-    if !good_marks(marks) {
-        return 3;
-    }
-    0
+    in_order(
+        &[
+            settings_shaped(s),
+            roots_shaped(s, roots),
+            registry_shaped(registry),
+            marks.len() == registry.len() / 10,
+        ],
+        &[good_settings(s)],
+        &[
+            good_finality(finality),
+            good_registry(registry),
+            good_marks(marks),
+        ],
+    )
 }
 
 fn votes_core(

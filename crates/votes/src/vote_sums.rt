@@ -34,19 +34,13 @@ pub enum VoteSumsAnswer {
 fn previous_unknown(mark: u64) -> bool
     ensures { λ r. ⌜ r ≡ previousUnknown mark ⌝ }
 {
-    if mark == 1 {
-        return true;
-    }
-    mark == 3
+    (mark == 1) | (mark == 3)
 }
 
 fn current_unknown(mark: u64) -> bool
     ensures { λ r. ⌜ r ≡ currentUnknown mark ⌝ }
 {
-    if mark == 2 {
-        return true;
-    }
-    mark == 3
+    (mark == 2) | (mark == 3)
 }
 
 fn filled_in(unknown: bool, hit: bool, flag: bool) -> bool

@@ -25,6 +25,7 @@ use finality::weighed;
 use refusals::good_finality;
 use refusals::good_settings;
 use refusals::in_order;
+use refusals::settings_shaped;
 
 // Whether a target balance is two thirds of the total or more.
 pub fn is_justified(target: u64, total: u64) -> Truth
@@ -93,9 +94,9 @@ pub fn weigh_refusal(s: Settings, roots: &[u8], finality: Finality) -> u64
     ensures { λ r. ⌜ r ≡ codeOf (weighTests s (now (roots .entry)) finality) ⌝ }
 {
     in_order(
-        roots_shaped(s, roots),
-        good_settings(s),
-        good_finality(finality),
+        &[settings_shaped(s), roots_shaped(s, roots)],
+        &[good_settings(s)],
+        &[good_finality(finality)],
     )
 }
 

@@ -1,9 +1,9 @@
 -- Where the steps over the registry are accepted, each number that all validators share is a number. So where one has left 64 bits the
 -- answer is 5, whatever else stands in the record.
 use mathlib.Core.Path.{_≡_, refl, sym, ap, _∙_}
-use mathlib.Core.Bool.{Bool, true, false, cond, _&&_, not}
+use mathlib.Core.Bool.{Bool, true, false, cond, _&&_}
 use mathlib.Core.List.{List, [], _∷_, map}
-use Prim.Native.Nat.{ℕ, _-_, _^_, _≤_, _<_, min}
+use Prim.Native.Nat.{ℕ, _^_, _≤_, _<_, min}
 use native.Mathlib.Omega.{arith}
 use borrow.Author.Tests.{lt-ltb, eq-eqb, ne-eqb, eqb-true, ltb-true}
 use lib.Dec.{ltb, eqb}
@@ -27,7 +27,7 @@ use Rattle.agreement.proofs.Slashings.{slashings}
 use Rattle.agreement.proofs.EffectiveBalances.{effective-balances}
 use Rattle.arithmetic.proofs.Operations.{OnlyOverflow, only-value, only-bind}
 use Rattle.arithmetic.proofs.Laws.{bind-value}
-use Rattle.refusals.proofs.All.{both}
+use Rattle.laws.proofs.Tests.{both}
 use Rattle.laws.proofs.Loops.Filtered.{sum-filter, sum64-filter}
 use Rattle.registry.proofs.Epochs.{Epochs}
 use Rattle.registry.proofs.Total.{total-kept}
@@ -204,7 +204,7 @@ module _ (s : Settings) (slot fin : ℕ) (vs : List Validator) where
 
   is-active : (index epoch : ℕ) → epoch ≡ current → (v : Validator) → isUnslashedParticipating current index epoch v ≡ true → activeAt current v ≡ true
   unfolding isUnslashedParticipating
-  is-active index epoch e v h = rw e at (both (activeAt epoch v) _ (both (activeAt epoch v && _) _ h .first) .first)
+  is-active index epoch e v h = rw e at (both (activeAt epoch v) _ (both (activeAt epoch v && _) _ h .0) .0)
 
   -- at the genesis epoch, which is also the previous one, they are parts of the active balance
   genesis : current ≡ 0 → Gave (balanceOf (activeAt current) vs) → Flags s slot vs

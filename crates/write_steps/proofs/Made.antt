@@ -8,6 +8,7 @@ use borrow.Author.Tests.{eq-eqb}
 use lib.Dec.{eqb}
 use lib.ListN.{length}
 use Rattle.definitions.specs.declared.Settings.{Settings}
+use Rattle.definitions.specs.Lists.{every}
 use Rattle.definitions.specs.Record.{Validator, decode}
 use Rattle.definitions.specs.Checked.{value}
 use Rattle.definitions.specs.Rust.Phase0.Helpers.{«get_current_epoch», «get_previous_epoch», «get_validator_churn_limit»}
@@ -48,7 +49,7 @@ zero-over {p} {vs} {sum} {over} h e = go (eqb over 0) refl
 
 module _ {s : Settings} {current previous : ℕ} {xs kept : List ℕ} {r : Findings} (h : Finds s current previous xs kept r) where
   pub plain-fit : {t : Sums} → PlainSums current previous (decode xs) t → allFit (r .over) ≡ true
-  unfolding allFit
+  unfolding allFit every
   plain-fit g =
       rw (zero-over (h .active) (g .active), zero-over (h .source) (g .source), zero-over (h .target) (g .target), zero-over (h .head) (g .head), zero-over (h .«current_target») (g .«current_target»))
 

@@ -5,8 +5,16 @@ use Rattle.epochs.proofs.settings_refusal.Tie as tie
 
 returns : tie.Need-returns
 unfolding settingsTests
-returns c = rw (← c .before .before .settings-shaped .ensures, ← c .before .good-settings .ensures) (c .in-order .ensures)
+returns c = cc
 
 pub settings-refusal-spec : {M : Type 1} → statement M
 settings-refusal-spec =
-    tie.close (tie.spec (λ c κs. search needs) (λ c κs. search needs) (λ c κs. search needs) returns)
+    tie.close
+    (tie.spec
+    (λ c κs. search needs)
+    (λ c. search needs)
+    (λ c κs. search needs)
+    (λ c. search needs)
+    (λ c. search needs)
+    (λ c κs. search needs)
+    returns)

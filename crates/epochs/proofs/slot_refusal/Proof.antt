@@ -5,14 +5,17 @@ use Rattle.epochs.proofs.slot_refusal.Tie as tie
 
 returns : tie.Need-returns
 unfolding slotTests
-returns c = rw (← c .before .before .before .settings-shaped .ensures, ← c .before .before .good-settings .ensures, ← c .before .is-small .ensures) (c .in-order .ensures)
+returns c = cc
 
 pub slot-refusal-spec : {M : Type 1} → statement M
 slot-refusal-spec =
     tie.close
     (tie.spec
     (λ c κs. search needs)
+    (λ c. search needs)
     (λ c κs. search needs)
+    (λ c. search needs)
     (λ c κs. search needs)
+    (λ c. search needs)
     (λ c κs. search needs)
     returns)

@@ -1,19 +1,16 @@
 -- What the tests of an exit give once passed. `x` is the number that their code gave.
-use mathlib.Core.Path.{_≡_, refl, sym, _∙_}
-use mathlib.Core.Bool.{_&&_}
+use mathlib.Core.Path.{_≡_, sym, _∙_}
 use mathlib.Core.List.{List}
 use Prim.Native.Nat.{ℕ, _+_, _/_, _^_, _<_}
 use borrow.Author.Tests.{ltb-true}
 use lib.ListN.{length}
 use Rattle.definitions.specs.declared.Settings.{Settings}
 use Rattle.definitions.specs.Checked.{value, codeOf}
-use Rattle.definitions.specs.LeafRefusals.{isIndex, slotRegistryTests, exitTests}
-use Rattle.definitions.specs.Refusals.{settingsShaped, registryShaped, goodSettings, isSmall, goodRegistry, inOrder}
+use Rattle.definitions.specs.LeafRefusals.{exitTests}
 use Rattle.definitions.specs.Document.Phase0.Helpers as document
 use Rattle.definitions.specs.Rust.Phase0.Helpers.{«compute_activation_exit_epoch», «get_current_epoch»}
-use Rattle.refusals.proofs.All.{both}
-use Rattle.refusals.proofs.Laws.{in-order}
-use Rattle.leaf_refusals.proofs.registry_refusals.Passed.{SlotRegistry, slot-registry-passed}
+use Rattle.laws.proofs.Tests.{in-order}
+use Rattle.leaf_refusals.proofs.registry_refusals.Passed.{SlotRegistry, slot-registry}
 use Rattle.agreement.proofs.Bounds.{bounds, given}
 
 pub record ExitPassed (s : Settings) (stateSlot index : ℕ) (registry : List ℕ) : Type 0 where
@@ -23,15 +20,13 @@ pub record ExitPassed (s : Settings) (stateSlot index : ℕ) (registry : List �
   pub least : «compute_activation_exit_epoch» s («get_current_epoch» s stateSlot) ≡ value («get_current_epoch» s stateSlot + 1 + s .«max_seed_lookahead»)
 
 pub exit-passed : (s : Settings) (stateSlot index : ℕ) (registry : List ℕ) {x : ℕ} → x ≡ codeOf (exitTests s stateSlot index registry) → x ≡ 0 → ExitPassed s stateSlot index registry
-unfolding exitTests slotRegistryTests inOrder document.«compute_activation_exit_epoch»
+unfolding exitTests document.«compute_activation_exit_epoch»
 exit-passed s stateSlot index registry e z =
-    let shape = settingsShaped s && registryShaped registry in
-    let p = in-order (shape && isIndex index registry) (goodSettings s) (isSmall stateSlot && goodRegistry registry) (sym e ∙ z) in
-    let q = both shape (isIndex index registry) (p .first) in
-    let k : SlotRegistry s stateSlot registry = slot-registry-passed s stateSlot registry {x = 0} (rw (q .first, p .second, p .third)) refl in
+    let p = in-order _ _ _ (sym e ∙ z) in
+    let k = slot-registry s stateSlot registry p in
     record {
       others = k;
-      known = ltb-true index (length registry / 10) (q .second);
+      known = ltb-true index (length registry / 10) (p .shaped 2);
       fits = bounds s stateSlot (k .settings) .activationExit;
       least = given s stateSlot (k .settings) .activationExit;
     }

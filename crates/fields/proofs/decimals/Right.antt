@@ -10,7 +10,7 @@ use lib.Dec.{leb}
 use lib.ListN.{length, getD, length-append, List·getD-append}
 use Rattle.definitions.specs.Lists.{all}
 use Rattle.definitions_file.specs.Decimal.{digit, digits, decimal}
-use Rattle.refusals.proofs.All.{both}
+use Rattle.laws.proofs.Tests.{both}
 use Rattle.fields.proofs.decimals.Decimal.{one-or-more, digits-one, digits-more}
 
 -- the number that digits behind a number make of it
@@ -37,7 +37,7 @@ unfolding all
 all-last [] b p q = rw q
 all-last (c ∷ bs) b p q =
     let h = both (isDigit c) (all isDigit bs) p in
-    rw (h .first) (all-last bs b (h .second) q)
+    rw (h .0) (all-last bs b (h .1) q)
 
 is-digit : (d : ℕ) → d < 10 → isDigit (digit d) ≡ true
 is-digit d h = rw (le-leb 48 (48 + d) (omega arith), le-leb (48 + d) 57 (omega arith))

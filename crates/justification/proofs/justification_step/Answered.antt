@@ -1,6 +1,6 @@
 -- The answer with the test's number, from the one without.
 use mathlib.Core.Path.{_≡_, refl, sym, ap, _∙_}
-use mathlib.Core.Bool.{true, _&&_}
+use mathlib.Core.Bool.{true}
 use mathlib.Core.List.{List}
 use Prim.Native.Nat.{ℕ, _<_}
 use Rattle.definitions.specs.declared.Settings.{Settings}
@@ -10,12 +10,12 @@ use Rattle.definitions.specs.declared.CloseAnswer.{CloseAnswer}
 use Rattle.definitions.specs.declared.JustificationAnswer.{JustificationAnswer}
 use Rattle.definitions.specs.Checked.{Checked, value, refused, codeOf, bind}
 use Rattle.definitions.specs.Raised.{closeAnswerFor}
-use Rattle.definitions.specs.Refusals.{afterTests, settingsShaped, rootsShaped, registryShaped, goodSettings, goodFinality, goodRegistry, justificationTests}
+use Rattle.definitions.specs.Refusals.{afterTests, goodFinality, justificationTests}
 use Rattle.definitions_close.specs.FinalizingTest.{finalizingTest}
 use Rattle.definitions_close.specs.Justification.{justificationAnswerFor, lessTest}
 use Rattle.laws.proofs.Checked.{number-not-zero}
-use Rattle.refusals.proofs.All.{both}
-use Rattle.refusals.proofs.Laws.{in-order, good-settings}
+use Rattle.laws.proofs.Tests.{in-order}
+use Rattle.refusals.proofs.Laws.{good-settings}
 
 with-test : {r a : JustificationAnswer} → lessTest r ≡ lessTest a → r .test ≡ a .test → r ≡ a
 with-test e t = λ i. record { refusal = e i .refusal; finality = e i .finality; raised = e i .raised; test = t i }
@@ -44,8 +44,8 @@ pub record Passed (s : Settings) (old : Finality) : Type 0 where
 passed-by : (s : Settings) (roots : List ℕ) (old : Finality) (registry : List ℕ) → codeOf (justificationTests s roots old registry) ≡ 0 → Passed s old
 unfolding justificationTests
 passed-by s roots old registry z =
-    let p = in-order (settingsShaped s && rootsShaped s roots && registryShaped registry) (goodSettings s) (goodFinality old && goodRegistry registry) z in
-    record { epoch = good-settings s (p .second) .positive .«slots_per_epoch»; finality = both (goodFinality old) (goodRegistry registry) (p .third) .first }
+    let p = in-order _ _ _ z in
+    record { epoch = good-settings s (p .settings 0) .positive .«slots_per_epoch»; finality = p .recorded 0 }
 
 pub tests-passed : (s : Settings) (roots : List ℕ) (old : Finality) (registry : List ℕ) (work : Checked Finality) {x : ℕ} → x ≡ codeOf (afterTests (justificationTests s roots old registry) work) → x ≡ 0 → Passed s old
 unfolding afterTests bind

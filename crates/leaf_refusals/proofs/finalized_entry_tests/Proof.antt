@@ -1,23 +1,21 @@
 use borrow.Author.Needs.{needs}
-use Rattle.definitions.specs.LeafRefusals.{entryTests, finalizedEntryTests}
-use Rattle.definitions.specs.Refusals.{isSmall}
-use Rattle.refusals.proofs.All.{fails, passes}
-use Rattle.leaf_refusals.proofs.Order.{refused-before, last-failed, last-passed}
+use borrow.Author.Tests.{eq-eqb, ne-eqb}
+use Rattle.definitions.specs.Lists.{every}
+use Rattle.definitions.specs.LeafRefusals.{finalizedEntryTests}
+use Rattle.definitions.specs.Refusals.{inOrder}
+use Rattle.laws.proofs.Tests.{shape-failed}
 use Rattle.leaf_refusals.proofs.finalized_entry_tests.Statement.{statement}
 use Rattle.leaf_refusals.proofs.finalized_entry_tests.Tie as tie
 
 returns : tie.Need-returns
-unfolding entryTests finalizedEntryTests
-returns c = refused-before _ _ (isSmall (c .before .before .before .args .finalized-epoch)) _ (c .before .entry-tests .ensures) (c .if1 .taken)
+unfolding finalizedEntryTests
+returns c = shape-failed _ _ _ 0 (ne-eqb _ _ (c .if1 .taken))
 
 returns-2 : tie.Need-returns-2
-unfolding entryTests finalizedEntryTests
-returns-2 c = last-failed _ _ _ _ (c .before .before .before .entry-tests .ensures) (c .before .before .if1 .left) (fails (c .before .is-small .ensures) (c .if2 .taken))
-
-returns-3 : tie.Need-returns-3
-unfolding entryTests finalizedEntryTests
-returns-3 c = last-passed _ _ _ _ (c .before .before .before .entry-tests .ensures) (c .before .before .if1 .left) (passes (c .before .is-small .ensures) (c .if2 .left))
+unfolding finalizedEntryTests inOrder every
+returns-2 c = rw (eq-eqb _ _ (c .before .before .before .before .before .before .if1 .left)) cc
 
 pub finalized-entry-tests-spec : {M : Type 1} → statement M
 finalized-entry-tests-spec =
-    tie.close (tie.spec (λ c κs. search needs) returns (λ c κs. search needs) returns-2 returns-3)
+    tie.close
+    (tie.spec returns (λ c. search needs) (λ c. search needs) (λ c κs. search needs) (λ c κs. search needs) (λ c. search needs) (λ c κs. search needs) returns-2)

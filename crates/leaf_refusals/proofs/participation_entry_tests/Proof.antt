@@ -1,30 +1,21 @@
 use borrow.Author.Needs.{needs}
-use borrow.Author.Tests.{le-leb, lt-leb}
-use Rattle.definitions.specs.LeafRefusals.{slotEntryTests, participationEntryTests}
+use borrow.Author.Tests.{eq-eqb, ne-eqb}
+use Rattle.definitions.specs.Lists.{every}
+use Rattle.definitions.specs.LeafRefusals.{participationEntryTests}
 use Rattle.definitions.specs.Refusals.{inOrder}
-use Rattle.refusals.proofs.All.{fails, passes}
-use Rattle.leaf_refusals.proofs.Order.{and-true, and-false}
+use Rattle.laws.proofs.Tests.{shape-failed}
 use Rattle.leaf_refusals.proofs.participation_entry_tests.Statement.{statement}
 use Rattle.leaf_refusals.proofs.participation_entry_tests.Tie as tie
 
 returns : tie.Need-returns
-unfolding participationEntryTests inOrder
-returns c = rw (lt-leb _ _ (c .if1 .taken)) (simp and-false)
+unfolding participationEntryTests
+returns c = shape-failed _ _ _ 1 (ne-eqb _ _ (c .if1 .taken))
 
 returns-2 : tie.Need-returns-2
-unfolding participationEntryTests inOrder
-returns-2 c = rw (fails (c .before .is-participation-epoch .ensures) (c .if2 .taken)) (simp and-false)
-
-returns-3 : tie.Need-returns-3
-unfolding participationEntryTests slotEntryTests
-returns-3 c = rw (le-leb _ _ (c .before .before .before .if1 .left), passes (c .before .before .is-participation-epoch .ensures) (c .before .if2 .left)) (simp and-true (c .slot-entry-tests .ensures))
+unfolding participationEntryTests inOrder every
+returns-2 c = rw (eq-eqb _ _ (c .before .before .before .before .before .before .before .before .before .if1 .left)) cc
 
 pub participation-entry-tests-spec : {M : Type 1} → statement M
 participation-entry-tests-spec =
     tie.close
-    (tie.spec
-    returns
-    (λ c κs. search needs)
-    returns-2
-    (λ c κs. search needs)
-    returns-3)
+    (tie.spec returns (λ c κs. search needs) (λ c κs. search needs) (λ c. search needs) (λ c κs. search needs) (λ c. search needs) (λ c κs. search needs) (λ c κs. search needs) (λ c. search needs) (λ c κs. search needs) returns-2)

@@ -17,36 +17,12 @@ loop-holds c =
     let s = c .before .before in
     fitting-none _ _ (s .pre .0) (s .pre .1)
 
-mul-at : tie.Need-mul-at Inv-loop μ-loop
-mul-at c = omega arith
-
-add-at : tie.Need-add-at Inv-loop μ-loop
-add-at c = omega arith
-
-mul-net-change : tie.Need-mul-net-change Inv-loop μ-loop
-mul-net-change c = omega arith
-
-shared-slice-read-net-change : tie.Need-shared-slice-read-net-change Inv-loop μ-loop
-shared-slice-read-net-change c = omega arith
-
-mul-net-change-2 : tie.Need-mul-net-change-2 Inv-loop μ-loop
-mul-net-change-2 c = omega arith
-
-shared-slice-read-net-change-2 : tie.Need-shared-slice-read-net-change-2 Inv-loop μ-loop
-shared-slice-read-net-change-2 c = omega arith
-
 returns : tie.Need-returns Inv-loop μ-loop
 returns c =
     let k = c .before .before in
     let t = k .before .before .before in
     let s = t .before .before .before .before in
     fitting-wide _ _ (s .pre .0) (s .pre .1) (t .before .loop .inv) (t .loop-test .taken) (wide _ _ (k .net-change .ensures) (c .enum-told2 .given .1))
-
-add-i : tie.Need-add-i Inv-loop μ-loop
-add-i c = omega arith
-
-loop-less : tie.Need-loop-less Inv-loop μ-loop
-loop-less c = omega arith
 
 loop-again : tie.Need-loop-again Inv-loop μ-loop
 loop-again c =
@@ -67,17 +43,17 @@ changes-spec =
     Inv-loop
     μ-loop
     loop-holds
-    mul-at
-    add-at
-    mul-net-change
-    shared-slice-read-net-change
-    mul-net-change-2
-    shared-slice-read-net-change-2
+    (λ c. omega arith)
+    (λ c. omega arith)
+    (λ c. omega arith)
+    (λ c. omega arith)
+    (λ c. omega arith)
+    (λ c. omega arith)
     (λ c κs. search needs)
     (λ c. search needs)
     (λ c. search needs)
     returns
-    add-i
-    loop-less
+    (λ c. omega arith)
+    (λ c. omega arith)
     loop-again
     returns-2)

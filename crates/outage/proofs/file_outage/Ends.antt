@@ -7,6 +7,7 @@ use native.Mathlib.Omega.{arith}
 use borrow.Author.Tests.{lt-ltb, le-ltb, lt-leb}
 use lib.ListN.{length, take, drop, length-take, length-drop, drop-of-length-le}
 use lib.Seq.{take-all}
+use Rattle.definitions.specs.Lists.{every}
 use Rattle.definitions_file.specs.File.{numberAt, goodHeader}
 use Rattle.definitions_file.specs.Lines.{refusedLine}
 use Rattle.definitions_file.specs.OutageInput.{fileIn, tailIn}
@@ -25,7 +26,7 @@ module _ (input : List ℕ) {n : ℕ} (e : n ≡ numberAt 8 input) where
   ends-there = (ap (λ (k : ℕ). take k input) e, ap (λ (k : ℕ). drop k input) e)
 
 short-header : (file : List ℕ) → length file < 80 → goodHeader file ≡ false
-unfolding goodHeader
+unfolding goodHeader every
 short-header file l = rw (lt-leb 80 (length file) l)
 
 pub outage-long : (input : List ℕ) → 65536 < length input → outage input ≡ refusedLine 6

@@ -8,13 +8,13 @@ use lib.Dec.{eqb}
 use Rattle.definitions.specs.declared.Settings.{Settings}
 use Rattle.definitions.specs.Record.{BeaconState}
 use Rattle.definitions.specs.Checked.{Checked, value, refused, foldChecked, codeOf, settle}
-use Rattle.definitions.specs.Refusals.{goodFinality, goodRegistry, afterTests}
+use Rattle.definitions.specs.Refusals.{afterTests}
 use Rattle.definitions.specs.Rules.{settingsUnder}
 use Rattle.definitions_file.specs.File.{Contents}
 use Rattle.definitions.specs.Close.{Step, Call, stateOf, step, closeUpTo, «process_epoch», closeTests, closed, close}
 use Rattle.laws.proofs.Checked.{bound, number-not-zero, value-same}
-use Rattle.refusals.proofs.All.{both}
-use Rattle.refusals.proofs.Laws.{in-order, good-finality}
+use Rattle.laws.proofs.Tests.{in-order}
+use Rattle.refusals.proofs.Laws.{good-finality}
 use Rattle.theorems.proofs.Completeness.Kept.{kept-step}
 use Rattle.definitions_file.specs.Listing.{closing}
 use Rattle.definitions_file.specs.OutageRun.{closeOnce}
@@ -36,7 +36,7 @@ slot-small : (c : Call) → close c .refusal ≡ 0 → c .finality .slot < 2 ^ 4
 unfolding close closed closeTests
 slot-small c e =
     let p = in-order _ _ _ (tested (closeTests c) _ e) in
-    good-finality (c .finality) (both (goodFinality (c .finality)) (goodRegistry (c .registry)) (p .third) .first) .slot
+    good-finality (c .finality) (p .recorded 0) .slot
 
 settled-slot : (c : Call) (m : Checked BeaconState) → closed c ≡ m → codeOf m ≡ 0 → settle m (stateOf c) .finality .slot ≡ c .finality .slot
 settled-slot c (value after) q z = slot-kept c after q

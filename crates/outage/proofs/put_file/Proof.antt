@@ -1,6 +1,7 @@
 use mathlib.Core.Path.{_∙_}
 use native.Mathlib.Omega.{arith}
-use Rattle.outage.proofs.Text.{opened-same, text-refused, text-tail}
+use Rattle.listing.proofs.Opened.{opened-same}
+use Rattle.outage.proofs.Text.{text-refused, text-tail}
 use Rattle.outage.proofs.Filled.{tail-fails, tail-passes, not-refused, opened-from}
 use borrow.Author.Needs.{needs}
 use Rattle.outage.proofs.put_file.Statement.{statement}

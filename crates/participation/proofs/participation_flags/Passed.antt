@@ -1,14 +1,13 @@
 -- What the tests give once passed. `x` is the number that their code gave.
-use mathlib.Core.Bool.{true, _&&_}
 use mathlib.Core.List.{List}
 use mathlib.Core.Path.{_≡_, sym, _∙_}
 use Prim.Native.Nat.{ℕ}
 use borrow.Author.Tests.{eqb-true}
 use lib.ListN.{length}
 use Rattle.definitions.specs.Checked.{codeOf}
-use Rattle.definitions.specs.Refusals.{registryShaped, sameLength, goodRegistry, rotationTests}
-use Rattle.refusals.proofs.All.{both}
-use Rattle.refusals.proofs.Laws.{in-order, RegistryShape, registry-shaped}
+use Rattle.definitions.specs.Refusals.{rotationTests}
+use Rattle.laws.proofs.Tests.{in-order}
+use Rattle.refusals.proofs.Laws.{RegistryShape, registry-shaped}
 
 pub record RotationPassed (opening closing : List ℕ) : Type 0 where
   pub shape : RegistryShape opening
@@ -17,6 +16,5 @@ pub record RotationPassed (opening closing : List ℕ) : Type 0 where
 pub rotation-passed : (opening closing : List ℕ) {x : ℕ} → x ≡ codeOf (rotationTests opening closing) → x ≡ 0 → RotationPassed opening closing
 unfolding rotationTests
 rotation-passed opening closing e z =
-    let p = in-order (registryShaped opening && sameLength opening closing) true (goodRegistry opening) (sym e ∙ z) in
-    let q = both (registryShaped opening) (sameLength opening closing) (p .first) in
-    record { shape = registry-shaped opening (q .first); same = eqb-true (length closing) (length opening) (q .second) }
+    let p = in-order _ _ _ (sym e ∙ z) in
+    record { shape = registry-shaped opening (p .shaped 0); same = eqb-true (length closing) (length opening) (p .shaped 1) }

@@ -4,16 +4,16 @@ use Prim.Native.Nat.{ℕ}
 use borrow.Author.Tests.{eqb-true}
 use borrow.Author.Needs.{needs}
 use lib.Dec.{eqb}
-use Rattle.refusals.proofs.All.{both}
+use Rattle.laws.proofs.Tests.{both}
 use Rattle.rates.proofs.rates_for.Statement.{statement}
 use Rattle.rates.proofs.rates_for.Tie as tie
 
 -- the test of told amounts of this balance passed
 is-told : (told seen balance : ℕ) {r : Bool} → r ≡ (eqb told 1 && eqb seen balance) → r ≡ true → told ≡ 1
-is-told told seen balance e t = eqb-true told 1 (both (eqb told 1) (eqb seen balance) (sym e ∙ t) .first)
+is-told told seen balance e t = eqb-true told 1 (both (eqb told 1) (eqb seen balance) (sym e ∙ t) .0)
 
 is-same : (told seen balance : ℕ) {r : Bool} → r ≡ (eqb told 1 && eqb seen balance) → r ≡ true → seen ≡ balance
-is-same told seen balance e t = eqb-true seen balance (both (eqb told 1) (eqb seen balance) (sym e ∙ t) .second)
+is-same told seen balance e t = eqb-true seen balance (both (eqb told 1) (eqb seen balance) (sym e ∙ t) .1)
 
 returns : tie.Need-returns
 returns c =

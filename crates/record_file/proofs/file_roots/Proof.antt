@@ -1,66 +1,50 @@
-use mathlib.Core.Path.{sym, ap, _∙_}
+use mathlib.Core.Path.{_≡_}
+use mathlib.Core.Bool.{true}
+use mathlib.Core.List.{List}
+use Prim.Native.Nat.{ℕ, _+_, _-_, _*_, _≤_}
 use native.Mathlib.Omega.{arith}
 use borrow.Author.Needs.{needs}
-use Rattle.definitions_file.specs.File.{Contents}
-use Rattle.record_file.proofs.Reading.{Lengths, read-refused, read-accepted, read-lengths, roots-part}
+use lib.ListN.{length, take, drop}
+use Rattle.definitions_file.specs.File.{versionOf, validatorsAt, countOf, rootCountOf, slashingCountOf, rootsAt, contentsOf, goodHeader}
+use Rattle.round_trip.proofs.Passed.{good-header}
 use Rattle.record_file.proofs.file_roots.Statement.{statement}
 use Rattle.record_file.proofs.file_roots.Tie as tie
 
-abbrev Long : tie.Start → Type 0
-Long c = Lengths (c .args .bytes .now) (c .args .registry .now) (c .args .slashings .now)
+roots-part : (bytes : List ℕ) → goodHeader bytes ≡ true → {from n l : ℕ} → from ≡ validatorsAt (versionOf bytes) → n ≡ countOf bytes → l ≡ slashingCountOf bytes → take (length bytes - 8 * l - (from + 80 * n)) (drop (from + 80 * n) bytes) ≡ contentsOf bytes .roots
+unfolding contentsOf
+roots-part bytes g {from} {n} {l} e f h =
+    let at : from + 80 * n ≡ rootsAt (versionOf bytes) (countOf bytes) = omega arith in
+    let size : length bytes - 8 * l - rootsAt (versionOf bytes) (countOf bytes) ≡ 32 * rootCountOf bytes = omega (arith, good-header bytes g .long) in
+    rw (at, size)
 
-lengths : (c : tie.Else1) → Long (c .before .before .before .before .before .before)
-lengths c = read-lengths _ _ _ (c .before .before .read-tests .ensures .number) (c .if1 .left)
+-- the counts call for no more than there is
+inside : (c : tie.After-registry-at) → let k = c .before .read-counts .result in c .registry-at .result + 80 * k .validators + 8 * k .slashings ≤ length (c .before .before .before .args .bytes .now)
+inside c = omega (arith, good-header _ (c .before .before .before .pre) .long, c .before .read-counts .ensures, c .registry-at .ensures)
+
+read-counts-requires : tie.Need-read-counts-requires
+read-counts-requires c κs = good-header _ (c .before .pre) .enough
+
+mul-from : tie.Need-mul-from
+mul-from c = omega (arith, inside c, c .before .before .before .good)
 
 returns : tie.Need-returns
 returns c =
-    let g = read-refused _ _ _ (c .before .before .before .read-tests .ensures .number) (c .before .if1 .taken) in
-    sym (ap (λ (k : Contents). k .roots) (g .contents))
-
-registry-at-requires : tie.Need-registry-at-requires
-registry-at-requires c κs = lengths c .header
-
-mul-from : tie.Need-mul-from
-mul-from c = omega (arith, lengths (c .before))
-
-add-from : tie.Need-add-from
-add-from c = omega (arith, lengths (c .before), c .registry-at .ensures)
-
-mul-to : tie.Need-mul-to
-mul-to c = omega (arith, lengths (c .before))
-
-sub-to : tie.Need-sub-to
-sub-to c = omega (arith, lengths (c .before))
-
-sub-result-2 : tie.Need-sub-result-2
-sub-result-2 c = omega (arith, lengths (c .before), c .registry-at .ensures)
-
-part-result-start-2 : tie.Need-part-result-start-2
-part-result-start-2 c = omega (arith, lengths (c .before), c .registry-at .ensures)
-
-part-result-end-2 : tie.Need-part-result-end-2
-part-result-end-2 c = omega (arith, lengths (c .before))
-
-returns-2 : tie.Need-returns-2
-returns-2 c =
-    let g = read-accepted _ _ _ (c .before .before .before .before .read-tests .ensures .number) (c .before .before .if1 .left) in
-    rw (c .before .registry-at .ensures) (roots-part (lengths (c .before .before)) ∙ sym (ap (λ (k : Contents). k .roots) (g .contents)))
+    let s : tie.Start = search needs in
+    let k : tie.After-read-counts = search needs in
+    let r : tie.After-registry-at = search needs in
+    roots-part _ (s .pre) (r .registry-at .ensures) (k .read-counts .ensures .0) (k .read-counts .ensures .2)
 
 pub file-roots-spec : {M : Type 1} → statement M
 file-roots-spec =
     tie.close
     (tie.spec
+    read-counts-requires
     (λ c κs. search needs)
-    (λ c. search needs)
-    (λ c. search needs)
-    (λ c. search needs)
-    returns
-    registry-at-requires
     mul-from
-    add-from
-    mul-to
-    sub-to
-    sub-result-2
-    part-result-start-2
-    part-result-end-2
-    returns-2)
+    (λ c. omega (arith, inside c, c .before .before .before .good))
+    (λ c. omega (arith, inside c, c .before .before .before .good))
+    (λ c. omega (arith, inside c))
+    (λ c. omega (arith, inside c))
+    (λ c. omega (arith, inside c))
+    (λ c. search needs)
+    returns)

@@ -1,15 +1,17 @@
 -- The round trips of the definitions, at what the functions answered.
-use mathlib.Core.Path.{_≡_, ap, _∙_}
+use mathlib.Core.Path.{_≡_, refl, sym, ap, _∙_}
+use mathlib.Core.Bool.{true}
 use mathlib.Core.List.{List}
 use Prim.Native.Nat.{ℕ}
 use lib.ListN.{length}
 use Rattle.definitions.specs.declared.ExitQueue.{ExitQueue}
 use Rattle.definitions.specs.Checked.{value, bind, codeOf}
-use Rattle.definitions_file.specs.File.{Contents, queueIn, writeTests, written, contentsOf, readTests, readFile, ReadOutcome, read}
+use Rattle.definitions_file.specs.File.{Contents, queueIn, writeTests, written, contentsOf, goodHeader, readTests, readFile, ReadOutcome, read}
 use Rattle.round_trip.specs.RoundTrip.{Below, Typed, TypedQueue}
 use Rattle.round_trip.proofs.Written.{written-read}
 use Rattle.round_trip.proofs.Accepted.{read-written}
 use Rattle.record_file.specs.RoundTrips.{Passes, Accepted, SameBytes}
+use Rattle.record_file.proofs.Reading.{read-code, read-accepted, read-lengths}
 
 abbrev same : Contents → ExitQueue → List ℕ → ReadOutcome
 same c q file = record { refusal = 0; position = length file; contents = c; queue = q }
@@ -18,6 +20,16 @@ same c q file = record { refusal = 0; position = length file; contents = c; queu
 pub read-back : (c : Contents) (q : ExitQueue) (file registry slashings : List ℕ) {bytes : List ℕ} → Typed c → TypedQueue q → bytes ≡ written c q file → Passes c q file registry slashings → read bytes registry slashings ≡ same c q file
 read-back c q file registry slashings t u e p =
     ap (λ (b : List ℕ). read b registry slashings) e ∙ written-read c q file registry slashings t u (p .as-many) (p .as-long) (p .tests) .outcome
+
+-- it has a header, and the record's roots behind it
+pub written-roots : (c : Contents) (q : ExitQueue) (file : List ℕ) {bytes : List ℕ} → Typed c → TypedQueue q → bytes ≡ written c q file → writeTests c q file ≡ value tt → (goodHeader bytes ≡ true) × (contentsOf bytes .roots ≡ c .roots)
+written-roots c q file {bytes} t u e p =
+    let r = c .registry in
+    let s = c .slashings in
+    let back = read-back c q file r s t u e (record { tests = p; as-many = refl; as-long = refl }) in
+    let z = ap (λ (o : ReadOutcome). o .refusal) back in
+    let held = read-accepted bytes r s (read-code bytes r s) z .contents in
+    (read-lengths bytes r s (read-code bytes r s) z .header, ap (λ (k : Contents). k .roots) (sym held ∙ ap (λ (o : ReadOutcome). o .contents) back))
 
 module _ (bytes registry slashings : List ℕ) (e : readTests bytes registry slashings ≡ value tt) where
   found : readFile bytes registry slashings ≡ value (contentsOf bytes)
@@ -28,7 +40,7 @@ module _ (bytes registry slashings : List ℕ) (e : readTests bytes registry sla
   unfolding read bind
   pair-found = rw e
 
-  contents-found : read bytes registry slashings .contents ≡ contentsOf bytes
+  pub contents-found : read bytes registry slashings .contents ≡ contentsOf bytes
   unfolding read
   contents-found = rw found
 

@@ -1,4 +1,5 @@
-use mathlib.Core.Path.{ap}
+use mathlib.Core.Bool.{true}
+use mathlib.Core.Path.{_≡_, ap}
 use Prim.Native.Nat.{ℕ, _+_, _*_}
 use native.Mathlib.Omega.{arith}
 use borrow.Author.Needs.{needs}
@@ -7,7 +8,8 @@ use lib.Dec.{eqb}
 use lib.ListN.{length-take}
 use lib.Seq.{length-take-le}
 use Rattle.definitions_file.specs.File.{versionOf, contentsOf, goodHeader}
-use Rattle.refusals.proofs.All.{Both, both, fails, passes}
+use Rattle.laws.proofs.Tests.{both}
+use Rattle.refusals.proofs.All.{fails, passes}
 use Rattle.refusals.proofs.Answers.{passed}
 use Rattle.round_trip.proofs.Passed.{good-header}
 use Rattle.shelf_file.specs.Parts.{Counts}
@@ -16,7 +18,7 @@ use Rattle.shelf_file.proofs.Tests.{off-shelf, refused-tests}
 use Rattle.shelf_file.proofs.close_file.Statement.{statement}
 use Rattle.shelf_file.proofs.close_file.Tie as tie
 
-head : (c : tie.Else1) → Both (goodHeader (c .before .before .before .before .before .before .args .file .now)) (eqb (versionOf (c .before .before .before .before .before .before .args .file .now)) 2)
+head : (c : tie.Else1) → (goodHeader (c .before .before .before .before .before .before .args .file .now) ≡ true) × (eqb (versionOf (c .before .before .before .before .before .before .args .file .now)) 2 ≡ true)
 head c = both _ _ (passes (c .before .on-shelf .ensures) (c .if1 .left))
 
 counts : (c : tie.After-read-counts) → let n = c .read-counts .result in Counts (c .before .before .before .before .before .before .before .args .file .now) (10 * n .validators) (10 * n .validators + n .slashings)
@@ -24,8 +26,8 @@ counts c =
     let e = c .read-counts .ensures in
     let h = head (c .before) in
     record {
-      header = h .first;
-      second = eqb-true _ 2 (h .second);
+      header = h .0;
+      second = eqb-true _ 2 (h .1);
       registry = ap (λ (n : ℕ). 10 * n) (e .0);
       slashings = ap (λ (l : ℕ). 10 * c .read-counts .result .validators + l) (e .2);
     }
@@ -37,7 +39,7 @@ returns c =
     (f .number, f .part)
 
 read-counts-requires : tie.Need-read-counts-requires
-read-counts-requires c κs = good-header _ (head c .first) .enough
+read-counts-requires c κs = good-header _ (head c .0) .enough
 
 mul-a : tie.Need-mul-a
 mul-a c = omega (arith, counts-long (counts c), c .read-counts .ensures .0, c .before .before .before .before .before .before .before .good .0)

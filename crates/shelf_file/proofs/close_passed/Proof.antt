@@ -15,21 +15,21 @@ use Rattle.shelf_file.proofs.close_passed.Statement.{statement}
 use Rattle.shelf_file.proofs.close_passed.Tie as tie
 use Rattle.round_trip.proofs.Passed.{length-slashings}
 
-abbrev start : tie.After-roots-of → tie.Start
+abbrev start : tie.After-file-roots → tie.Start
 start c = c .before .before .before .before .before .before .before .before .before .before .before .before
 
 ordered : (c : tie.Start) → c .args .a ≤ c .args .b
 ordered c = omega (arith, c .pre .0 .counts)
 
 -- what was read is what the file holds
-under : (c : tie.After-roots-of) → c .before .before .before .before .before .before .settings-under .result ≡ settingsUnder (rulesIn (start c .args .rules .fork) (start c .args .rules .bellatrix) (start c .args .file .now))
+under : (c : tie.After-file-roots) → c .before .before .before .before .before .before .settings-under .result ≡ settingsUnder (rulesIn (start c .args .rules .fork) (start c .args .rules .bellatrix) (start c .args .file .now))
 under c = let t = start c in c .before .before .before .before .before .before .settings-under .ensures ∙ ap settingsUnder (same-rules (t .args .rules .fork) (t .args .rules .bellatrix) (t .args .file .now) (t .args .rules) (t .pre .1 .0 .0) refl refl)
 
-found : (c : tie.After-roots-of) → c .before .before .before .before .before .read-finality .result ≡ contentsOf (start c .args .file .now) .finality
+found : (c : tie.After-file-roots) → c .before .before .before .before .before .read-finality .result ≡ contentsOf (start c .args .file .now) .finality
 unfolding contentsOf
 found c = c .before .before .before .before .before .read-finality .ensures
 
-within : (c : tie.After-roots-of) → start c .args .b ≤ length (c .before .before .before .read-opening .last .1 .1 .1 .0)
+within : (c : tie.After-file-roots) → start c .args .b ≤ length (c .before .before .before .read-opening .last .1 .1 .1 .0)
 within c = omega (arith, start c .pre .0 .room, c .before .before .numbers .given)
 
 -- the slashings after their reset, in the list
@@ -43,7 +43,7 @@ close-opening-requires : tie.Need-close-opening-requires
 close-opening-requires c κs =
     let j = c .before .before in
     let t = start j in
-    ((ordered t, within j, t .pre .1 .1 .0), read-tested (t .args .rules .fork) (t .args .rules .bellatrix) (t .args .file .now) (t .pre .1 .0 .1) (under j) (found j) (j .before .before .before .read-opening .ensures .registry) (j .before .before .before .read-opening .ensures .slashings) (j .roots-of .ensures))
+    ((ordered t, within j, t .pre .1 .1 .0), read-tested (t .args .rules .fork) (t .args .rules .bellatrix) (t .args .file .now) (t .pre .1 .0 .1) (under j) (found j) (j .before .before .before .read-opening .ensures .registry) (j .before .before .before .read-opening .ensures .slashings) (j .file-roots .ensures))
 
 put-bytes-requires : tie.Need-put-bytes-requires
 put-bytes-requires c κs = let t = c .before .before .before .before .before .before .before .before .before .before .before .before .before .before .before .before .before .before .before .before in omega (arith, t .pre .1 .1 .1)
@@ -53,7 +53,7 @@ returns c =
     let j = c .before .before .before .before .before .before .before .before .before .before .before in
     let t = start j in
     let k = c .before .before .before .before .before .before .before .before .close-opening in
-    let w = read-worked (t .args .rules .fork) (t .args .rules .bellatrix) (t .args .file .now) (t .pre .1 .0 .1) (under j) (found j) (j .before .before .before .read-opening .ensures .registry) (j .before .before .before .read-opening .ensures .slashings) (j .roots-of .ensures) (k .ensures) in
+    let w = read-worked (t .args .rules .fork) (t .args .rules .bellatrix) (t .args .file .now) (t .pre .1 .0 .1) (under j) (found j) (j .before .before .before .read-opening .ensures .registry) (j .before .before .before .read-opening .ensures .slashings) (j .file-roots .ensures) (k .ensures) in
     put-refused (t .args .rules .fork) (t .args .rules .bellatrix) (t .args .file .now) (t .pre .1 .0 .1) w (λ z. omega (arith, z, c .before .before .before .before .if1 .taken)) _ (c .before .before .put-bytes .ensures ∙ sets-whole (t .args .part .now) (t .args .file .now) (sym (t .pre .1 .1 .1)))
 
 mul-slashings-reset-core : tie.Need-mul-slashings-reset-core
@@ -72,7 +72,7 @@ slashings-reset-core-requires : tie.Need-slashings-reset-core-requires
 slashings-reset-core-requires c κs =
     let j = c .before .before .before .before .before .before .before .before .before in
     let t = start j in
-    let x = read-tested (t .args .rules .fork) (t .args .rules .bellatrix) (t .args .file .now) (t .pre .1 .0 .1) (under j) (found j) (j .before .before .before .read-opening .ensures .registry) (j .before .before .before .read-opening .ensures .slashings) (j .roots-of .ensures) in
+    let x = read-tested (t .args .rules .fork) (t .args .rules .bellatrix) (t .args .file .now) (t .pre .1 .0 .1) (under j) (found j) (j .before .before .before .read-opening .ensures .registry) (j .before .before .before .read-opening .ensures .slashings) (j .file-roots .ensures) in
     (x .slashings, x .settings)
 
 put-closed-requires : tie.Need-put-closed-requires
@@ -81,15 +81,15 @@ put-closed-requires c κs =
     let t = start j in
     let p = t .pre .0 in
     let n : length (numbersBehind (t .args .a) (t .args .b) (c .before .before .before .before .before .before .before .before .before .before .before .before .before .before .before .before .before .before .read-opening .last .1 .1 .1 .0)) ≡ slashingCountOf (t .args .file .now) = ap length (c .before .before .before .before .before .before .before .before .before .before .before .before .before .before .before .before .before .before .read-opening .ensures .slashings) ∙ length-slashings (t .args .file .now) in
-    ((ordered t, omega (arith, within j, c .before .before .before .before .numbers2 .given)), sized (t .args .rules .fork) (t .args .rules .bellatrix) (t .args .file .now) (t .pre .1 .0 .1) (t .pre .1 .0 .0) (j .roots-of .ensures) (c .before .before .before .before .before .before .before .before .before .before .before .closing .given ∙ t .pre .1 .1 .0 ∙ p .counts .registry) (ap length (behind (c .before .before .before .before .before)) ∙ c .before .before .before .before .before .slashings-reset-core .kept .1 .1 .0 ∙ n) (t .pre .1 .1 .1))
+    ((ordered t, omega (arith, within j, c .before .before .before .before .numbers2 .given)), sized (t .args .rules .fork) (t .args .rules .bellatrix) (t .args .file .now) (t .pre .1 .0 .1) (t .pre .1 .0 .0) (j .file-roots .ensures) (c .before .before .before .before .before .before .before .before .before .before .before .closing .given ∙ t .pre .1 .1 .0 ∙ p .counts .registry) (ap length (behind (c .before .before .before .before .before)) ∙ c .before .before .before .before .before .slashings-reset-core .kept .1 .1 .0 ∙ n) (t .pre .1 .1 .1))
 
 returns-2 : tie.Need-returns-2
 returns-2 c =
     let j = c .before .before .before .before .before .before .before .before .before .before .before .before .before .before .before .before .before .before in
     let t = start j in
     let k = c .before .before .before .before .before .before .before .before .before .before .before .before .before .before .before .close-opening in
-    let w = read-worked (t .args .rules .fork) (t .args .rules .bellatrix) (t .args .file .now) (t .pre .1 .0 .1) (under j) (found j) (j .before .before .before .read-opening .ensures .registry) (j .before .before .before .read-opening .ensures .slashings) (j .roots-of .ensures) (k .ensures) in
-    put-done (t .args .rules .fork) (t .args .rules .bellatrix) (t .args .file .now) (t .pre .1 .0 .1) w (omega (arith, c .before .before .before .before .before .before .before .before .before .before .before .if1 .left)) _ (t .pre .1 .0 .0) (j .roots-of .ensures) (behind (c .before .before .before .before .before .before .before .before) ∙ c .before .before .before .before .before .before .before .before .slashings-reset-core .ensures) (c .before .before .put-closed .ensures)
+    let w = read-worked (t .args .rules .fork) (t .args .rules .bellatrix) (t .args .file .now) (t .pre .1 .0 .1) (under j) (found j) (j .before .before .before .read-opening .ensures .registry) (j .before .before .before .read-opening .ensures .slashings) (j .file-roots .ensures) (k .ensures) in
+    put-done (t .args .rules .fork) (t .args .rules .bellatrix) (t .args .file .now) (t .pre .1 .0 .1) w (omega (arith, c .before .before .before .before .before .before .before .before .before .before .before .if1 .left)) _ (t .pre .1 .0 .0) (j .file-roots .ensures) (behind (c .before .before .before .before .before .before .before .before) ∙ c .before .before .before .before .before .before .before .before .slashings-reset-core .ensures) (c .before .before .put-closed .ensures)
 
 pub close-passed-spec : {M : Type 1} → statement M
 close-passed-spec =

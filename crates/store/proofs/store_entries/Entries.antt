@@ -1,13 +1,22 @@
 -- The part of a store that is lent for the entry i.
-use mathlib.Core.Bool.{Bool}
-use mathlib.Core.List.{List, []}
+use mathlib.Core.Bool.{Bool, true, false, _&&_}
+use mathlib.Core.List.{List, [], _∷_}
 use mathlib.Core.Path.{_≡_, refl, sym, ap, _∙_}
 use Prim.Native.Nat.{ℕ, zero, suc, _+_, _-_, _*_, _≤_, _<_}
 use native.Mathlib.Omega.{arith}
 use lib.ListN.{length, getD, take, drop, length-take, length-drop}
 use lib.Seq.{getD-take, getD-drop, drop-drop}
 use Rattle.definitions.specs.declared.Rules.{Rules}
+use Rattle.definitions.specs.Lists.{every}
 use Rattle.definitions_close.specs.Store.{Entry, entryOf, entriesFrom}
+use Rattle.laws.proofs.Tests.{and-true}
+
+-- three tests of the code
+pub three : (a b c : Bool) → ((a && b) && c) ≡ every (a ∷ b ∷ c ∷ [])
+unfolding every
+three true true c = sym (and-true c)
+three true false c = refl
+three false b c = refl
 
 -- what stands past the end
 abbrev pub blank : Entry

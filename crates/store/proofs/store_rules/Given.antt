@@ -1,26 +1,27 @@
 -- What an answer with rules says, and that it is the definition's of every call with what was lent.
-use mathlib.Core.Bool.{true, _&&_}
+use mathlib.Core.Bool.{true}
 use mathlib.Core.List.{List}
 use mathlib.Core.Path.{_≡_, refl, sym, ap, _∙_}
-use Prim.Native.Nat.{ℕ, _+_, _-_, _*_, _/_, _≤_, _<_}
+use Prim.Native.Nat.{ℕ, _+_, _-_, _*_, _/_, _<_}
 use native.Mathlib.Omega.{arith}
-use lib.ListN.{length, getD}
+use lib.ListN.{getD}
 use lib.Seq.{getD-drop}
 use Rattle.definitions.specs.declared.Rules.{Rules}
-use Rattle.definitions.specs.Checked.{Checked, value, refused, Refusal, bind, numberOf}
-use Rattle.definitions.specs.Refusals.{registryShaped, rootsShaped, slashingsShaped, sameLength}
+use Rattle.definitions.specs.Checked.{Checked, value, refused, Refusal, bind, numberOf, codeOf}
 use Rattle.definitions.specs.Rules.{goodRules}
-use Rattle.definitions_close.specs.Amounts.{amountsShaped}
 use Rattle.definitions_close.specs.declared.RulesAnswer.{RulesAnswer}
-use Rattle.definitions_close.specs.Store.{Entry, Store, entriesFrom, entries, lastOf, ofLast, storeShaped, goodEntries, rulesAt, rulesAnswerFor}
+use Rattle.definitions_close.specs.Store.{Entry, Store, entriesFrom, entries, goodEntries, rulesAt, rulesAnswerFor}
 use Rattle.definitions_close.specs.StoreClose.{StoreCall, storeCallShaped, rulesAtSlot, rulesFor}
 use Rattle.laws.proofs.Checked.{number-not-zero}
-use Rattle.refusals.proofs.All.{both, all-at}
+use Rattle.laws.proofs.Tests.{both, test, in-order}
+use Rattle.refusals.proofs.All.{all-at}
+use Rattle.refusals.proofs.Answers.{after-passed, after-refused}
 use Rattle.refusals.proofs.Laws.{good-settings}
 use Rattle.store.proofs.store_entries.Entries.{blank, length-entries, entry-at}
 use Rattle.store.proofs.Last.{last-entry}
-use Rattle.store.proofs.Passed.{store-shaped}
-use Rattle.store.specs.Called.{shapedWith, rulesWith}
+use Rattle.store.proofs.Passed.{StorePassed, store-shaped}
+use Rattle.store.specs.Answers.{turnedAway}
+use Rattle.store.specs.Called.{testsWith, rulesWith}
 
 -- no refusal: these are the rules
 pub rules-given : (m : Checked Rules) {a : RulesAnswer} → a ≡ rulesAnswerFor m → a .refusal ≡ 0 → m ≡ value (a .rules)
@@ -37,7 +38,7 @@ rules-turned (value r) e z = absurd (z (ap (λ (b : RulesAnswer). b .refusal) e)
 rules-turned (refused r) e z = record { why = r; is = refl; said = ap (λ (b : RulesAnswer). b .refusal) e }
 
 pub rules-with : (c : StoreCall) → rulesWith (c .store) (c .finality .slot) (c .registry) (c .slashings) (c .roots) (c .closingRegistry) (c .closingSlashings) (c .amounts) ≡ rulesFor c
-unfolding rulesWith rulesFor shapedWith storeCallShaped
+unfolding rulesWith rulesFor testsWith storeCallShaped
 rules-with c = refl
 
 -- slots_per_epoch of an entry, and that it is not 0
@@ -50,7 +51,7 @@ module _ (n : ℕ) (xs : List ℕ) (i : ℕ) (l : i < n) where
   unfolding goodEntries goodRules
   slots-positive h =
       let g = all-at (λ e. goodRules (e .rules)) (entriesFrom n xs) i blank (omega (arith, length-entries n xs)) h in
-      good-settings _ (both _ _ g .first) .positive .«slots_per_epoch»
+      good-settings _ (both _ _ g .0) .positive .«slots_per_epoch»
 
 -- of the last one
 module _ (n : ℕ) (xs : List ℕ) (l : 0 < n) where
@@ -66,12 +67,23 @@ module _ (n : ℕ) (xs : List ℕ) (l : 0 < n) where
   unfolding rulesAtSlot bind
   at-slot slot = rw (last-entry n xs l, last-slots)
 
--- test 1 passed: so has the store's
-pub with-fits : (store : Store) (registry slashings roots closingRegistry closingSlashings amounts : List ℕ) → shapedWith store registry slashings roots closingRegistry closingSlashings amounts ≡ true → 23 * store .count ≤ length (store .numbers)
-unfolding shapedWith
-with-fits store registry slashings roots closingRegistry closingSlashings amounts h =
-    let a = storeShaped store in
-    let b = registryShaped registry && sameLength registry closingRegistry && sameLength slashings closingSlashings in
-    let d = amountsShaped registry amounts in
-    let e = ofLast (λ e. rootsShaped (e .rules .settings) roots && slashingsShaped (e .rules .settings) slashings) (lastOf (entries store)) in
-    store-shaped store (both a b (both (a && b) d (both (a && b && d) e h .first) .first) .first) .fits
+-- x is the number of tests 1 and 2
+module _ (store : Store) (registry slashings roots closingRegistry closingSlashings amounts : List ℕ) {x : ℕ} (e : x ≡ codeOf (testsWith store registry slashings roots closingRegistry closingSlashings amounts)) where
+  -- passed: so have the store's
+  pub with-passed : x ≡ 0 → StorePassed store
+  unfolding testsWith
+  with-passed z =
+      let q = in-order _ _ _ (sym e ∙ z) in
+      record { shape = store-shaped store (test _ (q .shaped 0) 0); entries-good = q .settings 0 }
+
+  module _ (slot : ℕ) where
+    pub with-refused : (x ≡ 0 → ⊥) → turnedAway x ≡ rulesAnswerFor (rulesWith store slot registry slashings roots closingRegistry closingSlashings amounts)
+    unfolding rulesWith
+    with-refused z =
+        let tests = testsWith store registry slashings roots closingRegistry closingSlashings amounts in
+        let r = after-refused tests (rulesAtSlot slot (entries store)) e z in
+        rw (r .is) (ap turnedAway (r .number))
+
+    pub with-rules : x ≡ 0 → rulesWith store slot registry slashings roots closingRegistry closingSlashings amounts ≡ rulesAtSlot slot (entries store)
+    unfolding rulesWith
+    with-rules z = after-passed _ _ e z

@@ -1,17 +1,22 @@
 use borrow.Author.Tests.{le-leb, lt-leb}
+use Rattle.definitions.specs.Lists.{every}
 use Rattle.survey.proofs.test_after.Statement.{statement}
 use Rattle.survey.proofs.test_after.Tie as tie
 
 returns : tie.Need-returns
+unfolding every
 returns c = rw (lt-leb _ _ (c .if1 .taken))
 
 returns-2 : tie.Need-returns-2
+unfolding every
 returns-2 c = rw (le-leb _ _ (c .before .if1 .left), lt-leb _ _ (c .if2 .taken))
 
 returns-3 : tie.Need-returns-3
+unfolding every
 returns-3 c = rw (le-leb _ _ (c .before .before .if1 .left), le-leb _ _ (c .before .if2 .left), lt-leb _ _ (c .if3 .taken))
 
 returns-4 : tie.Need-returns-4
+unfolding every
 returns-4 c = rw (le-leb _ _ (c .before .before .if1 .left), le-leb _ _ (c .before .if2 .left), le-leb _ _ (c .if3 .left))
 
 pub test-after-spec : {M : Type 1} → statement M

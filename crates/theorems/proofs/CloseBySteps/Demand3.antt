@@ -9,7 +9,7 @@ use Rattle.definitions.specs.declared.FullAnswer.{FullAnswer}
 use Rattle.definitions.specs.Record.{Validator, BeaconState, encode, decode}
 use Rattle.definitions.specs.Updates.{withValidators}
 use Rattle.definitions.specs.Checked.{Checked, value, refused}
-use Rattle.definitions.specs.Close.{Outcome, close}
+use Rattle.definitions.specs.Close.{Outcome}
 use Rattle.definitions_close.specs.FullClose.{FullCall, settingsOf, fullClose}
 use Rattle.definitions_close.specs.Orders.{Order, ordersIn, carriedOut, NinthCall, NinthOutcome, ninthTests, carriesOut, ninthInTurn, carryOut}
 use Rattle.laws.proofs.Encode.{decode-encode}

@@ -11,7 +11,7 @@ use lib.ListN.{length, length-map}
 use Rattle.definitions.specs.declared.Settings.{Settings}
 use Rattle.definitions.specs.declared.Checkpoint.{Checkpoint}
 use Rattle.definitions.specs.declared.Finality.{Finality}
-use Rattle.definitions.specs.Lists.{all}
+use Rattle.definitions.specs.Lists.{all, every}
 use Rattle.definitions.specs.Record.{Validator, BeaconState, «GENESIS_EPOCH»}
 use Rattle.definitions.specs.Updates.{withEffectiveBalance, withBalance, withScore, withParticipation}
 use Rattle.definitions.specs.Checked.{value}
@@ -24,7 +24,7 @@ use Rattle.definitions.specs.Rust.Altair.EpochProcessing.{«process_justificati
 use Rattle.definitions.specs.Close.{Step, justificationStep, inactivityStep, rewardsStep, registryStep, slashingsStep, effectiveBalancesStep, slashingsResetStep, participationFlagsStep, step}
 use Rattle.laws.proofs.Checked.{value-same, bound}
 use Rattle.refusals.proofs.Laws.{GoodFinality, good-finality, good-validator}
-use Rattle.refusals.proofs.All.{both}
+use Rattle.laws.proofs.Tests.{both}
 use Rattle.laws.specs.Frames.{each, withoutEpochs}
 use Rattle.laws.proofs.Frame.Entries.{told}
 use Rattle.laws.proofs.Frame.Frames.{frames}
@@ -75,7 +75,7 @@ finalized-small epoch bits old g =
     (either-small c current second (g .current) (either-small b previous first (g .previous) (either-small a previous (old .«finalized_checkpoint») (g .previous) (g .finalized))))
 
 joined : (f : Finality) → GoodFinality f → goodFinality f ≡ true
-unfolding goodFinality
+unfolding goodFinality every
 joined f g =
     rw (small (g .slot), le-leb (f .«justification_bits») 15 (g .bits), small (g .previous), small (g .current), small (g .finalized))
 
@@ -155,15 +155,15 @@ by-fields f k a b h =
     }
 
 rotated-good : (vs : List Validator) → all goodValidator vs ≡ true → all goodValidator (map rotateParticipation vs) ≡ true
-unfolding all goodValidator rotateParticipation
+unfolding all goodValidator rotateParticipation every
 rotated-good [] h = refl
 rotated-good (v ∷ vs) h =
     let b = both (goodValidator v) (all goodValidator vs) h in
-    let g = good-validator v (b .first) in
-    rw (le-leb (v .slashed) 1 (g .slashed), le-leb (v .«current_epoch_participation») 255 (g .current)) (rotated-good vs (b .second))
+    let g = good-validator v (b .0) in
+    rw (le-leb (v .slashed) 1 (g .slashed), le-leb (v .«current_epoch_participation») 255 (g .current)) (rotated-good vs (b .1))
 
 pub kept-step : (s : Settings) (k : Step) (a b : BeaconState) → step s a k ≡ value b → Kept a b
-unfolding step goodValidator «process_participation_flag_updates»
+unfolding step goodValidator «process_participation_flag_updates» every
 kept-step s justificationStep a b p =
     let h = bound _ _ p in
     let e = value-same (h .then) in

@@ -6,6 +6,7 @@ use native.Mathlib.Omega.{arith}
 use borrow.Author.Tests.{lt-ltb, le-leb, eq-eqb}
 use lib.ListN.{length, drop}
 use Rattle.definitions.specs.declared.FullAnswer.{FullAnswer}
+use Rattle.definitions.specs.Lists.{every}
 use Rattle.definitions.specs.Record.{BeaconState, encode, decode}
 use Rattle.definitions.specs.Checked.{value, bind}
 use Rattle.definitions.specs.Refusals.{inOrder, goodRegistry}
@@ -32,7 +33,7 @@ module _ (c : FullCall) (st : BeaconState) (count : ℕ) (orders : List ℕ) (u 
   ninth = ninthCall c here period answers
 
   ninth-tested : length orders % 2 ≡ 0 → count ≤ length orders / 2 → length answers ≡ room orders → period < 2 ^ 48 → ninthTests ninth ≡ value tt
-  unfolding ninthTests inOrder bind goodRegistry queueTest isQueueOf
+  unfolding ninthTests inOrder bind goodRegistry queueTest isQueueOf every
   ninth-tested two fits long small =
       let p = full-passed c (u .tested) in
       let h = u .sound in

@@ -13,7 +13,7 @@ use Rattle.definitions.specs.Checked.{noExit, tooEarly, Checked, value, refused
 use Rattle.definitions.specs.Rust.Phase0.Helpers.{«is_active_validator», «get_current_epoch», «initiate_validator_exit»}
 use Rattle.definitions_close.specs.Orders.{Order, mayExit, isDue, «process_voluntary_exit», carriedOut}
 use Rattle.laws.proofs.Checked.{not-value}
-use Rattle.refusals.proofs.All.{both}
+use Rattle.laws.proofs.Tests.{both}
 use Rattle.laws.proofs.Frame.Registry.{exit-writes}
 
 -- an order that is carried out: the exit of a validator that is known and has none yet
@@ -38,8 +38,8 @@ order-exits s stateSlot period vs o {ws} p = go (mayExit epoch vs i) refl (isDue
     go : (t : Bool) → mayExit epoch vs i ≡ t → (due : Bool) → cond t (cond due («initiate_validator_exit» s stateSlot vs i) (refused tooEarly)) (refused noExit) ≡ value ws → Exits s stateSlot vs i ws
     go true q true e =
         let a = both (ltb i (length vs) && «is_active_validator» v epoch) (eqb (v .«exit_epoch») «FAR_FUTURE_EPOCH») q in
-        let b = both (ltb i (length vs)) («is_active_validator» v epoch) (a .first) in
-        record { known = ltb-true i (length vs) (b .first); far = eqb-true (v .«exit_epoch») «FAR_FUTURE_EPOCH» (a .second); gave = e }
+        let b = both (ltb i (length vs)) («is_active_validator» v epoch) (a .0) in
+        record { known = ltb-true i (length vs) (b .0); far = eqb-true (v .«exit_epoch») «FAR_FUTURE_EPOCH» (a .1); gave = e }
     go true q false e = absurd (not-value e)
     go false q due e = absurd (not-value e)
 

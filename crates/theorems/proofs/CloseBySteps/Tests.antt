@@ -8,10 +8,10 @@ use borrow.Author.Tests.{eqb-true, eq-eqb}
 use lib.Dec.{leb, eqb}
 use lib.ListN.{length}
 use Rattle.definitions.specs.declared.Settings.{Settings}
-use Rattle.definitions.specs.Lists.{all}
+use Rattle.definitions.specs.Lists.{all, every}
 use Rattle.definitions.specs.Record.{BeaconState, encode, decode}
-use Rattle.definitions.specs.Checked.{Checked, value, refused, badShape, bind, codeOf}
-use Rattle.definitions.specs.Refusals.{inOrder, rootsShaped, slashingsShaped, registryShaped, sameLength, goodFinality, goodValidator, goodRegistry}
+use Rattle.definitions.specs.Checked.{Checked, value, refused, badShape, bind}
+use Rattle.definitions.specs.Refusals.{inOrder, rootsShaped, slashingsShaped, registryShaped, goodFinality, goodValidator, goodRegistry}
 use Rattle.definitions.specs.Rules.{rulesShaped, goodRules}
 use Rattle.definitions.specs.ExitQueue.{queueOf, isQueueOf, queueTest}
 use Rattle.definitions.specs.Close.{Step, step, stateOf, closeTests}
@@ -19,8 +19,8 @@ use Rattle.definitions_close.specs.Amounts.{amountsShaped}
 use Rattle.definitions_close.specs.FullClose.{FullCall, fullTests}
 use Rattle.laws.proofs.Checked.{not-value, bound}
 use Rattle.laws.proofs.Encode.{length-encode, decode-encode, length-decode}
-use Rattle.refusals.proofs.Laws.{in-order, RegistryShape, registry-shaped}
-use Rattle.refusals.proofs.All.{both}
+use Rattle.refusals.proofs.Laws.{RegistryShape, registry-shaped}
+use Rattle.laws.proofs.Tests.{in-order-value}
 use Rattle.theorems.proofs.CloseBySteps.Kept.{kept-step}
 
 -- the record of a state as a later call tests it: the opening stands in the place of the closing buffers
@@ -56,28 +56,18 @@ pub record Passed (c : FullCall) : Type 0 where
 close-passed : (c : FullCall) → length (c .amounts) ≡ 9 * (length (c .call .registry) / 10) → closeTests (c .call) ≡ value tt → Passed c
 unfolding closeTests goodRegistry
 close-passed c l p =
-    let s = c .call .rules .settings in
-    let t = in-order _ _ _ (ap codeOf p) in
-    let a = both (opening && sameLength (c .call .registry) (c .call .closingRegistry)) (sameLength (c .call .slashings) (c .call .closingSlashings)) (t .first) in
-    let b = both opening (sameLength (c .call .registry) (c .call .closingRegistry)) (a .first) in
-    let d = both (rulesShaped (c .call .rules) && registryShaped (c .call .registry) && rootsShaped s (c .call .roots)) (slashingsShaped s (c .call .slashings)) (b .first) in
-    let e = both (rulesShaped (c .call .rules) && registryShaped (c .call .registry)) (rootsShaped s (c .call .roots)) (d .first) in
-    let f = both (rulesShaped (c .call .rules)) (registryShaped (c .call .registry)) (e .first) in
-    let g = both (goodFinality (c .call .finality)) (goodRegistry (c .call .registry)) (t .third) in
+    let t = in-order-value _ _ _ p in
     record {
-      rules = f .first;
-      registry = registry-shaped (c .call .registry) (f .second);
-      registryShape = f .second;
-      roots = e .second;
-      slashings = d .second;
-      goodRules = t .second;
-      finality = g .first;
-      validators = g .second;
+      rules = t .shaped 0;
+      registry = registry-shaped (c .call .registry) (t .shaped 1);
+      registryShape = t .shaped 1;
+      roots = t .shaped 2;
+      slashings = t .shaped 3;
+      goodRules = t .settings 0;
+      finality = t .recorded 0;
+      validators = t .recorded 1;
       amounts = l;
     }
-  where
-    opening : Bool
-    opening = rulesShaped (c .call .rules) && registryShaped (c .call .registry) && rootsShaped (c .call .rules .settings) (c .call .roots) && slashingsShaped (c .call .rules .settings) (c .call .slashings)
 
 where-shaped : (t : Bool) {m : Checked (Unit {0})} → cond t m (refused badShape) ≡ value tt → (t ≡ true) × (m ≡ value tt)
 where-shaped true p = (refl, p)
@@ -131,7 +121,7 @@ long-as c st p h = omega (arith, length-encode (st .validators), h .many, p .reg
 
 module _ (c : FullCall) (st : BeaconState) (xs : List ℕ) (p : Passed c) (h : Sound c st) where
   close-again : closeTests (recordAt c st xs .call) ≡ value tt
-  unfolding closeTests inOrder goodRegistry
+  unfolding closeTests inOrder goodRegistry every
   close-again =
       rw (p .rules, shaped-as (c .call .registry) (encode (st .validators)) (long-as c st p h) ∙ p .registryShape, p .roots, ap (λ (n : ℕ). eqb n (c .call .rules .settings .«epochs_per_slashings_vector»)) (h .slashings) ∙ p .slashings, eq-eqb (length (c .call .registry)) (length (encode (st .validators))) (sym (long-as c st p h)), eq-eqb (length (c .call .slashings)) (length (st .slashings)) (sym (h .slashings)), p .goodRules, h .finality, decode-encode (st .validators), h .validators)
 

@@ -1,13 +1,14 @@
 -- Justification, which has no buffer, and what the calls on a file answer.
 use mathlib.Core.Path.{_≡_, refl, sym, ap}
 use mathlib.Core.Bool.{Bool, true, false, cond}
-use mathlib.Core.List.{[], _∷_}
+use mathlib.Core.List.{[], _∷_, List}
 use mathlib.Core.Logic.{inl, inr}
 use Prim.Native.Nat.{ℕ}
 use native.Mathlib.Omega.{arith}
 use Rattle.definitions.specs.declared.Settings.{Settings}
 use Rattle.definitions.specs.declared.Finality.{Finality}
 use Rattle.definitions.specs.declared.CloseAnswer.{CloseAnswer}
+use Rattle.definitions.specs.Lists.{every}
 use Rattle.definitions.specs.Record.{BeaconState, decode}
 use Rattle.definitions.specs.Updates.{withFinality}
 use Rattle.definitions.specs.Checked.{Refusal, badFile, wrongQueue, Checked, value, refused, bind, numberOf, codeOf}
@@ -17,6 +18,7 @@ use Rattle.definitions.specs.Rust.Altair.EpochProcessing as rust
 use Rattle.definitions.specs.Close.{justificationStep, step}
 use Rattle.definitions.specs.ExitQueue.{isQueueOf, queueTest}
 use Rattle.definitions_file.specs.File.{Contents, contentsOf, queueIn, goodHeader, writeTests, readTests, readFile, read}
+use Rattle.laws.proofs.Tests.{tested}
 use Rattle.agreement.specs.Agreement.{documentStep}
 use Rattle.agreement.specs.Restored.{OneOf}
 use Rattle.theorems.specs.Completeness.Calls.{JustificationCall, JustificationCalls, FileCalls}
@@ -76,22 +78,28 @@ abbrev eight : Bool → Checked (Unit {0})
 eight t = cond t (value tt) (refused wrongQueue)
 
 -- 1, 2 or 3, and 8 once they have passed
-record-number : (a b d e : Bool) → OneOf (codeOf (bind (inOrder a b d) (λ _. eight e))) (0 ∷ 1 ∷ 2 ∷ 3 ∷ 8 ∷ [])
+record-number : (a b d : List Bool) (e : Bool) → OneOf (codeOf (bind (inOrder a b d) (λ _. eight e))) (0 ∷ 1 ∷ 2 ∷ 3 ∷ 8 ∷ [])
 unfolding inOrder bind
-record-number false b d e = inr (inl refl)
-record-number true false d e = inr (inr (inl refl))
-record-number true true false e = inr (inr (inr (inl refl)))
-record-number true true true false = inr (inr (inr (inr (inl refl))))
-record-number true true true true = inl refl
+record-number a b d e = go (every a) (every b) (every d) e
+  where
+    go : (a b d e : Bool) → OneOf (codeOf (bind (tested a b d) (λ _. eight e))) (0 ∷ 1 ∷ 2 ∷ 3 ∷ 8 ∷ [])
+    go false b d e = inr (inl refl)
+    go true false d e = inr (inr (inl refl))
+    go true true false e = inr (inr (inr (inl refl)))
+    go true true true false = inr (inr (inr (inr (inl refl))))
+    go true true true true = inl refl
 
-read-number : (header a b d e : Bool) (c : Contents) → OneOf (codeOf (bind (cond header (bind (inOrder a b d) (λ _. eight e)) (refused badFile)) (λ _. value c))) (0 ∷ 1 ∷ 2 ∷ 3 ∷ 6 ∷ 8 ∷ [])
+read-number : (header : Bool) (a b d : List Bool) (e : Bool) (c : Contents) → OneOf (codeOf (bind (cond header (bind (inOrder a b d) (λ _. eight e)) (refused badFile)) (λ _. value c))) (0 ∷ 1 ∷ 2 ∷ 3 ∷ 6 ∷ 8 ∷ [])
 unfolding inOrder bind
-read-number false a b d e c = inr (inr (inr (inr (inl refl))))
-read-number true false b d e c = inr (inl refl)
-read-number true true false d e c = inr (inr (inl refl))
-read-number true true true false e c = inr (inr (inr (inl refl)))
-read-number true true true true false c = inr (inr (inr (inr (inr (inl refl)))))
-read-number true true true true true c = inl refl
+read-number header a b d e c = go header (every a) (every b) (every d) e
+  where
+    go : (h a b d e : Bool) → OneOf (codeOf (bind (cond h (bind (tested a b d) (λ _. eight e)) (refused badFile)) (λ _. value c))) (0 ∷ 1 ∷ 2 ∷ 3 ∷ 6 ∷ 8 ∷ [])
+    go false a b d e = inr (inr (inr (inr (inl refl))))
+    go true false b d e = inr (inl refl)
+    go true true false d e = inr (inr (inl refl))
+    go true true true false e = inr (inr (inr (inl refl)))
+    go true true true true false = inr (inr (inr (inr (inr (inl refl)))))
+    go true true true true true = inl refl
 
 pub file-calls : FileCalls
 unfolding read readFile readTests writeTests queueTest

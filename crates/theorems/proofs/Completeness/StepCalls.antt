@@ -1,12 +1,13 @@
 -- Demand 2 and the table of refusals of the steps that have a closing buffer.
 use mathlib.Core.Path.{_≡_, refl, sym, ap, _∙_}
-use mathlib.Core.Bool.{Bool, true, false, _&&_}
+use mathlib.Core.Bool.{Bool, true, false}
 use mathlib.Core.List.{List, [], _∷_}
 use mathlib.Core.Logic.{_⊎_, inl, inr, ⊎-elim}
 use Prim.Native.Nat.{ℕ}
 use native.Mathlib.Omega.{arith}
 use Rattle.definitions.specs.declared.Settings.{Settings}
 use Rattle.definitions.specs.declared.Rules.{Rules}
+use Rattle.definitions.specs.Lists.{every}
 use Rattle.definitions.specs.Record.{Validator, BeaconState, encode, decode}
 use Rattle.definitions.specs.Updates.{withValidators, withSlashings}
 use Rattle.definitions.specs.Checked.{Refusal, badShape, badRecord, overflow, Checked, value, refused, bind, numberOf}
@@ -22,7 +23,7 @@ use Rattle.agreement.specs.Restored.{OneOf}
 use Rattle.definitions.specs.Closes.{Closes}
 use Rattle.theorems.specs.Completeness.DocumentIn64Bits as in64
 use Rattle.theorems.specs.Completeness.Calls.{registryOf, slashingsOf, ByNumber, StepCall, StepCalls, RulesCalls, stoppedOf, StoppedCalls}
-use Rattle.laws.proofs.Checked.{not-value}
+use Rattle.laws.proofs.Tests.{tested, in-order-value}
 use Rattle.agreement.specs.Stopped.{keptFrom}
 use Rattle.agreement.proofs.ActivationQueue.Stopped.{stopped}
 use Rattle.agreement.proofs.Agrees.{Agrees, Overflow, not-refused}
@@ -86,7 +87,7 @@ step-complete contents (refused q) m n e h = inl (record { number = h .number; b
 step-complete contents (value u) m n e h = ⊎-elim (λ p. inl (rw p at h)) (λ l. inr (refl, l)) (e refl)
 
 -- 1, 2 or 3 from the tests, and 5 from the work
-three : (a b d : Bool) (q : Refusal) → inOrder a b d ≡ refused q → Tests (0 ∷ 1 ∷ 2 ∷ 3 ∷ 5 ∷ []) q
+three : (a b d : List Bool) (q : Refusal) → inOrder a b d ≡ refused q → Tests (0 ∷ 1 ∷ 2 ∷ 3 ∷ 5 ∷ []) q
 three a b d q e =
     let n = tests-number a b d q e in
     (inr (one-left (numberOf q) (1 ∷ 2 ∷ 3 ∷ []) (5 ∷ []) n), n)
@@ -95,11 +96,14 @@ five : (q : Refusal) → q ≡ overflow → Works (0 ∷ 1 ∷ 2 ∷ 3 ∷ 5 ∷
 five q e = (rw e (inr (inr (inr (inr (inl refl))))), work-number q (inl e))
 
 -- the tests of flag rotation, which is lent no settings, answer 1 or 3
-one-or-three : (a d : Bool) (q : Refusal) → inOrder a true d ≡ refused q → Tests (0 ∷ 1 ∷ 3 ∷ []) q
-unfolding inOrder
-one-or-three false d q e = let p : q ≡ badShape = cc in rw p (inr (inl refl), inl refl)
-one-or-three true false q e = let p : q ≡ badRecord = cc in rw p (inr (inr (inl refl)), inr (inr (inl refl)))
-one-or-three true true q e = absurd (not-refused e)
+one-or-three : (a d : List Bool) (q : Refusal) → inOrder a [] d ≡ refused q → Tests (0 ∷ 1 ∷ 3 ∷ []) q
+unfolding inOrder every
+one-or-three a d q e = go (every a) (every d) e
+  where
+    go : (a d : Bool) → tested a true d ≡ refused q → Tests (0 ∷ 1 ∷ 3 ∷ []) q
+    go false d e = let p : q ≡ badShape = cc in rw p (inr (inl refl), inl refl)
+    go true false e = let p : q ≡ badRecord = cc in rw p (inr (inr (inl refl)), inr (inr (inl refl)))
+    go true true e = absurd (not-refused e)
 
 -- a step over the registry
 on-registry : (st : BeaconState) (tests : Checked (Unit {0})) (work : Checked (List Validator)) {opening closing after : List ℕ} {r : ℕ} → Closes encode tests work opening closing after r → Closes registryOf tests (onValidators st work) opening closing after r
@@ -107,7 +111,7 @@ on-registry st tests work h = widen encode registryOf (λ vs. withValidators vs 
 
 module _ (s : Settings) (st : BeaconState) (contents : BeaconState → List ℕ) {opening closing after : List ℕ} {r : ℕ} where
   -- which refuses with 5 alone
-  step-call : (k : Step) (a b d : Bool) {document : BeaconState} → Agrees Overflow (step s st k) document → (k ≡ registryStep → inOrder a b d ≡ value tt → Passed s (st .finality .slot)) → Closes contents (inOrder a b d) (step s st k) opening closing after r → StepCall s document st k contents (0 ∷ 1 ∷ 2 ∷ 3 ∷ 5 ∷ []) (inOrder a b d) opening closing after r
+  step-call : (k : Step) (a b d : List Bool) {document : BeaconState} → Agrees Overflow (step s st k) document → (k ≡ registryStep → inOrder a b d ≡ value tt → Passed s (st .finality .slot)) → Closes contents (inOrder a b d) (step s st k) opening closing after r → StepCall s document st k contents (0 ∷ 1 ∷ 2 ∷ 3 ∷ 5 ∷ []) (inOrder a b d) opening closing after r
   step-call k a b d h p c =
       record {
         byNumber = by-number contents (inl refl) five (inOrder a b d) (step s st k) (three a b d) h c;
@@ -122,7 +126,7 @@ other e = let z : _≡_ {A = ℕ} 0 1 = cc in absurd (omega arith)
 never : (numbers : List ℕ) (q : Refusal) → ⊥ → Works numbers q
 never numbers q x = absurd x
 
-three-alone : (a b d : Bool) (q : Refusal) → inOrder a b d ≡ refused q → Tests (0 ∷ 1 ∷ 2 ∷ 3 ∷ []) q
+three-alone : (a b d : List Bool) (q : Refusal) → inOrder a b d ≡ refused q → Tests (0 ∷ 1 ∷ 2 ∷ 3 ∷ []) q
 three-alone a b d q e = let n = tests-number a b d q e in (inr n, n)
 
 module _ (s : Settings) (st : BeaconState) {closing after : List ℕ} {r : ℕ} where
@@ -173,13 +177,6 @@ inside contents k (refused q) work h = record { number = h .number; buffer = h .
 inside contents k (value u) (refused q) h = record { number = h .number; buffer = h .buffer }
 inside contents k (value u) (value a) h = record { number = h .number; buffer = h .buffer }
 
--- one test fewer
-fewer : (shaped more b d : Bool) → inOrder (shaped && more) b d ≡ value tt → inOrder shaped b d ≡ value tt
-unfolding inOrder
-fewer true true b d t = t
-fewer true false b d t = absurd (not-value t)
-fewer false more b d t = t
-
 pub stopped-calls : StoppedCalls
 unfolding registryToTests registryTests step
 stopped-calls stop s st opening closing after r e h =
@@ -188,5 +185,5 @@ stopped-calls stop s st opening closing after r e h =
     let vs = st .validators in
     let told = stopped s slot finalized vs .stopped stop in
     let kept = inside encode (keptFrom stop vs) _ («process_registry_updates» s slot finalized vs) (rw told at (rw e at h)) in
-    step-call s st (stoppedOf stop vs) registryStep _ _ _ (registry s st) (λ _ t. tests-passed s .registry slot finalized opening closing (fewer _ _ _ _ t) .0)
+    step-call s st (stoppedOf stop vs) registryStep _ _ _ (registry s st) (λ _ t. let p = in-order-value _ _ _ t in record { shaped = p .shaped 0; good = p .settings 0; small = p .recorded 0 })
     (widen (λ ws. encode (keptFrom stop vs ws)) (stoppedOf stop vs) (λ ws. withValidators ws st) (λ ws. refl) _ _ kept)

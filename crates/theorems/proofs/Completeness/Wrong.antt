@@ -9,7 +9,7 @@ use native.Mathlib.Omega.{arith}
 use lib.Dec.{ltb}
 use lib.ListN.{length, getD, set, take, replicate}
 use Rattle.definitions.specs.declared.Checkpoint.{Checkpoint}
-use Rattle.definitions.specs.Lists.{all, filter, range, insert, sorted}
+use Rattle.definitions.specs.Lists.{all, filter, range, insert, sorted, every}
 use Rattle.definitions.specs.Record.{Validator, «FAR_FUTURE_EPOCH», decodeOne, decode, decodeFirst, nobody}
 use Rattle.definitions.specs.Updates.{withActivation}
 use Rattle.definitions.specs.Checked.{bind}
@@ -43,7 +43,7 @@ badBits =
     }
 
 pub not-restored-on-three : ((c : Call) → OneOf (close c .refusal) (3 ∷ 4 ∷ 5 ∷ []) → Opening c) → ⊥
-unfolding close closed closeTests settingsUnder rulesShaped goodRules afterTests closingBuffer bind inOrder settingsShaped registryShaped goodSettings goodFinality goodRegistry decode decodeFirst all
+unfolding close closed closeTests settingsUnder rulesShaped goodRules afterTests closingBuffer bind inOrder settingsShaped registryShaped goodSettings goodFinality goodRegistry decode decodeFirst all every
 not-restored-on-three h = let e : _≡_ {A = ℕ} 1 0 = ap (λ xs. getD xs 0 0) (h badBits (inl refl) .slashings) in omega arith
 
 -- those with fewer than `limit` eligible ones of smaller numbers

@@ -14,7 +14,7 @@ use Rattle.definitions.specs.Rules.{settingsUnder}
 use Rattle.definitions.specs.Rust.Phase0.Helpers.{«get_current_epoch», «initiate_validator_exit»}
 use Rattle.laws.proofs.Encode.{decode-encode}
 use Rattle.definitions_close.specs.CloseBySteps.{saysEnded, hasEnded, turnedAway}
-use Rattle.refusals.proofs.All.{both}
+use Rattle.laws.proofs.Tests.{both}
 use Rattle.definitions_close.specs.Orders.{Order, mayExit, isDue, «process_voluntary_exit», carriedOut, answersTo, ordersIn, NinthCall, closingValidators, untried, ninthTests, carriesOut, ninthInTurn, carryOut}
 use Rattle.history.proofs.ExitEpochs.Shape.{exitOf, Exits, kept, exit, then}
 use Rattle.history.proofs.ExitEpochs.Limit.{limitOf, limit-exit}
@@ -60,7 +60,7 @@ module _ (s : Settings) (slot period : ℕ) where
     where
       go : (m : Checked (List Validator)) → not (eqb (codeOf m) 0) && all (λ answer. not (eqb answer 0)) (answersTo s slot period (settle m vs) os) ≡ true → (all (λ answer. not (eqb answer 0)) (answersTo s slot period vs os) ≡ true → carriedOut s slot period vs os ≡ vs) → carriedOut s slot period (settle m vs) os ≡ vs
       go (value ws) h rest = absurd (false≢true h)
-      go (refused r) h rest = rest (both (not (eqb (numberOf r) 0)) (all (λ answer. not (eqb answer 0)) (answersTo s slot period vs os)) h .second)
+      go (refused r) h rest = rest (both (not (eqb (numberOf r) 0)) (all (λ answer. not (eqb answer 0)) (answersTo s slot period vs os)) h .1)
 
 module _ (c : NinthCall) where
   abbrev s : Settings

@@ -2,7 +2,7 @@
 use mathlib.Core.Path.{_≡_, sym, ap, _∙_}
 use mathlib.Core.Logic.{_⊎_, inl, inr, ⊎-elim}
 use Rattle.definitions.specs.Checked.{Checked, value}
-use Rattle.definitions.specs.Close.{Outcome, stateOf, close, «process_epoch»}
+use Rattle.definitions.specs.Close.{Outcome, stateOf, «process_epoch»}
 use Rattle.definitions_close.specs.FullClose.{FullCall, settingsOf, fullTests, fullClose}
 use Rattle.theorems.specs.Completeness.DocumentIn64Bits as in64
 use Rattle.theorems.specs.Completeness.Complete.{CloseParts}

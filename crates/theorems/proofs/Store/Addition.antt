@@ -9,7 +9,7 @@ use borrow.Author.Tests.{le-leb, lt-leb, eq-eqb}
 use lib.Dec.{leb}
 use lib.ListN.{length, take, drop, length-append, length-drop}
 use lib.Seq.{take-add, take-at, drop-at, length-take-le}
-use Rattle.definitions.specs.Lists.{all}
+use Rattle.definitions.specs.Lists.{all, every}
 use Rattle.definitions.specs.Checked.{value, bind, codeOf}
 use Rattle.definitions.specs.Refusals.{inOrder, afterTests}
 use Rattle.definitions.specs.Rules.{rulesShaped, goodRules}
@@ -69,26 +69,26 @@ module _ (s : Store) (new : Entry) (p : AdditionPassed s new) where
   in-room = omega (arith, same-length, p .shape .space)
 
   added-shaped : storeShaped (withEntry s new) ≡ true
-  unfolding storeShaped
+  unfolding storeShaped every
   added-shaped =
       rw (
         eq-eqb (length (withEntry s new .numbers) % 23) 0 (ap (λ (n : ℕ). n % 23) same-length ∙ shape .whole),
         le-leb (withEntry s new .count) (room (withEntry s new)) in-room,
         added-entries,
         one-more (λ e. rulesShaped (e .rules)) (shape .each) (p .shape .rules),
+        sequence-append (entries s) new (shape .sequence) (follows-last new (lastOf (entries s)) (p .later) (p .shape .kept)),
       )
-      (sequence-append (entries s) new (shape .sequence) (follows-last new (lastOf (entries s)) (p .later) (p .shape .kept)))
 
   added-good : goodEntries (entries (withEntry s new)) ≡ true
   unfolding goodEntries
   added-good = rw added-entries (one-more (λ e. goodRules (e .rules)) (p .entries-good) (p .rules-good))
 
   added-formed : storeTests (withEntry s new) ≡ value tt
-  unfolding storeTests inOrder
+  unfolding storeTests inOrder every
   added-formed = rw (added-shaped, added-good)
 
   formed : storeTests s ≡ value tt
-  unfolding storeTests inOrder
+  unfolding storeTests inOrder every
   formed = rw (p .shape .store, p .entries-good)
 
   -- reading

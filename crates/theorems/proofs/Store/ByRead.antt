@@ -6,7 +6,8 @@ use lib.Dec.{eqb}
 use lib.ListN.{length}
 use Rattle.definitions.specs.declared.Settings.{Settings}
 use Rattle.definitions.specs.declared.Rules.{Rules}
-use Rattle.definitions.specs.Checked.{Refusal, badShape, value, refused, bind, numberOf, codeOf}
+use Rattle.definitions.specs.Lists.{every}
+use Rattle.definitions.specs.Checked.{Refusal, badShape, value, refused, bind, numberOf}
 use Rattle.definitions.specs.Refusals.{inOrder, afterTests, closingBuffer, registryShaped, rootsShaped, slashingsShaped, sameLength}
 use Rattle.definitions.specs.Raised.{raisedUnlessRefused}
 use Rattle.definitions.specs.Rules.{rulesShaped}
@@ -17,7 +18,8 @@ use Rattle.definitions_close.specs.FullClose.{fullTests, fullyClosed, closingQu
 use Rattle.definitions_close.specs.Store.{Entry, entries, lastOf, ofLast, storeShaped, goodEntries, storeTests, entryFor, rulesAt, readRules}
 use Rattle.definitions_close.specs.StoreClose.{StoreCall, callBy, storeCallShaped, rulesAtSlot, rulesFor, turnedAway, closeBy, storeClose}
 use Rattle.laws.proofs.Checked.{value-same, bound}
-use Rattle.refusals.proofs.Laws.{in-order}
+use Rattle.laws.proofs.Tests.{in-order-value}
+use mathlib.Core.List.{List, [], _∷_}
 use Rattle.store.proofs.Passed.{store-shaped}
 use Rattle.theorems.specs.Store.Laws.{ClosesByRead}
 use Rattle.theorems.proofs.Store.Sequence.{Same, read-same}
@@ -28,26 +30,22 @@ unfolding fullClose fullyClosed closingQueue closingAmounts finalizingTest after
 refused-close c rules r t = rw t
 
 -- what is lent does not fit settings with the same S and L either
-pub unshaped : (rules registry roots slashings same same′ amounts : Bool) → (((registry && same) && same′) && amounts) && (roots && slashings) ≡ false → cond amounts (((((rules && registry) && roots) && slashings) && same) && same′) false ≡ false
-unshaped false registry roots slashings same same′ true h = refl
-unshaped true false roots slashings same same′ true h = refl
-unshaped true true false slashings same same′ true h = refl
-unshaped true true true false same same′ true h = refl
-unshaped true true true true false same′ true h = refl
-unshaped true true true true true false true h = refl
-unshaped true true true true true true true h = h
-unshaped rules registry roots slashings same same′ false h = refl
+pub unshaped : (rules registry roots slashings closing amounts : Bool) → (registry && (amounts && ((roots && slashings) && closing))) ≡ false → cond amounts (rules && (registry && (roots && (slashings && closing)))) false ≡ false
+unshaped rules registry roots slashings closing false h = refl
+unshaped false registry roots slashings closing true h = refl
+unshaped true false roots slashings closing true h = refl
+unshaped true true false slashings closing true h = refl
+unshaped true true true false closing true h = refl
+unshaped true true true true closing true h = h
 
 module _ (c : StoreCall) (rules : Rules) where
+  abbrev pub closing : List Bool
+  closing = sameLength (c .registry) (c .closingRegistry) ∷ sameLength (c .slashings) (c .closingSlashings) ∷ []
+
   -- test 1 of the close by these rules, but for the amounts
   abbrev shapedBy : Settings → Bool
   shapedBy s =
-      rulesShaped rules
-      && registryShaped (c .registry)
-      && rootsShaped s (c .roots)
-      && slashingsShaped s (c .slashings)
-      && sameLength (c .registry) (c .closingRegistry)
-      && sameLength (c .slashings) (c .closingSlashings)
+      every (rulesShaped rules ∷ registryShaped (c .registry) ∷ rootsShaped s (c .roots) ∷ slashingsShaped s (c .slashings) ∷ closing)
 
   pub shape-refused : cond (amountsShaped (c .registry) (c .amounts)) (shapedBy (rules .settings)) false ≡ false → fullTests (callBy c rules) ≡ refused badShape
   unfolding fullTests closeTests inOrder bind
@@ -59,13 +57,13 @@ module _ (c : StoreCall) (rules : Rules) where
 
   -- the close with a store is refused with 1: so is the close by rules with the same S and L as the last entry's
   unlent : (e : Entry) → storeShaped (c .store) ≡ true → lastOf (entries (c .store)) ≡ value e → Same (rules .settings) (e .rules .settings) → storeCallShaped c ≡ false → fullTests (callBy c rules) ≡ refused badShape
-  unfolding storeCallShaped ofLast
+  unfolding storeCallShaped ofLast every
   unlent e s l same h =
       let roots = ap (λ (n : ℕ). eqb (length (c .roots)) (32 * n)) (same .roots) in
       let slashings = ap (λ (n : ℕ). eqb (length (c .slashings)) n) (same .slashings) in
       shape-refused
       (rw (roots, slashings)
-      (unshaped (rulesShaped rules) (registryShaped (c .registry)) (rootsShaped (e .rules .settings) (c .roots)) (slashingsShaped (e .rules .settings) (c .slashings)) (sameLength (c .registry) (c .closingRegistry)) (sameLength (c .slashings) (c .closingSlashings)) (amountsShaped (c .registry) (c .amounts))
+      (unshaped (rulesShaped rules) (registryShaped (c .registry)) (rootsShaped (e .rules .settings) (c .roots)) (slashingsShaped (e .rules .settings) (c .slashings)) (every closing) (amountsShaped (c .registry) (c .amounts))
       (rw (s, l) at h)))
 
 -- What a read that gives rules says of the store
@@ -80,13 +78,13 @@ read-gives : (c : StoreCall) (epoch : ℕ) (rules : Rules) → readRules (c .sto
 unfolding readRules afterTests rulesAt storeTests
 read-gives c epoch rules h =
     let es = entries (c .store) in
-    let b = bound (inOrder (storeShaped (c .store)) (goodEntries es) true) (λ _. bind (entryFor epoch es) (λ e. value (e .rules))) h in
-    let q = in-order (storeShaped (c .store)) (goodEntries es) true (ap codeOf (b .gave)) in
+    let b = bound (inOrder (storeShaped (c .store) ∷ []) (goodEntries es ∷ []) []) (λ _. bind (entryFor epoch es) (λ e. value (e .rules))) h in
+    let q = in-order-value _ _ _ (b .gave) in
     let f = bound (entryFor epoch es) (λ e. value (e .rules)) (b .then) in
-    record { shaped = q .first; good = q .second; entry = f .first; found = f .gave; is = value-same (f .then) }
+    record { shaped = q .shaped 0; good = q .settings 0; entry = f .first; found = f .gave; is = value-same (f .then) }
 
 pub closes-by-read : ClosesByRead
-unfolding storeClose closeBy rulesFor rulesAtSlot rulesAt afterTests inOrder bind
+unfolding storeClose closeBy rulesFor rulesAtSlot rulesAt afterTests inOrder bind every
 closes-by-read c e rules last read = go (storeCallShaped c) refl
   where
     epoch : ℕ

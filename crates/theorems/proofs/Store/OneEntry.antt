@@ -5,32 +5,29 @@ use Prim.Native.Nat.{ℕ, _/_}
 use native.Mathlib.Omega.{arith}
 use borrow.Author.Tests.{le-leb}
 use Rattle.definitions.specs.declared.Rules.{Rules}
-use Rattle.definitions.specs.Lists.{all, filter}
+use Rattle.definitions.specs.Lists.{all, filter, every}
 use Rattle.definitions.specs.Checked.{badShape, badSettings, value, refused, bind}
-use Rattle.definitions.specs.Refusals.{inOrder, afterTests, registryShaped, rootsShaped, slashingsShaped, sameLength}
+use Rattle.definitions.specs.Refusals.{inOrder, afterTests, registryShaped, rootsShaped, slashingsShaped}
 use Rattle.definitions.specs.Rules.{rulesShaped, goodRules}
 use Rattle.definitions.specs.Close.{closeTests}
 use Rattle.definitions_close.specs.Amounts.{amountsShaped}
 use Rattle.definitions_close.specs.FullClose.{FullCall, fullTests, fullClose}
 use Rattle.definitions_close.specs.Store.{entriesFrom, entries, lastOf, ofLast, inSequence, storeShaped, goodEntries, entryFor, rulesAt}
 use Rattle.definitions_close.specs.StoreClose.{storeCallShaped, rulesAtSlot, rulesFor, closeBy, storeClose}
-use Rattle.refusals.proofs.All.{both}
+use Rattle.laws.proofs.Tests.{both, and-true, test}
+use mathlib.Core.List.{_∷_}
 use Rattle.theorems.specs.Store.Laws.{oneEntry, withOneEntry, OneEntry}
-use Rattle.theorems.proofs.Store.ByRead.{refused-close, unshaped, shape-refused}
+use Rattle.theorems.proofs.Store.ByRead.{refused-close, unshaped, closing, shape-refused}
 
-and-true : (t : Bool) → (t && true) ≡ t
-and-true true = refl
-and-true false = refl
-
-unruly : (rules registry roots slashings same same′ amounts : Bool) → (((rules && ((registry && same) && same′)) && amounts) && (roots && slashings)) ≡ false → cond amounts (((((rules && registry) && roots) && slashings) && same) && same′) false ≡ false
-unruly true registry roots slashings same same′ amounts h = unshaped true registry roots slashings same same′ amounts h
-unruly false registry roots slashings same same′ true h = refl
-unruly false registry roots slashings same same′ false h = refl
+unruly : (rules registry roots slashings closing amounts : Bool) → (rules && (registry && (amounts && ((roots && slashings) && closing)))) ≡ false → cond amounts (rules && (registry && (roots && (slashings && closing)))) false ≡ false
+unruly true registry roots slashings closing amounts h = unshaped true registry roots slashings closing amounts h
+unruly false registry roots slashings closing true h = refl
+unruly false registry roots slashings closing false h = refl
 
 -- its tests are those of the rules
 
 one-shaped : (r : Rules) → storeShaped (oneEntry r) ≡ rulesShaped r
-unfolding storeShaped entriesFrom all inSequence
+unfolding storeShaped entriesFrom all inSequence every
 one-shaped r = and-true (rulesShaped r && true) ∙ and-true (rulesShaped r)
 
 one-good : (r : Rules) → goodEntries (entries (oneEntry r)) ≡ goodRules r
@@ -48,36 +45,30 @@ module _ (c : FullCall) where
 
   -- test 1 of the two, as one has it and as the other has it
 
-  one-lent : storeCallShaped (withOneEntry c) ≡ (rulesShaped r && (registryShaped (c .call .registry) && sameLength (c .call .registry) (c .call .closingRegistry) && sameLength (c .call .slashings) (c .call .closingSlashings)) && amountsShaped (c .call .registry) (c .amounts) && (rootsShaped (r .settings) (c .call .roots) && slashingsShaped (r .settings) (c .call .slashings)))
+  abbrev bySettings : Bool
+  bySettings = rootsShaped (r .settings) (c .call .roots) && slashingsShaped (r .settings) (c .call .slashings)
+
+  one-lent : storeCallShaped (withOneEntry c) ≡ every (rulesShaped r ∷ registryShaped (c .call .registry) ∷ amountsShaped (c .call .registry) (c .amounts) ∷ bySettings ∷ closing (withOneEntry c) r)
   unfolding storeCallShaped ofLast lastOf entriesFrom
   one-lent = rw (one-shaped r)
 
   -- neither passes
   neither : storeCallShaped (withOneEntry c) ≡ false → fullTests c ≡ refused badShape
+  unfolding every
   neither h =
       shape-refused (withOneEntry c) r
-      (unruly (rulesShaped r) (registryShaped (c .call .registry)) (rootsShaped (r .settings) (c .call .roots)) (slashingsShaped (r .settings) (c .call .slashings)) (sameLength (c .call .registry) (c .call .closingRegistry)) (sameLength (c .call .slashings) (c .call .closingSlashings)) (amountsShaped (c .call .registry) (c .amounts)) (sym one-lent ∙ h))
+      (unruly (rulesShaped r) (registryShaped (c .call .registry)) (rootsShaped (r .settings) (c .call .roots)) (slashingsShaped (r .settings) (c .call .slashings)) (every (closing (withOneEntry c) r)) (amountsShaped (c .call .registry) (c .amounts)) (sym one-lent ∙ h))
 
   -- both pass, and 2 is next
   unsettled : storeCallShaped (withOneEntry c) ≡ true → goodRules r ≡ false → fullTests c ≡ refused badSettings
-  unfolding fullTests closeTests inOrder bind
+  unfolding fullTests closeTests inOrder bind every
   unsettled h g =
-      let registry = registryShaped (c .call .registry) in
-      let same = sameLength (c .call .registry) (c .call .closingRegistry) in
-      let same′ = sameLength (c .call .slashings) (c .call .closingSlashings) in
-      let amounts = amountsShaped (c .call .registry) (c .amounts) in
-      let roots = rootsShaped (r .settings) (c .call .roots) in
-      let slashings = slashingsShaped (r .settings) (c .call .slashings) in
-      let p = both (rulesShaped r && (registry && same && same′) && amounts) (roots && slashings) (sym one-lent ∙ h) in
-      let q = both (rulesShaped r && (registry && same && same′)) amounts (p .first) in
-      let s = both (rulesShaped r) (registry && same && same′) (q .first) in
-      let t = both (registry && same) same′ (s .second) in
-      let u = both registry same (t .first) in
-      let v = both roots slashings (p .second) in
-      rw (q .second, s .first, u .first, v .first, v .second, u .second, t .second, g)
+      let t = test (rulesShaped r ∷ registryShaped (c .call .registry) ∷ amountsShaped (c .call .registry) (c .amounts) ∷ bySettings ∷ closing (withOneEntry c) r) (sym one-lent ∙ h) in
+      let lengths = both (rootsShaped (r .settings) (c .call .roots)) (slashingsShaped (r .settings) (c .call .slashings)) (t 3) in
+      rw (t 2, t 0, t 1, lengths .0, lengths .1, t 4, t 5, g)
 
 pub one-entry : OneEntry
-unfolding storeClose closeBy rulesFor afterTests inOrder bind
+unfolding storeClose closeBy rulesFor afterTests inOrder bind every
 one-entry c = go (storeCallShaped (withOneEntry c)) refl (goodRules (c .call .rules)) refl
   where
     go : (t : Bool) → storeCallShaped (withOneEntry c) ≡ t → (g : Bool) → goodRules (c .call .rules) ≡ g → storeClose (withOneEntry c) ≡ fullClose c

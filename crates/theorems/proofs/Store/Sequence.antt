@@ -1,16 +1,16 @@
 -- Entries in sequence: one more behind them, and what they share.
-use mathlib.Core.Bool.{Bool, true, false, cond, _&&_}
+use mathlib.Core.Bool.{Bool, true, false, cond}
 use mathlib.Core.List.{List, [], _∷_, _++_}
 use mathlib.Core.Path.{_≡_, refl, sym, ap, _∙_}
 use Prim.Native.Nat.{ℕ}
 use borrow.Author.Tests.{eq-eqb, eqb-true}
-use lib.Dec.{eqb, ltb}
+use lib.Dec.{ltb}
 use Rattle.definitions.specs.declared.Settings.{Settings}
-use Rattle.definitions.specs.Lists.{all, filter}
+use Rattle.definitions.specs.Lists.{all, filter, every}
 use Rattle.definitions.specs.Checked.{Checked, value, refused}
 use Rattle.definitions_close.specs.Store.{Entry, keeps, follows, inSequence, lastOf, ofLast, entryFor}
 use Rattle.laws.proofs.Checked.{not-value, value-same}
-use Rattle.refusals.proofs.All.{both}
+use Rattle.laws.proofs.Tests.{both, test}
 
 -- An entry that follows the last one
 
@@ -25,7 +25,7 @@ sequence-append [] new p q = refl
 sequence-append (e ∷ []) new p q = rw q
 sequence-append (e ∷ f ∷ es) new p q =
     let b = both (follows e f) (inSequence (f ∷ es)) p in
-    rw (b .first) (sequence-append (f ∷ es) new (b .second) q)
+    rw (b .0) (sequence-append (f ∷ es) new (b .1) q)
 
 -- slots_per_epoch, S and L are the same in all
 
@@ -37,14 +37,11 @@ pub record Same (s t : Settings) : Type 0 where
 pub keeps-same : (s t : Settings) → keeps s t ≡ true → Same s t
 unfolding keeps
 keeps-same s t h =
-    let a = eqb (s .«slots_per_epoch») (t .«slots_per_epoch») in
-    let b = eqb (s .«slots_per_historical_root») (t .«slots_per_historical_root») in
-    let p = both (a && b) (eqb (s .«epochs_per_slashings_vector») (t .«epochs_per_slashings_vector»)) h in
-    let q = both a b (p .first) in
-    record { slots = eqb-true _ _ (q .first); roots = eqb-true _ _ (q .second); slashings = eqb-true _ _ (p .second) }
+    let same = test _ h in
+    record { slots = eqb-true _ _ (same 0); roots = eqb-true _ _ (same 1); slashings = eqb-true _ _ (same 2) }
 
 same-keeps : (s t : Settings) → Same s t → keeps s t ≡ true
-unfolding keeps
+unfolding keeps every
 same-keeps s t h = rw (eq-eqb _ _ (h .slots), eq-eqb _ _ (h .roots), eq-eqb _ _ (h .slashings))
 
 keeps-self : (s : Settings) → keeps s s ≡ true
@@ -66,9 +63,9 @@ each-same [] last p q = refl
 each-same (e ∷ []) last p q = rw (value-same q, keeps-self (last .rules .settings))
 each-same (e ∷ f ∷ es) last p q =
     let b = both (follows e f) (inSequence (f ∷ es)) p in
-    let rest = each-same (f ∷ es) last (b .second) q in
+    let rest = each-same (f ∷ es) last (b .1) q in
     let r = both (sameAs last f) (all (sameAs last) es) rest in
-    let h = keeps-both (e .rules .settings) (f .rules .settings) (last .rules .settings) (both (ltb (e .start) (f .start)) (keeps (e .rules .settings) (f .rules .settings)) (b .first) .second) (r .first) in
+    let h = keeps-both (e .rules .settings) (f .rules .settings) (last .rules .settings) (both (ltb (e .start) (f .start)) (keeps (e .rules .settings) (f .rules .settings)) (b .0) .1) (r .0) in
     rw h rest
 
 -- what holds of all holds of those that are picked, and of the last of them
@@ -78,7 +75,7 @@ unfolding all filter
 all-filter p q [] h = refl
 all-filter p q (e ∷ es) h =
     let b = both (p e) (all p es) h in
-    go (q e) (b .first) (all-filter p q es (b .second))
+    go (q e) (b .0) (all-filter p q es (b .1))
   where
     go : (t : Bool) → p e ≡ true → all p (filter q es) ≡ true → all p (cond t (e ∷ filter q es) (filter q es)) ≡ true
     go true h k = rw (h, k)
@@ -87,8 +84,8 @@ all-filter p q (e ∷ es) h =
 all-last : (p : Entry → Bool) (es : List Entry) {f : Entry} → all p es ≡ true → lastOf es ≡ value f → p f ≡ true
 unfolding all lastOf
 all-last p [] h e = absurd (not-value e)
-all-last p (g ∷ []) {f} h e = sym (ap p (value-same e)) ∙ both (p g) true h .first
-all-last p (g ∷ k ∷ es) h e = all-last p (k ∷ es) (both (p g) (all p (k ∷ es)) h .second) e
+all-last p (g ∷ []) {f} h e = sym (ap p (value-same e)) ∙ both (p g) true h .0
+all-last p (g ∷ k ∷ es) h e = all-last p (k ∷ es) (both (p g) (all p (k ∷ es)) h .1) e
 
 -- so does the entry of an epoch
 pub all-read : (p : Entry → Bool) (epoch : ℕ) (es : List Entry) {f : Entry} → all p es ≡ true → entryFor epoch es ≡ value f → p f ≡ true

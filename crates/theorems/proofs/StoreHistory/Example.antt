@@ -8,6 +8,7 @@ use native.Mathlib.Omega.{arith}
 use lib.Dec.{T}
 use lib.ListN.{length, take, replicate}
 use Rattle.definitions.specs.declared.Bellatrix.{Bellatrix}
+use Rattle.definitions.specs.Lists.{every}
 use Rattle.definitions.specs.Record.{BeaconState, encode}
 use Rattle.definitions.specs.Checked.{value}
 use Rattle.definitions.specs.ExitQueue.{queueOf, isQueueOf, queueTest}
@@ -62,7 +63,7 @@ unfoldable pub run : List Event
 run = map event (map closeOf ((false, wholly (call before start)) ∷ (false, wholly (call after opening)) ∷ []))
 
 unfoldable storing : Unit {0}
-unfolding computing queueOf isQueueOf queueTest fullTests fullyClosed fullClose entriesFrom lastOf keeps follows inSequence storeShaped goodEntries storeTests entryFor rulesAt ofLast additionShaped startTest additionTests withEntry addEntry storeCallShaped rulesAtSlot rulesFor closeBy storeClose
+unfolding computing queueOf isQueueOf queueTest fullTests fullyClosed fullClose entriesFrom lastOf keeps follows inSequence storeShaped goodEntries storeTests entryFor rulesAt ofLast additionShaped startTest additionTests withEntry addEntry storeCallShaped rulesAtSlot rulesFor closeBy storeClose every
 storing = tt
 
 pub premises : Least 2 run × Premises start run

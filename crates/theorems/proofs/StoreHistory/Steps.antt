@@ -1,6 +1,6 @@
 -- Each call of a close by steps with a store is the call by the rules that the whole close goes by: the record so far has the opening's lengths
 -- and slot. Where the store has none, the first call ends it as the whole close is refused.
-use mathlib.Core.Bool.{Bool, true, false, cond, _&&_, false≢true}
+use mathlib.Core.Bool.{Bool, true, false, cond, false≢true}
 use mathlib.Core.List.{List, [], _∷_}
 use mathlib.Core.Path.{_≡_, refl, sym, ap, _∙_, subst}
 use Prim.Native.Nat.{ℕ, _+_, _≤_}
@@ -10,8 +10,9 @@ use lib.Dec.{eqb}
 use lib.ListN.{length, take, drop}
 use Rattle.definitions.specs.declared.Settings.{Settings}
 use Rattle.definitions.specs.declared.Rules.{Rules}
+use Rattle.definitions.specs.Lists.{every}
 use Rattle.definitions.specs.Record.{BeaconState, encode}
-use Rattle.definitions.specs.Checked.{Refusal, numberOf, Checked, value, refused, bind, foldChecked, codeOf}
+use Rattle.definitions.specs.Checked.{Refusal, numberOf, Checked, value, refused, bind, foldChecked}
 use Rattle.definitions.specs.Refusals.{inOrder, afterTests, lengthIs, isSmall, registryShaped}
 use Rattle.definitions.specs.Raised.{noneRaised}
 use Rattle.definitions.specs.Rules.{rulesShaped, goodRules}
@@ -24,7 +25,7 @@ use Rattle.definitions_close.specs.StoreClose.{StoreCall, callBy, storeCallShap
 use Rattle.definitions_close.specs.StoreSteps.{StoreStepCall, stepBy, stepOf, storeSoFar, storeFound, stepRefused, storeStepBy, storeStep, StoreNinthCall, ninthBy, ninthOf, ninthRules, carryBy, storeCarryOut}
 use Rattle.laws.proofs.Checked.{value-same, bound, number-not-zero}
 use Rattle.laws.proofs.Frame.Frames.{frames}
-use Rattle.refusals.proofs.Laws.{in-order}
+use Rattle.laws.proofs.Tests.{in-order-value}
 use Rattle.theorems.specs.CloseBySteps.Desk as desk
 use Rattle.theorems.specs.CloseBySteps.Desk.{Desk, Act, stepping, ordering, stepsOf, oneToEight, Gives}
 use Rattle.theorems.proofs.CloseBySteps.Tests.{full-passed, shaped-as, long-as}
@@ -64,7 +65,7 @@ record Alike (c : StoreCall) (d : Desk) : Type 0 where
   amounts : length (d .amounts) ≡ length (c .amounts)
 
 rules-alike : (c : StoreCall) (d : Desk) → Alike c d → length (c .closingRegistry) ≡ length (c .registry) → length (c .closingSlashings) ≡ length (c .slashings) → rulesFor (storeSoFar (d .running) (lent c d)) ≡ rulesFor c
-unfolding rulesFor storeCallShaped registryShaped
+unfolding rulesFor storeCallShaped registryShaped every
 rules-alike c d h p q = rw (h .slot, h .registry, h .slashings, h .amounts, p, q)
 
 in-turn : (x : StoreStepCall) (rules : Rules) → hasEnded (x .running) ≡ false → inTurn (stepOf x) ≡ true → rulesFor (storeFound x) ≡ value rules → storeStep x ≡ closeStep (stepBy x rules)
@@ -87,10 +88,10 @@ ninth-read x rules p q h = rw (p, q, h)
 
 -- the ninth call, likewise
 carry-by : (x : StoreNinthCall) (rules : Rules) → storeShaped (x .store) ≡ true → registryShaped (x .closingRegistry) ≡ true → goodEntries (entries (x .store)) ≡ true → rulesShaped rules ≡ true → goodRules rules ≡ true → rulesAtSlot (x .running .answer .finality .slot) (entries (x .store)) ≡ value rules → storeCarryOut x ≡ carryOut (ninthBy x rules)
-unfolding storeCarryOut carryOut carryBy ninthRules ninthTests ninthInTurn inOrder afterTests bind
-carry-by x rules store registry good shaped fine read = go (hasEnded (x .running)) refl (eqb (x .running .done) 8) refl (ordersShaped (x .running .orders) (x .orders) && lengthIs (room (x .orders)) (x .answers)) refl (isSmall (x .period)) refl
+unfolding storeCarryOut carryOut carryBy ninthRules ninthTests ninthInTurn inOrder afterTests bind every
+carry-by x rules store registry good shaped fine read = go (hasEnded (x .running)) refl (eqb (x .running .done) 8) refl (every (ordersShaped (x .running .orders) (x .orders) ∷ lengthIs (room (x .orders)) (x .answers) ∷ [])) refl (isSmall (x .period)) refl
   where
-    go : (a : Bool) → hasEnded (x .running) ≡ a → (b : Bool) → eqb (x .running .done) 8 ≡ b → (l : Bool) → (ordersShaped (x .running .orders) (x .orders) && lengthIs (room (x .orders)) (x .answers)) ≡ l → (p : Bool) → isSmall (x .period) ≡ p → storeCarryOut x ≡ carryOut (ninthBy x rules)
+    go : (a : Bool) → hasEnded (x .running) ≡ a → (b : Bool) → eqb (x .running .done) 8 ≡ b → (l : Bool) → (every (ordersShaped (x .running .orders) (x .orders) ∷ lengthIs (room (x .orders)) (x .answers) ∷ [])) ≡ l → (p : Bool) → isSmall (x .period) ≡ p → storeCarryOut x ≡ carryOut (ninthBy x rules)
     go true e b f l g p h = rw e
     go false e false f l g p h = rw (e, f)
     go false e true f false g p h = rw (e, f, store, registry, g, shaped)
@@ -116,8 +117,8 @@ read-so : (c : StoreCall) (rules : Rules) → rulesFor c ≡ value rules → Rea
 unfolding rulesFor afterTests
 read-so c rules e =
     let es = entries (c .store) in
-    let b = bound (inOrder (storeCallShaped c) (goodEntries es) true) (λ _. rulesAtSlot (c .finality .slot) es) e in
-    record { entry = entered c rules e; good = in-order (storeCallShaped c) (goodEntries es) true (ap codeOf (b .gave)) .second; at = b .then }
+    let b = bound (inOrder (storeCallShaped c ∷ []) (goodEntries es ∷ []) []) (λ _. rulesAtSlot (c .finality .slot) es) e in
+    record { entry = entered c rules e; good = in-order-value _ _ _ (b .gave) .settings 0; at = b .then }
 
 pub begun : (c : StoreCall) (rules : Rules) (d : Desk) → NotBegun c d → desk.NotBegun (callBy c rules) d
 begun c rules d h = record { done = h .done; closingRegistry = h .closingRegistry; closingSlashings = h .closingSlashings; amounts = h .amounts }

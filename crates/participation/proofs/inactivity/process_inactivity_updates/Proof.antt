@@ -4,7 +4,7 @@ use lib.ListN.{length}
 use Rattle.definitions.specs.Record.{encode}
 use Rattle.definitions.specs.Rust.Altair.EpochProcessing.{«process_inactivity_updates»}
 use Rattle.refusals.proofs.buffers.Closes.{closes-refused, step-put-back}
-use Rattle.leaf_refusals.proofs.finalized.Tests.{registry-passed}
+use Rattle.leaf_refusals.proofs.registry_refusals.Passed.{registry-passed}
 use borrow.Author.Needs.{needs}
 use Rattle.participation.proofs.inactivity.process_inactivity_updates.Statement.{statement}
 use Rattle.participation.proofs.inactivity.process_inactivity_updates.Tie as tie

@@ -1,10 +1,13 @@
-use mathlib.Core.Path.{ap, _∙_}
+use mathlib.Core.Path.{_≡_, ap, _∙_}
+use mathlib.Core.Bool.{true}
 use native.Mathlib.Omega.{arith}
 use borrow.Author.Needs.{needs}
-use Rattle.definitions_file.specs.File.{Contents, ReadOutcome, contentsWith}
+use Rattle.definitions.specs.Checked.{codeOf}
+use Rattle.definitions_file.specs.File.{Contents, contentsOf, contentsWith, goodHeader}
+use Rattle.refusals.proofs.Answers.{passed}
 use Rattle.round_trip.specs.RoundTrip.{TypedQueue}
 use Rattle.record_file.proofs.file_round_trips.Types.{typed}
-use Rattle.record_file.proofs.file_round_trips.RoundTrips.{read-back}
+use Rattle.record_file.proofs.file_round_trips.RoundTrips.{written-roots}
 use Rattle.record_file.proofs.file_round_trips.write_then_roots.Statement.{statement}
 use Rattle.record_file.proofs.file_round_trips.write_then_roots.Tie as tie
 
@@ -16,11 +19,25 @@ pair c = record { last = omega (arith, c .good); number = omega (arith, c .good)
 
 returns : tie.Need-returns
 returns c p =
-    let start = c .before .before .before .before .before .before .before .before .before .before .before .before in
-    let a = start .args in
-    let t = typed (contents start) (a .queue) (a .file .now) (p .tests) (start .good .1 .0) (λ i. c .before .before .before .before .before .before .before .before .before .before .before .shared-slice-known .given i .fits) (λ i. c .before .before .before .before .before .before .before .before .before .before .shared-slice-known2 .given i .fits) (λ i. c .before .before .before .before .before .before .before .before .before .shared-slice-known3 .given i .fits) in
-    let same = read-back (contents start) (a .queue) (a .file .now) (a .registry-read .now) (a .slashings-read .now) t (pair start) (c .before .before .before .before .write-file .ensures .1) p in
-    c .file-roots .ensures ∙ ap (λ (o : ReadOutcome). o .contents .roots) same
+    let w : tie.After-write-file = search needs in
+    absurd (c .before .if1 .taken (w .write-file .ensures .0 ∙ ap codeOf (p .tests)))
+
+back : (c : tie.Else1) → let bytes = c .before .before .before .before .write-file .last .1 .1 .1 .1 .1 .1 .0 in (goodHeader bytes ≡ true) × (contentsOf bytes .roots ≡ c .before .before .before .before .before .before .before .before .before .before .args .roots .now)
+back c =
+    let s = c .before .before .before .before .before .before .before .before .before .before in
+    let w = c .before .before .before .before .write-file .ensures in
+    let e = passed _ (w .0) (c .if1 .left) in
+    let t = typed (contents s) (s .args .queue) (s .args .file .now) e (s .good .1 .0) (λ i. c .before .before .before .before .before .before .before .before .before .shared-slice-known .given i .fits) (λ i. c .before .before .before .before .before .before .before .before .shared-slice-known2 .given i .fits) (λ i. c .before .before .before .before .before .before .before .shared-slice-known3 .given i .fits) in
+    written-roots (contents s) (s .args .queue) (s .args .file .now) t (pair s) (w .1) e
 
 pub write-then-roots-spec : {M : Type 1} → statement M
-write-then-roots-spec = tie.close (tie.spec (λ c κs. search needs) (λ c κs. search needs) returns)
+write-then-roots-spec =
+    tie.close
+    (tie.spec
+    (λ c κs. search needs)
+    (λ c. search needs)
+    (λ c. search needs)
+    (λ c. search needs)
+    returns
+    (λ c κs. back c .0)
+    (λ c p. c .file-roots .ensures ∙ back (c .before) .1))

@@ -1,13 +1,21 @@
-use Rattle.rewards.proofs.base_rewards.Tests.{entry-total-zero, entry-total}
 use borrow.Author.Needs.{needs}
+use borrow.Author.Tests.{eq-eqb, ne-eqb}
+use Rattle.definitions.specs.Lists.{every}
+use Rattle.definitions.specs.LeafRefusals.{totalEntryTests}
+use Rattle.definitions.specs.Refusals.{inOrder}
+use Rattle.laws.proofs.Tests.{shape-failed}
 use Rattle.rewards.proofs.base_rewards.total_entry_tests.Statement.{statement}
 use Rattle.rewards.proofs.base_rewards.total_entry_tests.Tie as tie
 
 returns : tie.Need-returns
-returns c = entry-total-zero _ _ _ (c .if1 .taken)
+unfolding totalEntryTests
+returns c = shape-failed _ _ _ 2 (ne-eqb _ _ (c .if1 .taken))
 
 returns-2 : tie.Need-returns-2
-returns-2 c = entry-total _ _ _ (c .before .if1 .left) (c .settings-entry-tests .ensures)
+unfolding totalEntryTests inOrder every
+returns-2 c = rw (eq-eqb _ _ (c .before .before .before .before .before .before .before .if1 .left)) cc
 
 pub total-entry-tests-spec : {M : Type 1} → statement M
-total-entry-tests-spec = tie.close (tie.spec returns (λ c κs. search needs) returns-2)
+total-entry-tests-spec =
+    tie.close
+    (tie.spec returns (λ c κs. search needs) (λ c. search needs) (λ c κs. search needs) (λ c. search needs) (λ c κs. search needs) (λ c. search needs) (λ c κs. search needs) returns-2)

@@ -17,42 +17,6 @@ abbrev μ-loop : tie.MeasureT-loop
 loop-holds : tie.Need-loop-holds Inv-loop μ-loop
 loop-holds c = following-first _
 
-mul-a : tie.Need-mul-a Inv-loop μ-loop
-mul-a c = omega arith
-
-sub-a : tie.Need-sub-a Inv-loop μ-loop
-sub-a c = omega arith
-
-mul-m : tie.Need-mul-m Inv-loop μ-loop
-mul-m c = omega arith
-
-add-b : tie.Need-add-b Inv-loop μ-loop
-add-b c = omega arith
-
-mul-follows : tie.Need-mul-follows Inv-loop μ-loop
-mul-follows c = omega arith
-
-sub-follows : tie.Need-sub-follows Inv-loop μ-loop
-sub-follows c = omega arith
-
-part-follows-start : tie.Need-part-follows-start Inv-loop μ-loop
-part-follows-start c = omega arith
-
-part-follows-end : tie.Need-part-follows-end Inv-loop μ-loop
-part-follows-end c = omega arith
-
-mul-follows-2 : tie.Need-mul-follows-2 Inv-loop μ-loop
-mul-follows-2 c = omega arith
-
-sub-follows-2 : tie.Need-sub-follows-2 Inv-loop μ-loop
-sub-follows-2 c = omega arith
-
-part-follows-start-2 : tie.Need-part-follows-start-2 Inv-loop μ-loop
-part-follows-start-2 c = omega arith
-
-part-follows-end-2 : tie.Need-part-follows-end-2 Inv-loop μ-loop
-part-follows-end-2 c = omega arith
-
 follows-requires : tie.Need-follows-requires Inv-loop μ-loop
 follows-requires c κs =
     let s = c .before .before in
@@ -69,12 +33,6 @@ returns c =
     let start = s .before .before .before in
     let t = fails (c .before .follows .ensures) (c .if1 .taken) in
     sym (following-stop (s .before .loop .inv) (omega (arith, length-entries (start .args .n) (start .args .store .now))) (neighbours (start .args .n) (start .args .store .now) (s .before .loop .inv) (start .pre) (s .loop-test .taken) t))
-
-add-i : tie.Need-add-i Inv-loop μ-loop
-add-i c = omega arith
-
-loop-less : tie.Need-loop-less Inv-loop μ-loop
-loop-less c = omega arith
 
 loop-again : tie.Need-loop-again Inv-loop μ-loop
 loop-again c =
@@ -95,21 +53,21 @@ in-sequence-spec =
     Inv-loop
     μ-loop
     loop-holds
-    mul-a
-    sub-a
-    mul-m
-    add-b
-    mul-follows
-    sub-follows
-    part-follows-start
-    part-follows-end
-    mul-follows-2
-    sub-follows-2
-    part-follows-start-2
-    part-follows-end-2
+    (λ c. omega arith)
+    (λ c. omega arith)
+    (λ c. omega arith)
+    (λ c. omega arith)
+    (λ c. omega arith)
+    (λ c. omega arith)
+    (λ c. omega arith)
+    (λ c. omega arith)
+    (λ c. omega arith)
+    (λ c. omega arith)
+    (λ c. omega arith)
+    (λ c. omega arith)
     follows-requires
     returns
-    add-i
-    loop-less
+    (λ c. omega arith)
+    (λ c. omega arith)
     loop-again
     returns-2)

@@ -1,0 +1,40 @@
+use mathlib.Core.Path.{ap, _∙_}
+use native.Mathlib.Omega.{arith}
+use borrow.Author.Needs.{needs}
+use Rattle.definitions.specs.Checked.{codeOf}
+use Rattle.definitions_file.specs.File.{contentsOf}
+use Rattle.round_trip.proofs.Passed.{Header, good-header}
+use Rattle.file_refusals.proofs.ReadTests.{shape-tested}
+use Rattle.file_refusals.proofs.other_tests.Statement.{statement}
+use Rattle.file_refusals.proofs.other_tests.Tie as tie
+
+head : (c : tie.Start) → Header (c .args .bytes .now)
+head c = good-header _ (c .pre)
+
+returns : tie.Need-returns
+unfolding contentsOf
+returns c =
+    let settings = c .before .before .before .before in
+    let shaped = settings .before .before .before .before .before .before .before .before in
+    let s = shaped .before .before .before in
+    let n = s .before .read-counts .ensures in
+    let a = s .before .before .before .before .before .args in
+    rw (shaped .settings-shaped .ensures, settings .good-settings .ensures, c .before .before .good-finality .ensures, shaped .before .before .read-finality .ensures, s .read-settings .ensures, n .0, n .1, n .2) at (c .in-order .ensures)
+    ∙ ap codeOf (shape-tested (a .bytes .now) (a .registry .now) (a .slashings .now) _ _)
+
+pub other-tests-spec : {M : Type 1} → statement M
+other-tests-spec =
+    tie.close
+    (tie.spec
+    (λ c κs. head (c .before .before .before) .enough)
+    (λ c κs. omega (arith, head (c .before .before .before .before) .long))
+    (λ c κs. omega (arith, head (c .before .before .before .before .before) .long))
+    (λ c κs. search needs)
+    (λ c. let counts = c .before .before .before .before .before .before .before .before .before in omega (arith, counts .read-counts .ensures .0, head (counts .before .before .before .before) .long, counts .before .before .before .before .good))
+    (λ c. search needs)
+    (λ c κs. search needs)
+    (λ c. search needs)
+    (λ c κs. search needs)
+    (λ c. search needs)
+    (λ c κs. search needs)
+    returns)

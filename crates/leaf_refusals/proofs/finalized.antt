@@ -1,2 +1,0 @@
--- The tests' refusals and what they give once passed.
-pub mod Tests

@@ -1,2 +1,0 @@
--- Laws of listing a file.
-pub mod Enough

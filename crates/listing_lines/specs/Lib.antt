@@ -1,0 +1,2 @@
+-- What contracts of the lines cite.
+pub mod Told
