@@ -55,8 +55,8 @@ lent c e z =
 module _ (c : Call) {x : ℕ} (e : x ≡ codeOf (recordTests c)) where
   pub record-refused : (x ≡ 0 → ⊥) → x ≡ codeOf (closeTests c)
   unfolding recordTests closeTests
-  record-refused n = laws.record-refused _ _ _ (goodRegistry (c .registry) ∷ []) e n .0
+  record-refused n = laws.record-refused _ _ _ (goodRegistry (c .registry) ∷ []) e n
 
   pub entries-tested : x ≡ 0 → {y : ℕ} → y ≡ cond (goodRegistry (c .registry)) 0 3 → y ≡ codeOf (closeTests c)
   unfolding recordTests closeTests every
-  entries-tested z h = h ∙ sym (laws.record-tested _ _ _ (goodRegistry (c .registry) ∷ []) e z .0 ∙ rw (and-true (goodRegistry (c .registry))))
+  entries-tested z h = h ∙ sym (laws.record-tested _ _ _ (goodRegistry (c .registry) ∷ []) e z ∙ rw (and-true (goodRegistry (c .registry))))

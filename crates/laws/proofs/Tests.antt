@@ -97,31 +97,29 @@ in-order shaped settings recorded e =
 pub in-order-value : (shaped settings recorded : List Bool) {u : Unit {0}} → inOrder shaped settings recorded ≡ value u → InOrder shaped settings recorded
 in-order-value shaped settings recorded e = in-order shaped settings recorded (ap codeOf e)
 
--- Tests made after others of their number, or after the number before. `x` is the number that the others gave.
-
-stays : (a b c d : Bool) {x : ℕ} → x ≡ numbered a b c → (x ≡ 0 → ⊥) → (x ≡ numbered a b (c && d)) × (x ≡ numbered a b (d && c))
-stays true true true d e n = absurd (n e)
-stays true true false true e n = (e, e)
-stays true true false false e n = (e, e)
-stays true false c d e n = (e, e)
-stays false b c d e n = (e, e)
-
-follows : (a b c d : Bool) {x : ℕ} → x ≡ numbered a b c → x ≡ 0 → (numbered a b (c && d) ≡ cond d 0 3) × (numbered a b (d && c) ≡ cond d 0 3)
-follows true true true true e z = (refl, refl)
-follows true true true false e z = (refl, refl)
-follows true true false d e z = absurd (omega (arith, e, z))
-follows true false c d e z = absurd (omega (arith, e, z))
-follows false b c d e z = absurd (omega (arith, e, z))
+-- Tests of 3 made after others. `x` is the number that the others gave.
 
 module _ (shaped settings recorded more : List Bool) {x : ℕ} (e : x ≡ codeOf (inOrder shaped settings recorded)) where
-  -- the new ones stand behind the others, or before them
-  pub record-refused : (x ≡ 0 → ⊥) → (x ≡ codeOf (inOrder shaped settings (recorded ++ more))) × (x ≡ codeOf (inOrder shaped settings (more ++ recorded)))
+  pub record-refused : (x ≡ 0 → ⊥) → x ≡ codeOf (inOrder shaped settings (recorded ++ more))
   unfolding inOrder
-  record-refused n = rw (every-append recorded more, every-append more recorded) (stays (every shaped) (every settings) (every recorded) (every more) e n)
+  record-refused n = rw (every-append recorded more) (go (every shaped) (every settings) (every recorded) e)
+    where
+      go : (a b c : Bool) → x ≡ numbered a b c → x ≡ numbered a b (c && every more)
+      go true true true e = absurd (n e)
+      go true true false e = e
+      go true false c e = e
+      go false b c e = e
 
-  pub record-tested : x ≡ 0 → (codeOf (inOrder shaped settings (recorded ++ more)) ≡ cond (every more) 0 3) × (codeOf (inOrder shaped settings (more ++ recorded)) ≡ cond (every more) 0 3)
+  pub record-tested : x ≡ 0 → codeOf (inOrder shaped settings (recorded ++ more)) ≡ cond (every more) 0 3
   unfolding inOrder
-  record-tested z = rw (every-append recorded more, every-append more recorded) (follows (every shaped) (every settings) (every recorded) (every more) e z)
+  record-tested z = rw (every-append recorded more) (go (every shaped) (every settings) (every recorded) (every more) e)
+    where
+      go : (a b c d : Bool) → x ≡ numbered a b c → numbered a b (c && d) ≡ cond d 0 3
+      go true true true true e = refl
+      go true true true false e = refl
+      go true true false d e = absurd (omega (arith, e, z))
+      go true false c d e = absurd (omega (arith, e, z))
+      go false b c d e = absurd (omega (arith, e, z))
 
 -- fewer pass where more do
 pub record-fewer : (shaped settings recorded more : List Bool) {u : Unit {0}} → inOrder shaped settings (recorded ++ more) ≡ value u → codeOf (inOrder shaped settings recorded) ≡ 0

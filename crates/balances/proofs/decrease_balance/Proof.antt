@@ -12,7 +12,11 @@ entry-decrease-balance-requires : tie.Need-entry-decrease-balance-requires
 entry-decrease-balance-requires c κs = entry-passed _ (c .before .before .entry-tests .ensures) (c .before .if1 .left) .long
 
 returns-2 : tie.Need-returns-2
-returns-2 c = closes-plain encodeOne _ (c .before .before .before .before .before .entry-tests .ensures) _ (c .before .before .before .before .if1 .left) (c .before .before .entry-decrease-balance .ensures)
+returns-2 c =
+    let at-entry-decrease-balance = c .before .before in
+    let at-else1 = at-entry-decrease-balance .before .before in
+    let at-entry-tests = at-else1 .before in
+    closes-plain encodeOne _ (at-entry-tests .entry-tests .ensures) _ (at-else1 .if1 .left) (at-entry-decrease-balance .entry-decrease-balance .ensures)
 
 pub decrease-balance-spec : {M : Type 1} → statement M
 decrease-balance-spec =

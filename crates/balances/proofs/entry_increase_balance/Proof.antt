@@ -9,11 +9,17 @@ use Rattle.balances.proofs.entry_increase_balance.Tie as tie
 
 returns : tie.Need-returns
 unfolding «increase_balance»
-returns c = settles-refused _ (c .before .before .before .before .before .pre) (bind-refused _ (says-overflow (c .before .before .add64 .ensures) (only-add64 _ _) (c .enum-told .given .1) .0))
+returns c =
+    let at-add64 = c .before .before in
+    let at-start = at-add64 .before .before .before in
+    settles-refused _ (at-start .pre) (bind-refused _ (says-overflow (at-add64 .add64 .ensures) (only-add64 _ _) (c .enum-told .given .1) .0))
 
 returns-2 : tie.Need-returns-2
 unfolding «increase_balance»
-returns-2 c = settles-value _ (bind-value _ (says-value (c .before .before .before .add64 .ensures) (c .before .balance .given .1))) (rw (ten (c .before .before .before .before .before .before .args .entry .now) (c .before .before .before .before .before .before .pre)))
+returns-2 c =
+    let at-add64 = c .before .before .before in
+    let at-start = at-add64 .before .before .before in
+    settles-value _ (bind-value _ (says-value (at-add64 .add64 .ensures) (c .before .balance .given .1))) (rw (ten (at-start .args .entry .now) (at-start .pre)))
 
 pub entry-increase-balance-spec : {M : Type 1} → statement M
 entry-increase-balance-spec =

@@ -12,7 +12,11 @@ entry-increase-balance-requires : tie.Need-entry-increase-balance-requires
 entry-increase-balance-requires c κs = entry-passed _ (c .before .before .entry-tests .ensures) (c .before .if1 .left) .long
 
 returns-2 : tie.Need-returns-2
-returns-2 c = entry-closes _ _ (c .before .before .before .before .before .entry-tests .ensures) (c .before .before .before .before .if1 .left) (entry-passed _ (c .before .before .before .before .before .entry-tests .ensures) (c .before .before .before .before .if1 .left) .long) (c .before .before .entry-increase-balance .ensures)
+returns-2 c =
+    let at-entry-increase-balance = c .before .before in
+    let at-else1 = at-entry-increase-balance .before .before in
+    let at-entry-tests = at-else1 .before in
+    entry-closes _ _ (at-entry-tests .entry-tests .ensures) (at-else1 .if1 .left) (entry-passed _ (at-entry-tests .entry-tests .ensures) (at-else1 .if1 .left) .long) (at-entry-increase-balance .entry-increase-balance .ensures)
 
 pub increase-balance-spec : {M : Type 1} → statement M
 increase-balance-spec =

@@ -8,7 +8,10 @@ returns : tie.Need-returns
 returns c = stops _ _ (mul-fits _ _ (c .before .before .mul64 .ensures)) (c .enum-told .given .1) (omega arith)
 
 returns-2 : tie.Need-returns-2
-returns-2 c = goes-on _ (mul-fits _ _ (c .before .before .before .before .before .mul64 .ensures)) (c .before .before .before .first .given .1) (λ e. rw e) (add-fits _ _ (c .add64 .ensures))
+returns-2 c =
+    let at-first = c .before .before .before in
+    let at-mul64 = at-first .before .before in
+    goes-on _ (mul-fits _ _ (at-mul64 .mul64 .ensures)) (at-first .first .given .1) (λ e. rw e) (add-fits _ _ (c .add64 .ensures))
 
 pub epoch-last-slot-spec : {M : Type 1} → statement M
 epoch-last-slot-spec =

@@ -27,7 +27,10 @@ sub-t7 c = passed (c .before .before .before .before) .clock .slots
 
 returns-2 : tie.Need-returns-2
 unfolding «is_in_closing_window»
-returns-2 c = record { is = truth-passed _ (c .before .before .before .before .before .second-refusal .ensures) (c .before .before .before .before .if1 .left) (last-by-rest _ _ (passed (c .before .before .before .before) .clock .slots)) }
+returns-2 c =
+    let at-else1 : tie.Else1 = search needs in
+    let at-second-refusal = at-else1 .before in
+    record { is = truth-passed _ (at-second-refusal .second-refusal .ensures) (at-else1 .if1 .left) (last-by-rest _ _ (passed (at-else1) .clock .slots)) }
 
 pub is-in-closing-window-spec : {M : Type 1} → statement M
 is-in-closing-window-spec =

@@ -8,7 +8,10 @@ returns : tie.Need-returns
 returns c = stops _ _ (c .before .before .slot-start .ensures) (c .enum-told .given .1) (omega arith)
 
 returns-2 : tie.Need-returns-2
-returns-2 c = goes-on _ (c .before .before .before .before .before .slot-start .ensures) (c .before .before .before .start .given .1) (λ e. omega (arith, e)) (add-fits _ _ (c .add64 .ensures))
+returns-2 c =
+    let at-start = c .before .before .before in
+    let at-slot-start = at-start .before .before in
+    goes-on _ (at-slot-start .slot-start .ensures) (at-start .start .given .1) (λ e. omega (arith, e)) (add-fits _ _ (c .add64 .ensures))
 
 pub slot-end-spec : {M : Type 1} → statement M
 slot-end-spec =

@@ -18,9 +18,11 @@ close-tested-requires c κs =
 
 returns-2 : tie.Need-returns-2
 returns-2 c =
-    let k = c .before .before .before .before .before in
-    let u = k .before .before .before .before in
-    k .close-tested .ensures .under _ (sym (u .settings-under .ensures)) (sym (u .before .before .record-tests .ensures) ∙ u .before .if1 .left)
+    let at-close-tested : tie.After-close-tested = search needs in
+    let at-settings-under = at-close-tested .before .before .before .before in
+    let at-else1 = at-settings-under .before in
+    let at-record-tests = at-else1 .before in
+    at-close-tested .close-tested .ensures .under _ (sym (at-settings-under .settings-under .ensures)) (sym (at-record-tests .record-tests .ensures) ∙ at-else1 .if1 .left)
 
 pub close-spec : {M : Type 1} → statement M
 close-spec =

@@ -28,10 +28,14 @@ tested : (r : Rules) (c : tie.After-survey-registry) → codeOf (recordTests (ca
 tested r c z = entries-tested (call r (start c)) (sym z) refl (c .survey-registry .ensures .tested)
 
 current-epoch-requires : tie.Need-current-epoch-requires
-current-epoch-requires c κs = good-settings _ (c .before .before .before .before .before .before .pre .0 .settings .good) .positive .«slots_per_epoch»
+current-epoch-requires c κs =
+    let at-start : tie.Start = search needs in
+    good-settings _ (at-start .pre .0 .settings .good) .positive .«slots_per_epoch»
 
 previous-epoch-requires : tie.Need-previous-epoch-requires
-previous-epoch-requires c κs = good-settings _ (c .before .before .before .before .before .before .before .pre .0 .settings .good) .positive .«slots_per_epoch»
+previous-epoch-requires c κs =
+    let at-start : tie.Start = search needs in
+    good-settings _ (at-start .pre .0 .settings .good) .positive .«slots_per_epoch»
 
 survey-registry-requires : tie.Need-survey-registry-requires
 survey-registry-requires c κs =
@@ -40,13 +44,17 @@ survey-registry-requires c κs =
 
 returns : tie.Need-returns
 returns c =
-    let t = c .before in
-    record { under = λ r u z. tests-refused (call r (t .before .before .before .before .before .before .before .before .before .before .before .before .before)) (tested r (t .before .before .before) z) (λ y. omega (arith, t .if1 .taken)) (c .none-raised .ensures) }
+    let at-survey-registry : tie.After-survey-registry = search needs in
+    let at-start = at-survey-registry .before .before .before .before .before .before .before .before .before .before in
+    record { under = λ r u z. tests-refused (call r (at-start)) (tested r (at-survey-registry) z) (λ y. omega (arith, c .before .if1 .taken)) (c .none-raised .ensures) }
 
 close-surveyed-requires : tie.Need-close-surveyed-requires
 close-surveyed-requires c κs =
-    let a = c .before .before .before .before .before .before .before .before .before .before .before .before .before .before .before .before .before in
-    (a .pre .0, (a .pre .1 .0, rw (← c .before .before .before .before .before .before .before .before .before .before .current-epoch .ensures, ← c .before .before .before .before .before .before .before .before .before .previous-epoch .ensures) (c .before .before .before .before .before .before .before .survey-registry .ensures)))
+    let at-survey-registry : tie.After-survey-registry = search needs in
+    let at-previous-epoch = at-survey-registry .before .before in
+    let at-current-epoch = at-previous-epoch .before in
+    let at-start = at-current-epoch .before .before .before .before .before .before .before in
+    (at-start .pre .0, (at-start .pre .1 .0, rw (← at-current-epoch .current-epoch .ensures, ← at-previous-epoch .previous-epoch .ensures) (at-survey-registry .survey-registry .ensures)))
 
 returns-2 : tie.Need-returns-2
 returns-2 c =

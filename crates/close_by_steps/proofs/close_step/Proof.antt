@@ -15,19 +15,33 @@ returns c =
 
 returns-2 : tie.Need-returns-2
 returns-2 c =
-    let a = c .before .before .before .before .before .before .before .before .args in too-late (stepCalled (a .number) (a .running) (fullCalled (a .rules) (a .finality) (a .queue) (a .registry .now) (a .slashings .now) (a .roots .now) (a .closing-registry .now) (a .closing-slashings .now) (a .amounts .now))) (c .before .if1 .left) (c .if2 .taken)
+    let at-start : tie.Start = search needs in
+    let a = at-start .args in too-late (stepCalled (a .number) (a .running) (fullCalled (a .rules) (a .finality) (a .queue) (a .registry .now) (a .slashings .now) (a .roots .now) (a .closing-registry .now) (a .closing-slashings .now) (a .amounts .now))) (c .before .if1 .left) (c .if2 .taken)
 
 returns-3 : tie.Need-returns-3
 returns-3 c =
-    let a = c .before .before .before .before .before .before .before .before .before .args in another (stepCalled (a .number) (a .running) (fullCalled (a .rules) (a .finality) (a .queue) (a .registry .now) (a .slashings .now) (a .roots .now) (a .closing-registry .now) (a .closing-slashings .now) (a .amounts .now))) (c .before .before .if1 .left) (c .if3 .taken)
+    let at-else1 = c .before .before in
+    let at-start = at-else1 .before .before .before .before .before .before .before in
+    let a = at-start .args in another (stepCalled (a .number) (a .running) (fullCalled (a .rules) (a .finality) (a .queue) (a .registry .now) (a .slashings .now) (a .roots .now) (a .closing-registry .now) (a .closing-slashings .now) (a .amounts .now))) (at-else1 .if1 .left) (c .if3 .taken)
 
 returns-4 : tie.Need-returns-4
 returns-4 c =
-    let a = c .before .before .before .before .before .before .before .before .before .before .before .before .before .before .before .before .before .before .before .before .args in c .before .before .before .before .before .before .first-call .ensures .is (a .number) (a .running) (c .before .before .before .before .before .before .before .before .before .before .if4 .taken) ∙ in-turn (stepCalled (a .number) (a .running) (fullCalled (a .rules) (a .finality) (a .queue) (a .registry .now) (a .slashings .now) (a .roots .now) (a .closing-registry .now) (a .closing-slashings .now) (a .amounts .now))) (c .before .before .before .before .before .before .before .before .before .before .before .before .before .if1 .left) (c .before .before .before .before .before .before .before .before .before .before .before .before .if2 .left) (c .before .before .before .before .before .before .before .before .before .before .before .if3 .left)
+    let at-first-call : tie.After-first-call = search needs in
+    let at-then4 = at-first-call .before .before .before .before in
+    let at-else3 = at-then4 .before in
+    let at-else2 = at-else3 .before in
+    let at-else1 = at-else2 .before in
+    let at-start = at-else1 .before .before .before .before .before .before .before in
+    let a = at-start .args in at-first-call .first-call .ensures .is (a .number) (a .running) (at-then4 .if4 .taken) ∙ in-turn (stepCalled (a .number) (a .running) (fullCalled (a .rules) (a .finality) (a .queue) (a .registry .now) (a .slashings .now) (a .roots .now) (a .closing-registry .now) (a .closing-slashings .now) (a .amounts .now))) (at-else1 .if1 .left) (at-else2 .if2 .left) (at-else3 .if3 .left)
 
 returns-5 : tie.Need-returns-5
 returns-5 c =
-    let a = c .before .before .before .before .before .before .before .before .before .before .before .before .before .before .before .before .before .before .before .before .args in c .before .before .before .before .before .before .later-call .ensures .is (a .number) ∙ in-turn (stepCalled (a .number) (a .running) (fullCalled (a .rules) (a .finality) (a .queue) (a .registry .now) (a .slashings .now) (a .roots .now) (a .closing-registry .now) (a .closing-slashings .now) (a .amounts .now))) (c .before .before .before .before .before .before .before .before .before .before .before .before .before .if1 .left) (c .before .before .before .before .before .before .before .before .before .before .before .before .if2 .left) (c .before .before .before .before .before .before .before .before .before .before .before .if3 .left)
+    let at-later-call : tie.After-later-call = search needs in
+    let at-else3 = at-later-call .before .before .before .before .before in
+    let at-else2 = at-else3 .before in
+    let at-else1 = at-else2 .before in
+    let at-start = at-else1 .before .before .before .before .before .before .before in
+    let a = at-start .args in at-later-call .later-call .ensures .is (a .number) ∙ in-turn (stepCalled (a .number) (a .running) (fullCalled (a .rules) (a .finality) (a .queue) (a .registry .now) (a .slashings .now) (a .roots .now) (a .closing-registry .now) (a .closing-slashings .now) (a .amounts .now))) (at-else1 .if1 .left) (at-else2 .if2 .left) (at-else3 .if3 .left)
 
 pub close-step-spec : {M : Type 1} → statement M
 close-step-spec =

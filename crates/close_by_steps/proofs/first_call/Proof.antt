@@ -6,15 +6,26 @@ use Rattle.close_by_steps.proofs.first_call.Tie as tie
 
 returns : tie.Need-returns
 returns c =
-    let a = c .before .before .before .before .before .before .before .before .before .before .before .before .args in first-ends (fullCalled (a .rules) (a .finality) (a .queue) (a .registry .now) (a .slashings .now) (a .roots .now) (a .closing-registry .now) (a .closing-slashings .now) (a .amounts .now)) (c .before .before .whole-tests .ensures) (c .before .if1 .taken) (c .ended-by .ensures)
+    let at-whole-tests = c .before .before in
+    let at-start = at-whole-tests .before .before .before .before .before .before .before .before .before .before in
+    let a = at-start .args in first-ends (fullCalled (a .rules) (a .finality) (a .queue) (a .registry .now) (a .slashings .now) (a .roots .now) (a .closing-registry .now) (a .closing-slashings .now) (a .amounts .now)) (at-whole-tests .whole-tests .ensures) (c .before .if1 .taken) (c .ended-by .ensures)
 
 first-tested-requires : tie.Need-first-tested-requires
 first-tested-requires c κs =
-    let a = c .before .before .before .before .before .before .before .before .before .before .before .before .before .before .before .args in rw (c .before .before .before .settings-under .ensures) (ready (fullCalled (a .rules) (a .finality) (a .queue) (a .registry .now) (a .slashings .now) (a .roots .now) (a .closing-registry .now) (a .closing-slashings .now) (a .amounts .now)) (c .before .before .before .before .before .whole-tests .ensures) (c .before .before .before .before .if1 .left))
+    let at-settings-under = c .before .before .before in
+    let at-else1 = at-settings-under .before in
+    let at-whole-tests = at-else1 .before in
+    let at-start = at-whole-tests .before .before .before .before .before .before .before .before .before .before in
+    let a = at-start .args in rw (at-settings-under .settings-under .ensures) (ready (fullCalled (a .rules) (a .finality) (a .queue) (a .registry .now) (a .slashings .now) (a .roots .now) (a .closing-registry .now) (a .closing-slashings .now) (a .amounts .now)) (at-whole-tests .whole-tests .ensures) (at-else1 .if1 .left))
 
 returns-2 : tie.Need-returns-2
 returns-2 c =
-    let a = c .before .before .before .before .before .before .before .before .before .before .before .before .before .before .before .before .before .before .before .before .before .before .args in first-called (fullCalled (a .rules) (a .finality) (a .queue) (a .registry .now) (a .slashings .now) (a .roots .now) (a .closing-registry .now) (a .closing-slashings .now) (a .amounts .now)) (c .before .before .before .before .before .before .before .before .before .before .before .before .whole-tests .ensures) (c .before .before .before .before .before .before .before .before .before .before .before .if1 .left) (c .before .before .before .before .before .before .before .before .before .before .settings-under .ensures) (c .before .before .before .before .before .before .first-tested .ensures)
+    let at-first-tested : tie.After-first-tested = search needs in
+    let at-settings-under = at-first-tested .before .before .before .before in
+    let at-else1 = at-settings-under .before in
+    let at-whole-tests = at-else1 .before in
+    let at-start = at-whole-tests .before .before .before .before .before .before .before .before .before .before in
+    let a = at-start .args in first-called (fullCalled (a .rules) (a .finality) (a .queue) (a .registry .now) (a .slashings .now) (a .roots .now) (a .closing-registry .now) (a .closing-slashings .now) (a .amounts .now)) (at-whole-tests .whole-tests .ensures) (at-else1 .if1 .left) (at-settings-under .settings-under .ensures) (at-first-tested .first-tested .ensures)
 
 pub first-call-spec : {M : Type 1} → statement M
 first-call-spec =

@@ -5,7 +5,10 @@ use Rattle.entries.proofs.entry_is_participating.Tie as tie
 
 returns : tie.Need-returns
 unfolding isUnslashedParticipating
-returns c = rw (← c .before .before .before .before .before .entry-is-active .ensures, ← c .before .before .flags-at .ensures) (c .participates .ensures)
+returns c =
+    let at-flags-at = c .before .before in
+    let at-entry-is-active = at-flags-at .before .before .before in
+    rw (← at-entry-is-active .entry-is-active .ensures, ← at-flags-at .flags-at .ensures) (c .participates .ensures)
 
 pub entry-is-participating-spec : {M : Type 1} → statement M
 entry-is-participating-spec =

@@ -11,21 +11,33 @@ returns c = exit-known _ _ _ _ (c .before .before .before .pre .0) (c .if1 .take
 
 returns-2 : tie.Need-returns-2
 returns-2 c =
-    exit-full _ _ _ _ (c .before .before .before .before .before .before .pre .0) (c .before .before .before .if1 .left) (says-overflow (c .before .before .next-epoch .ensures) (only-nextEpoch _ _) (c .enum-told .given .1) .0)
+    let at-next-epoch = c .before .before in
+    let at-else1 = at-next-epoch .before in
+    let at-start = at-else1 .before .before .before in
+    exit-full _ _ _ _ (at-start .pre .0) (at-else1 .if1 .left) (says-overflow (at-next-epoch .next-epoch .ensures) (only-nextEpoch _ _) (c .enum-told .given .1) .0)
 
 returns-3 : tie.Need-returns-3
 returns-3 c =
-    let q = c .before .before .before .before .before .before in
-    let exit = says-value (q .next-epoch .ensures) (c .before .before .before .before .exit .given .1) in
-    exit-over _ _ _ _ (q .before .before .before .before .pre .0) (q .before .if1 .left) exit (says-overflow (c .before .before .add64 .ensures) (only-add64 _ _) (c .enum-told2 .given .1) .0)
+    let at-add64 = c .before .before in
+    let at-exit = at-add64 .before .before in
+    let at-next-epoch = at-exit .before .before in
+    let at-else1 = at-next-epoch .before in
+    let at-start = at-else1 .before .before .before in
+    let exit = says-value (at-next-epoch .next-epoch .ensures) (at-exit .exit .given .1) in
+    exit-over _ _ _ _ (at-start .pre .0) (at-else1 .if1 .left) exit (says-overflow (at-add64 .add64 .ensures) (only-add64 _ _) (c .enum-told2 .given .1) .0)
 
 returns-4 : tie.Need-returns-4
 returns-4 c =
-    let a = c .before .before .before .before .before .before .before .before in
-    let q = a .before .before .before .before in
-    let exit = says-value (q .next-epoch .ensures) (a .before .before .exit .given .1) in
-    let withdrawable = says-value (a .add64 .ensures) (c .before .before .before .before .before .before .withdrawable .given .1) in
-    exit-written _ _ _ _ (q .before .before .before .before .pre .0) (q .before .if1 .left) exit withdrawable (c .before .before .before .write-exit .ensures) (c .exited .ensures)
+    let at-write-exit = c .before .before .before in
+    let at-withdrawable = at-write-exit .before .before .before in
+    let at-add64 = at-withdrawable .before .before in
+    let at-exit = at-add64 .before .before in
+    let at-next-epoch = at-exit .before .before in
+    let at-else1 = at-next-epoch .before in
+    let at-start = at-else1 .before .before .before in
+    let exit = says-value (at-next-epoch .next-epoch .ensures) (at-exit .exit .given .1) in
+    let withdrawable = says-value (at-add64 .add64 .ensures) (at-withdrawable .withdrawable .given .1) in
+    exit-written _ _ _ _ (at-start .pre .0) (at-else1 .if1 .left) exit withdrawable (at-write-exit .write-exit .ensures) (c .exited .ensures)
 
 pub exit-entry-spec : {M : Type 1} → statement M
 exit-entry-spec =

@@ -14,8 +14,10 @@ part-put-bytes-end c = omega arith
 
 returns : tie.Need-returns
 returns c =
-    let a = c .before .before .before .before .before .before .args in
-    let epoch = c .before .before .before .before .read-number in
+    let at-read-number : tie.After-read-number = search needs in
+    let at-start = at-read-number .before .before in
+    let a = at-start .args in
+    let epoch = at-read-number .read-number in
     let from = epoch .result .position in
     let root : c .before .put-bytes .last .0 ≡ take 32 (drop from (a .bytes .now)) = c .before .put-bytes .ensures ∙ sets-part _ (a .bytes .now) from 32 refl (omega arith) in
     rw (epoch .ensures .0, root, epoch .ensures .1)

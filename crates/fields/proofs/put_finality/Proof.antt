@@ -19,14 +19,19 @@ finalized-root c = search needs
 
 returns : tie.Need-returns
 returns c =
-    let start = c .before .before .before .before .before .before .before .before .before .before .before .before .before .before .before .before .before .before .before .before .before .before .before .before in
-    let a = start .args in
+    let at-put-checkpoint3 = c .before .before in
+    let at-put-checkpoint2 : tie.After-put-checkpoint2 = search needs in
+    let at-put-checkpoint : tie.After-put-checkpoint = search needs in
+    let at-put-number2 : tie.After-put-number2 = search needs in
+    let at-put-number : tie.After-put-number = search needs in
+    let at-start : tie.Start = search needs in
+    let a = at-start .args in
     let f = a .f in
-    let slot = stored-first (a .file .now) (a .at) (littleEndian 8 (f .slot)) (length-little 8 (f .slot)) (c .before .before .before .before .before .before .before .before .before .before .before .before .before .before .before .before .before .before .put-number .ensures) in
-    let bits = stored-more slot (littleEndian 8 (f .«justification_bits»)) (length-little 8 (f .«justification_bits»)) refl refl (c .before .before .before .before .before .before .before .before .before .before .before .before .before .before .put-number2 .ensures) in
-    let previous = stored-more bits (checkpointToBytes (f .«previous_justified_checkpoint»)) (length-checkpoint (f .«previous_justified_checkpoint») (previous-root start)) refl refl (c .before .before .before .before .before .before .before .before .before .before .put-checkpoint .ensures) in
-    let current = stored-more previous (checkpointToBytes (f .«current_justified_checkpoint»)) (length-checkpoint (f .«current_justified_checkpoint») (current-root start)) refl refl (c .before .before .before .before .before .before .put-checkpoint2 .ensures) in
-    stored-more current (checkpointToBytes (f .«finalized_checkpoint»)) (length-checkpoint (f .«finalized_checkpoint») (finalized-root start)) refl refl (c .before .before .put-checkpoint3 .ensures) .is
+    let slot = stored-first (a .file .now) (a .at) (littleEndian 8 (f .slot)) (length-little 8 (f .slot)) (at-put-number .put-number .ensures) in
+    let bits = stored-more slot (littleEndian 8 (f .«justification_bits»)) (length-little 8 (f .«justification_bits»)) refl refl (at-put-number2 .put-number2 .ensures) in
+    let previous = stored-more bits (checkpointToBytes (f .«previous_justified_checkpoint»)) (length-checkpoint (f .«previous_justified_checkpoint») (previous-root at-start)) refl refl (at-put-checkpoint .put-checkpoint .ensures) in
+    let current = stored-more previous (checkpointToBytes (f .«current_justified_checkpoint»)) (length-checkpoint (f .«current_justified_checkpoint») (current-root at-start)) refl refl (at-put-checkpoint2 .put-checkpoint2 .ensures) in
+    stored-more current (checkpointToBytes (f .«finalized_checkpoint»)) (length-checkpoint (f .«finalized_checkpoint») (finalized-root at-start)) refl refl (at-put-checkpoint3 .put-checkpoint3 .ensures) .is
 
 pub put-finality-spec : {M : Type 1} → statement M
 put-finality-spec =

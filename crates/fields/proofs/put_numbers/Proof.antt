@@ -40,12 +40,16 @@ loop-less c = omega arith
 
 loop-again : tie.Need-loop-again Inv-loop μ-loop
 loop-again c =
-    let a = c .before .before .before .before .before .before .before .before .before .args in
-    let l = c .before .before .before .before .before .before .loop in
+    let at-put-number = c .before .before in
+    let at-in-loop = at-put-number .before .before .before in
+    let at-at-loop = at-in-loop .before in
+    let at-start = at-at-loop .before .before .before in
+    let a = at-start .args in
+    let l = at-at-loop .loop in
     let xs = a .numbers .now in (
       omega arith,
-      rw (c .before .before .put-number .ensures)
-          (storing-part (l .inv .1) (littleEndian 8 (getD xs (l .i) 0)) (numbersToBytes (drop (l .i + 1) xs)) _ (to-bytes-more xs (l .i) (c .before .before .before .before .before .loop-test .taken)) (omega (arith, length-little 8 (getD xs (l .i) 0)))),
+      rw (at-put-number .put-number .ensures)
+          (storing-part (l .inv .1) (littleEndian 8 (getD xs (l .i) 0)) (numbersToBytes (drop (l .i + 1) xs)) _ (to-bytes-more xs (l .i) (at-in-loop .loop-test .taken)) (omega (arith, length-little 8 (getD xs (l .i) 0)))),
     )
 
 same-length : tie.Need-same-length Inv-loop μ-loop

@@ -42,8 +42,10 @@ loop-less c = omega arith
 
 loop-again : tie.Need-loop-again Inv-loop μ-loop
 loop-again c =
-    let a = c .before .before .before .before .before .args in
-    let l = c .before .before .loop in (
+    let at-at-loop = c .before .before in
+    let at-start = at-at-loop .before .before .before in
+    let a = at-start .args in
+    let l = at-at-loop .loop in (
       omega arith,
       omega arith,
       rw (c .read-number .ensures .0, l .inv .1)

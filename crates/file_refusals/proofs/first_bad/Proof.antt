@@ -38,11 +38,16 @@ loop-less c = omega arith
 
 loop-again : tie.Need-loop-again Inv-loop μ-loop Inv-validators μ-validators
 loop-again c =
-    let a = c .before .before .before .before .before .before .before .before .before .args in
-    let i = c .before .before .before .before .before .before .before .validators .i in
-    let l = c .before .before .before .before .before .loop in
-    let next = c .before .before .before .read-number .ensures in
-    let h : numberAt (a .from + 80 * i + 8 * l .k) (a .bytes .now) ≤ limitAt (l .k) = rw (c .before .before .limit .ensures, next .0, l .inv .0) at (c .if1 .left) in
+    let at-limit = c .before .before in
+    let at-read-number = at-limit .before in
+    let at-at-loop = at-read-number .before .before in
+    let at-at-validators = at-at-loop .before .before in
+    let at-start = at-at-validators .before .before in
+    let a = at-start .args in
+    let i = at-at-validators .validators .i in
+    let l = at-at-loop .loop in
+    let next = at-read-number .read-number .ensures in
+    let h : numberAt (a .from + 80 * i + 8 * l .k) (a .bytes .now) ≤ limitAt (l .k) = rw (at-limit .limit .ensures, next .0, l .inv .0) at (c .if1 .left) in
     (omega arith, omega arith, below-more _ (l .k) (l .inv .2) h)
 
 add-i : tie.Need-add-i Inv-loop μ-loop Inv-validators μ-validators
@@ -63,14 +68,20 @@ returns c = let v = c .before .validators in v .inv .0 ∙ passing-all (v .inv .
 
 returns-2 : tie.Need-returns-2 Inv-loop μ-loop Inv-validators μ-validators
 returns-2 c =
-    let a = c .before .before .before .before .before .before .before .before .before .args in
-    let v = c .before .before .before .before .before .before .before .validators in
-    let l = c .before .before .before .before .before .loop in
-    let next = c .before .before .before .read-number in
-    let over : limitAt (l .k) < numberAt (a .from + 80 * v .i + 8 * l .k) (a .bytes .now) = rw (c .before .before .limit .ensures, next .ensures .0, l .inv .0) at (c .if1 .taken) in
+    let at-limit = c .before .before in
+    let at-read-number = at-limit .before in
+    let at-at-loop = at-read-number .before .before in
+    let at-in-validators = at-at-loop .before in
+    let at-at-validators = at-in-validators .before in
+    let at-start = at-at-validators .before .before in
+    let a = at-start .args in
+    let v = at-at-validators .validators in
+    let l = at-at-loop .loop in
+    let next = at-read-number .read-number in
+    let over : limitAt (l .k) < numberAt (a .from + 80 * v .i + 8 * l .k) (a .bytes .now) = rw (at-limit .limit .ensures, next .ensures .0, l .inv .0) at (c .if1 .taken) in
     let r : next .result .number < 2 ^ 64 = omega arith in
     let fits : numberAt (a .from + 80 * v .i + 8 * l .k) (a .bytes .now) < 2 ^ 64 = rw (next .ensures .0, l .inv .0) at r in
-    l .inv .0 ∙ passing-stop (v .inv .1) (c .before .before .before .before .before .before .validators-test .taken) (l .k) (l .inv .2) over fits
+    l .inv .0 ∙ passing-stop (v .inv .1) (at-in-validators .validators-test .taken) (l .k) (l .inv .2) over fits
 
 pub first-bad-spec : {M : Type 1} → statement M
 first-bad-spec =

@@ -14,12 +14,16 @@ head c = good-header _ (c .pre)
 returns : tie.Need-returns
 unfolding contentsOf
 returns c =
-    let settings = c .before .before .before .before in
-    let shaped = settings .before .before .before .before .before .before .before .before in
-    let s = shaped .before .before .before in
-    let n = s .before .read-counts .ensures in
-    let a = s .before .before .before .before .before .args in
-    rw (shaped .settings-shaped .ensures, settings .good-settings .ensures, c .before .before .good-finality .ensures, shaped .before .before .read-finality .ensures, s .read-settings .ensures, n .0, n .1, n .2) at (c .in-order .ensures)
+    let at-good-finality = c .before .before in
+    let at-good-settings = at-good-finality .before .before in
+    let at-settings-shaped : tie.After-settings-shaped = search needs in
+    let at-read-finality = at-settings-shaped .before .before in
+    let at-read-settings = at-read-finality .before in
+    let at-read-counts = at-read-settings .before in
+    let at-start : tie.Start = search needs in
+    let n = at-read-counts .read-counts .ensures in
+    let a = at-start .args in
+    rw (at-settings-shaped .settings-shaped .ensures, at-good-settings .good-settings .ensures, at-good-finality .good-finality .ensures, at-read-finality .read-finality .ensures, at-read-settings .read-settings .ensures, n .0, n .1, n .2) at (c .in-order .ensures)
     ∙ ap codeOf (shape-tested (a .bytes .now) (a .registry .now) (a .slashings .now) _ _)
 
 pub other-tests-spec : {M : Type 1} → statement M

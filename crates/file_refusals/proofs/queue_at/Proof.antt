@@ -43,12 +43,15 @@ loop-less c = omega arith
 
 loop-again : tie.Need-loop-again Inv-loop μ-loop
 loop-again c =
-    let a = c .before .before .before .before .before .args in
-    let i = c .before .before .before .loop .i in
-    let l = c .before .before .loop-test .taken in
+    let at-in-loop = c .before .before in
+    let at-at-loop = at-in-loop .before in
+    let at-start = at-at-loop .before .before in
+    let a = at-start .args in
+    let i = at-at-loop .loop .i in
+    let l = at-in-loop .loop-test .taken in
     let next = c .before .read-number in
     let behind : next .result .position ≡ a .from + 8 * (10 * i + 4) + 8 = omega arith in
-    tracking-more (c .before .before .before .loop .inv) l (rw (exit-number (a .bytes .now) (a .from) (a .validators) i l _ (next .ensures) behind) at (c .exited .ensures))
+    tracking-more (at-at-loop .loop .inv) l (rw (exit-number (a .bytes .now) (a .from) (a .validators) i l _ (next .ensures) behind) at (c .exited .ensures))
 
 returns : tie.Need-returns Inv-loop μ-loop
 returns c = tracking-all (c .before .loop .inv) (c .loop-test .left)

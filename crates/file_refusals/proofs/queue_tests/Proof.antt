@@ -22,10 +22,21 @@ returns : tie.Need-returns
 returns c = queue-worked-out _ (λ z. omega (arith, c .before .before .before .pre .0 .0)) (own (c .before))
 
 returns-2 : tie.Need-returns-2
-returns-2 c = rw (c .refused .ensures) (queue-wrong (c .before .before .before .before .before .before .before .args .bytes .now) (second (c .before .before .before .before)) (c .before .before .before .read-queue .ensures) (own (c .before .before .before .before .before)) (fails (c .before .before .same-queue .ensures) (c .before .if2 .taken)))
+returns-2 c =
+    let at-same-queue = c .before .before in
+    let at-read-queue = at-same-queue .before in
+    let at-else1 = at-read-queue .before in
+    let at-queue-at = at-else1 .before in
+    let at-start = at-queue-at .before .before in
+    rw (c .refused .ensures) (queue-wrong (at-start .args .bytes .now) (second (at-else1)) (at-read-queue .read-queue .ensures) (own (at-queue-at)) (fails (at-same-queue .same-queue .ensures) (c .before .if2 .taken)))
 
 returns-3 : tie.Need-returns-3
-returns-3 c = queue-stored (c .before .before .before .before .before .before .args .bytes .now) (second (c .before .before .before)) (c .before .before .read-queue .ensures) (own (c .before .before .before .before)) (passes (c .before .same-queue .ensures) (c .if2 .left))
+returns-3 c =
+    let at-read-queue = c .before .before in
+    let at-else1 = at-read-queue .before in
+    let at-queue-at = at-else1 .before in
+    let at-start = at-queue-at .before .before in
+    queue-stored (at-start .args .bytes .now) (second (at-else1)) (at-read-queue .read-queue .ensures) (own (at-queue-at)) (passes (c .before .same-queue .ensures) (c .if2 .left))
 
 pub queue-tests-spec : {M : Type 1} → statement M
 queue-tests-spec =

@@ -46,16 +46,26 @@ tested c =
 
 queue-tests-requires : tie.Need-queue-tests-requires
 queue-tests-requires c κs =
-    let h = head (c .before .before .before .before .before) in
-    let counts = c .before .before .before .before .read-counts .ensures in
+    let at-validators-at = c .before .before .before in
+    let at-read-counts = at-validators-at .before in
+    let at-else2 = at-read-counts .before in
+    let h = head (at-else2) in
+    let counts = at-read-counts .read-counts .ensures in
     let v = counts .3 in
-    ((v, c .before .before .before .validators-at .ensures, counts .0), (omega (arith, h .some-version), omega (arith, h .known-version), omega (arith, count (c .before .before .before .before), from (c .before .before .before), h .long)))
+    ((v, at-validators-at .validators-at .ensures, counts .0), (omega (arith, h .some-version), omega (arith, h .known-version), omega (arith, count (at-read-counts), from (at-validators-at), h .long)))
 
 returns-3 : tie.Need-returns-3
-returns-3 c = answered-queue _ _ _ (header (c .before .before .before .before .before .before)) (tested (c .before .before)) (c .before .if3 .taken) (c .queue-tests .ensures)
+returns-3 c =
+    let at-other-tests = c .before .before in
+    let at-else2 : tie.Else2 = search needs in
+    answered-queue _ _ _ (header (at-else2)) (tested (at-other-tests)) (c .before .if3 .taken) (c .queue-tests .ensures)
 
 returns-4 : tie.Need-returns-4
-returns-4 c = rw (c .refused3 .ensures) (answered-sooner _ _ _ (header (c .before .before .before .before .before .before .before)) (tested (c .before .before .before)) (c .before .before .if3 .left) (c .before .if4 .taken))
+returns-4 c =
+    let at-else3 = c .before .before in
+    let at-other-tests = at-else3 .before in
+    let at-else2 : tie.Else2 = search needs in
+    rw (c .refused3 .ensures) (answered-sooner _ _ _ (header (at-else2)) (tested (at-other-tests)) (at-else3 .if3 .left) (c .before .if4 .taken))
 
 -- the finality, where 3 was told
 finality : (c : tie.After-good-finality) → c .good-finality .result ≡ goodFinality (contentsOf (bytes (c .before .before .before .before .before .before .before .before)) .finality)
@@ -63,11 +73,22 @@ unfolding contentsOf
 finality c = rw (c .before .read-finality .ensures) at (c .good-finality .ensures)
 
 returns-5 : tie.Need-returns-5
-returns-5 c = rw (c .refused4 .ensures) (answered-finality _ _ _ (header (c .before .before .before .before .before .before .before .before .before .before)) (tested (c .before .before .before .before .before .before)) (c .before .before .before .before .if4 .left) (fails (finality (c .before .before)) (c .before .if5 .taken)))
+returns-5 c =
+    let at-good-finality = c .before .before in
+    let at-else4 = at-good-finality .before .before in
+    let at-other-tests = at-else4 .before .before in
+    let at-else2 : tie.Else2 = search needs in
+    rw (c .refused4 .ensures) (answered-finality _ _ _ (header (at-else2)) (tested (at-other-tests)) (at-else4 .if4 .left) (fails (finality (at-good-finality)) (c .before .if5 .taken)))
 
 returns-6 : tie.Need-returns-6
 unfolding contentsOf
-returns-6 c = rw (c .refused5 .ensures, stopped (c .before .before .before .before .before .before .before)) (answered-registry _ _ _ (header (c .before .before .before .before .before .before .before .before .before .before)) (tested (c .before .before .before .before .before .before)) (c .before .before .before .before .if4 .left) (passes (finality (c .before .before)) (c .before .if5 .left)))
+returns-6 c =
+    let at-good-finality = c .before .before in
+    let at-else4 = at-good-finality .before .before in
+    let at-other-tests = at-else4 .before .before in
+    let at-first-bad = at-other-tests .before in
+    let at-else2 = at-first-bad .before .before .before in
+    rw (c .refused5 .ensures, stopped (at-first-bad)) (answered-registry _ _ _ (header (at-else2)) (tested (at-other-tests)) (at-else4 .if4 .left) (passes (finality (at-good-finality)) (c .before .if5 .left)))
 
 pub read-tests-spec : {M : Type 1} → statement M
 read-tests-spec =

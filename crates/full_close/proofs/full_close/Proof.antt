@@ -18,14 +18,18 @@ mul-if1 c = omega arith
 
 returns : tie.Need-returns
 returns c =
-    let a = call (c .before .before .before .before .before .before .before .before) in
+    let at-start : tie.Start = search needs in
+    let a = call (at-start) in
     full-tests-refused a (amounts-refused a (c .before .if1 .taken)) (λ z. omega arith) (c .unclosed .ensures)
 
 returns-2 : tie.Need-returns-2
 returns-2 c =
-    let a = call (c .before .before .before .before .before .before .before .before .before .before .before .before) in
+    let at-record-tests = c .before .before in
+    let at-else1 = at-record-tests .before .before .before in
+    let at-start = at-else1 .before .before .before .before .before .before .before in
+    let a = call (at-start) in
     let n = c .before .if2 .taken in
-    full-tests-refused a (close-refused a (c .before .before .before .before .before .if1 .left) (record-refused (a .call) (c .before .before .record-tests .ensures) n) n) n (c .unclosed2 .ensures)
+    full-tests-refused a (close-refused a (at-else1 .if1 .left) (record-refused (a .call) (at-record-tests .record-tests .ensures) n) n) n (c .unclosed2 .ensures)
 
 full-tested-requires : tie.Need-full-tested-requires
 full-tested-requires c κs =
@@ -36,10 +40,11 @@ full-tested-requires c κs =
 
 returns-3 : tie.Need-returns-3
 returns-3 c =
-    let k = c .before .before .before .before .before .before .before in
-    let u = k .before .before .before .before .before in
-    let e = u .before in
-    k .full-tested .ensures .under _ (sym (u .settings-under .ensures)) (sym (e .before .record-tests .ensures) ∙ e .if2 .left)
+    let at-full-tested : tie.After-full-tested = search needs in
+    let at-settings-under = at-full-tested .before .before .before .before .before in
+    let at-else2 = at-settings-under .before in
+    let at-record-tests = at-else2 .before in
+    at-full-tested .full-tested .ensures .under _ (sym (at-settings-under .settings-under .ensures)) (sym (at-record-tests .record-tests .ensures) ∙ at-else2 .if2 .left)
 
 pub full-close-spec : {M : Type 1} → statement M
 full-close-spec =

@@ -20,7 +20,9 @@ given : (c : tie.Else1) → c .before .before .before .before .before .before .b
 given c = omega (arith, c .if1 .left)
 
 close-surveyed-requires : tie.Need-close-surveyed-requires
-close-surveyed-requires c κs = let a = c .before .before .before .before .before .before .before .before .before .before in (a .pre .0, ((a .pre .1 .0 .0, a .pre .1 .0 .1), a .pre .1 .1))
+close-surveyed-requires c κs =
+    let at-start = c .before .before .before .before .before .before .before .before .before .before in
+    (at-start .pre .0, ((at-start .pre .1 .0 .0, at-start .pre .1 .0 .1), at-start .pre .1 .1))
 
 returns : tie.Need-returns
 returns c =

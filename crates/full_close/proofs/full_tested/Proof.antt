@@ -32,10 +32,14 @@ tested r c z =
     queue-tested (call r (start c)) (start c .pre .1 .0 .2) (entries-tested (call r (start c) .call) (sym z) refl (found .tested)) (tracks-is (found .queue)) (c .before .queue-refusal .ensures) (c .first-refusal .ensures)
 
 current-epoch-requires : tie.Need-current-epoch-requires
-current-epoch-requires c κs = good-settings _ (c .before .before .before .before .before .before .before .pre .0 .settings .good) .positive .«slots_per_epoch»
+current-epoch-requires c κs =
+    let at-start : tie.Start = search needs in
+    good-settings _ (at-start .pre .0 .settings .good) .positive .«slots_per_epoch»
 
 previous-epoch-requires : tie.Need-previous-epoch-requires
-previous-epoch-requires c κs = good-settings _ (c .before .before .before .before .before .before .before .before .pre .0 .settings .good) .positive .«slots_per_epoch»
+previous-epoch-requires c κs =
+    let at-start : tie.Start = search needs in
+    good-settings _ (at-start .pre .0 .settings .good) .positive .«slots_per_epoch»
 
 survey-registry-requires : tie.Need-survey-registry-requires
 survey-registry-requires c κs =
@@ -49,9 +53,12 @@ returns c =
 
 full-surveyed-requires : tie.Need-full-surveyed-requires
 full-surveyed-requires c κs =
-    let k = c .before .before .before .before .before in
-    let a = start k in
-    (a .pre .0, (a .pre .1 .0, rw (← k .before .before .before .before .before .before .before .before .current-epoch .ensures, ← k .before .before .before .before .before .before .before .previous-epoch .ensures) (k .before .before .before .before .before .survey-registry .ensures)))
+    let at-first-refusal : tie.After-first-refusal = search needs in
+    let at-survey-registry = at-first-refusal .before .before .before .before .before in
+    let at-previous-epoch = at-survey-registry .before .before in
+    let at-current-epoch = at-previous-epoch .before in
+    let a = start at-first-refusal in
+    (a .pre .0, (a .pre .1 .0, rw (← at-current-epoch .current-epoch .ensures, ← at-previous-epoch .previous-epoch .ensures) (at-survey-registry .survey-registry .ensures)))
 
 returns-2 : tie.Need-returns-2
 returns-2 c =

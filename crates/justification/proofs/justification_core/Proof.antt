@@ -14,7 +14,9 @@ small : (c : tie.Start) → c .args .s .«effective_balance_increment» < 2 ^ 64
 small c = omega arith
 
 current-epoch-requires : tie.Need-current-epoch-requires
-current-epoch-requires c κs = weigh-passed _ _ _ (c .before .before .before .before .before .pre) .settings .good .positive .«slots_per_epoch»
+current-epoch-requires c κs =
+    let at-start : tie.Start = search needs in
+    weigh-passed _ _ _ (at-start .pre) .settings .good .positive .«slots_per_epoch»
 
 returns : tie.Need-returns
 returns c =

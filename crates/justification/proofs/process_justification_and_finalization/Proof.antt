@@ -31,16 +31,24 @@ participating-total-requires-2 : tie.Need-participating-total-requires-2
 participating-total-requires-2 c κs = (tested (c .before .before .before .before) .shape .long, omega arith)
 
 justification-core-requires : tie.Need-justification-core-requires
-justification-core-requires c κs = tested (c .before .before .before .before .before) .weighs
+justification-core-requires c κs =
+    let at-else1 : tie.Else1 = search needs in
+    tested (at-else1) .weighs
 
 returns-2 : tie.Need-returns-2
 returns-2 c =
-    let e = c .before .before .before .before .before .before in
-    let a = e .before .before .before .before .args in
-    let now = c .before .before .before .before .before .current-epoch .ensures in
-    let was = c .before .before .before .before .previous-epoch .ensures in
-    close-then-works _ _ _ _ (e .before .justification-refusal .ensures) (e .if1 .left)
-    (c .justification-core .ensures .of (decode (a .registry .now)) (three-totals (a .s) (a .finality .slot) _ now was (c .before .before .before .active-total .ensures) (c .before .before .participating-total .ensures) (c .before .participating-total2 .ensures)))
+    let at-participating-total = c .before .before in
+    let at-active-total = at-participating-total .before in
+    let at-previous-epoch = at-active-total .before in
+    let at-current-epoch = at-previous-epoch .before in
+    let at-else1 = at-current-epoch .before in
+    let at-justification-refusal = at-else1 .before in
+    let at-start = at-justification-refusal .before .before .before in
+    let a = at-start .args in
+    let now = at-current-epoch .current-epoch .ensures in
+    let was = at-previous-epoch .previous-epoch .ensures in
+    close-then-works _ _ _ _ (at-justification-refusal .justification-refusal .ensures) (at-else1 .if1 .left)
+    (c .justification-core .ensures .of (decode (a .registry .now)) (three-totals (a .s) (a .finality .slot) _ now was (at-active-total .active-total .ensures) (at-participating-total .participating-total .ensures) (c .before .participating-total2 .ensures)))
 
 pub process-justification-and-finalization-spec : {M : Type 1} → statement M
 process-justification-and-finalization-spec =

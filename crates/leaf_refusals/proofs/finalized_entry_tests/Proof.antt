@@ -13,7 +13,9 @@ returns c = shape-failed _ _ _ 0 (ne-eqb _ _ (c .if1 .taken))
 
 returns-2 : tie.Need-returns-2
 unfolding finalizedEntryTests inOrder every
-returns-2 c = rw (eq-eqb _ _ (c .before .before .before .before .before .before .if1 .left)) cc
+returns-2 c =
+    let at-else1 : tie.Else1 = search needs in
+    rw (eq-eqb _ _ (at-else1 .if1 .left)) cc
 
 pub finalized-entry-tests-spec : {M : Type 1} → statement M
 finalized-entry-tests-spec =

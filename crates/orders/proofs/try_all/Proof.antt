@@ -35,7 +35,10 @@ shared-slice-read-start : tie.Need-shared-slice-read-start Inv-loop μ-loop
 shared-slice-read-start c = omega arith
 
 try-order-requires : tie.Need-try-order-requires Inv-loop μ-loop
-try-order-requires c κs = let g = c .before .before .before .before .loop .inv in let a = c .before .before .before .before .before .before .before .before .pre in ((g .long, a .0 .1), g .queue)
+try-order-requires c κs =
+    let at-at-loop = c .before .before .before .before in
+    let at-start = at-at-loop .before .before .before .before in
+    let g = at-at-loop .loop .inv in let a = at-start .pre in ((g .long, a .0 .1), g .queue)
 
 mul-answers : tie.Need-mul-answers Inv-loop μ-loop
 mul-answers c = omega arith
@@ -51,11 +54,14 @@ loop-less c = omega arith
 
 loop-again : tie.Need-loop-again Inv-loop μ-loop
 loop-again c =
-    let k = c .before .before .before in
-    let g = c .before .before .before .before .before .before .before .before .loop .inv in
-    let l = c .before .before .before .before .before .before .before .loop-test .taken in
-    let a = c .before .before .before .before .before .before .before .before .before .before .before .before .pre in
-    trying-more g l (a .1 .1 .1) (omega arith) (k .try-order .ensures)
+    let at-try-order = c .before .before .before in
+    let at-in-loop = at-try-order .before .before .before .before in
+    let at-at-loop = at-in-loop .before in
+    let at-start = at-at-loop .before .before .before .before in
+    let g = at-at-loop .loop .inv in
+    let l = at-in-loop .loop-test .taken in
+    let a = at-start .pre in
+    trying-more g l (a .1 .1 .1) (omega arith) (at-try-order .try-order .ensures)
 
 same-length : tie.Need-same-length Inv-loop μ-loop
 same-length c = omega arith

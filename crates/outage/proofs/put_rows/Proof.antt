@@ -13,14 +13,21 @@ changes-requires c κs = (registry-shaped _ (c .before .before .before .pre .0 .
 returns : tie.Need-returns
 unfolding linesText
 returns c =
-    let p = c .before .before .put-refused .ensures in
-    (rw (or-refused _ (c .before .before .before .before .before .changes .ensures) (c .before .before .before .before .if1 .taken)) (p .0), omega (arith, p .1, c .before .before .before .before .before .before .before .before .before .pre .1))
+    let at-put-refused = c .before .before in
+    let at-then1 = at-put-refused .before .before in
+    let at-changes = at-then1 .before in
+    let at-start = at-changes .before .before .before .before in
+    let p = at-put-refused .put-refused .ensures in
+    (rw (or-refused _ (at-changes .changes .ensures) (at-then1 .if1 .taken)) (p .0), omega (arith, p .1, at-start .pre .1))
 
 returns-2 : tie.Need-returns-2
 unfolding linesText
 returns-2 c =
-    let p = c .before .before .put-lines .ensures in
-    (rw (or-text _ (sym (c .before .before .before .before .before .changes .ensures) ∙ c .before .before .before .before .if1 .left)) (p .0), p .1)
+    let at-put-lines = c .before .before in
+    let at-else1 = at-put-lines .before .before in
+    let at-changes = at-else1 .before in
+    let p = at-put-lines .put-lines .ensures in
+    (rw (or-text _ (sym (at-changes .changes .ensures) ∙ at-else1 .if1 .left)) (p .0), p .1)
 
 pub put-rows-spec : {M : Type 1} → statement M
 put-rows-spec =

@@ -10,12 +10,15 @@ use Rattle.outage.proofs.put_text.Tie as tie
 
 returns : tie.Need-returns
 returns c =
-    let s = c .before .before .before .before .before .before .before .before .before .before .before .before .before .before .before .before .before in
-    let a = s .args in
-    let p = c .before .before .put-refused .ensures in
+    let at-put-refused = c .before .before in
+    let at-then1 = at-put-refused .before .before in
+    let at-read-header = at-then1 .before .before in
+    let at-start = at-read-header .before .before .before .before .before .before .before .before .before .before .before in
+    let a = at-start .args in
+    let p = at-put-refused .put-refused .ensures in
     record {
-      put = rw (text-headless (a .file .now) (a .tail .now) (headless (a .file .now) (c .before .before .before .before .before .before .read-header .ensures) (c .before .before .before .before .if1 .taken))) (p .0);
-      inside = omega (arith, p .1, s .pre .bytes);
+      put = rw (text-headless (a .file .now) (a .tail .now) (headless (a .file .now) (at-read-header .read-header .ensures) (at-then1 .if1 .taken))) (p .0);
+      inside = omega (arith, p .1, at-start .pre .bytes);
     }
 
 -- where there is a header, what it counts is held by the file and fits what is lent

@@ -14,7 +14,10 @@ returns-2 : tie.Need-returns-2
 returns-2 c = record { of = λ m o b. told-past m _ _ (not-fits m _ rewardOf (says-value b (c .before .before .before .before .base .given .1)) (answers-overflow tells-deltas (c .before .before .hit-deltas .ensures) (only-hit _ _ _ _) (c .enum-told2 .given .1) .0)) }
 
 returns-3 : tie.Need-returns-3
-returns-3 c = record { of = λ m o b. told-fits m _ rewardOf (says-value b (c .before .before .before .before .before .base .given .1)) (hit-reward _ _ _ _ (answers-value tells-deltas (c .before .before .before .hit-deltas .ensures) (c .before .deltas .given .1))) }
+returns-3 c =
+    let at-hit-deltas = c .before .before .before in
+    let at-base = at-hit-deltas .before .before in
+    record { of = λ m o b. told-fits m _ rewardOf (says-value b (at-base .base .given .1)) (hit-reward _ _ _ _ (answers-value tells-deltas (at-hit-deltas .hit-deltas .ensures) (c .before .deltas .given .1))) }
 
 pub hit-amount-spec : {M : Type 1} → statement M
 hit-amount-spec =

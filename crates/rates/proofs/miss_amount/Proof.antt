@@ -14,7 +14,10 @@ returns-2 : tie.Need-returns-2
 returns-2 c = record { of = λ m o b. told-past m _ _ (not-fits m _ penaltyOf (says-value b (c .before .before .before .before .base .given .1)) (answers-overflow tells-deltas (c .before .before .miss-deltas .ensures) (only-miss _ _ _) (c .enum-told2 .given .1) .0)) }
 
 returns-3 : tie.Need-returns-3
-returns-3 c = record { of = λ m o b. told-fits m _ penaltyOf (says-value b (c .before .before .before .before .before .base .given .1)) (miss-penalty _ _ _ (answers-value tells-deltas (c .before .before .before .miss-deltas .ensures) (c .before .deltas .given .1))) }
+returns-3 c =
+    let at-miss-deltas = c .before .before .before in
+    let at-base = at-miss-deltas .before .before in
+    record { of = λ m o b. told-fits m _ penaltyOf (says-value b (at-base .base .given .1)) (miss-penalty _ _ _ (answers-value tells-deltas (at-miss-deltas .miss-deltas .ensures) (c .before .deltas .given .1))) }
 
 pub miss-amount-spec : {M : Type 1} → statement M
 miss-amount-spec =

@@ -18,11 +18,19 @@ returns-3 c = no-product _ _ _ _ _ _ (c .before .before .before .if1 .left) (c .
 
 returns-4 : tie.Need-returns-4
 returns-4 c =
-    let a = c .before .before .before .before .before .before .pre in
-    none-charged _ _ _ _ _ _ (c .before .before .before .before .before .if1 .left) (c .before .before .before .before .if2 .left) (says-value (a .1 .0) (c .before .before .product .given .1)) (product-divides (a .0 .0) (a .0 .1) (a .1 .0) (c .before .before .product .given .1)) (c .if3 .taken)
+    let at-product = c .before .before in
+    let at-else2 = at-product .before .before in
+    let at-else1 = at-else2 .before in
+    let at-start = at-else1 .before in
+    let a = at-start .pre in
+    none-charged _ _ _ _ _ _ (at-else1 .if1 .left) (at-else2 .if2 .left) (says-value (a .1 .0) (at-product .product .given .1)) (product-divides (a .0 .0) (a .0 .1) (a .1 .0) (at-product .product .given .1)) (c .if3 .taken)
 
 returns-5 : tie.Need-returns-5
-returns-5 c = too-much _ _ _ _ _ _ (c .before .before .before .before .before .before .if1 .left) (c .before .before .before .before .before .if2 .left) (c .before .before .before .before .before .before .before .pre .1 .1 .over _ (omega arith) (c .if4 .taken))
+returns-5 c =
+    let at-else2 : tie.Else2 = search needs in
+    let at-else1 = at-else2 .before in
+    let at-start = at-else1 .before in
+    too-much _ _ _ _ _ _ (at-else1 .if1 .left) (at-else2 .if2 .left) (at-start .pre .1 .1 .over _ (omega arith) (c .if4 .taken))
 
 mul-penalty : tie.Need-mul-penalty
 mul-penalty c = record { fits = c .before .before .before .before .before .before .before .pre .1 .1 .fits _ (c .if4 .left) }
@@ -35,8 +43,12 @@ div-penalty c =
 
 returns-6 : tie.Need-returns-6
 returns-6 c =
-    let a = c .before .before .before .before .before .before .before .pre in
-    by-division _ _ _ _ _ _ (c .before .before .before .before .before .before .if1 .left) (c .before .before .before .before .before .if2 .left) (says-value (a .1 .0) (c .before .before .before .product .given .1)) (a .1 .1 .fits _ (c .if4 .left))
+    let at-product = c .before .before .before in
+    let at-else2 = at-product .before .before in
+    let at-else1 = at-else2 .before in
+    let at-start = at-else1 .before in
+    let a = at-start .pre in
+    by-division _ _ _ _ _ _ (at-else1 .if1 .left) (at-else2 .if2 .left) (says-value (a .1 .0) (at-product .product .given .1)) (a .1 .1 .fits _ (c .if4 .left))
 
 pub penalty-by-spec : {M : Type 1} → statement M
 penalty-by-spec =

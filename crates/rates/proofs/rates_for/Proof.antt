@@ -24,16 +24,16 @@ returns c =
 
 returns-2 : tie.Need-returns-2
 returns-2 c =
-    let a = c .before .before .before .before .before .before in
-    let q = a .args .carried .other in
+    let at-start : tie.Start = search needs in
+    let q = at-start .args .carried .other in
     let test = c .before .is-of2 .ensures in
-    (record { last = a .pre .1 .other; other = a .pre .1 .last }, (a .pre .1 .other (is-told (q .told) (q .«effective_balance») (a .args .balance) test (c .if2 .taken)), is-same (q .told) (q .«effective_balance») (a .args .balance) test (c .if2 .taken)))
+    (record { last = at-start .pre .1 .other; other = at-start .pre .1 .last }, (at-start .pre .1 .other (is-told (q .told) (q .«effective_balance») (at-start .args .balance) test (c .if2 .taken)), is-same (q .told) (q .«effective_balance») (at-start .args .balance) test (c .if2 .taken)))
 
 returns-3 : tie.Need-returns-3
 returns-3 c =
-    let a = c .before .before .before .before .before .before .before in
+    let at-start : tie.Start = search needs in
     let made = c .rates-of .ensures in
-    (record { last = λ _. made .0; other = a .pre .1 .last }, (made .0, made .1))
+    (record { last = λ _. made .0; other = at-start .pre .1 .last }, (made .0, made .1))
 
 pub rates-for-spec : {M : Type 1} → statement M
 rates-for-spec =

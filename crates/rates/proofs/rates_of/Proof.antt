@@ -11,14 +11,21 @@ only-base c = only-bind (only-per-increment _ _) (λ reward. only-mul64 _ _)
 
 returns : tie.Need-returns
 returns c =
-    let o = only-base (c .before .before .before .before .before .before .before .before) .why in
-    let b = c .before .before .before .before .before .before .before .base-of .ensures in (
+    let at-hit-amount3 = c .before .before in
+    let at-miss-amount2 = at-hit-amount3 .before in
+    let at-hit-amount2 = at-miss-amount2 .before in
+    let at-miss-amount = at-hit-amount2 .before in
+    let at-hit-amount = at-miss-amount .before in
+    let at-base-of = at-hit-amount .before in
+    let at-start = at-base-of .before in
+    let o = only-base (at-start) .why in
+    let b = at-base-of .base-of .ensures in (
       record {
-        sourceHit = c .before .before .before .before .before .before .hit-amount .ensures .of _ o b;
-        sourceMiss = c .before .before .before .before .before .miss-amount .ensures .of _ o b;
-        targetHit = c .before .before .before .before .hit-amount2 .ensures .of _ o b;
-        targetMiss = c .before .before .before .miss-amount2 .ensures .of _ o b;
-        headHit = c .before .before .hit-amount3 .ensures .of _ o b;
+        sourceHit = at-hit-amount .hit-amount .ensures .of _ o b;
+        sourceMiss = at-miss-amount .miss-amount .ensures .of _ o b;
+        targetHit = at-hit-amount2 .hit-amount2 .ensures .of _ o b;
+        targetMiss = at-miss-amount2 .miss-amount2 .ensures .of _ o b;
+        headHit = at-hit-amount3 .hit-amount3 .ensures .of _ o b;
         headMiss = c .before .miss-amount3 .ensures .of _ o b;
         most = c .most-score-of .ensures;
       },

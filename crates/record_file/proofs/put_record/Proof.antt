@@ -16,19 +16,19 @@ rooted c = search needs
 returns : tie.Need-returns
 unfolding fileOf headOf
 returns c =
-    let fourth = c .before .before in
-    let third = fourth .before .before .before .before in
-    let second = third .before .before .before .before in
-    let first = second .before .before .before .before in
-    let start = first .before .before .before .before .before .before in
-    let a = start .args in
+    let at-put-numbers2 = c .before .before in
+    let at-put-bytes : tie.After-put-bytes = search needs in
+    let at-put-numbers : tie.After-put-numbers = search needs in
+    let at-put-head : tie.After-put-head = search needs in
+    let at-start : tie.Start = search needs in
+    let a = at-start .args in
     let k = contentsWith (a .settings) (a .finality) (a .registry .now) (a .roots .now) (a .slashings .now) in
-    let sized = start .pre in
+    let sized = at-start .pre in
     let h = headOf (a .settings) (a .finality) (a .queue) (countIn k) in
-    let one = stored-first (a .file .now) 0 h (head-long (a .settings) (a .queue) (countIn k) (rooted start)) (first .put-head .ensures) in
-    let two = stored-more one (numbersToBytes (k .registry)) (length-to-bytes (k .registry)) refl refl (second .put-numbers .ensures) in
-    let three = stored-more two (k .roots) refl refl (omega (arith, sized)) (third .put-bytes .ensures) in
-    let four = stored-more three (numbersToBytes (k .slashings)) (length-to-bytes (k .slashings)) refl (omega (arith, sized)) (fourth .put-numbers2 .ensures) in
+    let one = stored-first (a .file .now) 0 h (head-long (a .settings) (a .queue) (countIn k) (rooted at-start)) (at-put-head .put-head .ensures) in
+    let two = stored-more one (numbersToBytes (k .registry)) (length-to-bytes (k .registry)) refl refl (at-put-numbers .put-numbers .ensures) in
+    let three = stored-more two (k .roots) refl refl (omega (arith, sized)) (at-put-bytes .put-bytes .ensures) in
+    let four = stored-more three (numbersToBytes (k .slashings)) (length-to-bytes (k .slashings)) refl (omega (arith, sized)) (at-put-numbers2 .put-numbers2 .ensures) in
     four .is ∙ sets-whole (a .file .now) (fileOf k (a .queue)) (omega (arith, four .long, sized))
 
 pub put-record-spec : {M : Type 1} → statement M

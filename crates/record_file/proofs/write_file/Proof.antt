@@ -19,9 +19,12 @@ put-record-requires c κs =
 
 returns-2 : tie.Need-returns-2
 returns-2 c =
-    let e = c .before .before .before .before .before .write-tests .ensures in
-    let z = c .before .before .before .before .if1 .left in
-    (sym z ∙ e, c .before .before .put-record .ensures ∙ sym (is-file _ _ _ (passed _ e z)))
+    let at-put-record = c .before .before in
+    let at-else1 = at-put-record .before .before in
+    let at-write-tests = at-else1 .before in
+    let e = at-write-tests .write-tests .ensures in
+    let z = at-else1 .if1 .left in
+    (sym z ∙ e, at-put-record .put-record .ensures ∙ sym (is-file _ _ _ (passed _ e z)))
 
 pub write-file-spec : {M : Type 1} → statement M
 write-file-spec =

@@ -5,7 +5,9 @@ use Rattle.registry_close.proofs.close_registry.Statement.{statement}
 use Rattle.registry_close.proofs.close_registry.Tie as tie
 
 close-kept-requires : tie.Need-close-kept-requires
-close-kept-requires c κs = let a = c .before .before .before .before .before .before in (a .pre .0, (a .pre .1, (blank-length 64 64 (omega arith), blank-part 64 64 (omega arith) (omega arith))))
+close-kept-requires c κs =
+    let at-start : tie.Start = search needs in
+    (at-start .pre .0, (at-start .pre .1, (blank-length 64 64 (omega arith), blank-part 64 64 (omega arith) (omega arith))))
 
 returns : tie.Need-returns
 returns c = c .before .before .before .close-kept .ensures

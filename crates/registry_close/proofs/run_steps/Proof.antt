@@ -26,33 +26,40 @@ given : (c : tie.Else1) → c .before .before .justification-core .result .refus
 given c = omega (arith, c .if1 .left)
 
 justification-core-requires : tie.Need-justification-core-requires
-justification-core-requires c κs = c .before .before .before .before .before .before .before .before .before .before .before .pre .0 .weighs
+justification-core-requires c κs =
+    let at-start = c .before .before .before .before .before .before .before .before .before .before .before in
+    at-start .pre .0 .weighs
 
 returns : tie.Need-returns
 returns c = (worked-unjustified _ _ _ _ _ (justified (c .before .before)) (λ z. omega (arith, c .if1 .taken)), record { booked = λ z. absurd (omega (arith, z, c .if1 .taken)) })
 
 write-registry-requires : tie.Need-write-registry-requires
 write-registry-requires c κs =
-    let j = c .before .before .before .before .before .before .before in
-    let a = start j in
-    let slot = slot-kept _ _ _ (a .args .slashings .now) _ (justified j) (given (c .before .before .before .before .before)) in
-    let finalized = finalized-small _ _ _ (a .args .slashings .now) _ (justified j) (given (c .before .before .before .before .before)) (a .pre .0 .finality) in
+    let at-else1 : tie.Else1 = search needs in
+    let at-justification-core = at-else1 .before .before in
+    let a = start at-justification-core in
+    let slot = slot-kept _ _ _ (a .args .slashings .now) _ (justified at-justification-core) (given (at-else1)) in
+    let finalized = finalized-small _ _ _ (a .args .slashings .now) _ (justified at-justification-core) (given (at-else1)) (a .pre .0 .finality) in
     let opening = good-finality (a .args .finality) (a .pre .0 .finality) in
     ((a .pre .0 .settings .good, rw slot (small _ (a .pre .0 .settings .small)), omega (arith, finalized, opening .finalized)), ((a .pre .0 .registry, a .pre .1 .0), rw slot (a .pre .1 .1)))
 
 returns-2 : tie.Need-returns-2
 returns-2 c =
-    let t = c .before in
-    (worked-refused _ _ _ _ _ (justified (c .before .before .before .before .before .before .before .before .before .before .before .before .before .before)) (given (c .before .before .before .before .before .before .before .before .before .before .before .before)) (c .before .before .before .before .before .before .write-registry .ensures .0) _ (λ z. omega (arith, t .if2 .taken)) (c .answer-with .ensures), record { booked = λ z. absurd (omega (arith, t .if2 .taken, answered _ _ _ (c .answer-with .ensures), z)) })
+    let at-write-registry : tie.After-write-registry = search needs in
+    let at-else1 = at-write-registry .before .before .before .before .before .before in
+    let at-justification-core = at-else1 .before .before in
+    (worked-refused _ _ _ _ _ (justified (at-justification-core)) (given (at-else1)) (at-write-registry .write-registry .ensures .0) _ (λ z. omega (arith, c .before .if2 .taken)) (c .answer-with .ensures), record { booked = λ z. absurd (omega (arith, c .before .if2 .taken, answered _ _ _ (c .answer-with .ensures), z)) })
 
 returns-3 : tie.Need-returns-3
 returns-3 c =
-    let j = c .before .before .before .before .before .before .before .before .before .before .before .before .before in
-    let a = start j in
-    let slot = slot-kept _ _ _ (a .args .slashings .now) _ (justified j) (given (c .before .before .before .before .before .before .before .before .before .before .before)) in
-    let wrote = c .before .before .before .before .before .write-registry .ensures in (
-      worked-done _ _ _ _ _ (justified j) (given (c .before .before .before .before .before .before .before .before .before .before .before)) (wrote .0) (omega (arith, c .if2 .left))
-          (ap (λ (slot : ℕ). resetSlashings (a .args .s) slot (a .args .slashings .now)) (sym slot)) (omega (arith, given (c .before .before .before .before .before .before .before .before .before .before .before))) refl refl,
+    let at-write-registry : tie.After-write-registry = search needs in
+    let at-else1 = at-write-registry .before .before .before .before .before .before in
+    let at-justification-core = at-else1 .before .before in
+    let a = start at-justification-core in
+    let slot = slot-kept _ _ _ (a .args .slashings .now) _ (justified at-justification-core) (given (at-else1)) in
+    let wrote = at-write-registry .write-registry .ensures in (
+      worked-done _ _ _ _ _ (justified at-justification-core) (given (at-else1)) (wrote .0) (omega (arith, c .if2 .left))
+          (ap (λ (slot : ℕ). resetSlashings (a .args .s) slot (a .args .slashings .now)) (sym slot)) (omega (arith, given (at-else1))) refl refl,
       record { booked = λ z. wrote .1 .booked (omega (arith, c .if2 .left)) },
     )
 

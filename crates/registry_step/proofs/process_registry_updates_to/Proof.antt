@@ -7,7 +7,9 @@ use Rattle.registry_step.proofs.process_registry_updates_to.Statement.{
 use Rattle.registry_step.proofs.process_registry_updates_to.Tie as tie
 
 returns : tie.Need-returns
-returns c = let a = c .before .before .before .before .before .args in step-refused (a .stop) (a .s) (a .state-slot) (a .finalized-epoch) (a .queue) (a .opening .now) (a .closing .now) (c .before .step-tests .ensures) (c .if1 .taken)
+returns c =
+    let at-start : tie.Start = search needs in
+    let a = at-start .args in step-refused (a .stop) (a .s) (a .state-slot) (a .finalized-epoch) (a .queue) (a .opening .now) (a .closing .now) (c .before .step-tests .ensures) (c .if1 .taken)
 
 step-surveyed-requires : tie.Need-step-surveyed-requires
 step-surveyed-requires c κs = (sym (c .before .before .before .step-tests .ensures) ∙ c .before .before .if1 .left, (blank-length 64 64 (omega arith), blank-part 64 64 (omega arith) (omega arith)))

@@ -7,18 +7,26 @@ use Rattle.registry_step.proofs.run_step.Tie as tie
 
 update-registry-requires : tie.Need-update-registry-requires
 update-registry-requires c κs =
-    let s = c .before .before .before .before .before .before .before .before in
-    (s .pre .0, (s .pre .1 .0, ((s .pre .1 .1 .0 .0, c .before .before .before .copy .ensures), s .pre .1 .1 .1)))
+    let at-copy = c .before .before .before in
+    let at-start : tie.Start = search needs in
+    (at-start .pre .0, (at-start .pre .1 .0, ((at-start .pre .1 .1 .0 .0, at-copy .copy .ensures), at-start .pre .1 .1 .1)))
 
 returns : tie.Need-returns
 returns c =
-    let a = c .before .before .before .before .before .before .before .before .before .before .before .before .before .before .before .before .args in
-    run-restored (registryUpdatesTo (a .stop) (a .s) (a .state-slot) (a .finalized-epoch)) _ (c .before .before .before .before .before .before .before .update-registry .ensures) (λ z. omega (arith, z, c .before .before .before .before .if1 .taken)) (c .before .before .copy2 .ensures)
+    let at-copy2 = c .before .before in
+    let at-then1 = at-copy2 .before .before in
+    let at-update-registry = at-then1 .before .before .before in
+    let at-start = at-update-registry .before .before .before .before .before .before .before .before .before in
+    let a = at-start .args in
+    run-restored (registryUpdatesTo (a .stop) (a .s) (a .state-slot) (a .finalized-epoch)) _ (at-update-registry .update-registry .ensures) (λ z. omega (arith, z, at-then1 .if1 .taken)) (at-copy2 .copy2 .ensures)
 
 returns-2 : tie.Need-returns-2
 returns-2 c =
-    let a = c .before .before .before .before .before .before .before .before .before .before .before .before .before .before .args in
-    run-done (registryUpdatesTo (a .stop) (a .s) (a .state-slot) (a .finalized-epoch)) _ (c .before .before .before .before .before .update-registry .ensures) (omega (arith, c .before .before .if1 .left)) (c .queue-of .ensures)
+    let at-else1 = c .before .before in
+    let at-update-registry = at-else1 .before .before .before in
+    let at-start = at-update-registry .before .before .before .before .before .before .before .before .before in
+    let a = at-start .args in
+    run-done (registryUpdatesTo (a .stop) (a .s) (a .state-slot) (a .finalized-epoch)) _ (at-update-registry .update-registry .ensures) (omega (arith, at-else1 .if1 .left)) (c .queue-of .ensures)
 
 pub run-step-spec : {M : Type 1} → statement M
 run-step-spec =

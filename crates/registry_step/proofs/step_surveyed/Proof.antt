@@ -18,8 +18,10 @@ previous-epoch-requires c κs = tested (c .before .before .before .before) .posi
 
 survey-registry-requires : tie.Need-survey-registry-requires
 survey-registry-requires c κs =
-    let p = tested (c .before .before .before .before .before .before) in
-    (p .long, (omega (arith, epochs _ _ (p .good) (p .slot) .small, c .before .before .current-epoch .ensures), c .before .before .before .before .before .before .pre .1))
+    let at-current-epoch = c .before .before in
+    let at-start : tie.Start = search needs in
+    let p = tested (at-start) in
+    (p .long, (omega (arith, epochs _ _ (p .good) (p .slot) .small, at-current-epoch .current-epoch .ensures), at-start .pre .1))
 
 returns : tie.Need-returns
 returns c =
@@ -32,22 +34,27 @@ returns c =
 
 run-step-requires : tie.Need-run-step-requires
 run-step-requires c κs =
-    let i = c .before .before in
-    let see = i .before .before .before .before .before in
-    let s = see .before .before .before .before .before .before .before in
-    let a = s .args in
-    let e = found-tests (a .stop) (a .s) (a .state-slot) (a .finalized-epoch) (a .queue) (a .opening .now) (a .closing .now) (sym (s .pre .0)) refl (see .survey-registry .ensures) (i .before .found-refusal .ensures) in
-    let p = tested s in
-    (p .good, ((p .slot, p .finalized), ((p .long, p .same), (p .stops, (true-pair (a .stop) (a .s) (a .state-slot) (a .finalized-epoch) (a .queue) (a .opening .now) (a .closing .now) e (i .if1 .left), rw (← see .before .before .before .current-epoch .ensures, ← see .before .before .previous-epoch .ensures) (see .survey-registry .ensures))))))
+    let at-else1 = c .before .before in
+    let at-found-refusal = at-else1 .before in
+    let at-survey-registry : tie.After-survey-registry = search needs in
+    let at-previous-epoch = at-survey-registry .before .before in
+    let at-current-epoch = at-previous-epoch .before in
+    let at-start = at-current-epoch .before .before .before .before in
+    let a = at-start .args in
+    let e = found-tests (a .stop) (a .s) (a .state-slot) (a .finalized-epoch) (a .queue) (a .opening .now) (a .closing .now) (sym (at-start .pre .0)) refl (at-survey-registry .survey-registry .ensures) (at-found-refusal .found-refusal .ensures) in
+    let p = tested at-start in
+    (p .good, ((p .slot, p .finalized), ((p .long, p .same), (p .stops, (true-pair (a .stop) (a .s) (a .state-slot) (a .finalized-epoch) (a .queue) (a .opening .now) (a .closing .now) e (at-else1 .if1 .left), rw (← at-current-epoch .current-epoch .ensures, ← at-previous-epoch .previous-epoch .ensures) (at-survey-registry .survey-registry .ensures))))))
 
 returns-2 : tie.Need-returns-2
 returns-2 c =
-    let i = c .before .before .before .before .before in
-    let see = i .before .before .before .before .before in
-    let s = see .before .before .before .before .before .before .before in
-    let a = s .args in
-    let e = found-tests (a .stop) (a .s) (a .state-slot) (a .finalized-epoch) (a .queue) (a .opening .now) (a .closing .now) (sym (s .pre .0)) refl (see .survey-registry .ensures) (i .before .found-refusal .ensures) in
-    step-ran (a .stop) (a .s) (a .state-slot) (a .finalized-epoch) (a .queue) (a .opening .now) (a .closing .now) e (i .if1 .left) (c .before .before .run-step .ensures)
+    let at-run-step = c .before .before in
+    let at-else1 = at-run-step .before .before .before in
+    let at-found-refusal = at-else1 .before in
+    let at-survey-registry = at-found-refusal .before .before .before .before in
+    let at-start = at-survey-registry .before .before .before .before .before .before .before in
+    let a = at-start .args in
+    let e = found-tests (a .stop) (a .s) (a .state-slot) (a .finalized-epoch) (a .queue) (a .opening .now) (a .closing .now) (sym (at-start .pre .0)) refl (at-survey-registry .survey-registry .ensures) (at-found-refusal .found-refusal .ensures) in
+    step-ran (a .stop) (a .s) (a .state-slot) (a .finalized-epoch) (a .queue) (a .opening .now) (a .closing .now) e (at-else1 .if1 .left) (at-run-step .run-step .ensures)
 
 pub step-surveyed-spec : {M : Type 1} → statement M
 step-surveyed-spec =

@@ -18,7 +18,9 @@ returns-4 : tie.Need-returns-4
 returns-4 c = search (needs, chain, hit-not-leaking) depth 9
 
 div-reward : tie.Need-div-reward
-div-reward c = let p = divides (c .before .before .before .before .before .before .before .before .before .before .before .before .pre) (c .before .product .given .1) in omega arith
+div-reward c =
+    let at-start : tie.Start = search needs in
+    let p = divides (at-start .pre) (c .before .product .given .1) in omega arith
 
 returns-5 : tie.Need-returns-5
 returns-5 c = search (needs, chain, hit-not-leaking) depth 9

@@ -18,7 +18,9 @@ returns-4 : tie.Need-returns-4
 returns-4 c = search (needs, chain, penalty-miss) depth 9
 
 div-penalty : tie.Need-div-penalty
-div-penalty c = let a = c .before .before .before .before .before .before .before .before .before .before .before .before .before .before .pre in let p = product-divides (a .0) (a .1 .0) (a .1 .1 .1) (c .before .product .given .1) in omega arith
+div-penalty c =
+    let at-start : tie.Start = search needs in
+    let a = at-start .pre in let p = product-divides (a .0) (a .1 .0) (a .1 .1 .1) (c .before .product .given .1) in omega arith
 
 returns-5 : tie.Need-returns-5
 returns-5 c = search (needs, chain, penalty-miss) depth 9

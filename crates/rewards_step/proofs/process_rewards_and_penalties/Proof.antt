@@ -19,24 +19,31 @@ copy-requires c κs = rewards-passed _ _ _ _ _ (c .before .before .before .rewar
 
 rewards-core-requires : tie.Need-rewards-core-requires
 rewards-core-requires c κs =
-    let u = c .before .before .before .before .before in
-    let p = rewards-passed _ _ _ _ _ (u .before .before .rewards-tests .ensures) (u .before .if1 .left) in
-    rw (u .settings-under .ensures) (p .good, (good-settings _ (p .good) .positive .«inactivity_penalty_quotient_altair», omega (arith, p .shape .long, ap length (c .before .before .before .copy .ensures))))
+    let at-copy = c .before .before .before in
+    let at-settings-under = at-copy .before .before in
+    let at-else1 = at-settings-under .before in
+    let at-rewards-tests = at-else1 .before in
+    let p = rewards-passed _ _ _ _ _ (at-rewards-tests .rewards-tests .ensures) (at-else1 .if1 .left) in
+    rw (at-settings-under .settings-under .ensures) (p .good, (good-settings _ (p .good) .positive .«inactivity_penalty_quotient_altair», omega (arith, p .shape .long, ap length (at-copy .copy .ensures))))
 
 put-back-requires : tie.Need-put-back-requires
 put-back-requires c κs =
-    let t = c .before .before .before .before .before .before .before .before .before .before in
-    omega (arith, rewards-passed _ _ _ _ _ (t .before .rewards-tests .ensures) (t .if1 .left) .same)
+    let at-else1 : tie.Else1 = search needs in
+    let at-rewards-tests = at-else1 .before in
+    omega (arith, rewards-passed _ _ _ _ _ (at-rewards-tests .rewards-tests .ensures) (at-else1 .if1 .left) .same)
 
 returns-2 : tie.Need-returns-2
 returns-2 c =
-    let k = c .before .before .before .before .before .before in
-    let q = k .before .before .before .before in
-    let u = q .before .before in
-    let t = u .before in
-    let a = t .before .before .before .before .before .args in
+    let at-put-back = c .before .before in
+    let at-rewards-core : tie.After-rewards-core = search needs in
+    let at-copy : tie.After-copy = search needs in
+    let at-settings-under = at-copy .before .before in
+    let at-else1 = at-settings-under .before in
+    let at-rewards-tests = at-else1 .before in
+    let at-start : tie.Start = search needs in
+    let a = at-start .args in
     let s = settingsUnder (a .rules) in
-    step-put-back («process_rewards_and_penalties» s (s .«inactivity_penalty_quotient_altair») (a .state-slot) (a .finalized-epoch)) _ (t .before .rewards-tests .ensures) (t .if1 .left) (q .copy .ensures) (rw (u .settings-under .ensures) at (k .rewards-core .ensures)) (c .before .before .put-back .ensures)
+    step-put-back («process_rewards_and_penalties» s (s .«inactivity_penalty_quotient_altair») (a .state-slot) (a .finalized-epoch)) _ (at-rewards-tests .rewards-tests .ensures) (at-else1 .if1 .left) (at-copy .copy .ensures) (rw (at-settings-under .settings-under .ensures) at (at-rewards-core .rewards-core .ensures)) (at-put-back .put-back .ensures)
 
 pub process-rewards-and-penalties-spec : {M : Type 1} → statement M
 process-rewards-and-penalties-spec =

@@ -10,17 +10,21 @@ returns : tie.Need-returns
 returns c = search (needs, ran-chain)
 
 inactivity-leak-requires : tie.Need-inactivity-leak-requires
-inactivity-leak-requires c κs = good-settings _ (c .before .before .before .before .before .before .pre .0) .positive .«slots_per_epoch»
+inactivity-leak-requires c κs =
+    let at-start : tie.Start = search needs in
+    good-settings _ (at-start .pre .0) .positive .«slots_per_epoch»
 
 returns-2 : tie.Need-returns-2
 returns-2 c = search (needs, ran-chain)
 
 rewards-from-leak-requires : tie.Need-rewards-from-leak-requires
 rewards-from-leak-requires c κs =
-    let k = c .before .before .before .before .before .before in
-    let a = k .before .before .before .before .before .pre in
+    let at-total : tie.After-total = search needs in
+    let at-total-active = at-total .before .before in
+    let at-start = at-total-active .before .before .before in
+    let a = at-start .pre in
     let p = good-settings _ (a .0) .positive in
-    let least = total-least _ _ (says-value (k .before .before .total-active .ensures) (k .total .given .1)) in
+    let least = total-least _ _ (says-value (at-total-active .total-active .ensures) (at-total .total .given .1)) in
     ((p .«effective_balance_increment», least), ((p .«inactivity_score_bias», a .1 .0), a .1 .1))
 
 returns-3 : tie.Need-returns-3

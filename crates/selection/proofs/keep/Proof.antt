@@ -13,7 +13,10 @@ highest-requires : tie.Need-highest-requires
 highest-requires c κs = simp length-set (omega (arith, c .before .before .before .before .pre .inside))
 
 returns-2 : tie.Need-returns-2
-returns-2 c = kept-set (c .before .before .before .before .before .pre) (c .before .before .if1 .left) (c .highest .ensures)
+returns-2 c =
+    let at-else1 = c .before .before in
+    let at-start = at-else1 .before .before .before in
+    kept-set (at-start .pre) (at-else1 .if1 .left) (c .highest .ensures)
 
 pub keep-spec : {M : Type 1} → statement M
 keep-spec =

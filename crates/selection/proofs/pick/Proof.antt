@@ -34,7 +34,11 @@ loop-less : tie.Need-loop-less Inv-loop μ-loop
 loop-less c = omega arith
 
 loop-again : tie.Need-loop-again Inv-loop μ-loop
-loop-again c = picking-more (c .before .before .before .before .before .before .loop .inv) 0 (c .before .before .before .before .before .loop-test .taken) refl (c .before .before .keep .ensures)
+loop-again c =
+    let at-keep = c .before .before in
+    let at-in-loop = at-keep .before .before .before in
+    let at-at-loop = at-in-loop .before in
+    picking-more (at-at-loop .loop .inv) 0 (at-in-loop .loop-test .taken) refl (at-keep .keep .ensures)
 
 mul-at-most-next : tie.Need-mul-at-most-next Inv-loop μ-loop
 mul-at-most-next c = omega arith

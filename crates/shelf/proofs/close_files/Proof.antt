@@ -24,27 +24,36 @@ left : (c : tie.In-loop Inv-loop μ-loop) → c .before .loop .i < length (c .be
 left c = ltb-true _ _ (sym (c .before .loop .inv .3) ∙ c .loop-test .taken)
 
 loop-holds : tie.Need-loop-holds Inv-loop μ-loop
-loop-holds c = let s = c .before .before .before .before .before .before in let p = shaped _ (s .pre) in (shelving-none _ _ _ _ _ (s .args .answers .now) (p .sums) (p .closing-long) (p .many), refl, refl, refl)
+loop-holds c =
+    let at-start = c .before .before .before .before .before .before in
+    let p = shaped _ (at-start .pre) in (shelving-none _ _ _ _ _ (at-start .args .answers .now) (p .sums) (p .closing-long) (p .many), refl, refl, refl)
 
 close-file-requires : tie.Need-close-file-requires Inv-loop μ-loop
 close-file-requires c κs =
-    let s = c .before .before .before .before .before .before .before .before .before .before .before .before .before in
-    let p = shaped _ (s .pre) in
-    let k = c .before .before .before .before .before .before .loop in
+    let at-in-loop = c .before .before .before .before .before in
+    let at-at-loop = at-in-loop .before in
+    let at-start = at-at-loop .before .before .before .before .before .before .before in
+    let p = shaped _ (at-start .pre) in
+    let k = at-at-loop .loop in
     let g = k .inv .0 in
-    let l = left (c .before .before .before .before .before) in
+    let l = left (at-in-loop) in
     let file = file-long _ _ _ _ _ g l in
-    let most = each-longest (s .args .lengths .now) (k .i) l in
-    let all = longest-drop (s .args .lengths .now) (k .i) in
+    let most = each-longest (at-start .args .lengths .now) (k .i) l in
+    let all = longest-drop (at-start .args .lengths .now) (k .i) in
     (part-long _ _ _ _ _ g l ∙ sym file, (omega (arith, file, most, all, p .opening-room, k .inv .1), omega (arith, file, most, all, p .closing-room, k .inv .2)))
 
 loop-again : tie.Need-loop-again Inv-loop μ-loop
 loop-again c =
-    let k = c .before .before .before .before .before .before .before .before .before .before .before .before .before .loop in
+    let at-closing-numbers = c .before .before .before in
+    let at-opening-numbers = at-closing-numbers .before .before in
+    let at-close-file = at-opening-numbers .before in
+    let at-in-loop = at-close-file .before .before .before .before .before .before in
+    let at-at-loop = at-in-loop .before in
+    let k = at-at-loop .loop in
     let g = k .inv .0 in
-    let l = left (c .before .before .before .before .before .before .before .before .before .before .before .before) in
-    let f = c .before .before .before .before .before .before .close-file in
-    (shelving-more _ _ _ _ _ g l (f .ensures .0) (f .ensures .1) (f .kept .1 .1 .1 .1 .1 .0 ∙ part-long _ _ _ _ _ g l), c .before .before .before .before .before .opening-numbers .given ∙ k .inv .1, c .before .before .before .closing-numbers .given ∙ k .inv .2, refl)
+    let l = left (at-in-loop) in
+    let f = at-close-file .close-file in
+    (shelving-more _ _ _ _ _ g l (f .ensures .0) (f .ensures .1) (f .kept .1 .1 .1 .1 .1 .0 ∙ part-long _ _ _ _ _ g l), at-opening-numbers .opening-numbers .given ∙ k .inv .1, at-closing-numbers .closing-numbers .given ∙ k .inv .2, refl)
 
 same-length-2 : tie.Need-same-length-2 Inv-loop μ-loop
 same-length-2 c = c .before .loop .inv .1

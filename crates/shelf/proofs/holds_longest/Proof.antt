@@ -38,7 +38,11 @@ add-needed-2 : tie.Need-add-needed-2 Inv-loop μ-loop
 add-needed-2 c = let i = c .before .before .before .loop .i in omega (arith, c .shared-slice-known2 .given i, c .before .shared-slice-known .given i)
 
 returns : tie.Need-returns Inv-loop μ-loop
-returns c = let a = c .before .before .before .before .before .args in let l = c .before .before .before .before .loop in sym (l .inv .1 ∙ beyond (a .lengths .now) (l .i) (8 * length (a .numbers .now)) (c .before .before .before .loop-test .taken) (omega arith))
+returns c =
+    let at-in-loop = c .before .before .before in
+    let at-at-loop = at-in-loop .before in
+    let at-start = at-at-loop .before in
+    let a = at-start .args in let l = at-at-loop .loop in sym (l .inv .1 ∙ beyond (a .lengths .now) (l .i) (8 * length (a .numbers .now)) (at-in-loop .loop-test .taken) (omega arith))
 
 add-i : tie.Need-add-i Inv-loop μ-loop
 add-i c = omega arith
@@ -47,7 +51,11 @@ loop-less : tie.Need-loop-less Inv-loop μ-loop
 loop-less c = omega arith
 
 loop-again : tie.Need-loop-again Inv-loop μ-loop
-loop-again c = let a = c .before .before .before .before .before .args in let l = c .before .before .before .before .loop in (omega arith, l .inv .1 ∙ within-more (a .lengths .now) (l .i) (8 * length (a .numbers .now)) (c .before .before .before .loop-test .taken) (omega arith))
+loop-again c =
+    let at-in-loop = c .before .before .before in
+    let at-at-loop = at-in-loop .before in
+    let at-start = at-at-loop .before in
+    let a = at-start .args in let l = at-at-loop .loop in (omega arith, l .inv .1 ∙ within-more (a .lengths .now) (l .i) (8 * length (a .numbers .now)) (at-in-loop .loop-test .taken) (omega arith))
 
 returns-2 : tie.Need-returns-2 Inv-loop μ-loop
 returns-2 c = let a = c .before .before .args in sym (c .before .loop .inv .1 ∙ rw (longest-none (a .lengths .now) (c .before .loop .i) (c .loop-test .left)) (le-leb 0 (8 * length (a .numbers .now)) (omega arith)))

@@ -42,7 +42,11 @@ loop-less : tie.Need-loop-less Inv-loop μ-loop
 loop-less c = omega arith
 
 loop-again : tie.Need-loop-again Inv-loop μ-loop
-loop-again c = let a = c .before .before .before .before .before .args in let l = c .before .before .before .before .loop in (omega arith, omega (arith, sum-more (a .lengths .now) (l .i) (c .before .before .before .loop-test .taken)))
+loop-again c =
+    let at-in-loop = c .before .before .before in
+    let at-at-loop = at-in-loop .before in
+    let at-start = at-at-loop .before in
+    let a = at-start .args in let l = at-at-loop .loop in (omega arith, omega (arith, sum-more (a .lengths .now) (l .i) (at-in-loop .loop-test .taken)))
 
 returns-2 : tie.Need-returns-2 Inv-loop μ-loop
 returns-2 c = let a = c .before .before .args in left-none (sum (a .lengths .now)) (c .before .loop .left) (a .total) (omega (arith, sum-none (a .lengths .now) (c .before .loop .i) (c .loop-test .left)))

@@ -34,8 +34,8 @@ counts c =
 
 returns : tie.Need-returns
 returns c =
-    let s = c .before .before .before .before .before .before in
-    let f = off-shelf (s .args .fork) (s .args .bellatrix) (s .args .file .now) (fails (c .before .on-shelf .ensures) (c .if1 .taken)) (s .args .part .now) in
+    let at-start : tie.Start = search needs in
+    let f = off-shelf (at-start .args .fork) (at-start .args .bellatrix) (at-start .args .file .now) (fails (c .before .on-shelf .ensures) (c .if1 .taken)) (at-start .args .part .now) in
     (f .number, f .part)
 
 read-counts-requires : tie.Need-read-counts-requires
@@ -52,31 +52,45 @@ read-settings-requires c κs = omega (arith, counts-long (counts c))
 
 file-tests-requires : tie.Need-file-tests-requires
 unfolding contentsOf
-file-tests-requires c κs = let k = counts (c .before .before) in (record { counts = k; room = omega (arith, counts-long k, k, c .before .before .before .before .before .before .before .before .before .pre .1 .0) }, c .before .read-settings .ensures)
+file-tests-requires c κs =
+    let at-read-counts = c .before .before in
+    let at-start = at-read-counts .before .before .before .before .before .before .before in
+    let k = counts (at-read-counts) in (record { counts = k; room = omega (arith, counts-long k, k, at-start .pre .1 .0) }, c .before .read-settings .ensures)
 
 returns-2 : tie.Need-returns-2
 returns-2 c =
-    let s = c .before .before .before .before .before .before .before .before .before .before .before in
-    let f = refused-tests (s .args .fork) (s .args .bellatrix) (s .args .file .now) (c .before .file-tests .ensures) (c .if2 .taken) (s .args .part .now) in
+    let at-start = c .before .before .before .before .before .before .before .before .before .before .before in
+    let f = refused-tests (at-start .args .fork) (at-start .args .bellatrix) (at-start .args .file .now) (c .before .file-tests .ensures) (c .if2 .taken) (at-start .args .part .now) in
     (f .number, f .part)
 
 slice-relend-prefix-close-passed : tie.Need-slice-relend-prefix-close-passed
-slice-relend-prefix-close-passed c = let k = counts (c .before .before .before .before .before) in omega (arith, counts-long k, k, c .before .before .before .before .before .before .before .before .before .before .before .before .pre .1 .1)
+slice-relend-prefix-close-passed c =
+    let at-read-counts : tie.After-read-counts = search needs in
+    let at-start = at-read-counts .before .before .before .before .before .before .before in
+    let k = counts (at-read-counts) in omega (arith, counts-long k, k, at-start .pre .1 .1)
 
 slice-aggregate-close-passed : tie.Need-slice-aggregate-close-passed
 slice-aggregate-close-passed c =
-    let k = counts (c .before .before .before .before .before .before) in
-    omega (arith, counts-long k, k, c .before .before .before .before .before .before .before .before .before .before .before .before .before .pre .1 .1, length-take (10 * c .before .before .before .before .before .before .read-counts .result .validators) (c .before .before .before .before .before .before .before .before .before .before .before .before .before .args .closing-numbers .now))
+    let at-read-counts : tie.After-read-counts = search needs in
+    let at-start = at-read-counts .before .before .before .before .before .before .before in
+    let k = counts (at-read-counts) in
+    omega (arith, counts-long k, k, at-start .pre .1 .1, length-take (10 * at-read-counts .read-counts .result .validators) (at-start .args .closing-numbers .now))
 
 close-passed-requires : tie.Need-close-passed-requires
 unfolding contentsOf
 close-passed-requires c κs =
-    let s = c .before .before .before .before .before .before .before .before .before .before .before .before .before .before in
-    let k = counts (c .before .before .before .before .before .before .before) in
-    (record { counts = k; room = omega (arith, counts-long k, k, s .pre .1 .0) }, ((c .before .before .before .before .before .before .read-settings .ensures, passed _ (c .before .before .before .before .file-tests .ensures) (c .before .before .before .if2 .left)), (length-take-le _ (s .args .closing-numbers .now) (omega (arith, counts-long k, k, s .pre .1 .1)), s .pre .0)))
+    let at-else2 = c .before .before .before in
+    let at-file-tests = at-else2 .before in
+    let at-read-settings = at-file-tests .before .before in
+    let at-read-counts = at-read-settings .before in
+    let at-start = at-read-counts .before .before .before .before .before .before .before in
+    let k = counts (at-read-counts) in
+    (record { counts = k; room = omega (arith, counts-long k, k, at-start .pre .1 .0) }, ((at-read-settings .read-settings .ensures, passed _ (at-file-tests .file-tests .ensures) (at-else2 .if2 .left)), (length-take-le _ (at-start .args .closing-numbers .now) (omega (arith, counts-long k, k, at-start .pre .1 .1)), at-start .pre .0)))
 
 returns-3 : tie.Need-returns-3
-returns-3 c = let f = c .before .before .before .before .before .before .close-passed .ensures in (f .number, f .part)
+returns-3 c =
+    let at-close-passed : tie.After-close-passed = search needs in
+    let f = at-close-passed .close-passed .ensures in (f .number, f .part)
 
 pub close-file-spec : {M : Type 1} → statement M
 close-file-spec =

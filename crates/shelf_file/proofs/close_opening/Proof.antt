@@ -8,7 +8,9 @@ slice-aggregate-close-registry : tie.Need-slice-aggregate-close-registry
 slice-aggregate-close-registry c = omega (arith, length-take (c .before .before .before .before .args .a) (c .before .before .before .before .args .numbers .now))
 
 close-registry-requires : tie.Need-close-registry-requires
-close-registry-requires c κs = let s = c .before .before .before .before .before .before in (s .pre .1, omega (arith, s .pre .0, length-take (s .args .a) (s .args .numbers .now)))
+close-registry-requires c κs =
+    let at-start : tie.Start = search needs in
+    (at-start .pre .1, omega (arith, at-start .pre .0, length-take (at-start .args .a) (at-start .args .numbers .now)))
 
 returns : tie.Need-returns
 returns c = c .before .before .close-registry .ensures

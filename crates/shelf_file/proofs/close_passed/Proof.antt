@@ -36,9 +36,6 @@ within c = omega (arith, start c .pre .0 .room, c .before .before .numbers .give
 behind : (c : tie.After-slashings-reset-core) → let t = start (c .before .before .before .before .before .before .before .before .before .before) in let xs = c .before .before .before .before .before .before .before .before .before .before .before .before .before .read-opening .last .1 .1 .1 .0 in let ys = c .slashings-reset-core .last .1 .1 .0 in numbersBehind (t .args .a) (t .args .b) (take (t .args .a) xs ++ (ys ++ drop (t .args .b - t .args .a) (drop (t .args .a) xs))) ≡ ys
 behind c = behind-put _ _ _ _ (ordered (start (c .before .before .before .before .before .before .before .before .before .before))) (within (c .before .before .before .before .before .before .before .before .before .before)) (c .slashings-reset-core .kept .1 .1 .0)
 
-read-finality-requires : tie.Need-read-finality-requires
-read-finality-requires c κs = omega (arith, counts-long (c .before .before .before .before .before .before .pre .0 .counts))
-
 close-opening-requires : tie.Need-close-opening-requires
 close-opening-requires c κs =
     let j = c .before .before in
@@ -64,9 +61,6 @@ sub-slashings-reset-core c = omega (arith, ordered (c .before .before .before .b
 
 part-slashings-reset-core-start : tie.Need-part-slashings-reset-core-start
 part-slashings-reset-core-start c = omega (arith, ordered (c .before .before .before .before .before .before .before .before .before .before .before .before .before .before .before .before .before .before .before .before))
-
-part-slashings-reset-core-end : tie.Need-part-slashings-reset-core-end
-part-slashings-reset-core-end c = omega (arith, within (c .before .before .before .before .before .before .before .before))
 
 slashings-reset-core-requires : tie.Need-slashings-reset-core-requires
 slashings-reset-core-requires c κs =
@@ -96,7 +90,7 @@ close-passed-spec =
     tie.close
     (tie.spec
     (λ c κs. search needs)
-    read-finality-requires
+    (λ c κs. omega (arith, counts-long (c .before .before .before .before .before .before .pre .0 .counts)))
     (λ c κs. search needs)
     (λ c κs. search needs)
     close-opening-requires
@@ -108,7 +102,7 @@ close-passed-spec =
     mul-slashings-reset-core
     sub-slashings-reset-core
     part-slashings-reset-core-start
-    part-slashings-reset-core-end
+    (λ c. omega (arith, within (c .before .before .before .before .before .before .before .before)))
     slashings-reset-core-requires
     put-closed-requires
     (λ c. search needs)

@@ -14,12 +14,12 @@ slice-aggregate-read-tests c = omega (arith, length-take (c .before .before .bef
 
 returns : tie.Need-returns
 returns c =
-    let s = c .before .before .before .before .before .before in
-    let a = s .args in
-    let p = s .pre .0 in
+    let at-start : tie.Start = search needs in
+    let a = at-start .args in
+    let p = at-start .pre .0 in
     let k = p .counts in
     let t = c .before .read-tests in
-    let e = c .rules-refusal .ensures ∙ ap (λ (r : Rules). rulesRefusal r (t .result .refusal)) (same-rules (a .rules .fork) (a .rules .bellatrix) (a .file .now) (a .rules) (s .pre .1) refl refl) in
+    let e = c .rules-refusal .ensures ∙ ap (λ (r : Rules). rulesRefusal r (t .result .refusal)) (same-rules (a .rules .fork) (a .rules .bellatrix) (a .file .now) (a .rules) (at-start .pre .1) refl refl) in
     tested (a .rules .fork) (a .rules .bellatrix) (a .file .now) (k .header) (k .second) _ _ (front-length p ∙ k .registry) (behind-length p) e (t .ensures .number)
 
 pub file-tests-spec : {M : Type 1} → statement M

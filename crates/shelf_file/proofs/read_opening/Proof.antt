@@ -18,10 +18,16 @@ read-numbers-requires : tie.Need-read-numbers-requires
 read-numbers-requires c κs = let p = c .before .before .before .pre in omega (arith, p .counts, counts-long (p .counts), front-length p)
 
 read-numbers-requires-2 : tie.Need-read-numbers-requires-2
-read-numbers-requires-2 c κs = let p = c .before .before .before .before .before .before .before .pre in simp length-take (omega (arith, p .counts, counts-long (p .counts)))
+read-numbers-requires-2 c κs =
+    let at-start : tie.Start = search needs in
+    let p = at-start .pre in simp length-take (omega (arith, p .counts, counts-long (p .counts)))
 
 returns : tie.Need-returns
-returns c = opened (c .before .before .before .before .before .before .before .before .before .before .pre) (c .before .before .before .before .before .before .read-numbers .last .1 .1 .0) (c .before .before .read-numbers2 .last .1 .1 .0) (c .before .before .before .before .before .before .read-numbers .ensures) (c .before .before .read-numbers2 .ensures)
+returns c =
+    let at-read-numbers2 = c .before .before in
+    let at-read-numbers : tie.After-read-numbers = search needs in
+    let at-start = at-read-numbers .before .before .before .before in
+    opened (at-start .pre) (at-read-numbers .read-numbers .last .1 .1 .0) (at-read-numbers2 .read-numbers2 .last .1 .1 .0) (at-read-numbers .read-numbers .ensures) (at-read-numbers2 .read-numbers2 .ensures)
 
 pub read-opening-spec : {M : Type 1} → statement M
 read-opening-spec =

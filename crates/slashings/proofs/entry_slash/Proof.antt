@@ -11,19 +11,54 @@ returns : tie.Need-returns
 returns c = settles-value _ (unslashed _ _ _ _ _ (c .if1 .taken)) (ten _ (c .before .before .before .pre .0))
 
 returns-2 : tie.Need-returns-2
-returns-2 c = settles-refused _ (c .before .before .before .before .before .before .before .pre .0) (due-refused _ _ _ _ _ (c .before .before .before .before .if1 .left) (says-overflow (c .before .before .add64 .ensures) (only-add64 _ _) (c .enum-told .given .1) .0))
+returns-2 c =
+    let at-add64 = c .before .before in
+    let at-else1 = at-add64 .before .before in
+    let at-start = at-else1 .before .before .before in
+    settles-refused _ (at-start .pre .0) (due-refused _ _ _ _ _ (at-else1 .if1 .left) (says-overflow (at-add64 .add64 .ensures) (only-add64 _ _) (c .enum-told .given .1) .0))
 
 returns-3 : tie.Need-returns-3
-returns-3 c = settles-value _ (not-due _ _ _ _ _ (c .before .before .before .before .before .before .before .if1 .left) (says-value (c .before .before .before .before .before .add64 .ensures) (c .before .before .before .due .given .1)) (c .if2 .taken)) (ten _ (c .before .before .before .before .before .before .before .before .before .before .pre .0))
+returns-3 c =
+    let at-due = c .before .before .before in
+    let at-add64 = at-due .before .before in
+    let at-else1 = at-add64 .before .before in
+    let at-start = at-else1 .before .before .before in
+    settles-value _ (not-due _ _ _ _ _ (at-else1 .if1 .left) (says-value (at-add64 .add64 .ensures) (at-due .due .given .1)) (c .if2 .taken)) (ten _ (at-start .pre .0))
 
 returns-4 : tie.Need-returns-4
-returns-4 c = settles-refused _ (c .before .before .before .before .before .before .before .before .before .before .before .before .before .before .before .pre .0) (numerator-refused _ _ _ _ _ (c .before .before .before .before .before .before .before .before .before .before .before .before .if1 .left) (says-value (c .before .before .before .before .before .before .before .before .before .before .add64 .ensures) (c .before .before .before .before .before .before .before .before .due .given .1)) (c .before .before .before .before .before .if2 .left) (says-overflow (c .before .before .mul64 .ensures) (only-mul64 _ _) (c .enum-told2 .given .1) .0))
+returns-4 c =
+    let at-mul64 = c .before .before in
+    let at-else2 = at-mul64 .before .before .before in
+    let at-due = at-else2 .before .before .before in
+    let at-add64 = at-due .before .before in
+    let at-else1 = at-add64 .before .before in
+    let at-start = at-else1 .before .before .before in
+    settles-refused _ (at-start .pre .0) (numerator-refused _ _ _ _ _ (at-else1 .if1 .left) (says-value (at-add64 .add64 .ensures) (at-due .due .given .1)) (at-else2 .if2 .left) (says-overflow (at-mul64 .mul64 .ensures) (only-mul64 _ _) (c .enum-told2 .given .1) .0))
 
 returns-5 : tie.Need-returns-5
-returns-5 c = settles-refused _ (c .before .before .before .before .before .before .before .before .before .before .before .before .before .before .before .before .before .before .before .pre .0) (penalty-refused _ _ _ _ _ (c .before .before .before .before .before .before .before .before .before .before .before .before .before .before .before .before .if1 .left) (says-value (c .before .before .before .before .before .before .before .before .before .before .before .before .before .before .add64 .ensures) (c .before .before .before .before .before .before .before .before .before .before .before .before .due .given .1)) (c .before .before .before .before .before .before .before .before .before .if2 .left) (says-value (c .before .before .before .before .before .before .mul64 .ensures) (c .before .before .before .before .numerator .given .1)) (says-overflow (c .before .before .mul642 .ensures) (only-mul64 _ _) (c .enum-told3 .given .1) .0))
+returns-5 c =
+    let at-mul642 = c .before .before in
+    let at-numerator = at-mul642 .before .before in
+    let at-mul64 = at-numerator .before .before in
+    let at-else2 = at-mul64 .before .before .before in
+    let at-due = at-else2 .before .before .before in
+    let at-add64 = at-due .before .before in
+    let at-else1 = at-add64 .before .before in
+    let at-start = at-else1 .before .before .before in
+    settles-refused _ (at-start .pre .0) (penalty-refused _ _ _ _ _ (at-else1 .if1 .left) (says-value (at-add64 .add64 .ensures) (at-due .due .given .1)) (at-else2 .if2 .left) (says-value (at-mul64 .mul64 .ensures) (at-numerator .numerator .given .1)) (says-overflow (at-mul642 .mul642 .ensures) (only-mul64 _ _) (c .enum-told3 .given .1) .0))
 
 returns-6 : tie.Need-returns-6
-returns-6 c = settles-value _ (penalized _ _ _ _ _ (c .before .before .before .before .before .before .before .before .before .before .before .before .before .before .before .before .before .before .before .before .before .if1 .left) (says-value (c .before .before .before .before .before .before .before .before .before .before .before .before .before .before .before .before .before .before .before .add64 .ensures) (c .before .before .before .before .before .before .before .before .before .before .before .before .before .before .before .before .before .due .given .1)) (c .before .before .before .before .before .before .before .before .before .before .before .before .before .before .if2 .left) (says-value (c .before .before .before .before .before .before .before .before .before .before .before .mul64 .ensures) (c .before .before .before .before .before .before .before .before .before .numerator .given .1)) (says-value (c .before .before .before .before .before .before .before .mul642 .ensures) (c .before .before .before .before .before .penalty .given .1))) (c .before .before .entry-decrease-balance .ensures)
+returns-6 c =
+    let at-entry-decrease-balance = c .before .before in
+    let at-penalty = at-entry-decrease-balance .before .before .before in
+    let at-mul642 = at-penalty .before .before in
+    let at-numerator = at-mul642 .before .before in
+    let at-mul64 = at-numerator .before .before in
+    let at-else2 = at-mul64 .before .before .before in
+    let at-due = at-else2 .before .before .before in
+    let at-add64 = at-due .before .before in
+    let at-else1 = at-add64 .before .before in
+    settles-value _ (penalized _ _ _ _ _ (at-else1 .if1 .left) (says-value (at-add64 .add64 .ensures) (at-due .due .given .1)) (at-else2 .if2 .left) (says-value (at-mul64 .mul64 .ensures) (at-numerator .numerator .given .1)) (says-value (at-mul642 .mul642 .ensures) (at-penalty .penalty .given .1))) (at-entry-decrease-balance .entry-decrease-balance .ensures)
 
 pub entry-slash-spec : {M : Type 1} → statement M
 entry-slash-spec =

@@ -16,24 +16,31 @@ copy-requires c κs = slashings-passed _ _ _ _ _ (c .before .before .before .sla
 
 slashings-core-requires : tie.Need-slashings-core-requires
 slashings-core-requires c κs =
-    let u = c .before .before .before .before .before in
-    let p = slashings-passed _ _ _ _ _ (u .before .before .slashings-tests .ensures) (u .before .if1 .left) in
-    (rw (c .before .before .before .copy .ensures) (p .shape .long), rw (u .settings-under .ensures) (p .good))
+    let at-copy = c .before .before .before in
+    let at-settings-under = at-copy .before .before in
+    let at-else1 = at-settings-under .before in
+    let at-slashings-tests = at-else1 .before in
+    let p = slashings-passed _ _ _ _ _ (at-slashings-tests .slashings-tests .ensures) (at-else1 .if1 .left) in
+    (rw (at-copy .copy .ensures) (p .shape .long), rw (at-settings-under .settings-under .ensures) (p .good))
 
 put-back-requires : tie.Need-put-back-requires
 put-back-requires c κs =
-    let t = c .before .before .before .before .before .before .before .before .before .before in
-    omega (arith, slashings-passed _ _ _ _ _ (t .before .slashings-tests .ensures) (t .if1 .left) .same)
+    let at-else1 : tie.Else1 = search needs in
+    let at-slashings-tests = at-else1 .before in
+    omega (arith, slashings-passed _ _ _ _ _ (at-slashings-tests .slashings-tests .ensures) (at-else1 .if1 .left) .same)
 
 returns-2 : tie.Need-returns-2
 returns-2 c =
-    let k = c .before .before .before .before .before .before in
-    let q = k .before .before .before .before in
-    let u = q .before .before in
-    let t = u .before in
-    let a = t .before .before .before .before .before .before .args in
+    let at-put-back = c .before .before in
+    let at-slashings-core : tie.After-slashings-core = search needs in
+    let at-copy : tie.After-copy = search needs in
+    let at-settings-under = at-copy .before .before in
+    let at-else1 = at-settings-under .before in
+    let at-slashings-tests = at-else1 .before in
+    let at-start : tie.Start = search needs in
+    let a = at-start .args in
     let s = settingsUnder (a .rules) in
-    step-put-back («process_slashings» s (s .«proportional_slashing_multiplier_altair») (a .state-slot) (a .slashings .now)) _ (t .before .slashings-tests .ensures) (t .if1 .left) (q .copy .ensures) (rw (u .settings-under .ensures) at (k .slashings-core .ensures)) (c .before .before .put-back .ensures)
+    step-put-back («process_slashings» s (s .«proportional_slashing_multiplier_altair») (a .state-slot) (a .slashings .now)) _ (at-slashings-tests .slashings-tests .ensures) (at-else1 .if1 .left) (at-copy .copy .ensures) (rw (at-settings-under .settings-under .ensures) at (at-slashings-core .slashings-core .ensures)) (at-put-back .put-back .ensures)
 
 pub process-slashings-spec : {M : Type 1} → statement M
 process-slashings-spec =

@@ -12,11 +12,19 @@ copy-requires c κs = reset-passed _ _ _ _ (c .before .before .slashings-reset-t
 
 slashings-reset-core-requires : tie.Need-slashings-reset-core-requires
 slashings-reset-core-requires c κs =
-    let p = reset-passed _ _ _ _ (c .before .before .before .before .before .before .slashings-reset-tests .ensures) (c .before .before .before .before .before .if1 .left) in
-    (rw (c .before .before .before .copy .ensures) (p .long), p .settings)
+    let at-copy = c .before .before .before in
+    let at-else1 = at-copy .before .before in
+    let at-slashings-reset-tests = at-else1 .before in
+    let p = reset-passed _ _ _ _ (at-slashings-reset-tests .slashings-reset-tests .ensures) (at-else1 .if1 .left) in
+    (rw (at-copy .copy .ensures) (p .long), p .settings)
 
 returns-2 : tie.Need-returns-2
-returns-2 c = closes-plain _ _ (c .before .before .before .before .before .before .before .before .before .slashings-reset-tests .ensures) _ (c .before .before .before .before .before .before .before .before .if1 .left) (rw (c .before .before .before .before .before .before .copy .ensures) at (c .before .before .slashings-reset-core .ensures))
+returns-2 c =
+    let at-slashings-reset-core = c .before .before in
+    let at-copy : tie.After-copy = search needs in
+    let at-else1 = at-copy .before .before in
+    let at-slashings-reset-tests = at-else1 .before in
+    closes-plain _ _ (at-slashings-reset-tests .slashings-reset-tests .ensures) _ (at-else1 .if1 .left) (rw (at-copy .copy .ensures) at (at-slashings-reset-core .slashings-reset-core .ensures))
 
 pub process-slashings-reset-spec : {M : Type 1} → statement M
 process-slashings-reset-spec =

@@ -39,7 +39,11 @@ same-length : tie.Need-same-length Inv-loop μ-loop
 same-length c = omega arith
 
 returns : tie.Need-returns Inv-loop μ-loop
-returns c = checking-stop (c .before .before .before .before .before .before .loop .inv) (c .before .before .before .before .before .loop-test .taken) (c .before .before .before .entry-slash .ensures) (c .if1 .taken)
+returns c =
+    let at-entry-slash = c .before .before .before in
+    let at-in-loop = at-entry-slash .before .before in
+    let at-at-loop = at-in-loop .before in
+    checking-stop (at-at-loop .loop .inv) (at-in-loop .loop-test .taken) (at-entry-slash .entry-slash .ensures) (c .if1 .taken)
 
 add-i : tie.Need-add-i Inv-loop μ-loop
 add-i c = omega arith
@@ -48,7 +52,11 @@ loop-less : tie.Need-loop-less Inv-loop μ-loop
 loop-less c = omega arith
 
 loop-again : tie.Need-loop-again Inv-loop μ-loop
-loop-again c = checking-more (c .before .before .before .before .before .before .loop .inv) (c .before .before .before .before .before .loop-test .taken) (c .before .before .before .entry-slash .ensures) (c .if1 .left)
+loop-again c =
+    let at-entry-slash = c .before .before .before in
+    let at-in-loop = at-entry-slash .before .before in
+    let at-at-loop = at-in-loop .before in
+    checking-more (at-at-loop .loop .inv) (at-in-loop .loop-test .taken) (at-entry-slash .entry-slash .ensures) (c .if1 .left)
 
 same-length-2 : tie.Need-same-length-2 Inv-loop μ-loop
 same-length-2 c = omega arith

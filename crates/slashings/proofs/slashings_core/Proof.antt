@@ -25,11 +25,11 @@ returns-2 c =
 
 slash-all-requires : tie.Need-slash-all-requires
 slash-all-requires c κs =
-    let h = c .before .before .before .before .before .before in
-    let g = h .before .before in
-    let a = g .before .before .before .before .before in
-    let p = good-settings (a .args .s) (a .pre .1) .positive .«effective_balance_increment» in
-    (a .pre .0, p, total-positive _ _ (says-value (g .total-active .ensures) (h .total .given .1)) p)
+    let at-total : tie.After-total = search needs in
+    let at-total-active = at-total .before .before in
+    let at-start : tie.Start = search needs in
+    let p = good-settings (at-start .args .s) (at-start .pre .1) .positive .«effective_balance_increment» in
+    (at-start .pre .0, p, total-positive _ _ (says-value (at-total-active .total-active .ensures) (at-total .total .given .1)) p)
 
 returns-3 : tie.Need-returns-3
 unfolding «get_total_active_balance»

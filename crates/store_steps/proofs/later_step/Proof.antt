@@ -29,9 +29,10 @@ returns c = let d = c .before in later-turned (call d) (asked d) (start d .pre) 
 
 returns-2 : tie.Need-returns-2
 returns-2 c =
-    let f = c .before .before .before .before .before .before in
-    let e = f .before .before .before .before in
-    f .close-step .ensures ∙ later-by (call (e .before)) (asked (e .before)) (e .if1 .left)
+    let at-close-step : tie.After-close-step = search needs in
+    let at-else1 = at-close-step .before .before .before .before in
+    let at-rules-for = at-else1 .before in
+    at-close-step .close-step .ensures ∙ later-by (call (at-rules-for)) (asked (at-rules-for)) (at-else1 .if1 .left)
 
 pub later-step-spec : {M : Type 1} → statement M
 later-step-spec =

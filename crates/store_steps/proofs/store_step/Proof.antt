@@ -19,21 +19,30 @@ unfolding storeStep unwritten
 returns c = rw (eq-eqb _ _ (c .if1 .taken))
 
 returns-2 : tie.Need-returns-2
-returns-2 c = out-of-turn (call (c .before .before .before .before .before .before .before .before .before .before)) (c .before .before .if1 .left) (fails (c .before .in-turn .ensures) (c .if2 .taken))
+returns-2 c =
+    let at-else1 = c .before .before in
+    let at-start = at-else1 .before .before .before .before .before .before .before .before in
+    out-of-turn (call (at-start)) (at-else1 .if1 .left) (fails (c .before .in-turn .ensures) (c .if2 .taken))
 
 returns-3 : tie.Need-returns-3
 returns-3 c =
-    let f = c .before .before .before .before .before .before in
-    let e = f .before .before .before .before in
-    let d = e .before in
-    f .first-step .ensures ∙ first (call (d .before .before .before .before .before .before .before .before .before .before)) (d .before .before .if1 .left) (passes (d .before .in-turn .ensures) (d .if2 .left)) (e .if3 .taken)
+    let at-first-step : tie.After-first-step = search needs in
+    let at-then3 = at-first-step .before .before .before .before in
+    let at-else2 = at-then3 .before in
+    let at-in-turn = at-else2 .before in
+    let at-else1 = at-in-turn .before in
+    let at-start = at-else1 .before .before .before .before .before .before .before .before in
+    at-first-step .first-step .ensures ∙ first (call (at-start)) (at-else1 .if1 .left) (passes (at-in-turn .in-turn .ensures) (at-else2 .if2 .left)) (at-then3 .if3 .taken)
 
 returns-4 : tie.Need-returns-4
 returns-4 c =
-    let f = c .before .before .before .before .before .before in
-    let e = f .before .before .before .before in
-    let d = e .before in
-    f .later-step .ensures ∙ later (call (d .before .before .before .before .before .before .before .before .before .before)) (d .before .before .if1 .left) (passes (d .before .in-turn .ensures) (d .if2 .left)) (e .if3 .left)
+    let at-later-step : tie.After-later-step = search needs in
+    let at-else3 = at-later-step .before .before .before .before in
+    let at-else2 = at-else3 .before in
+    let at-in-turn = at-else2 .before in
+    let at-else1 = at-in-turn .before in
+    let at-start = at-else1 .before .before .before .before .before .before .before .before in
+    at-later-step .later-step .ensures ∙ later (call (at-start)) (at-else1 .if1 .left) (passes (at-in-turn .in-turn .ensures) (at-else2 .if2 .left)) (at-else3 .if3 .left)
 
 pub store-step-spec : {M : Type 1} → statement M
 store-step-spec =

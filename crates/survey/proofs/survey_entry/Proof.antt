@@ -7,7 +7,14 @@ use Rattle.survey.proofs.survey_entry.Tie as tie
 
 returns : tie.Need-returns
 unfolding foundAfter goodValidator «is_active_validator»
-returns c = let k = c .before .before in let a = k .before .before .before .before .before .before .before in rw (c .number-after .ensures, c .before .last-after .ensures, k .count-after .ensures, k .before .overs-after .ensures, k .before .before .sums-after .ensures, k .before .before .before .test-after .ensures, a .is-active .ensures, a .before .before .before .entry-sums .ensures)
+returns c =
+    let at-count-after = c .before .before in
+    let at-overs-after = at-count-after .before in
+    let at-sums-after = at-overs-after .before in
+    let at-test-after = at-sums-after .before in
+    let at-is-active : tie.After-is-active = search needs in
+    let at-entry-sums = at-is-active .before .before .before in
+    rw (c .number-after .ensures, c .before .last-after .ensures, at-count-after .count-after .ensures, at-overs-after .overs-after .ensures, at-sums-after .sums-after .ensures, at-test-after .test-after .ensures, at-is-active .is-active .ensures, at-entry-sums .entry-sums .ensures)
 
 pub survey-entry-spec : {M : Type 1} → statement M
 survey-entry-spec =

@@ -16,38 +16,17 @@ abbrev μ-loop : tie.MeasureT-loop
 loop-holds : tie.Need-loop-holds Inv-loop μ-loop
 loop-holds c = let s = c .before .before .before .before in rw (c .before .no-sums .ensures, c .no-sums2 .ensures) (seeing-none _ _ _ (s .pre .0) (s .pre .1 .1 .0) (s .pre .1 .1 .1))
 
-mul-a : tie.Need-mul-a Inv-loop μ-loop
-mul-a c = omega arith
-
-add-b : tie.Need-add-b Inv-loop μ-loop
-add-b c = omega arith
-
-mul-survey-entry : tie.Need-mul-survey-entry Inv-loop μ-loop
-mul-survey-entry c = omega arith
-
-sub-survey-entry : tie.Need-sub-survey-entry Inv-loop μ-loop
-sub-survey-entry c = omega arith
-
-part-survey-entry-start : tie.Need-part-survey-entry-start Inv-loop μ-loop
-part-survey-entry-start c = omega arith
-
-part-survey-entry-end : tie.Need-part-survey-entry-end Inv-loop μ-loop
-part-survey-entry-end c = omega arith
-
 survey-entry-requires : tie.Need-survey-entry-requires Inv-loop μ-loop
-survey-entry-requires c κs = let l = c .before in let g = l .before .loop .inv in let long = l .before .before .before .before .before .before .good .1 .1 .1 .0 .0 in (reading-ten (g .at) (l .loop-test .taken), omega (arith, l .loop-test .taken, room-active g, long), omega (arith, l .loop-test .taken, room-queue g, long))
+survey-entry-requires c κs =
+    let at-at-loop = c .before .before in
+    let at-start = at-at-loop .before .before .before .before .before in
+    let g = at-at-loop .loop .inv in let long = at-start .good .1 .1 .1 .0 .0 in (reading-ten (g .at) (c .before .loop-test .taken), omega (arith, c .before .loop-test .taken, room-active g, long), omega (arith, c .before .loop-test .taken, room-queue g, long))
 
 mul-waiting-since : tie.Need-mul-waiting-since Inv-loop μ-loop
-mul-waiting-since c = let l = c .before .before in omega (arith, l .loop-test .taken, l .before .before .before .before .before .before .good .1 .1 .1 .0 .0, l .before .before .before .before .before .before .good .1 .1 .1 .0 .1)
-
-sub-waiting-since : tie.Need-sub-waiting-since Inv-loop μ-loop
-sub-waiting-since c = omega arith
-
-part-waiting-since-start : tie.Need-part-waiting-since-start Inv-loop μ-loop
-part-waiting-since-start c = omega arith
-
-part-waiting-since-end : tie.Need-part-waiting-since-end Inv-loop μ-loop
-part-waiting-since-end c = omega arith
+mul-waiting-since c =
+    let at-in-loop = c .before .before in
+    let at-start = at-in-loop .before .before .before .before .before .before in
+    omega (arith, at-in-loop .loop-test .taken, at-start .good .1 .1 .1 .0 .0, at-start .good .1 .1 .1 .0 .1)
 
 waiting-since-requires : tie.Need-waiting-since-requires Inv-loop μ-loop
 waiting-since-requires c κs = let l = c .before .before .before in (reading-ten (l .before .loop .inv .at) (l .loop-test .taken), omega arith)
@@ -56,31 +35,40 @@ mul-if1 : tie.Need-mul-if1 Inv-loop μ-loop
 mul-if1 c = let l = c .before .before .before .before in omega (arith, l .before .loop .inv .kept .top .inside, l .before .loop .inv .kept .places)
 
 slice-read-if1 : tie.Need-slice-read-if1 Inv-loop μ-loop
-slice-read-if1 c = c .before .before .before .before .before .before .loop .inv .kept .top .inside
+slice-read-if1 c =
+    let at-at-loop = c .before .before .before .before .before .before in
+    at-at-loop .loop .inv .kept .top .inside
 
 add-i : tie.Need-add-i Inv-loop μ-loop
 add-i c = let l = c .before .before .before .before .before .before in omega (arith, l .loop-test .taken, l .before .before .before .before .before .before .good .1 .1 .1 .0 .0, l .before .before .before .before .before .before .good .1 .1 .1 .0 .1)
 
-loop-less : tie.Need-loop-less Inv-loop μ-loop
-loop-less c = omega arith
-
 loop-again : tie.Need-loop-again Inv-loop μ-loop
-loop-again c = let l = c .before .before .before .before .before .before in seeing-more (l .before .loop .inv) (l .loop-test .taken) (c .before .before .before .before .survey-entry .ensures) (c .before .before .waiting-since .ensures) (kept-same _ (l .before .loop .inv .kept .top) (c .if1 .taken))
+loop-again c =
+    let at-waiting-since = c .before .before in
+    let at-survey-entry = at-waiting-since .before .before in
+    let at-in-loop = at-survey-entry .before .before in
+    let at-at-loop = at-in-loop .before in
+    seeing-more (at-at-loop .loop .inv) (at-in-loop .loop-test .taken) (at-survey-entry .survey-entry .ensures) (at-waiting-since .waiting-since .ensures) (kept-same _ (at-at-loop .loop .inv .kept .top) (c .if1 .taken))
 
 keep-requires : tie.Need-keep-requires Inv-loop μ-loop
-keep-requires c κs = c .before .before .before .before .before .before .before .before .loop .inv .kept .top
+keep-requires c κs =
+    let at-at-loop = c .before .before .before .before .before .before .before .before in
+    at-at-loop .loop .inv .kept .top
 
 add-i-2 : tie.Need-add-i-2 Inv-loop μ-loop
-add-i-2 c = let l = c .before .before .before .before .before .before .before .before .before .before in omega (arith, l .loop-test .taken, l .before .before .before .before .before .before .good .1 .1 .1 .0 .0, l .before .before .before .before .before .before .good .1 .1 .1 .0 .1)
-
-loop-less-2 : tie.Need-loop-less-2 Inv-loop μ-loop
-loop-less-2 c = omega arith
+add-i-2 c =
+    let at-in-loop = c .before .before .before .before .before .before .before .before .before .before in
+    let at-start = at-in-loop .before .before .before .before .before .before in
+    omega (arith, at-in-loop .loop-test .taken, at-start .good .1 .1 .1 .0 .0, at-start .good .1 .1 .1 .0 .1)
 
 loop-again-2 : tie.Need-loop-again-2 Inv-loop μ-loop
-loop-again-2 c = let l = c .before .before .before .before .before .before .before .before .before .before in seeing-more (l .before .loop .inv) (l .loop-test .taken) (c .before .before .before .before .before .before .before .before .survey-entry .ensures) (c .before .before .before .before .before .before .waiting-since .ensures) (c .before .before .keep .ensures)
-
-same-length : tie.Need-same-length Inv-loop μ-loop
-same-length c = omega arith
+loop-again-2 c =
+    let at-keep = c .before .before in
+    let at-waiting-since = at-keep .before .before .before .before in
+    let at-survey-entry = at-waiting-since .before .before in
+    let at-in-loop = at-survey-entry .before .before in
+    let at-at-loop = at-in-loop .before in
+    seeing-more (at-at-loop .loop .inv) (at-in-loop .loop-test .taken) (at-survey-entry .survey-entry .ensures) (at-waiting-since .waiting-since .ensures) (at-keep .keep .ensures)
 
 returns : tie.Need-returns Inv-loop μ-loop
 returns c = seeing-all _ (c .before .loop .inv) (c .loop-test .left)
@@ -94,26 +82,26 @@ survey-registry-spec =
     (λ c κs. search needs)
     (λ c κs. search needs)
     loop-holds
-    mul-a
-    add-b
-    mul-survey-entry
-    sub-survey-entry
-    part-survey-entry-start
-    part-survey-entry-end
+    (λ c. omega arith)
+    (λ c. omega arith)
+    (λ c. omega arith)
+    (λ c. omega arith)
+    (λ c. omega arith)
+    (λ c. omega arith)
     survey-entry-requires
     mul-waiting-since
-    sub-waiting-since
-    part-waiting-since-start
-    part-waiting-since-end
+    (λ c. omega arith)
+    (λ c. omega arith)
+    (λ c. omega arith)
     waiting-since-requires
     mul-if1
     slice-read-if1
     add-i
-    loop-less
+    (λ c. omega arith)
     loop-again
     keep-requires
     add-i-2
-    loop-less-2
+    (λ c. omega arith)
     loop-again-2
-    same-length
+    (λ c. omega arith)
     returns)

@@ -31,12 +31,12 @@ module _ (shaped settings first : List Bool) (queue : ExitQueue) (registry : Lis
   others = inOrder shaped settings (first ++ (goodRegistry registry ∷ []))
 
   pub early-refused : (x ≡ 0 → ⊥) → x ≡ codeOf (thenQueue others queue registry)
-  early-refused z = refused-sooner others queue registry (record-refused shaped settings first (goodRegistry registry ∷ []) e z .0) z
+  early-refused z = refused-sooner others queue registry (record-refused shaped settings first (goodRegistry registry ∷ []) e z) z
 
   module _ (z : x ≡ 0) {tested : ℕ} (h : tested ≡ cond (goodRegistry registry) 0 3) where
     pub entries-code : tested ≡ codeOf others
     unfolding every
-    entries-code = h ∙ sym (record-tested shaped settings first (goodRegistry registry ∷ []) e z .0 ∙ rw (and-true (goodRegistry registry)))
+    entries-code = h ∙ sym (record-tested shaped settings first (goodRegistry registry ∷ []) e z ∙ rw (and-true (goodRegistry registry)))
 
     pub found-code : {found : ExitQueue} {t : ℕ} → (tested ≡ 0 → found ≡ queueOf (decode registry)) → t ≡ foundTests tested queue found → t ≡ codeOf (thenQueue others queue registry)
     unfolding foundTests

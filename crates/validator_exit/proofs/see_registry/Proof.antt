@@ -16,73 +16,32 @@ abbrev μ-loop : tie.MeasureT-loop
 loop-holds : tie.Need-loop-holds Inv-loop μ-loop
 loop-holds c = seeing-none _ (c .before .pre)
 
-mul-a : tie.Need-mul-a Inv-loop μ-loop
-mul-a c = omega arith
-
-add-b : tie.Need-add-b Inv-loop μ-loop
-add-b c = omega arith
-
-mul-good-entry : tie.Need-mul-good-entry Inv-loop μ-loop
-mul-good-entry c = omega arith
-
-sub-good-entry : tie.Need-sub-good-entry Inv-loop μ-loop
-sub-good-entry c = omega arith
-
-part-good-entry-start : tie.Need-part-good-entry-start Inv-loop μ-loop
-part-good-entry-start c = omega arith
-
-part-good-entry-end : tie.Need-part-good-entry-end Inv-loop μ-loop
-part-good-entry-end c = omega arith
-
 good-entry-requires : tie.Need-good-entry-requires Inv-loop μ-loop
 good-entry-requires c κs = reading-ten (c .before .before .loop .inv .good .at) (c .before .loop-test .taken)
 
 returns : tie.Need-returns Inv-loop μ-loop
 returns c = seeing-stop (c .before .before .before .before .loop .inv) (c .before .before .before .loop-test .taken) (c .before .good-entry .ensures) (not-true _ (c .if1 .taken))
 
-mul-entry-is-active : tie.Need-mul-entry-is-active Inv-loop μ-loop
-mul-entry-is-active c = omega arith
-
-sub-entry-is-active : tie.Need-sub-entry-is-active Inv-loop μ-loop
-sub-entry-is-active c = omega arith
-
-part-entry-is-active-start : tie.Need-part-entry-is-active-start Inv-loop μ-loop
-part-entry-is-active-start c = omega arith
-
-part-entry-is-active-end : tie.Need-part-entry-is-active-end Inv-loop μ-loop
-part-entry-is-active-end c = omega arith
-
 entry-is-active-requires : tie.Need-entry-is-active-requires Inv-loop μ-loop
-entry-is-active-requires c κs = reading-ten (c .before .before .before .before .before .loop .inv .good .at) (c .before .before .before .before .loop-test .taken)
-
-count-if-requires : tie.Need-count-if-requires Inv-loop μ-loop
-count-if-requires c κs = omega (arith, seeing-few (c .before .before .before .before .before .before .loop .inv))
-
-mul-exited : tie.Need-mul-exited Inv-loop μ-loop
-mul-exited c = omega arith
-
-add-exited : tie.Need-add-exited Inv-loop μ-loop
-add-exited c = omega arith
-
-mul-exited-2 : tie.Need-mul-exited-2 Inv-loop μ-loop
-mul-exited-2 c = omega arith
-
-shared-slice-read-exited : tie.Need-shared-slice-read-exited Inv-loop μ-loop
-shared-slice-read-exited c = omega arith
+entry-is-active-requires c κs =
+    let at-in-loop = c .before .before .before .before in
+    let at-at-loop = at-in-loop .before in
+    reading-ten (at-at-loop .loop .inv .good .at) (at-in-loop .loop-test .taken)
 
 exited-requires : tie.Need-exited-requires Inv-loop μ-loop
-exited-requires c κs = omega (arith, tracking-few (c .before .before .before .before .before .before .before .before .loop .inv .pair))
-
-add-i : tie.Need-add-i Inv-loop μ-loop
-add-i c = omega arith
-
-loop-less : tie.Need-loop-less Inv-loop μ-loop
-loop-less c = omega arith
+exited-requires c κs =
+    let at-at-loop = c .before .before .before .before .before .before .before .before in
+    omega (arith, tracking-few (at-at-loop .loop .inv .pair))
 
 loop-again : tie.Need-loop-again Inv-loop μ-loop
 loop-again c =
-    let g = c .before .before .before .before .before in
-    seeing-more (g .before .before .before .before .loop .inv) (g .before .before .before .loop-test .taken) (g .before .good-entry .ensures) (not-false _ (g .if1 .left)) (c .before .before .before .entry-is-active .ensures) (c .before .before .count-if .ensures) (c .exited .ensures)
+    let at-count-if = c .before .before in
+    let at-entry-is-active = at-count-if .before in
+    let at-else1 = at-entry-is-active .before .before in
+    let at-good-entry = at-else1 .before in
+    let at-in-loop = at-good-entry .before .before in
+    let at-at-loop = at-in-loop .before in
+    seeing-more (at-at-loop .loop .inv) (at-in-loop .loop-test .taken) (at-good-entry .good-entry .ensures) (not-false _ (at-else1 .if1 .left)) (at-entry-is-active .entry-is-active .ensures) (at-count-if .count-if .ensures) (c .exited .ensures)
 
 returns-2 : tie.Need-returns-2 Inv-loop μ-loop
 returns-2 c = seeing-all (c .before .loop .inv) (c .loop-test .left)
@@ -94,26 +53,26 @@ see-registry-spec =
     Inv-loop
     μ-loop
     loop-holds
-    mul-a
-    add-b
-    mul-good-entry
-    sub-good-entry
-    part-good-entry-start
-    part-good-entry-end
+    (λ c. omega arith)
+    (λ c. omega arith)
+    (λ c. omega arith)
+    (λ c. omega arith)
+    (λ c. omega arith)
+    (λ c. omega arith)
     good-entry-requires
     returns
-    mul-entry-is-active
-    sub-entry-is-active
-    part-entry-is-active-start
-    part-entry-is-active-end
+    (λ c. omega arith)
+    (λ c. omega arith)
+    (λ c. omega arith)
+    (λ c. omega arith)
     entry-is-active-requires
-    count-if-requires
-    mul-exited
-    add-exited
-    mul-exited-2
-    shared-slice-read-exited
+    (λ c κs. omega (arith, seeing-few (c .before .before .before .before .before .before .loop .inv)))
+    (λ c. omega arith)
+    (λ c. omega arith)
+    (λ c. omega arith)
+    (λ c. omega arith)
     exited-requires
-    add-i
-    loop-less
+    (λ c. omega arith)
+    (λ c. omega arith)
     loop-again
     returns-2)

@@ -71,7 +71,8 @@ returns-4 c =
 
 weigh-votes-requires : tie.Need-weigh-votes-requires
 weigh-votes-requires c κs =
-    let e = begun (first (c .before .before .before .before .before)) in
+    let at-epoch-lookup2 : tie.After-epoch-lookup2 = search needs in
+    let e = begun (first (at-epoch-lookup2)) in
     let p = votes-passed _ _ _ _ _ (start e .pre) .finality in
     (p .bits, (p .previous, p .current))
 

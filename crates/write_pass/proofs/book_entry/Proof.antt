@@ -9,11 +9,15 @@ returns c = record { long = λ l. absurd (omega (arith, l, c .if1 .taken)); is =
 
 fill-entry-requires : tie.Need-fill-entry-requires
 fill-entry-requires c κs =
-    let a = c .before .before .before .before .before .pre in
-    (a .0, (a .1 .0, ((a .1 .1 .0 .0, a .1 .1 .0 .1, nine-part (c .before .before .before .before .before .args .amounts .now) (c .before .before .before .before .before .args .i) (omega (arith, c .before .if1 .left))), a .1 .1 .1)))
+    let at-start : tie.Start = search needs in
+    let a = at-start .pre in
+    (a .0, (a .1 .0, ((a .1 .1 .0 .0, a .1 .1 .0 .1, nine-part (at-start .args .amounts .now) (at-start .args .i) (omega (arith, c .before .if1 .left))), a .1 .1 .1)))
 
 returns-2 : tie.Need-returns-2
-returns-2 c = put-part (c .before .before .before .before .before .before .before .before .args .amounts .now) (c .before .before .before .before .before .before .before .before .args .i) (c .before .before .fill-entry .kept .1 .1 .1 .1 .1 .0) (c .before .before .fill-entry .ensures)
+returns-2 c =
+    let at-fill-entry = c .before .before in
+    let at-start : tie.Start = search needs in
+    put-part (at-start .args .amounts .now) (at-start .args .i) (at-fill-entry .fill-entry .kept .1 .1 .1 .1 .1 .0) (at-fill-entry .fill-entry .ensures)
 
 pub book-entry-spec : {M : Type 1} → statement M
 book-entry-spec =

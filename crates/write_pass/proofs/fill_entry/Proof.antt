@@ -6,32 +6,52 @@ use Rattle.write_pass.proofs.fill_entry.Statement.{statement}
 use Rattle.write_pass.proofs.fill_entry.Tie as tie
 
 sub-put-nine : tie.Need-sub-put-nine
-sub-put-nine c = genesis-less (c .before .before .before .before .before .before .before .before .pre .1 .1 .1) (c .before .before .if1 .taken)
+sub-put-nine c =
+    let at-then1 = c .before .before in
+    let at-start : tie.Start = search needs in
+    genesis-less (at-start .pre .1 .1 .1) (at-then1 .if1 .taken)
 
 returns : tie.Need-returns
-returns c = c .before .before .put-nine .ensures ∙ genesis-nine (c .before .before .before .before .before .before .before .before .before .before .before .before .pre .1 .1 .1) (c .before .before .before .before .before .before .if1 .taken)
+returns c =
+    let at-put-nine = c .before .before in
+    let at-then1 : tie.Then1 = search needs in
+    let at-start : tie.Start = search needs in
+    at-put-nine .put-nine .ensures ∙ genesis-nine (at-start .pre .1 .1 .1) (at-then1 .if1 .taken)
 
 pairs-by-requires : tie.Need-pairs-by-requires
 pairs-by-requires c κs =
-    let a = c .before .before .before .before .before .before .before .pre in
+    let at-start : tie.Start = search needs in
+    let a = at-start .pre in
     let n = c .before .if1 .left in
     (a .0, (a .1 .1 .0 .0, (a .1 .0 .fits n, a .1 .0 .same n)))
 
 shared-slice-read-put-amounts : tie.Need-shared-slice-read-put-amounts
-shared-slice-read-put-amounts c = omega (arith, c .before .before .before .before .before .before .before .before .before .pre .1 .1 .0 .0)
+shared-slice-read-put-amounts c =
+    let at-start : tie.Start = search needs in
+    omega (arith, at-start .pre .1 .1 .0 .0)
 
 shared-slice-read-put-amounts-2 : tie.Need-shared-slice-read-put-amounts-2
-shared-slice-read-put-amounts-2 c = omega (arith, c .before .before .before .before .before .before .before .before .before .before .pre .1 .1 .0 .1)
+shared-slice-read-put-amounts-2 c =
+    let at-start : tie.Start = search needs in
+    omega (arith, at-start .pre .1 .1 .0 .1)
 
 put-amounts-requires : tie.Need-put-amounts-requires
 put-amounts-requires c κs =
-    let a = c .before .before .before .before .before .before .before .before .before .before .before .pre in
-    let n = c .before .before .before .before .before .if1 .left in
-    let g = c .before .before .before .pairs-by .ensures in
+    let at-pairs-by = c .before .before .before in
+    let at-else1 = at-pairs-by .before .before in
+    let at-start : tie.Start = search needs in
+    let a = at-start .pre in
+    let n = at-else1 .if1 .left in
+    let g = at-pairs-by .pairs-by .ensures in
     (a .1 .1 .0 .2, (paid-fits (a .1 .1 .1) n g, paid-left (a .1 .1 .1) n g))
 
 returns-2 : tie.Need-returns-2
-returns-2 c = c .before .before .put-amounts .ensures ∙ paid-nine (c .before .before .before .before .before .before .before .before .before .before .before .before .before .before .pre .1 .1 .1) (c .before .before .before .before .before .before .before .before .if1 .left) (c .before .before .before .before .before .before .pairs-by .ensures)
+returns-2 c =
+    let at-put-amounts = c .before .before in
+    let at-pairs-by : tie.After-pairs-by = search needs in
+    let at-else1 = at-pairs-by .before .before in
+    let at-start : tie.Start = search needs in
+    at-put-amounts .put-amounts .ensures ∙ paid-nine (at-start .pre .1 .1 .1) (at-else1 .if1 .left) (at-pairs-by .pairs-by .ensures)
 
 pub fill-entry-spec : {M : Type 1} → statement M
 fill-entry-spec =

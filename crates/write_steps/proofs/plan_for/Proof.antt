@@ -26,16 +26,18 @@ returns-2 : tie.Need-returns-2
 returns-2 c = plan-lacks (noAdjusted (says-overflow (c .before .before .adjusted-balance .ensures) (only-adjusted _ _ _) (c .enum-told2 .given .1) .0))
 
 hysteresis-requires : tie.Need-hysteresis-requires
-hysteresis-requires c κs = good-settings _ (c .before .before .before .before .before .before .before .before .before .before .before .pre .0) .positive .«hysteresis_quotient»
+hysteresis-requires c κs =
+    let at-start = c .before .before .before .before .before .before .before .before .before .before .before in
+    good-settings _ (at-start .pre .0) .positive .«hysteresis_quotient»
 
 returns-3 : tie.Need-returns-3
 returns-3 c = plan-lacks (noThresholds (answers-overflow tells-thresholds (c .before .before .hysteresis .ensures) (only-thresholds _) (c .enum-told3 .given .1) .0))
 
 make-plan-requires : tie.Need-make-plan-requires
 make-plan-requires c κs =
-    let a = c .before .before .before .before .before .before .before .before .before .before .before .before .before .before .before in
-    let p = good-settings _ (a .pre .0) .positive in
-    ((p .«effective_balance_increment», a .pre .1), (p .«inactivity_score_bias», p .«inactivity_penalty_quotient_altair»))
+    let at-start = c .before .before .before .before .before .before .before .before .before .before .before .before .before .before .before in
+    let p = good-settings _ (at-start .pre .0) .positive in
+    ((p .«effective_balance_increment», at-start .pre .1), (p .«inactivity_score_bias», p .«inactivity_penalty_quotient_altair»))
 
 returns-4 : tie.Need-returns-4
 returns-4 c =

@@ -25,12 +25,15 @@ plan-for-requires c κs = let a = c .before .before .before .before in (a .pre .
 
 returns : tie.Need-returns
 returns c =
-    let a = c .before .before .before .before .before .before .before in
-    let lacks = c .before .before .plan-for .ensures .none _ (c .enum-told .given .1) in
-    (ran-overflow (not-accepted _ _ _ (ep a) _ _ (λ (g : Accepted-at a). none-lacks g lacks)), record { booked = λ z. absurd (omega (arith, z)) })
+    let at-plan-for = c .before .before in
+    let at-start : tie.Start = search needs in
+    let lacks = at-plan-for .plan-for .ensures .none _ (c .enum-told .given .1) in
+    (ran-overflow (not-accepted _ _ _ (ep at-start) _ _ (λ (g : Accepted-at at-start). none-lacks g lacks)), record { booked = λ z. absurd (omega (arith, z)) })
 
 current-epoch-requires : tie.Need-current-epoch-requires
-current-epoch-requires c κs = good-settings _ (c .before .before .before .before .before .before .before .before .pre .0 .0) .positive .«slots_per_epoch»
+current-epoch-requires c κs =
+    let at-start : tie.Start = search needs in
+    good-settings _ (at-start .pre .0 .0) .positive .«slots_per_epoch»
 
 -- the present epoch is small
 abbrev start : tie.After-current-epoch → tie.Start
@@ -54,11 +57,14 @@ write-all-requires c κs =
 
 returns-2 : tie.Need-returns-2
 returns-2 c =
-    let k = c .before .before .before .before .before .before .before .before in
-    let a = start k in
-    let by = k .before .before .before .before .plan-for .ensures .given _ (k .before .before .p .given .1) in
-    let wrote = c .before .before .before .before .write-all .ensures in
-    (steps-run (ep a) (a .args .slashings .now) _ (a .pre .1 .1) refl (rw (k .current-epoch .ensures) refl) by (wrote .0), record { booked = λ z long. record { totals = a .args .totals; plan = _; summed = a .pre .1 .1 .totals; planned = by; filled = wrote .1 .filled z long } })
+    let at-write-all : tie.After-write-all = search needs in
+    let at-current-epoch : tie.After-current-epoch = search needs in
+    let at-p = at-current-epoch .before .before in
+    let at-plan-for = at-p .before .before in
+    let a = start at-current-epoch in
+    let by = at-plan-for .plan-for .ensures .given _ (at-p .p .given .1) in
+    let wrote = at-write-all .write-all .ensures in
+    (steps-run (ep a) (a .args .slashings .now) _ (a .pre .1 .1) refl (rw (at-current-epoch .current-epoch .ensures) refl) by (wrote .0), record { booked = λ z long. record { totals = a .args .totals; plan = _; summed = a .pre .1 .1 .totals; planned = by; filled = wrote .1 .filled z long } })
 
 pub write-found-spec : {M : Type 1} → statement M
 write-found-spec =

@@ -22,36 +22,54 @@ Accepted-at c = Accepted (c .args .s) (c .args .state-slot) (c .args .finalized-
 
 returns : tie.Need-returns
 returns c =
-    let a = c .before .before .before .before .before .before .before in
+    let at-start : tie.Start = search needs in
     let over = fails (c .before .all-fit .ensures) (c .if1 .taken) in
-    (ran-overflow (not-accepted _ _ _ (ep a) _ _ (λ (g : Accepted-at a). true≢false (sym (plain-fit (a .pre .1 .1) (g .plain)) ∙ over))), record { booked = λ z. absurd (omega (arith, z)) })
+    (ran-overflow (not-accepted _ _ _ (ep at-start) _ _ (λ (g : Accepted-at at-start). true≢false (sym (plain-fit (at-start .pre .1 .1) (g .plain)) ∙ over))), record { booked = λ z. absurd (omega (arith, z)) })
 
 current-epoch-requires : tie.Need-current-epoch-requires
-current-epoch-requires c κs = good-settings _ (c .before .before .before .before .before .before .before .before .pre .0 .0) .positive .«slots_per_epoch»
+current-epoch-requires c κs =
+    let at-start : tie.Start = search needs in
+    good-settings _ (at-start .pre .0 .0) .positive .«slots_per_epoch»
 
 churn-by-requires : tie.Need-churn-by-requires
-churn-by-requires c κs = good-settings _ (c .before .before .before .before .before .before .before .before .before .pre .0 .0) .positive .«churn_limit_quotient»
+churn-by-requires c κs =
+    let at-start = c .before .before .before .before .before .before .before .before .before in
+    good-settings _ (at-start .pre .0 .0) .positive .«churn_limit_quotient»
 
 -- the present epoch is small
 current-small : (c : tie.After-current-epoch) → c .current-epoch .result < 2 ^ 48
-current-small c = rw (c .current-epoch .ensures) (ep (c .before .before .before .before .before .before .before .before .before) .small)
+current-small c =
+    let at-start = c .before .before .before .before .before .before .before .before .before in
+    rw (c .current-epoch .ensures) (ep (at-start) .small)
 
 add-least : tie.Need-add-least
 add-least c = omega (arith, current-small (c .before))
 
 add-least-2 : tie.Need-add-least-2
-add-least-2 c = omega (arith, current-small (c .before .before), good-settings _ (c .before .before .before .before .before .before .before .before .before .before .before .pre .0 .0) .small .«max_seed_lookahead»)
+add-least-2 c =
+    let at-current-epoch = c .before .before in
+    let at-start = at-current-epoch .before .before .before .before .before .before .before .before .before in
+    omega (arith, current-small (at-current-epoch), good-settings _ (at-start .pre .0 .0) .small .«max_seed_lookahead»)
 
 cut-queue-requires : tie.Need-cut-queue-requires
 cut-queue-requires c κs =
-    let a = c .before .before .before .before .before .before .before .before .before .before .before .before .pre in
-    (a .1 .0 .0, ((omega (arith, current-small (c .before .before .before)), omega (arith, a .0 .2)), rw (c .before .before .before .current-epoch .ensures) (a .1 .1 .waiting)))
+    let at-current-epoch = c .before .before .before in
+    let at-start = at-current-epoch .before .before .before .before .before .before .before .before .before in
+    let a = at-start .pre in
+    (a .1 .0 .0, ((omega (arith, current-small (at-current-epoch)), omega (arith, a .0 .2)), rw (at-current-epoch .current-epoch .ensures) (a .1 .1 .waiting)))
 
 write-found-requires : tie.Need-write-found-requires
 write-found-requires c κs =
-    let a = c .before .before .before .before .before .before .before .before .before .before .before .before .before .before .before in
-    let e = c .before .before .before .before .before .before .current-epoch .ensures in
-    ((a .pre .0 .0, a .pre .0 .1), (a .pre .1 .0, found-all (a .args .s) (a .args .state-slot) (a .args .finalized-epoch) (ep a) (a .args .opening .now) (a .pre .1 .1) (passes (c .before .before .before .before .before .before .before .before .before .all-fit .ensures) (c .before .before .before .before .before .before .before .before .if1 .left)) (c .before .before .before .before .before .before .before .totals .ensures) (c .before .before .before .before .before .churn-by .ensures) (rw e at (c .before .before .before .start-pair .ensures)) (rw e at (c .before .before .cut-queue .ensures))))
+    let at-cut-queue = c .before .before in
+    let at-start-pair = at-cut-queue .before in
+    let at-churn-by = at-start-pair .before .before in
+    let at-current-epoch = at-churn-by .before in
+    let at-totals = at-current-epoch .before in
+    let at-else1 = at-totals .before in
+    let at-all-fit = at-else1 .before in
+    let at-start = at-all-fit .before .before .before .before .before .before in
+    let e = at-current-epoch .current-epoch .ensures in
+    ((at-start .pre .0 .0, at-start .pre .0 .1), (at-start .pre .1 .0, found-all (at-start .args .s) (at-start .args .state-slot) (at-start .args .finalized-epoch) (ep at-start) (at-start .args .opening .now) (at-start .pre .1 .1) (passes (at-all-fit .all-fit .ensures) (at-else1 .if1 .left)) (at-totals .totals .ensures) (at-churn-by .churn-by .ensures) (rw e at (at-start-pair .start-pair .ensures)) (rw e at (at-cut-queue .cut-queue .ensures))))
 
 returns-2 : tie.Need-returns-2
 returns-2 c = c .before .before .before .before .write-found .ensures

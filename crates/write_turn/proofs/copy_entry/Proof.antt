@@ -27,7 +27,9 @@ same-length : tie.Need-same-length
 same-length c = simp length-set (omega arith)
 
 returns : tie.Need-returns
-returns c = let a = c .before .before .before .before .before .before .before .before .before .before in ten-copied (a .args .from .now) (a .args .to .now) (a .pre .0) (a .pre .1)
+returns c =
+    let at-start : tie.Start = search needs in
+    ten-copied (at-start .args .from .now) (at-start .args .to .now) (at-start .pre .0) (at-start .pre .1)
 
 pub copy-entry-spec : {M : Type 1} → statement M
 copy-entry-spec =

@@ -9,7 +9,11 @@ returns : tie.Need-returns
 returns c = record { steps = after-stop (turn-steps _ _ _ (c .before .before .before .update-entry .ensures)) _ (c .if1 .taken); few = omega arith }
 
 returns-2 : tie.Need-returns-2
-returns-2 c = record { steps = after-then (turn-steps _ _ _ (c .before .before .before .before .before .before .before .before .update-entry .ensures)) _ (c .before .before .before .before .before .if1 .left) (admit-steps _ _ _ _ (c .before .before .admit-entry .ensures .0) (c .before .before .admit-entry .ensures .1)); few = turn-few _ _ _ (c .before .before .before .before .before .before .before .before .update-entry .ensures) (c .before .before .before .before .before .if1 .left) }
+returns-2 c =
+    let at-admit-entry = c .before .before in
+    let at-else1 = at-admit-entry .before .before .before in
+    let at-update-entry = at-else1 .before .before .before in
+    record { steps = after-then (turn-steps _ _ _ (at-update-entry .update-entry .ensures)) _ (at-else1 .if1 .left) (admit-steps _ _ _ _ (at-admit-entry .admit-entry .ensures .0) (at-admit-entry .admit-entry .ensures .1)); few = turn-few _ _ _ (at-update-entry .update-entry .ensures) (at-else1 .if1 .left) }
 
 pub entry-move-spec : {M : Type 1} → statement M
 entry-move-spec =

@@ -13,27 +13,36 @@ returns c =
 
 returns-2 : tie.Need-returns-2
 returns-2 c =
-    let a = c .before .before .before .before .before .before .before .before .before in
+    let at-entry-update-score = c .before .before .before in
+    let at-else1 = at-entry-update-score .before .before in
+    let at-start : tie.Start = search needs in
     record {
-      runs = pays-some (a .args .s) (a .args .p) (λ z. omega (arith, c .before .before .before .before .before .if1 .left)) (runs-stop _ (settles-runs (c .before .before .before .entry-update-score .ensures)) (λ z. omega (arith, c .if2 .taken)));
-      memo = a .pre .1 .1;
+      runs = pays-some (at-start .args .s) (at-start .args .p) (λ z. omega (arith, at-else1 .if1 .left)) (runs-stop _ (settles-runs (at-entry-update-score .entry-update-score .ensures)) (λ z. omega (arith, c .if2 .taken)));
+      memo = at-start .pre .1 .1;
       rates = λ z. absurd (omega (arith, z, c .if2 .taken));
     }
 
 entry-reward-by-requires : tie.Need-entry-reward-by-requires
 entry-reward-by-requires c κs =
-    let a = c .before .before .before .before .before .before .before .before .before .before .before .before .before .pre in
-    let score = c .before .before .before .before .before .before .before in
-    let rates = c .before .before .rates-for .ensures in
-    (a .0 .shared, ((a .0 .bias, a .0 .quotient), (a .0 .product, (score .entry-update-score .kept .1 .1 .1 .1 .0 ∙ a .1 .0, (rates .1 .0, rates .1 .1)))))
+    let at-rates-for = c .before .before in
+    let at-entry-update-score : tie.After-entry-update-score = search needs in
+    let at-start : tie.Start = search needs in
+    let a = at-start .pre in
+    let rates = at-rates-for .rates-for .ensures in
+    (a .0 .shared, ((a .0 .bias, a .0 .quotient), (a .0 .product, (at-entry-update-score .entry-update-score .kept .1 .1 .1 .1 .0 ∙ a .1 .0, (rates .1 .0, rates .1 .1)))))
 
 returns-3 : tie.Need-returns-3
 returns-3 c =
-    let a = c .before .before .before .before .before .before .before .before .before .before .before .before .before .before .before .before in
+    let at-entry-reward-by = c .before .before in
+    let at-rates-for = at-entry-reward-by .before .before .before in
+    let at-else2 = at-rates-for .before .before in
+    let at-entry-update-score = at-else2 .before .before .before in
+    let at-else1 = at-entry-update-score .before .before in
+    let at-start : tie.Start = search needs in
     record {
-      runs = pays-some (a .args .s) (a .args .p) (λ z. omega (arith, c .before .before .before .before .before .before .before .before .before .before .before .before .if1 .left)) (runs-then _ (settles-runs (c .before .before .before .before .before .before .before .before .before .before .entry-update-score .ensures)) (omega (arith, c .before .before .before .before .before .before .before .if2 .left)) (settles-runs (c .before .before .entry-reward-by .ensures)));
-      memo = c .before .before .before .before .before .rates-for .ensures .0;
-      rates = λ z. (let told = c .before .before .before .before .before .rates-for .ensures .1 in record { fits = λ n. told .0; same = λ n. told .1 ∙ balance-scored _ _ _ _ (c .before .before .before .before .before .before .before .before .before .before .entry-update-score .ensures) });
+      runs = pays-some (at-start .args .s) (at-start .args .p) (λ z. omega (arith, at-else1 .if1 .left)) (runs-then _ (settles-runs (at-entry-update-score .entry-update-score .ensures)) (omega (arith, at-else2 .if2 .left)) (settles-runs (at-entry-reward-by .entry-reward-by .ensures)));
+      memo = at-rates-for .rates-for .ensures .0;
+      rates = λ z. (let told = at-rates-for .rates-for .ensures .1 in record { fits = λ n. told .0; same = λ n. told .1 ∙ balance-scored _ _ _ _ (at-entry-update-score .entry-update-score .ensures) });
     }
 
 pub entry-pay-spec : {M : Type 1} → statement M

@@ -12,13 +12,15 @@ returns c = not-updated _ _ (c .before .before .hysteresis .ensures) (c .enum-to
 
 update-all-requires : tie.Need-update-all-requires
 update-all-requires c κs =
-    let a = c .before .before .before .before .before .before in
-    (a .pre .0, good-settings (a .args .s) (a .pre .1) .positive .«effective_balance_increment»)
+    let at-start : tie.Start = search needs in
+    (at-start .pre .0, good-settings (at-start .args .s) (at-start .pre .1) .positive .«effective_balance_increment»)
 
 returns-2 : tie.Need-returns-2
 returns-2 c =
-    let g = c .before .before .before .before .before in
-    updated-by _ _ (g .before .before .hysteresis .ensures) (g .thresholds .given .1) (c .before .before .update-all .ensures)
+    let at-update-all = c .before .before in
+    let at-thresholds = at-update-all .before .before .before in
+    let at-hysteresis = at-thresholds .before .before in
+    updated-by _ _ (at-hysteresis .hysteresis .ensures) (at-thresholds .thresholds .given .1) (at-update-all .update-all .ensures)
 
 pub effective-balances-core-spec : {M : Type 1} → statement M
 effective-balances-core-spec =

@@ -9,7 +9,10 @@ use Rattle.balances.proofs.effective_balances.entry_update.Statement.{s
 use Rattle.balances.proofs.effective_balances.entry_update.Tie as tie
 
 returns : tie.Need-returns
-returns c = settles-refused _ (c .before .before .before .before .before .before .pre .0) (low-refused _ _ _ _ (says-overflow (c .before .before .add64 .ensures) (only-add64 _ _) (c .enum-told .given .1) .0))
+returns c =
+    let at-add64 = c .before .before in
+    let at-start : tie.Start = search needs in
+    settles-refused _ (at-start .pre .0) (low-refused _ _ _ _ (says-overflow (at-add64 .add64 .ensures) (only-add64 _ _) (c .enum-told .given .1) .0))
 
 returns-2 : tie.Need-returns-2
 unfolding roundedBalance

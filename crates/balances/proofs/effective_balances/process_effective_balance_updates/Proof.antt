@@ -15,21 +15,28 @@ copy-requires c κs = effective-balance-passed _ _ _ (c .before .before .effecti
 
 effective-balances-core-requires : tie.Need-effective-balances-core-requires
 effective-balances-core-requires c κs =
-    let p = effective-balance-passed _ _ _ (c .before .before .before .before .before .before .effective-balance-tests .ensures) (c .before .before .before .before .before .if1 .left) in
-    (rw (c .before .before .before .copy .ensures) (p .shape .long), p .good)
+    let at-copy = c .before .before .before in
+    let at-else1 = at-copy .before .before in
+    let at-effective-balance-tests = at-else1 .before in
+    let p = effective-balance-passed _ _ _ (at-effective-balance-tests .effective-balance-tests .ensures) (at-else1 .if1 .left) in
+    (rw (at-copy .copy .ensures) (p .shape .long), p .good)
 
 put-back-requires : tie.Need-put-back-requires
 put-back-requires c κs =
-    let t = c .before .before .before .before .before .before .before .before .before in
-    omega (arith, effective-balance-passed _ _ _ (t .before .effective-balance-tests .ensures) (t .if1 .left) .same)
+    let at-else1 : tie.Else1 = search needs in
+    let at-effective-balance-tests = at-else1 .before in
+    omega (arith, effective-balance-passed _ _ _ (at-effective-balance-tests .effective-balance-tests .ensures) (at-else1 .if1 .left) .same)
 
 returns-2 : tie.Need-returns-2
 returns-2 c =
-    let k = c .before .before .before .before .before .before in
-    let q = k .before .before .before .before in
-    let t = q .before .before in
-    let a = t .before .before .before .before .before .args in
-    step-put-back («process_effective_balance_updates» (a .s)) _ (t .before .effective-balance-tests .ensures) (t .if1 .left) (q .copy .ensures) (k .effective-balances-core .ensures) (c .before .before .put-back .ensures)
+    let at-put-back = c .before .before in
+    let at-effective-balances-core : tie.After-effective-balances-core = search needs in
+    let at-copy : tie.After-copy = search needs in
+    let at-else1 = at-copy .before .before in
+    let at-effective-balance-tests = at-else1 .before in
+    let at-start : tie.Start = search needs in
+    let a = at-start .args in
+    step-put-back («process_effective_balance_updates» (a .s)) _ (at-effective-balance-tests .effective-balance-tests .ensures) (at-else1 .if1 .left) (at-copy .copy .ensures) (at-effective-balances-core .effective-balances-core .ensures) (at-put-back .put-back .ensures)
 
 pub process-effective-balance-updates-spec : {M : Type 1} → statement M
 process-effective-balance-updates-spec =

@@ -17,7 +17,8 @@ returns-2 c =
 
 see-registry-requires : tie.Need-see-registry-requires
 see-registry-requires c κs =
-    let a = c .before .before .before .before .before .before .before .before .before .args in lent (called (a .rules) (a .finality) (a .registry .now) (a .slashings .now) (a .roots .now) (a .closing-registry .now) (a .closing-slashings .now)) (c .before .record-tests .ensures) (c .if2 .left) .opening .registry
+    let at-start = c .before .before .before .before .before .before .before .before .before in
+    let a = at-start .args in lent (called (a .rules) (a .finality) (a .registry .now) (a .slashings .now) (a .roots .now) (a .closing-registry .now) (a .closing-slashings .now)) (c .before .record-tests .ensures) (c .if2 .left) .opening .registry
 
 returns-3 : tie.Need-returns-3
 returns-3 c =
@@ -25,7 +26,12 @@ returns-3 c =
 
 returns-4 : tie.Need-returns-4
 returns-4 c =
-    queue-tested (fullCalled _ _ _ _ _ _ _ _ _) (c .before .before .before .before .before .before .if1 .left) (entries-tested _ (c .before .before .before .before .before .record-tests .ensures) (c .before .before .before .before .if2 .left) (c .before .before .before .see-registry .ensures .tested)) (c .before .before .before .see-registry .ensures .queue (c .before .before .if3 .left)) (c .queue-refusal .ensures) (rw (eq-eqb _ _ (c .before .before .if3 .left)))
+    let at-else3 = c .before .before in
+    let at-see-registry = at-else3 .before in
+    let at-else2 = at-see-registry .before in
+    let at-record-tests = at-else2 .before in
+    let at-else1 = at-record-tests .before in
+    queue-tested (fullCalled _ _ _ _ _ _ _ _ _) (at-else1 .if1 .left) (entries-tested _ (at-record-tests .record-tests .ensures) (at-else2 .if2 .left) (at-see-registry .see-registry .ensures .tested)) (at-see-registry .see-registry .ensures .queue (at-else3 .if3 .left)) (c .queue-refusal .ensures) (rw (eq-eqb _ _ (at-else3 .if3 .left)))
 
 pub whole-tests-spec : {M : Type 1} → statement M
 whole-tests-spec =

@@ -18,15 +18,21 @@ previous-epoch-requires c κs =
 
 survey-registry-requires : tie.Need-survey-registry-requires
 survey-registry-requires c κs =
-    let p = epochs _ _ (c .before .before .before .before .before .before .pre .0) (c .before .before .before .before .before .before .pre .1 .0 .0) in (c .before .before .before .before .before .before .pre .1 .1 .0, (omega (arith, p .small, c .before .before .before .current-epoch .ensures), c .before .before .before .before .before .before .pre .1 .1 .1))
+    let at-current-epoch = c .before .before .before in
+    let at-start = at-current-epoch .before .before .before in
+    let p = epochs _ _ (at-start .pre .0) (at-start .pre .1 .0 .0) in (at-start .pre .1 .1 .0, (omega (arith, p .small, at-current-epoch .current-epoch .ensures), at-start .pre .1 .1 .1))
 
 churn-by-requires : tie.Need-churn-by-requires
 churn-by-requires c κs =
-    good-settings _ (c .before .before .before .before .before .before .before .before .before .pre .0) .positive .«churn_limit_quotient»
+    let at-start = c .before .before .before .before .before .before .before .before .before in
+    good-settings _ (at-start .pre .0) .positive .«churn_limit_quotient»
 
 cut-queue-requires : tie.Need-cut-queue-requires
 cut-queue-requires c κs =
-    let p = epochs _ _ (c .before .before .before .before .before .before .before .before .before .before .before .before .pre .0) (c .before .before .before .before .before .before .before .before .before .before .before .before .pre .1 .0 .0) in (c .before .before .before .before .before .before .before .before .before .before .before .before .pre .1 .1 .0, ((omega (arith, p .small, c .before .before .before .before .before .before .before .before .before .current-epoch .ensures), omega (arith, c .before .before .before .before .before .before .before .before .before .before .before .before .pre .1 .0 .1)), c .before .before .before .before .before .survey-registry .ensures .waiting))
+    let at-survey-registry : tie.After-survey-registry = search needs in
+    let at-current-epoch = at-survey-registry .before .before .before .before in
+    let at-start = at-current-epoch .before .before .before in
+    let p = epochs _ _ (at-start .pre .0) (at-start .pre .1 .0 .0) in (at-start .pre .1 .1 .0, ((omega (arith, p .small, at-current-epoch .current-epoch .ensures), omega (arith, at-start .pre .1 .0 .1)), at-survey-registry .survey-registry .ensures .waiting))
 
 add-least : tie.Need-add-least
 add-least c =
@@ -34,15 +40,26 @@ add-least c =
 
 add-least-2 : tie.Need-add-least-2
 add-least-2 c =
-    let p = epochs _ _ (c .before .before .before .before .before .before .before .before .before .before .before .before .before .before .pre .0) (c .before .before .before .before .before .before .before .before .before .before .before .before .before .before .pre .1 .0 .0) in omega (arith, p .fits, c .before .before .before .before .before .before .before .before .before .before .before .current-epoch .ensures)
+    let at-current-epoch = c .before .before .before .before .before .before .before .before .before .before .before in
+    let at-start = at-current-epoch .before .before .before in
+    let p = epochs _ _ (at-start .pre .0) (at-start .pre .1 .0 .0) in omega (arith, p .fits, at-current-epoch .current-epoch .ensures)
 
 update-by-requires : tie.Need-update-by-requires
 update-by-requires c κs =
-    let p = epochs _ _ (c .before .before .before .before .before .before .before .before .before .before .before .before .before .before .before .before .pre .0) (c .before .before .before .before .before .before .before .before .before .before .before .before .before .before .before .before .pre .1 .0 .0) in let q = good-settings _ (c .before .before .before .before .before .before .before .before .before .before .before .before .before .before .before .before .pre .0) .small .«max_seed_lookahead» in ((c .before .before .before .before .before .before .before .before .before .before .before .before .before .before .before .before .pre .1 .1 .0, omega (arith, p .small, c .before .before .before .before .before .before .before .before .before .before .before .before .before .current-epoch .ensures), q), (omega arith, (rw (c .before .start-pair .ensures) (tracks-start (omega (arith, p .fits, c .before .before .before .before .before .before .before .before .before .before .before .before .before .current-epoch .ensures)) (c .before .before .before .before .before .before .before .before .before .survey-registry .ensures .queue)), c .before .before .before .cut-queue .ensures)))
+    let at-cut-queue = c .before .before .before in
+    let at-survey-registry = at-cut-queue .before .before .before .before .before .before in
+    let at-current-epoch = at-survey-registry .before .before .before .before in
+    let at-start = at-current-epoch .before .before .before in
+    let p = epochs _ _ (at-start .pre .0) (at-start .pre .1 .0 .0) in let q = good-settings _ (at-start .pre .0) .small .«max_seed_lookahead» in ((at-start .pre .1 .1 .0, omega (arith, p .small, at-current-epoch .current-epoch .ensures), q), (omega arith, (rw (c .before .start-pair .ensures) (tracks-start (omega (arith, p .fits, at-current-epoch .current-epoch .ensures)) (at-survey-registry .survey-registry .ensures .queue)), at-cut-queue .cut-queue .ensures)))
 
 returns : tie.Need-returns
 returns c =
-    let limit = counted-limit _ _ _ (c .before .before .before .before .before .before .before .before .before .before .before .before .before .before .before .before .current-epoch .ensures) (c .before .before .before .before .before .before .before .before .before .before .before .before .survey-registry .ensures .number) (c .before .before .before .before .before .before .before .before .before .churn-by .ensures) in ran-whole _ _ _ _ (c .before .before .before .before .before .before .before .before .before .before .before .before .before .before .before .before .before .before .before .pre .1 .1 .0) (rw (step-by _ _ _ _ _ (epochs _ _ (c .before .before .before .before .before .before .before .before .before .before .before .before .before .before .before .before .before .before .before .pre .0) (c .before .before .before .before .before .before .before .before .before .before .before .before .before .before .before .before .before .before .before .pre .1 .0 .0)) (c .before .before .before .before .before .before .before .before .before .before .before .before .before .before .before .before .current-epoch .ensures) limit) (c .before .before .update-by .ensures))
+    let at-update-by = c .before .before in
+    let at-churn-by = at-update-by .before .before .before .before .before .before .before in
+    let at-survey-registry = at-churn-by .before .before .before in
+    let at-current-epoch = at-survey-registry .before .before .before .before in
+    let at-start = at-current-epoch .before .before .before in
+    let limit = counted-limit _ _ _ (at-current-epoch .current-epoch .ensures) (at-survey-registry .survey-registry .ensures .number) (at-churn-by .churn-by .ensures) in ran-whole _ _ _ _ (at-start .pre .1 .1 .0) (rw (step-by _ _ _ _ _ (epochs _ _ (at-start .pre .0) (at-start .pre .1 .0 .0)) (at-current-epoch .current-epoch .ensures) limit) (at-update-by .update-by .ensures))
 
 pub registry-core-spec : {M : Type 1} → statement M
 registry-core-spec =

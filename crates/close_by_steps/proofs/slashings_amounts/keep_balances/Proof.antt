@@ -36,23 +36,33 @@ mul-balance-2 c = omega arith
 
 shared-slice-read-balance : tie.Need-shared-slice-read-balance Inv-loop μ-loop
 shared-slice-read-balance c =
-    let g = c .before .before .loop .inv in omega (arith, c .before .loop-test .taken, g .small, g .long, c .before .before .before .before .before .pre .0)
+    let at-at-loop = c .before .before in
+    let at-start = at-at-loop .before .before .before in
+    let g = at-at-loop .loop .inv in omega (arith, c .before .loop-test .taken, g .small, g .long, at-start .pre .0)
 
 mul-put-ninth : tie.Need-mul-put-ninth Inv-loop μ-loop
 mul-put-ninth c =
-    let g = c .before .before .loop .inv in omega (arith, c .before .loop-test .taken, g .small, g .long, c .before .before .before .before .before .pre .0)
+    let at-at-loop = c .before .before in
+    let at-start = at-at-loop .before .before .before in
+    let g = at-at-loop .loop .inv in omega (arith, c .before .loop-test .taken, g .small, g .long, at-start .pre .0)
 
 sub-put-ninth : tie.Need-sub-put-ninth Inv-loop μ-loop
 sub-put-ninth c =
-    let g = c .before .before .loop .inv in omega (arith, c .before .loop-test .taken, g .small, g .long, c .before .before .before .before .before .pre .0)
+    let at-at-loop = c .before .before in
+    let at-start = at-at-loop .before .before .before in
+    let g = at-at-loop .loop .inv in omega (arith, c .before .loop-test .taken, g .small, g .long, at-start .pre .0)
 
 part-put-ninth-start : tie.Need-part-put-ninth-start Inv-loop μ-loop
 part-put-ninth-start c =
-    let g = c .before .before .loop .inv in omega (arith, c .before .loop-test .taken, g .small, g .long, c .before .before .before .before .before .pre .0)
+    let at-at-loop = c .before .before in
+    let at-start = at-at-loop .before .before .before in
+    let g = at-at-loop .loop .inv in omega (arith, c .before .loop-test .taken, g .small, g .long, at-start .pre .0)
 
 part-put-ninth-end : tie.Need-part-put-ninth-end Inv-loop μ-loop
 part-put-ninth-end c =
-    let g = c .before .before .loop .inv in omega (arith, c .before .loop-test .taken, g .small, g .long, c .before .before .before .before .before .pre .0)
+    let at-at-loop = c .before .before in
+    let at-start = at-at-loop .before .before .before in
+    let g = at-at-loop .loop .inv in omega (arith, c .before .loop-test .taken, g .small, g .long, at-start .pre .0)
 
 put-ninth-requires : tie.Need-put-ninth-requires Inv-loop μ-loop
 put-ninth-requires c κs =
@@ -63,11 +73,18 @@ add-i c = omega arith
 
 loop-less : tie.Need-loop-less Inv-loop μ-loop
 loop-less c =
-    let g = c .before .before .before .before .before .before .loop .inv in omega (arith, c .before .before .before .before .before .loop-test .taken, g .small, g .long, c .before .before .before .before .before .before .before .before .before .pre .0)
+    let at-in-loop = c .before .before .before .before .before in
+    let at-at-loop = at-in-loop .before in
+    let at-start = at-at-loop .before .before .before in
+    let g = at-at-loop .loop .inv in omega (arith, at-in-loop .loop-test .taken, g .small, g .long, at-start .pre .0)
 
 loop-again : tie.Need-loop-again Inv-loop μ-loop
 loop-again c =
-    let g = c .before .before .before .before .before .before .loop .inv in let l = c .before .before .before .before .before .loop-test .taken in let e = c .before .before .put-ninth in putting-more g l (e .kept .1 .0 ∙ putting-nine g l) (e .ensures) (balance-is _ _ _ (c .before .before .before .before .before .before .before .before .before .pre .0) l)
+    let at-put-ninth = c .before .before in
+    let at-in-loop = at-put-ninth .before .before .before in
+    let at-at-loop = at-in-loop .before in
+    let at-start = at-at-loop .before .before .before in
+    let g = at-at-loop .loop .inv in let l = at-in-loop .loop-test .taken in let e = at-put-ninth .put-ninth in putting-more g l (e .kept .1 .0 ∙ putting-nine g l) (e .ensures) (balance-is _ _ _ (at-start .pre .0) l)
 
 same-length : tie.Need-same-length Inv-loop μ-loop
 same-length c =

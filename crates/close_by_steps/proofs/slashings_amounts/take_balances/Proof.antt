@@ -27,11 +27,18 @@ less-requires c κs =
 
 put-ninth-requires : tie.Need-put-ninth-requires Inv-loop μ-loop
 put-ninth-requires c κs =
-    putting-nine (c .before .before .before .before .before .loop .inv) (c .before .before .before .before .loop-test .taken)
+    let at-in-loop = c .before .before .before .before in
+    let at-at-loop = at-in-loop .before in
+    putting-nine (at-at-loop .loop .inv) (at-in-loop .loop-test .taken)
 
 loop-again : tie.Need-loop-again Inv-loop μ-loop
 loop-again c =
-    let g = c .before .before .before .before .before .before .before .before .loop .inv in let l = c .before .before .before .before .before .before .before .loop-test .taken in let e = c .before .before .put-ninth in putting-more g l (e .kept .1 .0 ∙ putting-nine g l) (e .ensures) (c .before .before .before .before .less .ensures ∙ ap₂ _-_ (putting-ninth g l) (balance-is _ _ _ (c .before .before .before .before .before .before .before .before .before .before .before .pre .0) l))
+    let at-put-ninth = c .before .before in
+    let at-less = at-put-ninth .before .before in
+    let at-in-loop = at-less .before .before .before in
+    let at-at-loop = at-in-loop .before in
+    let at-start = at-at-loop .before .before .before in
+    let g = at-at-loop .loop .inv in let l = at-in-loop .loop-test .taken in let e = at-put-ninth .put-ninth in putting-more g l (e .kept .1 .0 ∙ putting-nine g l) (e .ensures) (at-less .less .ensures ∙ ap₂ _-_ (putting-ninth g l) (balance-is _ _ _ (at-start .pre .0) l))
 
 returns : tie.Need-returns Inv-loop μ-loop
 returns c =

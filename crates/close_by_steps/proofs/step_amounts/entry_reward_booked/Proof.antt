@@ -9,23 +9,40 @@ use Rattle.close_by_steps.proofs.step_amounts.entry_reward_booked.Tie a
 
 returns : tie.Need-returns
 returns c =
-    four-refused _ _ _ _ _ _ _ _ (c .before .before .before .before .before .before .pre .1 .1 .1 .0) (answers-overflow tells-pairs (c .before .before .four-pairs .ensures) (only-four _ _ _ _ _ _ _ _) (c .enum-told .given .1) .0)
+    let at-four-pairs = c .before .before in
+    let at-start : tie.Start = search needs in
+    four-refused _ _ _ _ _ _ _ _ (at-start .pre .1 .1 .1 .0) (answers-overflow tells-pairs (at-four-pairs .four-pairs .ensures) (only-four _ _ _ _ _ _ _ _) (c .enum-told .given .1) .0)
 
 returns-2 : tie.Need-returns-2
 returns-2 c =
-    balance-refused _ _ _ _ _ _ _ _ (c .before .before .before .before .before .before .before .before .before .before .before .before .before .before .before .pre .1 .1 .1 .0) (answers-value tells-pairs (c .before .before .before .before .before .before .before .before .before .before .before .four-pairs .ensures) (c .before .before .before .before .before .before .before .before .before .pairs .given .1)) (says-overflow (c .before .before .all-applied .ensures) (only-all-applied _ _) (c .enum-told2 .given .1) .0)
+    let at-all-applied = c .before .before in
+    let at-pairs = at-all-applied .before .before .before .before .before .before .before in
+    let at-four-pairs = at-pairs .before .before in
+    let at-start = at-four-pairs .before .before .before .before in
+    balance-refused _ _ _ _ _ _ _ _ (at-start .pre .1 .1 .1 .0) (answers-value tells-pairs (at-four-pairs .four-pairs .ensures) (at-pairs .pairs .given .1)) (says-overflow (at-all-applied .all-applied .ensures) (only-all-applied _ _) (c .enum-told2 .given .1) .0)
 
 put-amounts-requires : tie.Need-put-amounts-requires
 put-amounts-requires c κs =
-    let k = fits-left _ (c .before .before .before .before .before .before .before .before .before .before .before .pairs .given .0 .0) (says-value (c .before .before .before .before .all-applied .ensures) (c .before .before .balance .given .1)) in (c .before .before .before .before .before .before .before .before .before .before .before .before .before .before .before .before .before .pre .1 .1 .1 .1, (k .0, k .1))
+    let at-balance = c .before .before in
+    let at-all-applied = at-balance .before .before in
+    let at-pairs = at-all-applied .before .before .before .before .before .before .before in
+    let at-start = at-pairs .before .before .before .before .before .before in
+    let k = fits-left _ (at-pairs .pairs .given .0 .0) (says-value (at-all-applied .all-applied .ensures) (at-balance .balance .given .1)) in (at-start .pre .1 .1 .1 .1, (k .0, k .1))
 
 slice-write-entry : tie.Need-slice-write-entry
 slice-write-entry c =
-    omega (arith, c .before .before .before .before .before .before .before .before .before .before .before .before .before .before .before .before .before .before .before .before .pre .1 .1 .1 .0)
+    let at-start = c .before .before .before .before .before .before .before .before .before .before .before .before .before .before .before .before .before .before .before .before in
+    omega (arith, at-start .pre .1 .1 .1 .0)
 
 returns-3 : tie.Need-returns-3
 returns-3 c =
-    entry-booked _ _ _ _ _ _ _ _ (c .before .before .before .before .before .before .before .before .before .before .before .before .before .before .before .before .before .before .before .before .pre .1 .1 .1 .0) (answers-value tells-pairs (c .before .before .before .before .before .before .before .before .before .before .before .before .before .before .before .before .four-pairs .ensures) (c .before .before .before .before .before .before .before .before .before .before .before .before .before .before .pairs .given .1)) (says-value (c .before .before .before .before .before .before .before .all-applied .ensures) (c .before .before .before .before .before .balance .given .1)) (c .before .before .put-amounts .ensures)
+    let at-put-amounts = c .before .before in
+    let at-balance = at-put-amounts .before .before .before in
+    let at-all-applied = at-balance .before .before in
+    let at-pairs = at-all-applied .before .before .before .before .before .before .before in
+    let at-four-pairs = at-pairs .before .before in
+    let at-start = at-four-pairs .before .before .before .before in
+    entry-booked _ _ _ _ _ _ _ _ (at-start .pre .1 .1 .1 .0) (answers-value tells-pairs (at-four-pairs .four-pairs .ensures) (at-pairs .pairs .given .1)) (says-value (at-all-applied .all-applied .ensures) (at-balance .balance .given .1)) (at-put-amounts .put-amounts .ensures)
 
 pub entry-reward-booked-spec : {M : Type 1} → statement M
 entry-reward-booked-spec =

@@ -22,15 +22,24 @@ loop-holds c =
 
 entry-reward-booked-requires : tie.Need-entry-reward-booked-requires Inv-loop μ-loop
 entry-reward-booked-requires c κs =
-    let a = c .before .before .before .before .before .before .pre in let g = c .before .before .before .loop .inv in let l = c .before .before .loop-test .taken in (a .0, (a .1 .0, (a .1 .1 .0, (booking-ten g l, booking-nine g l))))
+    let at-in-loop = c .before .before in
+    let at-at-loop = at-in-loop .before in
+    let at-start = at-at-loop .before .before .before in
+    let a = at-start .pre in let g = at-at-loop .loop .inv in let l = at-in-loop .loop-test .taken in (a .0, (a .1 .0, (a .1 .1 .0, (booking-ten g l, booking-nine g l))))
 
 returns : tie.Need-returns Inv-loop μ-loop
 returns c =
-    booking-stop (c .before .before .before .before .before .before .before .before .before .loop .inv) (c .before .before .before .before .before .before .before .before .loop-test .taken) (c .before .before .before .before .before .entry-reward-booked .ensures) (c .if1 .taken)
+    let at-entry-reward-booked = c .before .before .before .before .before in
+    let at-in-loop = at-entry-reward-booked .before .before .before in
+    let at-at-loop = at-in-loop .before in
+    booking-stop (at-at-loop .loop .inv) (at-in-loop .loop-test .taken) (at-entry-reward-booked .entry-reward-booked .ensures) (c .if1 .taken)
 
 loop-again : tie.Need-loop-again Inv-loop μ-loop
 loop-again c =
-    let g = c .before .before .before .before .before .before .before .before .before .loop .inv in let l = c .before .before .before .before .before .before .before .before .loop-test .taken in let e = c .before .before .before .before .before .entry-reward-booked in booking-more g l (e .ensures) (c .if1 .left) (e .kept .1 .1 .1 .1 .1 .1 .1 .1 .0 ∙ booking-nine g l)
+    let at-entry-reward-booked = c .before .before .before .before .before in
+    let at-in-loop = at-entry-reward-booked .before .before .before in
+    let at-at-loop = at-in-loop .before in
+    let g = at-at-loop .loop .inv in let l = at-in-loop .loop-test .taken in let e = at-entry-reward-booked .entry-reward-booked in booking-more g l (e .ensures) (c .if1 .left) (e .kept .1 .1 .1 .1 .1 .1 .1 .1 .0 ∙ booking-nine g l)
 
 returns-2 : tie.Need-returns-2 Inv-loop μ-loop
 returns-2 c =

@@ -7,16 +7,17 @@ use Rattle.fields.proofs.decimals.put_labelled.Tie as tie
 
 put-decimal-requires : tie.Need-put-decimal-requires
 put-decimal-requires c κs =
-    let a = c .before .before .before .before .before .before .before in
-    omega (arith, twenty (a .args .n) (omega arith))
+    let at-start : tie.Start = search needs in
+    omega (arith, twenty (at-start .args .n) (omega arith))
 
 returns : tie.Need-returns
 returns c =
-    let b = c .before .before .before .before .before .before in
-    let s = b .before .before .before .before in
-    let a = s .args in
-    let p = c .before .before .put-decimal .ensures in
-    (put-more (put (a .text .now) (a .at) (a .label .now) (b .put-bytes .ensures)) p, omega (arith, p .stopped, twenty (a .n) (omega arith)))
+    let at-put-decimal = c .before .before in
+    let at-put-bytes : tie.After-put-bytes = search needs in
+    let at-start : tie.Start = search needs in
+    let a = at-start .args in
+    let p = at-put-decimal .put-decimal .ensures in
+    (put-more (put (a .text .now) (a .at) (a .label .now) (at-put-bytes .put-bytes .ensures)) p, omega (arith, p .stopped, twenty (a .n) (omega arith)))
 
 pub put-labelled-spec : {M : Type 1} → statement M
 put-labelled-spec =

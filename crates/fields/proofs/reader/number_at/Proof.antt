@@ -32,8 +32,10 @@ wide-requires c κs = tt
 -- what is read so far leaves room for one byte more
 small : (c : tie.After-wide Inv-loop μ-loop) → c .before .before .before .loop .n < 2 ^ 56
 small c =
-    let a = c .before .before .before .before .before .args in
-    let l = c .before .before .before .loop in
+    let at-at-loop = c .before .before .before in
+    let at-start = at-at-loop .before .before in
+    let a = at-start .args in
+    let l = at-at-loop .loop in
     rw (l .inv .1) (field-small (a .bytes .now) (λ i. c .before .shared-slice-known2 .given i .fits) (8 - l .k) (a .at + l .k) (omega arith) (omega arith))
 
 mul-n : tie.Need-mul-n Inv-loop μ-loop
@@ -47,8 +49,10 @@ loop-less c = omega arith
 
 loop-again : tie.Need-loop-again Inv-loop μ-loop
 loop-again c =
-    let a = c .before .before .before .before .before .args in
-    let l = c .before .before .before .loop in
+    let at-at-loop = c .before .before .before in
+    let at-start = at-at-loop .before .before in
+    let a = at-start .args in
+    let l = at-at-loop .loop in
     (omega arith, rw (c .wide .ensures .0, l .inv .1) (field-back (a .bytes .now) (a .at) (l .k) (omega arith) (omega arith) (omega arith)))
 
 returns : tie.Need-returns Inv-loop μ-loop

@@ -16,13 +16,19 @@ returns-3 : tie.Need-returns-3
 returns-3 c = let a = c .before .before .before .before .args in sym (ne-eqb (a .length) (fileLength (a .version) (a .validators) (a .roots) (a .slashings)) (λ e. omega arith))
 
 returns-4 : tie.Need-returns-4
-returns-4 c = let a = c .before .before .before .before .before .args in sym (ne-eqb (a .length) (fileLength (a .version) (a .validators) (a .roots) (a .slashings)) (λ e. omega arith))
+returns-4 c =
+    let at-start : tie.Start = search needs in
+    let a = at-start .args in sym (ne-eqb (a .length) (fileLength (a .version) (a .validators) (a .roots) (a .slashings)) (λ e. omega arith))
 
 returns-5 : tie.Need-returns-5
-returns-5 c = let a = c .before .before .before .before .before .before .args in sym (ne-eqb (a .length) (fileLength (a .version) (a .validators) (a .roots) (a .slashings)) (λ e. omega arith))
+returns-5 c =
+    let at-start : tie.Start = search needs in
+    let a = at-start .args in sym (ne-eqb (a .length) (fileLength (a .version) (a .validators) (a .roots) (a .slashings)) (λ e. omega arith))
 
 returns-6 : tie.Need-returns-6
-returns-6 c = let a = c .before .before .before .before .before .before .args in sym (eq-eqb (a .length) (fileLength (a .version) (a .validators) (a .roots) (a .slashings)) (omega arith))
+returns-6 c =
+    let at-start : tie.Start = search needs in
+    let a = at-start .args in sym (eq-eqb (a .length) (fileLength (a .version) (a .validators) (a .roots) (a .slashings)) (omega arith))
 
 pub as-long-spec : {M : Type 1} → statement M
 as-long-spec =

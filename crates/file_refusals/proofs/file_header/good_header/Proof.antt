@@ -37,20 +37,28 @@ returns-3 c = rw (tests (c .before .before .before), lt-leb _ _ (c .if3 .taken))
 
 returns-4 : tie.Need-returns-4
 unfolding every
-returns-4 c = rw (tests (c .before .before .before .before .before), fails (c .before .as-long .ensures) (c .if4 .taken)) (simp and-false)
+returns-4 c =
+    let at-read-numbers : tie.After-read-numbers = search needs in
+    rw (tests (at-read-numbers), fails (c .before .as-long .ensures) (c .if4 .taken)) (simp and-false)
 
 header-of-requires : tie.Need-header-of-requires
 header-of-requires c κs =
-    let xs = found (c .before .before .before .before .before) in
-    let e : length (bytes (c .before .before .before .before .before)) ≡ fileLength (getD xs 0 0) (getD xs 2 0) (getD xs 3 0) (getD xs 4 0) = eqb-true _ _ (passes (c .before .as-long .ensures) (c .if4 .left)) in
+    let at-read-numbers : tie.After-read-numbers = search needs in
+    let xs = found (at-read-numbers) in
+    let e : length (bytes (at-read-numbers)) ≡ fileLength (getD xs 0 0) (getD xs 2 0) (getD xs 3 0) (getD xs 4 0) = eqb-true _ _ (passes (c .before .as-long .ensures) (c .if4 .left)) in
     (omega arith, omega arith, omega arith)
 
 returns-5 : tie.Need-returns-5
 unfolding every
 returns-5 c =
-    let long = c .before .before .before .before in
-    let some = long .before .before .before in
-    rw (tests (c .before .before .before .before .before .before .before .before .before), le-leb _ _ (some .before .before .before .before .if1 .left), le-leb _ _ (some .if2 .left), le-leb _ _ (long .before .before .if3 .left), passes (long .before .as-long .ensures) (long .if4 .left)) (simp and-true (rw (c .before .before .before .header-of .ensures) at (c .same-numbers .ensures)))
+    let at-header-of = c .before .before .before in
+    let at-else4 = at-header-of .before in
+    let at-as-long = at-else4 .before in
+    let at-else3 = at-as-long .before in
+    let at-else2 = at-else3 .before in
+    let at-read-numbers = at-else2 .before .before in
+    let at-else1 = at-read-numbers .before .before in
+    rw (tests (at-read-numbers), le-leb _ _ (at-else1 .if1 .left), le-leb _ _ (at-else2 .if2 .left), le-leb _ _ (at-else3 .if3 .left), passes (at-as-long .as-long .ensures) (at-else4 .if4 .left)) (simp and-true (rw (at-header-of .header-of .ensures) at (c .same-numbers .ensures)))
 
 pub good-header-spec : {M : Type 1} → statement M
 good-header-spec =

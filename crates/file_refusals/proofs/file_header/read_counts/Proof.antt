@@ -8,9 +8,12 @@ use Rattle.file_refusals.proofs.file_header.read_counts.Tie as tie
 
 returns : tie.Need-returns
 returns c =
-    let bytes = c .before .before .before .before .before .args .bytes .now in
-    let first = c .before .before .before .read-number in
-    let second = c .before .before .read-number2 in
+    let at-read-number2 = c .before .before in
+    let at-read-number = at-read-number2 .before in
+    let at-start = at-read-number .before .before in
+    let bytes = at-start .args .bytes .now in
+    let first = at-read-number .read-number in
+    let second = at-read-number2 .read-number2 in
     let third : second .result .position ≡ 32 = omega arith in
     (first .ensures .0, second .ensures .0 ∙ ap (λ (k : ℕ). numberAt k bytes) (first .ensures .1), c .before .read-number3 .ensures .0 ∙ ap (λ (k : ℕ). numberAt k bytes) third, c .read-number4 .ensures .0)
 

@@ -30,7 +30,10 @@ shared-slice-read-if1-2 : tie.Need-shared-slice-read-if1-2 Inv-loop μ-loop
 shared-slice-read-if1-2 c = omega arith
 
 returns : tie.Need-returns Inv-loop μ-loop
-returns c = let a = c .before .before .before .before .before .args in let l = c .before .before .before .before .loop in sym (l .inv .1 ∙ same-more (a .a .now) (a .b .now) (l .i) (omega arith) (omega arith) ∙ rw (ne-eqb _ _ (c .if1 .taken)))
+returns c =
+    let at-at-loop = c .before .before .before .before in
+    let at-start = at-at-loop .before in
+    let a = at-start .args in let l = at-at-loop .loop in sym (l .inv .1 ∙ same-more (a .a .now) (a .b .now) (l .i) (omega arith) (omega arith) ∙ rw (ne-eqb _ _ (c .if1 .taken)))
 
 add-i : tie.Need-add-i Inv-loop μ-loop
 add-i c = omega arith
@@ -40,8 +43,10 @@ loop-less c = omega arith
 
 loop-again : tie.Need-loop-again Inv-loop μ-loop
 loop-again c =
-    let a = c .before .before .before .before .before .args in
-    let l = c .before .before .before .before .loop in
+    let at-at-loop = c .before .before .before .before in
+    let at-start = at-at-loop .before in
+    let a = at-start .args in
+    let l = at-at-loop .loop in
     (omega arith, l .inv .1 ∙ same-more (a .a .now) (a .b .now) (l .i) (omega arith) (omega arith) ∙ rw (eq-eqb _ _ (c .if1 .left)))
 
 returns-2 : tie.Need-returns-2 Inv-loop μ-loop

@@ -23,7 +23,9 @@ returns c =
     record { text = rw (printed-refused (handed (start d)) (d .close-as-altair .ensures) (c .before .before .before .before .if1 .taken)) (p .0); inside = omega (arith, p .1, start d .pre) }
 
 passed : (c : tie.Else1) → Accepted (handed (start (c .before .before .before .before .before .before)))
-passed c = accepted _ (sym (ap (λ (o : Outcome). o .refusal) (c .before .before .before .before .before .before .close-as-altair .ensures)) ∙ c .if1 .left)
+passed c =
+    let at-close-as-altair : tie.After-close-as-altair = search needs in
+    accepted _ (sym (ap (λ (o : Outcome). o .refusal) (at-close-as-altair .close-as-altair .ensures)) ∙ c .if1 .left)
 
 put-close-requires : tie.Need-put-close-requires
 put-close-requires c κs =

@@ -20,17 +20,20 @@ returns c =
 
 head-core-requires : tie.Need-head-core-requires
 head-core-requires c κs =
-    let s = c .before .before .before .before .before in
-    (s .pre .0, registry-shaped _ (s .pre .1 .0 .0) .long)
+    let at-start : tie.Start = search needs in
+    (at-start .pre .0, registry-shaped _ (at-start .pre .1 .0 .0) .long)
 
 returns-2 : tie.Need-returns-2
 returns-2 c =
-    let q = c .before .before .put-lines .ensures in
-    let k = c .before .before .before .before .before .before in
-    let p = k .put-head .ensures .0 in
-    let h = k .before .before .head-core .ensures in
-    let t = k .before .before .before in
-    (rw (or-text _ (sym (t .before .changes .ensures) ∙ t .if1 .left)) (put-more (rw h at p) (q .0)), omega (arith, q .1, put-length p))
+    let at-put-lines = c .before .before in
+    let at-put-head : tie.After-put-head = search needs in
+    let at-head-core = at-put-head .before .before in
+    let at-else1 = at-head-core .before in
+    let at-changes = at-else1 .before in
+    let q = at-put-lines .put-lines .ensures in
+    let p = at-put-head .put-head .ensures .0 in
+    let h = at-head-core .head-core .ensures in
+    (rw (or-text _ (sym (at-changes .changes .ensures) ∙ at-else1 .if1 .left)) (put-more (rw h at p) (q .0)), omega (arith, q .1, put-length p))
 
 pub put-close-spec : {M : Type 1} → statement M
 put-close-spec =

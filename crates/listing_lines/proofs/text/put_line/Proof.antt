@@ -6,10 +6,12 @@ use Rattle.listing_lines.proofs.text.put_line.Tie as tie
 
 returns : tie.Need-returns
 returns c =
-    let k = c .before .before .before .before in
-    let p = k .before .before .before .before .before .before .put-row .ensures in
-    let q = k .before .before .put-change .ensures in
-    let r = c .before .before .put-end .ensures in
+    let at-put-end = c .before .before in
+    let at-put-change : tie.After-put-change = search needs in
+    let at-put-row : tie.After-put-row = search needs in
+    let p = at-put-row .put-row .ensures in
+    let q = at-put-change .put-change .ensures in
+    let r = at-put-end .put-end .ensures in
     (put-more (put-more (p .0) (q .0)) r, omega (arith, p .1, q .1, r .stopped))
 
 pub put-line-spec : {M : Type 1} → statement M

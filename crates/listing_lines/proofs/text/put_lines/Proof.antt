@@ -59,20 +59,21 @@ loop-less c = omega arith
 
 loop-again : tie.Need-loop-again Inv-loop μ-loop
 loop-again c =
-    let k = c .before .before in
-    let t = k .before .before .before .before .before .before in
-    let s = t .before .before .before .before .before in
-    let p = k .put-line .ensures in
-    lining-more _ _ (s .pre .0 .0) (s .pre .0 .1) (t .before .loop .inv) (t .loop-test .taken) (p .0) (p .1)
+    let at-put-line = c .before .before in
+    let at-in-loop = at-put-line .before .before .before .before .before .before in
+    let at-at-loop = at-in-loop .before in
+    let at-start = at-at-loop .before .before .before .before in
+    let p = at-put-line .put-line .ensures in
+    lining-more _ _ (at-start .pre .0 .0) (at-start .pre .0 .1) (at-at-loop .loop .inv) (at-in-loop .loop-test .taken) (p .0) (p .1)
 
 same-length : tie.Need-same-length Inv-loop μ-loop
 same-length c = omega arith
 
 returns : tie.Need-returns Inv-loop μ-loop
 returns c =
-    let s = c .before .before .before .before .before in
+    let at-start = c .before .before .before .before .before in
     let v = c .before .loop .inv in
-    (lining-all _ _ (s .pre .0 .0) (s .pre .0 .1) v (c .loop-test .left), omega (arith, v .room, v .long))
+    (lining-all _ _ (at-start .pre .0 .0) (at-start .pre .0 .1) v (c .loop-test .left), omega (arith, v .room, v .long))
 
 pub put-lines-spec : {M : Type 1} → statement M
 put-lines-spec =

@@ -6,8 +6,10 @@ use Rattle.listing_lines.proofs.text.put_refused.Tie as tie
 
 returns : tie.Need-returns
 returns c =
-    let p = c .before .before .before .before .before .before .put-labelled .ensures in
-    let q = c .before .before .put-end .ensures in
+    let at-put-end = c .before .before in
+    let at-put-labelled : tie.After-put-labelled = search needs in
+    let p = at-put-labelled .put-labelled .ensures in
+    let q = at-put-end .put-end .ensures in
     (put-more (p .0) q, omega (arith, p .1, q .stopped))
 
 pub put-refused-spec : {M : Type 1} → statement M

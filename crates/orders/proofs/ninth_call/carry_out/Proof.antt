@@ -16,12 +16,15 @@ returns c = rw (eq-eqb (c .before .before .before .before .args .running .done) 
 returns-2 : tie.Need-returns-2
 unfolding carryOut
 returns-2 c =
-    let done = c .before .before .before .before .before .args .running .done in
+    let at-start : tie.Start = search needs in
+    let done = at-start .args .running .done in
     rw (ne-eqb done 9 (λ e. omega (arith, e, c .before .if1 .left)), ne-eqb done 8 (λ e. omega (arith, e, c .if2 .taken)))
 
 returns-3 : tie.Need-returns-3
 returns-3 c =
-    let eighth : c .before .before .before .before .before .before .before .before .before .args .running .done ≡ 8 = omega (arith, c .before .before .before .before .if2 .left) in
+    let at-else2 : tie.Else2 = search needs in
+    let at-start : tie.Start = search needs in
+    let eighth : at-start .args .running .done ≡ 8 = omega (arith, at-else2 .if2 .left) in
     turned-away (ninthCalled _ _ _ _ _ _) (c .before .ninth-tests .ensures) eighth (c .if3 .taken)
 
 carry-tested-requires : tie.Need-carry-tested-requires
@@ -29,8 +32,14 @@ carry-tested-requires c κs = rw (c .before .before .settings-under .ensures) (r
 
 returns-4 : tie.Need-returns-4
 returns-4 c =
-    let eighth : c .before .before .before .before .before .before .before .before .before .before .before .before .before .before .before .before .before .args .running .done ≡ 8 = omega (arith, c .before .before .before .before .before .before .before .before .before .before .before .before .if2 .left) in
-    c .before .before .before .before .carry-tested .ensures ∙ rw (c .before .before .before .before .before .before .before .settings-under .ensures) (carries-out (ninthCalled _ _ _ _ _ _) (c .before .before .before .before .before .before .before .before .before .ninth-tests .ensures) eighth (c .before .before .before .before .before .before .before .before .if3 .left))
+    let at-carry-tested : tie.After-carry-tested = search needs in
+    let at-settings-under = at-carry-tested .before .before .before in
+    let at-else3 = at-settings-under .before in
+    let at-ninth-tests = at-else3 .before in
+    let at-else2 = at-ninth-tests .before .before .before in
+    let at-start : tie.Start = search needs in
+    let eighth : at-start .args .running .done ≡ 8 = omega (arith, at-else2 .if2 .left) in
+    at-carry-tested .carry-tested .ensures ∙ rw (at-settings-under .settings-under .ensures) (carries-out (ninthCalled _ _ _ _ _ _) (at-ninth-tests .ninth-tests .ensures) eighth (at-else3 .if3 .left))
 
 pub carry-out-spec : {M : Type 1} → statement M
 carry-out-spec =

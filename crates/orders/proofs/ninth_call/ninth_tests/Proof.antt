@@ -9,7 +9,8 @@ returns c = lent-refuses _ (c .before .lent-tests .ensures) (c .if1 .taken)
 
 see-registry-requires : tie.Need-see-registry-requires
 see-registry-requires c κs =
-    let a = c .before .before .before .before .before .before .before .args in
+    let at-start : tie.Start = search needs in
+    let a = at-start .args in
     lent-long (ninthCalled (a .rules) (a .period) (a .running) (a .registry .now) (a .orders .now) (a .answers .now)) (c .before .lent-tests .ensures) (c .if1 .left)
 
 returns-2 : tie.Need-returns-2

@@ -14,7 +14,10 @@ put-input-requires c κs = c .before .if1 .left
 
 returns-2 : tie.Need-returns-2
 returns-2 c =
-    let p = long-enough (c .before .before .before .before .before .before .before .args .input .now) (c .before .before .before .before .if1 .left) (c .before .before .put-input .ensures) in
+    let at-put-input = c .before .before in
+    let at-else1 = at-put-input .before .before in
+    let at-start = at-else1 .before .before .before in
+    let p = long-enough (at-start .args .input .now) (at-else1 .if1 .left) (at-put-input .put-input .ensures) in
     (p .count, (p .text, (p .inside, p .front)))
 
 pub try-outage-spec : {M : Type 1} → statement M

@@ -12,22 +12,29 @@ sub-put-roots : tie.Need-sub-put-roots
 sub-put-roots c = omega (arith, c .before .last-slot-of-next .ensures)
 
 put-roots-requires : tie.Need-put-roots-requires
-put-roots-requires c κs = let r = c .before .before .before .before .before .before .pre in ((r .some-roots, r .few-roots, r .small), (r .places, r .bytes))
+put-roots-requires c κs =
+    let at-start : tie.Start = search needs in
+    let r = at-start .pre in ((r .some-roots, r .few-roots, r .small), (r .places, r .bytes))
 
 current-epoch-requires : tie.Need-current-epoch-requires
-current-epoch-requires c κs = c .before .before .before .before .before .before .before .before .before .pre .positive
+current-epoch-requires c κs =
+    let at-start = c .before .before .before .before .before .before .before .before .before in
+    at-start .pre .positive
 
 set-flags-requires : tie.Need-set-flags-requires
-set-flags-requires c κs = let r = c .before .before .before .before .before .before .before .before .before .before .before .pre in (r .entries, r .pairs)
+set-flags-requires c κs =
+    let at-start = c .before .before .before .before .before .before .before .before .before .before .before in
+    let r = at-start .pre in (r .entries, r .pairs)
 
 returns : tie.Need-returns
 returns c =
-    let f = c .before .before .before in
-    let e = c .before .before .before .before .before in
-    let r = c .before .before .before .before .before .before .before .before in
-    let l = c .before .before .before .before .before .before .before .before .before .before in
-    let a = c .before .before .before .before .before .before .before .before .before .before .before .before .before .before .before .args in
-    prepares (a .s) (planOf (a .root .now) (a .absences .now)) (a .finality) (a .registry .now) (a .roots .now) (l .last-slot-of-next .ensures .0) (c .with-slot .ensures) (e .current-epoch .ensures) (f .set-flags .ensures) (r .put-roots .ensures)
+    let at-set-flags = c .before .before .before in
+    let at-current-epoch = at-set-flags .before .before in
+    let at-put-roots = at-current-epoch .before .before .before in
+    let at-last-slot-of-next = at-put-roots .before .before in
+    let at-start = at-last-slot-of-next .before .before .before .before .before in
+    let a = at-start .args in
+    prepares (a .s) (planOf (a .root .now) (a .absences .now)) (a .finality) (a .registry .now) (a .roots .now) (at-last-slot-of-next .last-slot-of-next .ensures .0) (c .with-slot .ensures) (at-current-epoch .current-epoch .ensures) (at-set-flags .set-flags .ensures) (at-put-roots .put-roots .ensures)
 
 pub prepare-spec : {M : Type 1} → statement M
 prepare-spec =

@@ -25,7 +25,10 @@ mul-at : tie.Need-mul-at Inv-loop μ-loop
 mul-at c = omega (arith, mod-lt (c .before .before .before .before .before .args .slot + c .before .loop .i) {m = c .before .before .before .before .before .args .places} (c .before .before .before .before .before .pre .0 .0))
 
 put-bytes-requires : tie.Need-put-bytes-requires Inv-loop μ-loop
-put-bytes-requires c κs = omega (arith, mod-lt (c .before .before .before .before .before .before .args .slot + c .before .before .loop .i) {m = c .before .before .before .before .before .before .args .places} (c .before .before .before .before .before .before .pre .0 .0))
+put-bytes-requires c κs =
+    let at-at-loop = c .before .before in
+    let at-start = at-at-loop .before .before .before .before in
+    omega (arith, mod-lt (at-start .args .slot + at-at-loop .loop .i) {m = at-start .args .places} (at-start .pre .0 .0))
 
 add-i : tie.Need-add-i Inv-loop μ-loop
 add-i c = omega arith
@@ -34,15 +37,20 @@ loop-less : tie.Need-loop-less Inv-loop μ-loop
 loop-less c = omega arith
 
 loop-again : tie.Need-loop-again Inv-loop μ-loop
-loop-again c = rooting-more (c .before .before .before .before .before .loop .inv) (c .before .before .before .before .loop-test .taken) (c .before .before .put-bytes .ensures)
+loop-again c =
+    let at-put-bytes = c .before .before in
+    let at-in-loop = at-put-bytes .before .before in
+    let at-at-loop = at-in-loop .before in
+    rooting-more (at-at-loop .loop .inv) (at-in-loop .loop-test .taken) (at-put-bytes .put-bytes .ensures)
 
 same-length : tie.Need-same-length Inv-loop μ-loop
 same-length c = omega arith
 
 returns : tie.Need-returns Inv-loop μ-loop
 returns c =
-    let s = c .before .before .before .before .before in
-    rooting-all (c .before .loop .inv) _ (s .pre .1 .1) (s .pre .0 .0) (c .before .before .min .ensures) (c .loop-test .left)
+    let at-min = c .before .before in
+    let at-start = at-min .before .before .before in
+    rooting-all (c .before .loop .inv) _ (at-start .pre .1 .1) (at-start .pre .0 .0) (at-min .min .ensures) (c .loop-test .left)
 
 pub put-roots-spec : {M : Type 1} → statement M
 put-roots-spec =

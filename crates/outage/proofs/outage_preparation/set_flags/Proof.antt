@@ -57,7 +57,10 @@ part-entry-flags-end : tie.Need-part-entry-flags-end Inv-loop μ-loop
 part-entry-flags-end c = omega arith
 
 entry-flags-requires : tie.Need-entry-flags-requires Inv-loop μ-loop
-entry-flags-requires c κs = entry-ten _ _ _ (c .before .before .before .before .before .loop .inv .1 .long) (c .before .before .before .before .loop-test .taken)
+entry-flags-requires c κs =
+    let at-in-loop = c .before .before .before .before in
+    let at-at-loop = at-in-loop .before in
+    entry-ten _ _ _ (at-at-loop .loop .inv .1 .long) (at-in-loop .loop-test .taken)
 
 add-i : tie.Need-add-i Inv-loop μ-loop
 add-i c = omega arith

@@ -30,7 +30,9 @@ returns-2 c =
     rw (← m .before .before .current-epoch .ensures, ne-eqb _ _ (m .before .if1 .left), k) (ran-overflow refl)
 
 previous-epoch-requires : tie.Need-previous-epoch-requires
-previous-epoch-requires c κs = good-settings _ (c .before .before .before .before .before .before .before .pre .0) .positive .«slots_per_epoch»
+previous-epoch-requires c κs =
+    let at-start : tie.Start = search needs in
+    good-settings _ (at-start .pre .0) .positive .«slots_per_epoch»
 
 returns-3 : tie.Need-returns-3
 unfolding «process_inactivity_updates» bind

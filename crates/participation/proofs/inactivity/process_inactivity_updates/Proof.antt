@@ -17,21 +17,28 @@ copy-requires c κs = let p = registry-passed _ _ _ _ _ (c .before .before .regi
 
 inactivity-core-requires : tie.Need-inactivity-core-requires
 inactivity-core-requires c κs =
-    let p = registry-passed _ _ _ _ _ (c .before .before .before .before .before .before .registry-tests .ensures) (c .before .before .before .before .before .if1 .left) in
-    (p .opened .settings .good, omega (arith, p .opened .shape .long, ap length (c .before .before .before .copy .ensures)))
+    let at-copy = c .before .before .before in
+    let at-else1 = at-copy .before .before in
+    let at-registry-tests = at-else1 .before in
+    let p = registry-passed _ _ _ _ _ (at-registry-tests .registry-tests .ensures) (at-else1 .if1 .left) in
+    (p .opened .settings .good, omega (arith, p .opened .shape .long, ap length (at-copy .copy .ensures)))
 
 put-back-requires : tie.Need-put-back-requires
 put-back-requires c κs =
-    let t = c .before .before .before .before .before .before .before .before .before in
-    omega (arith, registry-passed _ _ _ _ _ (t .before .registry-tests .ensures) (t .if1 .left) .same)
+    let at-else1 : tie.Else1 = search needs in
+    let at-registry-tests = at-else1 .before in
+    omega (arith, registry-passed _ _ _ _ _ (at-registry-tests .registry-tests .ensures) (at-else1 .if1 .left) .same)
 
 returns-2 : tie.Need-returns-2
 returns-2 c =
-    let k = c .before .before .before .before .before .before in
-    let q = k .before .before .before .before in
-    let t = q .before .before in
-    let a = t .before .before .before .before .before .args in
-    step-put-back («process_inactivity_updates» (a .s) (a .state-slot) (a .finalized-epoch)) _ (t .before .registry-tests .ensures) (t .if1 .left) (q .copy .ensures) (k .inactivity-core .ensures) (c .before .before .put-back .ensures)
+    let at-put-back = c .before .before in
+    let at-inactivity-core : tie.After-inactivity-core = search needs in
+    let at-copy : tie.After-copy = search needs in
+    let at-else1 = at-copy .before .before in
+    let at-registry-tests = at-else1 .before in
+    let at-start : tie.Start = search needs in
+    let a = at-start .args in
+    step-put-back («process_inactivity_updates» (a .s) (a .state-slot) (a .finalized-epoch)) _ (at-registry-tests .registry-tests .ensures) (at-else1 .if1 .left) (at-copy .copy .ensures) (at-inactivity-core .inactivity-core .ensures) (at-put-back .put-back .ensures)
 
 pub process-inactivity-updates-spec : {M : Type 1} → statement M
 process-inactivity-updates-spec =

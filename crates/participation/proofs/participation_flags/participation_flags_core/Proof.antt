@@ -43,7 +43,11 @@ loop-less : tie.Need-loop-less Inv-loop μ-loop
 loop-less c = omega arith
 
 loop-again : tie.Need-loop-again Inv-loop μ-loop
-loop-again c = mapped-more (c .before .before .before .before .before .loop .inv) (c .before .before .before .before .loop-test .taken) (c .before .before .entry-rotate .ensures)
+loop-again c =
+    let at-entry-rotate = c .before .before in
+    let at-in-loop = at-entry-rotate .before .before in
+    let at-at-loop = at-in-loop .before in
+    mapped-more (at-at-loop .loop .inv) (at-in-loop .loop-test .taken) (at-entry-rotate .entry-rotate .ensures)
 
 same-length : tie.Need-same-length Inv-loop μ-loop
 same-length c = omega arith

@@ -8,14 +8,17 @@ use Rattle.rates.proofs.reward_balances.entry_reward.Tie as tie
 
 returns : tie.Need-returns
 returns c =
-    let k = says-overflow (c .before .before .new-balance .ensures) (only-rewarded _ _ _ _ _ _ _ _) (c .enum-told .given .1) .0 in
-    settles-refused _ (c .before .before .before .before .before .pre .1 .1 .1) (not-rewarded _ _ _ _ _ _ _ _ k)
+    let at-new-balance = c .before .before in
+    let at-start = at-new-balance .before .before .before in
+    let k = says-overflow (at-new-balance .new-balance .ensures) (only-rewarded _ _ _ _ _ _ _ _) (c .enum-told .given .1) .0 in
+    settles-refused _ (at-start .pre .1 .1 .1) (not-rewarded _ _ _ _ _ _ _ _ k)
 
 returns-2 : tie.Need-returns-2
 returns-2 c =
-    let a = c .before .before .before .before .before .before in
-    let k = says-value (c .before .before .before .new-balance .ensures) (c .before .balance .given .1) in
-    settles-value _ (rewarded _ _ _ _ _ _ _ _ k) (put-balance (a .args .entry .now) _ (a .pre .1 .1 .1))
+    let at-new-balance = c .before .before .before in
+    let at-start = at-new-balance .before .before .before in
+    let k = says-value (at-new-balance .new-balance .ensures) (c .before .balance .given .1) in
+    settles-value _ (rewarded _ _ _ _ _ _ _ _ k) (put-balance (at-start .args .entry .now) _ (at-start .pre .1 .1 .1))
 
 pub entry-reward-spec : {M : Type 1} → statement M
 entry-reward-spec =

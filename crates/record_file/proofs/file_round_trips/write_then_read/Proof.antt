@@ -16,11 +16,16 @@ pair c = record { last = omega (arith, c .good); number = omega (arith, c .good)
 
 returns : tie.Need-returns
 returns c p =
-    let start = c .before .before .before .before .before .before .before .before .before .before .before .before .before .before .before .before .before .before in
-    let a = start .args in
-    let e = c .before .before .before .before .read-file .ensures in
-    let t = typed (contents start) (a .queue) (a .file .now) (p .tests) (start .good .1 .0) (λ i. c .before .before .before .before .before .before .before .before .before .before .before .before .before .before .before .before .before .shared-slice-known .given i .fits) (λ i. c .before .before .before .before .before .before .before .before .before .before .before .before .before .before .before .before .shared-slice-known2 .given i .fits) (λ i. c .before .before .before .before .before .before .before .before .before .before .before .before .before .before .before .shared-slice-known3 .given i .fits) in
-    let same = read-back (contents start) (a .queue) (a .file .now) (a .registry-read .now) (a .slashings-read .now) t (pair start) (c .before .before .before .before .before .before .before .before .before .before .write-file .ensures .1) p in
+    let at-read-file : tie.After-read-file = search needs in
+    let at-write-file : tie.After-write-file = search needs in
+    let at-shared-slice-known3 : tie.After-shared-slice-known3 = search needs in
+    let at-shared-slice-known2 = at-shared-slice-known3 .before in
+    let at-shared-slice-known = at-shared-slice-known2 .before in
+    let at-start = at-shared-slice-known .before in
+    let a = at-start .args in
+    let e = at-read-file .read-file .ensures in
+    let t = typed (contents at-start) (a .queue) (a .file .now) (p .tests) (at-start .good .1 .0) (λ i. at-shared-slice-known .shared-slice-known .given i .fits) (λ i. at-shared-slice-known2 .shared-slice-known2 .given i .fits) (λ i. at-shared-slice-known3 .shared-slice-known3 .given i .fits) in
+    let same = read-back (contents at-start) (a .queue) (a .file .now) (a .registry-read .now) (a .slashings-read .now) t (pair at-start) (at-write-file .write-file .ensures .1) p in
     record {
       accepted = e .0 ∙ ap (λ (o : ReadOutcome). o .refusal) same;
       to-end = e .1 .0 ∙ ap (λ (o : ReadOutcome). o .position) same;

@@ -24,11 +24,15 @@ returns c p =
 
 back : (c : tie.Else1) → let bytes = c .before .before .before .before .write-file .last .1 .1 .1 .1 .1 .1 .0 in (goodHeader bytes ≡ true) × (contentsOf bytes .roots ≡ c .before .before .before .before .before .before .before .before .before .before .args .roots .now)
 back c =
-    let s = c .before .before .before .before .before .before .before .before .before .before in
-    let w = c .before .before .before .before .write-file .ensures in
+    let at-write-file : tie.After-write-file = search needs in
+    let at-shared-slice-known3 = at-write-file .before .before .before in
+    let at-shared-slice-known2 = at-shared-slice-known3 .before in
+    let at-shared-slice-known = at-shared-slice-known2 .before in
+    let at-start = at-shared-slice-known .before in
+    let w = at-write-file .write-file .ensures in
     let e = passed _ (w .0) (c .if1 .left) in
-    let t = typed (contents s) (s .args .queue) (s .args .file .now) e (s .good .1 .0) (λ i. c .before .before .before .before .before .before .before .before .before .shared-slice-known .given i .fits) (λ i. c .before .before .before .before .before .before .before .before .shared-slice-known2 .given i .fits) (λ i. c .before .before .before .before .before .before .before .shared-slice-known3 .given i .fits) in
-    written-roots (contents s) (s .args .queue) (s .args .file .now) t (pair s) (w .1) e
+    let t = typed (contents at-start) (at-start .args .queue) (at-start .args .file .now) e (at-start .good .1 .0) (λ i. at-shared-slice-known .shared-slice-known .given i .fits) (λ i. at-shared-slice-known2 .shared-slice-known2 .given i .fits) (λ i. at-shared-slice-known3 .shared-slice-known3 .given i .fits) in
+    written-roots (contents at-start) (at-start .args .queue) (at-start .args .file .now) t (pair at-start) (w .1) e
 
 pub write-then-roots-spec : {M : Type 1} → statement M
 write-then-roots-spec =

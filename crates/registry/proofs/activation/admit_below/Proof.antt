@@ -42,7 +42,11 @@ loop-less : tie.Need-loop-less Inv-loop μ-loop
 loop-less c = omega arith
 
 loop-again : tie.Need-loop-again Inv-loop μ-loop
-loop-again c = admitting-more (c .before .before .before .before .before .loop .inv) (c .before .before .before .before .loop-test .taken) (c .before .before .admit-entry .ensures .0) (c .before .before .admit-entry .ensures .1)
+loop-again c =
+    let at-admit-entry = c .before .before in
+    let at-in-loop = at-admit-entry .before .before in
+    let at-at-loop = at-in-loop .before in
+    admitting-more (at-at-loop .loop .inv) (at-in-loop .loop-test .taken) (at-admit-entry .admit-entry .ensures .0) (at-admit-entry .admit-entry .ensures .1)
 
 same-length : tie.Need-same-length Inv-loop μ-loop
 same-length c = omega arith

@@ -11,7 +11,9 @@ unfolding «get_base_reward_per_increment»
 returns c = search (needs, chain)
 
 div-reward : tie.Need-div-reward
-div-reward c = let p = root-positive _ (c .before .before .before .before .before .pre) in omega (arith, c .integer-sqrt .ensures)
+div-reward c =
+    let at-start : tie.Start = search needs in
+    let p = root-positive _ (at-start .pre) in omega (arith, c .integer-sqrt .ensures)
 
 returns-2 : tie.Need-returns-2
 unfolding «get_base_reward_per_increment»

@@ -13,22 +13,26 @@ returns : tie.Need-returns
 returns c = search (needs, chain-told, only-total)
 
 inactivity-leak-requires : tie.Need-inactivity-leak-requires
-inactivity-leak-requires c κs = good-settings _ (c .before .before .before .before .before .pre .0) .positive .«slots_per_epoch»
+inactivity-leak-requires c κs =
+    let at-start : tie.Start = search needs in
+    good-settings _ (at-start .pre .0) .positive .«slots_per_epoch»
 
 returns-2 : tie.Need-returns-2
 returns-2 c = search (needs, chain-told, only-leak)
 
 entry-flag-deltas-requires : tie.Need-entry-flag-deltas-requires
 entry-flag-deltas-requires c κs =
-    let k = c .before .before .before .before .before .before in
-    let a = k .before .before .before .before .pre in
-    let least = total-least _ _ (says-value (k .before .before .total-active .ensures) (k .total .given .1)) in
+    let at-total : tie.After-total = search needs in
+    let at-total-active = at-total .before .before in
+    let at-start = at-total-active .before .before in
+    let a = at-start .pre in
+    let least = total-least _ _ (says-value (at-total-active .total-active .ensures) (at-total .total .given .1)) in
     (good-settings _ (a .0) .positive .«effective_balance_increment», (least, (a .1 .0 .0, part-length _ _ (a .1 .0 .1))))
 
 returns-3 : tie.Need-returns-3
 returns-3 c =
-    let k = c .before .before .before .before .before .before .before .before .before .before .before in
-    rw (← part-decoded (k .args .registry .now) (k .args .index) nobody (k .pre .1 .0 .1)) (search (needs, chain-told))
+    let at-start : tie.Start = search needs in
+    rw (← part-decoded (at-start .args .registry .now) (at-start .args .index) nobody (at-start .pre .1 .0 .1)) (search (needs, chain-told))
 
 pub flag-deltas-from-spec : {M : Type 1} → statement M
 flag-deltas-from-spec =

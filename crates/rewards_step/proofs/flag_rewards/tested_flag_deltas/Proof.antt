@@ -19,8 +19,9 @@ returns c =
 
 returns-2 : tie.Need-returns-2
 returns-2 c =
-    let k = c .before .before .before .before .before in
-    flag-index _ _ _ _ _ (k .before .current-epoch .ensures) (k .previous-epoch .ensures) _ (search (needs, chain))
+    let at-previous-epoch : tie.After-previous-epoch = search needs in
+    let at-current-epoch = at-previous-epoch .before in
+    flag-index _ _ _ _ _ (at-current-epoch .current-epoch .ensures) (at-previous-epoch .previous-epoch .ensures) _ (search (needs, chain))
 
 pub tested-flag-deltas-spec : {M : Type 1} → statement M
 tested-flag-deltas-spec =

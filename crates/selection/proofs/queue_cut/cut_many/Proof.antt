@@ -15,7 +15,9 @@ returns : tie.Need-returns
 returns c = let h = c .before .before .before in let s = h .before .before .before in cut-all refl (kept-count (s .pre .1 .1) (h .highest .ensures) (omega arith) (omega arith) (c .count-under .ensures)) (omega (arith, kept-few (s .pre .1 .1) (h .highest .ensures) _ (omega arith) (c .count-under .ensures)))
 
 returns-2 : tie.Need-returns-2
-returns-2 c = let k = c .before in let a = k .before .before .before .before .before .before .args in cut-all refl (k .count-waiting .ensures ∙ count-waiting (a .s) (a .epoch) _ (omega arith) (decode (a .registry .now))) (c .if2 .taken)
+returns-2 c =
+    let at-start : tie.Start = search needs in
+    let a = at-start .args in cut-all refl (c .before .count-waiting .ensures ∙ count-waiting (a .s) (a .epoch) _ (omega arith) (decode (a .registry .now))) (c .if2 .taken)
 
 bisect-requires : tie.Need-bisect-requires
 bisect-requires c κs = let i = c .before in let k = i .before in let h = k .before .before .before in let s = h .before .before .before in let a = s .args in ((s .pre .0, omega arith), (omega arith, bracket-start (s .pre .1 .1) (h .highest .ensures) (omega arith) (omega arith) (k .before .if1 .left) (c .count-under2 .ensures) (k .count-waiting .ensures ∙ count-waiting (a .s) (a .epoch) _ (omega arith) (decode (a .registry .now))) (i .if2 .left)))

@@ -9,7 +9,9 @@ returns : tie.Need-returns
 returns c = cut-none (c .if1 .taken)
 
 returns-2 : tie.Need-returns-2
-returns-2 c = cut-kept (c .before .before .before .before .before .pre .1 .1) (omega arith) (omega arith) (c .cut-few .ensures)
+returns-2 c =
+    let at-start : tie.Start = search needs in
+    cut-kept (at-start .pre .1 .1) (omega arith) (omega arith) (c .cut-few .ensures)
 
 pub cut-queue-spec : {M : Type 1} → statement M
 cut-queue-spec =

@@ -17,9 +17,9 @@ returns c = rw (c .if1 .taken)
 
 entry-rules-requires : tie.Need-entry-rules-requires
 entry-rules-requires c κs =
-    let start = c .before .before .before .before .before in
-    let n = start .args .n in
-    part-length n (start .args .store .now) (start .pre) (n - 1) (23 * n - 23) (23 * n) (omega arith) (omega arith) (omega arith)
+    let at-start : tie.Start = search needs in
+    let n = at-start .args .n in
+    part-length n (at-start .args .store .now) (at-start .pre) (n - 1) (23 * n - 23) (23 * n) (omega arith) (omega arith) (omega arith)
 
 returns-2 : tie.Need-returns-2
 unfolding ofLast

@@ -25,9 +25,10 @@ returns c = let d = c .before .before in turned-away (call d) (asked d) (c .none
 
 returns-2 : tie.Need-returns-2
 returns-2 c =
-    let f = c .before .before .before .before .before .before in
-    let e = f .before .before .before .before in
-    f .full-close .ensures ∙ closed-by (call (e .before)) (asked (e .before)) (e .if1 .left)
+    let at-full-close : tie.After-full-close = search needs in
+    let at-else1 = at-full-close .before .before .before .before in
+    let at-rules-for = at-else1 .before in
+    at-full-close .full-close .ensures ∙ closed-by (call (at-rules-for)) (asked (at-rules-for)) (at-else1 .if1 .left)
 
 pub store-close-spec : {M : Type 1} → statement M
 store-close-spec =

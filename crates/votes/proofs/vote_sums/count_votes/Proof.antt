@@ -41,7 +41,11 @@ part-entry-sums-end : tie.Need-part-entry-sums-end Inv-loop μ-loop
 part-entry-sums-end c = omega arith
 
 entry-sums-requires : tie.Need-entry-sums-requires Inv-loop μ-loop
-entry-sums-requires c κs = (reading-ten (counting-at (c .before .before .before .loop .inv)) (c .before .before .loop-test .taken), c .before .before .before .before .before .before .pre .1 .1)
+entry-sums-requires c κs =
+    let at-in-loop = c .before .before in
+    let at-at-loop = at-in-loop .before in
+    let at-start = at-at-loop .before .before .before in
+    (reading-ten (counting-at (at-at-loop .loop .inv)) (at-in-loop .loop-test .taken), at-start .pre .1 .1)
 
 returns : tie.Need-returns Inv-loop μ-loop
 returns c =

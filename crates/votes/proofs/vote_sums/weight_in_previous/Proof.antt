@@ -7,9 +7,13 @@ use Rattle.votes.proofs.vote_sums.weight_in_previous.Tie as tie
 
 returns : tie.Need-returns
 returns c =
-    let a = c .before .before .before .before .before .before .before .before .before .args in
+    let at-flag-is-set = c .before .before in
+    let at-previous-unknown = at-flag-is-set .before in
+    let at-entry-is-active = at-previous-unknown .before in
+    let at-start : tie.Start = search needs in
+    let a = at-start .args in
     c .weight-where .ensures
-    ∙ rw (c .before .filled-in .ensures, c .before .before .flag-is-set .ensures, c .before .before .before .previous-unknown .ensures, c .before .before .before .before .entry-is-active .ensures) (sym (previous-is _ _ _ (uniform (a .set) (a .set) 0) _ (c .before .before .before .before .before .before .before .before .before .pre .1)))
+    ∙ rw (c .before .filled-in .ensures, at-flag-is-set .flag-is-set .ensures, at-previous-unknown .previous-unknown .ensures, at-entry-is-active .entry-is-active .ensures) (sym (previous-is _ _ _ (uniform (a .set) (a .set) 0) _ (at-start .pre .1)))
 
 pub weight-in-previous-spec : {M : Type 1} → statement M
 weight-in-previous-spec =
