@@ -2,17 +2,16 @@
 -- `x` is the number that the first tests' code gave.
 use mathlib.Core.Path.{_≡_, refl, sym, _∙_}
 use mathlib.Core.Bool.{true}
-use mathlib.Core.List.{List, [], _∷_}
+use mathlib.Core.List.{List}
 use Prim.Native.Nat.{ℕ, _*_, _/_, _^_, _≤_, _<_}
 use borrow.Author.Tests.{leb-true, eqb-true}
-use lib.Dec.{leb}
 use lib.ListN.{length}
 use Rattle.definitions.specs.declared.Settings.{Settings}
 use Rattle.definitions.specs.declared.ExitQueue.{ExitQueue}
 use Rattle.definitions.specs.declared.QueueAnswer.{QueueAnswer}
 use Rattle.definitions.specs.Record.{Validator, encode, decode}
 use Rattle.definitions.specs.Checked.{Checked, value, codeOf}
-use Rattle.definitions.specs.Refusals.{inOrder, settingsShaped, registryShaped, sameLength, goodSettings, isSmall}
+use Rattle.definitions.specs.Refusals.{goodSettings}
 use Rattle.definitions.specs.RegisterOrder.{registryToTests, registryUpdatesTo}
 use Rattle.definitions.specs.ExitQueue.{queueOf}
 use Rattle.definitions_close.specs.QueueCalls.{registryToQueueTests, QueueCloses}
@@ -27,6 +26,7 @@ use Rattle.validator_exit.proofs.queue_tests.Found.{early-refused, found-code}
 use Rattle.validator_exit.proofs.queue_tests.Closes.{queue-closes}
 use Rattle.survey.specs.declared.Findings.{Findings}
 use Rattle.survey.specs.Found.{Finds}
+use Rattle.registry_step.specs.First.{firstTests}
 
 -- what the first tests give once passed
 pub record StepPassed (stop : ℕ) (s : Settings) (stateSlot finalizedEpoch : ℕ) (opening closing : List ℕ) : Type 0 where
@@ -40,8 +40,7 @@ pub record StepPassed (stop : ℕ) (s : Settings) (stateSlot finalizedEpoch : �
 
 module _ (stop : ℕ) (s : Settings) (stateSlot finalizedEpoch : ℕ) (queue : ExitQueue) (opening closing : List ℕ) where
   abbrev first : Checked (Unit {0})
-  first =
-      inOrder (settingsShaped s ∷ registryShaped opening ∷ sameLength opening closing ∷ leb stop (length opening / 10) ∷ []) (goodSettings s ∷ []) (isSmall stateSlot ∷ isSmall finalizedEpoch ∷ [])
+  first = firstTests stop s stateSlot finalizedEpoch opening closing
 
   abbrev tests : Checked (Unit {0})
   tests = registryToQueueTests stop s stateSlot finalizedEpoch queue opening closing

@@ -4,14 +4,12 @@
 // pair.
 ghost use mathlib.Core.Path.{_≡_};
 ghost use mathlib.Core.Bool.{true};
-ghost use mathlib.Core.List.{[], _∷_};
 ghost use Prim.Native.Nat.{_*_, _/_, _^_, _≤_, _<_};
-ghost use lib.Dec.{leb};
 ghost use lib.ListN.{length};
 ghost use Rattle.definitions.specs.Lists.{range};
 ghost use Rattle.definitions.specs.Record.{decode};
 ghost use Rattle.definitions.specs.Checked.{value, foldChecked, codeOf};
-ghost use Rattle.definitions.specs.Refusals.{inOrder, settingsShaped, registryShaped, sameLength, goodSettings, isSmall};
+ghost use Rattle.definitions.specs.Refusals.{goodSettings};
 ghost use Rattle.definitions.specs.RegisterOrder.{registryUpdatesTo};
 ghost use Rattle.definitions.specs.ExitQueue.{queueOf};
 ghost use Rattle.definitions.specs.Rust.Phase0.Helpers.{«get_current_epoch», «get_previous_epoch»};
@@ -23,6 +21,7 @@ ghost use Rattle.selection.specs.Keep.{Blank};
 ghost use Rattle.exit_queue.specs.Queue.{Tracks};
 ghost use Rattle.registry.specs.Updates.{leastExit, updateAt, updatesBy};
 ghost use Rattle.survey.specs.Found.{Finds};
+ghost use Rattle.registry_step.specs.First.{firstTests};
 use definitions::ExitQueue;
 use definitions::FAR_FUTURE_EPOCH;
 use definitions::QueueAnswer;
@@ -194,9 +193,7 @@ fn step_tests(
     opening: &[u64],
     closing: &[u64],
 ) -> u64
-    ensures { λ r. ⌜
-        r
-        ≡ codeOf (inOrder (settingsShaped s ∷ registryShaped (now (opening .entry)) ∷ sameLength (now (opening .entry)) (now (closing .entry)) ∷ leb stop (length (now (opening .entry)) / 10) ∷ []) (goodSettings s ∷ []) (isSmall «state_slot» ∷ isSmall «finalized_epoch» ∷ [])) ⌝ }
+    ensures { λ r. ⌜ r ≡ codeOf (firstTests stop s «state_slot» «finalized_epoch» (now (opening .entry)) (now (closing .entry))) ⌝ }
 {
     in_order(
         &[
@@ -221,10 +218,7 @@ fn step_surveyed(
     kept: &mut [u64],
     closing: &mut [u64],
 ) -> QueueAnswer
-    requires { ⌜
-        codeOf
-        (inOrder (settingsShaped s ∷ registryShaped (now opening) ∷ sameLength (now opening) (now closing) ∷ leb stop (length (now opening) / 10) ∷ [])
-        (goodSettings s ∷ []) (isSmall «state_slot» ∷ isSmall «finalized_epoch» ∷ [])) ≡ 0 ⌝ }
+    requires { ⌜ codeOf (firstTests stop s «state_slot» «finalized_epoch» (now opening) (now closing)) ≡ 0 ⌝ }
     requires { ⌜ (length (now kept) ≡ 64) × Blank (now kept) ⌝ }
     ensures { λ r. ⌜
         QueueCloses

@@ -1,0 +1,2 @@
+-- The step's tests as the code groups them.
+pub mod First
