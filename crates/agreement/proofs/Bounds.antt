@@ -22,24 +22,18 @@ use Rattle.definitions.specs.Close.{Call, closeTests}
 use Rattle.laws.proofs.Rules.{shaped-under, good-under}
 use Rattle.agreement.specs.Bounds.{Passed, FinalityPassed, TestsPassed, RulesPassed, Bounds, Given}
 use Rattle.agreement.proofs.Fits.{add64-fits, mul64-fits}
-use Rattle.laws.proofs.Tests.{both, test, in-order-value}
+use Rattle.laws.proofs.Tests.{both, test, all-at, in-order-value}
 
 -- Tests
 
 -- every setting is below 2^48, and no divisor is 0
-
-all-at : (p : ℕ → Bool) (xs : List ℕ) → all p xs ≡ true → (i : ℕ) → i < length xs → p (getD xs i 0) ≡ true
-unfolding all
-all-at p [] h i l = absurd (omega arith)
-all-at p (x ∷ xs) h zero l = both (p x) (all p xs) h .0
-all-at p (x ∷ xs) h (suc i) l = all-at p xs (both (p x) (all p xs) h .1) i (omega arith)
 
 good-parts : (s : Settings) → goodSettings s ≡ true → (all (λ n. not (eqb n 0)) (divisors s) ≡ true) × (all isSmall (settingsNumbers s) ≡ true)
 unfolding goodSettings
 good-parts s h = both (all (λ n. not (eqb n 0)) (divisors s)) (all isSmall (settingsNumbers s)) h
 
 pub setting-small : (s : Settings) → goodSettings s ≡ true → (i : ℕ) → i < 19 → getD (settingsNumbers s) i 0 < 2 ^ 48
-setting-small s h i l = ltb-true _ _ (all-at isSmall (settingsNumbers s) (good-parts s h .1) i l)
+setting-small s h i l = ltb-true _ _ (all-at isSmall (settingsNumbers s) i 0 l (good-parts s h .1))
 
 -- Epochs
 

@@ -1,4 +1,4 @@
-// Numbers of 64 bits: sums, differences and products that are refused where they leave them, and the square root.
+// Numbers of 64 bits: sums, differences and products that are refused where they leave them, and the square root. `signed`: a difference as a signed number.
 ghost use mathlib.Core.Path.{_≡_};
 ghost use mathlib.Core.Bool.{_&&_};
 ghost use Prim.Native.Nat.{min, max};
@@ -6,6 +6,9 @@ ghost use lib.Dec.{ltb};
 ghost use Rattle.definitions.specs.Checked.{add64, sub64, mul64};
 ghost use Rattle.definitions.specs.Document.Phase0.Helpers.{«integer_squareroot»};
 ghost use Rattle.definitions.specs.Answers.{Says};
+
+pub mod signed;
+
 use definitions::Number;
 
 // Refusal 5 where the sum is above 2^64 - 1.

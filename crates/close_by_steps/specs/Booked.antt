@@ -5,32 +5,12 @@ use Prim.Native.Nat.{ℕ, _*_, _/_, _<_}
 use lib.ListN.{length, getD}
 use Rattle.definitions.specs.declared.Settings.{Settings}
 use Rattle.definitions.specs.Record.{Validator, decodeOne, decode, nobody}
-use Rattle.definitions.specs.Checked.{Checked, value, refused, numberOf, bind, mapChecked}
-use Rattle.definitions.specs.Answers.{Answers}
-use Rattle.definitions.specs.Rust.Altair.Helpers.{FlagTotals, flagIndexDeltas, inactivityPenaltyDeltas}
+use Rattle.definitions.specs.Checked.{Checked, value, bind, mapChecked}
+use Rattle.definitions.specs.Rust.Altair.Helpers.{FlagTotals}
 use Rattle.definitions.specs.Rust.Altair.EpochProcessing.{«process_rewards_and_penalties»}
 use Rattle.definitions_close.specs.Amounts.{pairs, booked, bookedByRewards, nines}
 use Rattle.laws.specs.Ran.{Settles, Ran}
-use Rattle.write_pass.specs.declared.Pairs.{Pairs}
 use Rattle.write_pass.specs.Filled.{nineAt}
-use Rattle.close_by_steps.specs.declared.step_amounts.PairsAnswer.{PairsAnswer}
-use Rattle.close_by_steps.specs.declared.step_amounts.PairsAnswer.the-variants.{Value, Refused}
-
-abbrev pub pairsFor : Checked Pairs → PairsAnswer
-pairsFor (value p) = Value p
-pairsFor (refused r) = Refused (numberOf r)
-
-abbrev pub SaysPairs : Checked Pairs → PairsAnswer → Type 0
-SaysPairs m r = Answers pairsFor m r
-
--- `pairs` of definitions_close, Amounts.antt, as a struct
-unfoldable pub fourOf : Settings → ℕ → ℕ → ℕ → FlagTotals → FlagTotals → FlagTotals → Validator → Checked Pairs
-fourOf s quotient current previous source target head v =
-    bind (flagIndexDeltas s current previous 0 source v) (λ a.
-    bind (flagIndexDeltas s current previous 1 target v) (λ b.
-    bind (flagIndexDeltas s current previous 2 head v) (λ c.
-    bind (inactivityPenaltyDeltas s quotient current previous v) (λ d.
-    value (record { source = a; target = b; head = c; inactivity = d })))))
 
 -- what `bookedByRewards` puts down for a validator
 unfoldable pub eightOf : Settings → ℕ → ℕ → ℕ → FlagTotals → FlagTotals → FlagTotals → Validator → Checked (List ℕ)

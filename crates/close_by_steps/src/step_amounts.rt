@@ -3,87 +3,29 @@ ghost use mathlib.Core.Path.{_≡_};
 ghost use mathlib.Core.Bool.{true};
 ghost use Prim.Native.Nat.{_*_, _/_, _≤_, _<_};
 ghost use lib.ListN.{length};
-ghost use Rattle.definitions.specs.Record.{decodeOne};
 ghost use Rattle.definitions.specs.Checked.{mul64};
 ghost use Rattle.definitions.specs.Answers.{Says};
 ghost use Rattle.definitions.specs.Refusals.{goodSettings};
 ghost use Rattle.definitions.specs.Rust.Altair.EpochProcessing.{rewardAndPenalize};
 ghost use Rattle.rewards.specs.Shared.{SharedBy, totalsOf};
-ghost use Rattle.rewards_step.specs.Totals.{flagTotalsOf};
-ghost use Rattle.close_by_steps.specs.Booked.{SaysPairs, fourOf, eightOf, BooksEntry, BooksAll, RewardsBooked};
+ghost use Rattle.rewards_step.specs.Totals.{sourceTotals, targetTotals, headTotals};
+ghost use Rattle.close_by_steps.specs.Booked.{eightOf, BooksEntry, BooksAll, RewardsBooked};
 use arithmetic::mul64;
 use definitions::BALANCE;
-use definitions::DeltasAnswer;
 use definitions::Number;
 use definitions::Settings;
-use definitions::Truth;
 use epochs::current_epoch;
 use epochs::previous_epoch;
-use finality::inactivity_leak;
+use rates::reward_balances::PairsAnswer;
 use rates::reward_balances::all_applied;
+use rates::reward_balances::four_pairs;
 use refusals::buffers::clear;
 use rewards::Shared;
-use rewards::base_rewards::entry_base_reward;
-use rewards::flag_deltas;
-use rewards::penalty_deltas;
 use rewards::shared_numbers;
-use totals::total_active;
-use totals::total_participating;
-use write_pass::Pairs;
+use rewards_step::StepTotals;
+use rewards_step::TotalsAnswer;
+use rewards_step::step_totals;
 use write_pass::put_amounts;
-
-pub enum PairsAnswer {
-    Value(Pairs),
-    Refused(u64),
-}
-
-// The four pairs of a validator.
-fn four_pairs(
-    s: Settings,
-    h: Shared,
-    source: u64,
-    target: u64,
-    head: u64,
-    quotient: u64,
-    product: Number,
-    entry: &[u64],
-) -> PairsAnswer
-    requires { ⌜ SharedBy s h ⌝ }
-    requires { ⌜ (0 < s .«inactivity_score_bias») × (0 < quotient) ⌝ }
-    requires { ⌜ Says (mul64 (s .«inactivity_score_bias») quotient) product ⌝ }
-    requires { ⌜ length (now entry) ≡ 10 ⌝ }
-    ensures { λ r. ⌜
-        SaysPairs (fourOf s quotient (h .«current_epoch») (h .«previous_epoch») (totalsOf h source) (totalsOf h target) (totalsOf h head)
-        (decodeOne (now (entry .entry)))) r ⌝ }
-{
-    let per_increment = h.per_increment;
-    let base = entry_base_reward(s, h.total, per_increment, entry);
-    let DeltasAnswer::Value(a) = flag_deltas(s, h, 0, source, base, entry) else {
-        return PairsAnswer::Refused(5);
-    };
-    let DeltasAnswer::Value(b) = flag_deltas(s, h, 1, target, base, entry) else {
-        return PairsAnswer::Refused(5);
-    };
-    let DeltasAnswer::Value(c) = flag_deltas(s, h, 2, head, base, entry) else {
-        return PairsAnswer::Refused(5);
-    };
-    let DeltasAnswer::Value(d) = penalty_deltas(
-        s,
-        quotient,
-        h.current_epoch,
-        h.previous_epoch,
-        product,
-        entry,
-    ) else {
-        return PairsAnswer::Refused(5);
-    };
-    PairsAnswer::Value(Pairs {
-        source: a,
-        target: b,
-        head: c,
-        inactivity: d,
-    })
-}
 
 // The balance, and the nine numbers of it.
 fn entry_reward_booked(
@@ -118,12 +60,8 @@ fn entry_reward_booked(
     ) else {
         return 5;
     };
-    let a = pairs.source;
-    let b = pairs.target;
-    let c = pairs.head;
-    let d = pairs.inactivity;
     let before = entry[BALANCE];
-    let Number::Value(balance) = all_applied(before, a, b, c, d) else {
+    let Number::Value(balance) = all_applied(before, pairs) else {
         return 5;
     };
     put_amounts(pairs, before, balance, nine);
@@ -175,38 +113,38 @@ fn reward_all_booked(
     0
 }
 
-// From the balances of the three flags' participants, the total active balance and the leak.
 fn reward_registry_booked(
     s: Settings,
     quotient: u64,
     current_epoch: u64,
     previous_epoch: u64,
-    source: u64,
-    target: u64,
-    head: u64,
-    total: u64,
-    leaking: bool,
+    totals: StepTotals,
     registry: &mut [u64],
     amounts: &mut [u64],
 ) -> u64
-    requires { ⌜ (0 < s .«effective_balance_increment») × (s .«effective_balance_increment» ≤ total) ⌝ }
+    requires { ⌜ (0 < s .«effective_balance_increment») × (s .«effective_balance_increment» ≤ totals .total) ⌝ }
     requires { ⌜ (0 < s .«inactivity_score_bias») × (0 < quotient) ⌝ }
     requires { ⌜ (length (now registry) ≡ 10 * (length (now registry) / 10)) × (length (now amounts) ≡ 9 * (length (now registry) / 10)) ⌝ }
     ensures { λ r. ⌜
-        BooksAll (rewardAndPenalize s quotient «current_epoch» «previous_epoch» (flagTotalsOf s source total leaking) (flagTotalsOf s target total leaking)
-        (flagTotalsOf s head total leaking))
-        (eightOf s quotient «current_epoch» «previous_epoch» (flagTotalsOf s source total leaking) (flagTotalsOf s target total leaking)
-        (flagTotalsOf s head total leaking)) (now (registry .entry)) (now (registry .exit)) (now (amounts .exit)) r ⌝ }
+        BooksAll (rewardAndPenalize s quotient «current_epoch» «previous_epoch» (sourceTotals s totals) (targetTotals s totals) (headTotals s totals))
+        (eightOf s quotient «current_epoch» «previous_epoch» (sourceTotals s totals) (targetTotals s totals) (headTotals s totals))
+        (now (registry .entry)) (now (registry .exit)) (now (amounts .exit)) r ⌝ }
 {
     let increment = s.effective_balance_increment;
-    let shared = shared_numbers(s, current_epoch, previous_epoch, total, leaking);
+    let shared = shared_numbers(
+        s,
+        current_epoch,
+        previous_epoch,
+        totals.total,
+        totals.leaking,
+    );
     let product = mul64(s.inactivity_score_bias, quotient);
     reward_all_booked(
         s,
         shared,
-        source / increment,
-        target / increment,
-        head / increment,
+        totals.source / increment,
+        totals.target / increment,
+        totals.head / increment,
         quotient,
         product,
         registry,
@@ -234,32 +172,15 @@ pub fn rewards_booked(
         return 0;
     }
     let previous = previous_epoch(s, state_slot);
-    let Number::Value(source) = total_participating(s, current, 0, previous, registry) else {
-        return 5;
-    };
-    let Number::Value(total) = total_active(s, current, registry) else {
-        return 5;
-    };
-    let Truth::Value(leaking) = inactivity_leak(s, state_slot, finalized_epoch) else {
-        return 5;
-    };
-    let Number::Value(target) = total_participating(s, current, 1, previous, registry) else {
-        return 5;
-    };
-    let Number::Value(head) = total_participating(s, current, 2, previous, registry) else {
-        return 5;
-    };
-    reward_registry_booked(
+    let TotalsAnswer::Value(totals) = step_totals(
         s,
-        quotient,
+        state_slot,
+        finalized_epoch,
         current,
         previous,
-        source,
-        target,
-        head,
-        total,
-        leaking,
-        registry,
-        amounts,
-    )
+        &registry[..],
+    ) else {
+        return 5;
+    };
+    reward_registry_booked(s, quotient, current, previous, totals, registry, amounts)
 }

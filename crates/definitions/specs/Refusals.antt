@@ -3,7 +3,7 @@ use mathlib.Core.Bool.{Bool, cond, _&&_, not}
 use mathlib.Core.List.{List, [], _∷_}
 use Prim.Native.Nat.{ℕ, _*_, _/_, _%_, _^_}
 use lib.Dec.{leb, ltb, eqb}
-use lib.ListN.{length}
+use lib.ListN.{length, getD}
 use Rattle.definitions.specs.declared.Settings.{Settings}
 use Rattle.definitions.specs.declared.Finality.{Finality}
 use Rattle.definitions.specs.Lists.{all, every}
@@ -68,6 +68,31 @@ settingsNumbers s =
     s .«min_per_epoch_churn_limit» ∷
     s .«churn_limit_quotient» ∷
     []
+
+-- and back
+abbrev pub settingsFrom : List ℕ → Settings
+settingsFrom xs =
+    record {
+      «slots_per_epoch» = getD xs 0 0;
+      «slots_per_historical_root» = getD xs 1 0;
+      «epochs_per_slashings_vector» = getD xs 2 0;
+      «effective_balance_increment» = getD xs 3 0;
+      «max_effective_balance» = getD xs 4 0;
+      «hysteresis_quotient» = getD xs 5 0;
+      «hysteresis_downward_multiplier» = getD xs 6 0;
+      «hysteresis_upward_multiplier» = getD xs 7 0;
+      «base_reward_factor» = getD xs 8 0;
+      «min_epochs_to_inactivity_penalty» = getD xs 9 0;
+      «inactivity_score_bias» = getD xs 10 0;
+      «inactivity_score_recovery_rate» = getD xs 11 0;
+      «inactivity_penalty_quotient_altair» = getD xs 12 0;
+      «proportional_slashing_multiplier_altair» = getD xs 13 0;
+      «max_seed_lookahead» = getD xs 14 0;
+      «min_validator_withdrawability_delay» = getD xs 15 0;
+      «ejection_balance» = getD xs 16 0;
+      «min_per_epoch_churn_limit» = getD xs 17 0;
+      «churn_limit_quotient» = getD xs 18 0;
+    }
 
 abbrev pub divisors : Settings → List ℕ
 divisors s =

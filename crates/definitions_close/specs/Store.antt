@@ -9,7 +9,7 @@ use Rattle.definitions.specs.declared.Settings.{Settings}
 use Rattle.definitions.specs.declared.Rules.{Rules}
 use Rattle.definitions.specs.Lists.{all, filter, every}
 use Rattle.definitions.specs.Checked.{Checked, value, refused, lateStart, noEntry, bind, codeOf, settle}
-use Rattle.definitions.specs.Refusals.{inOrder, afterTests, settingsNumbers}
+use Rattle.definitions.specs.Refusals.{inOrder, afterTests, settingsNumbers, settingsFrom}
 use Rattle.definitions.specs.Rules.{rulesShaped, goodRules}
 use Rattle.definitions_close.specs.declared.RulesAnswer.{RulesAnswer}
 
@@ -25,28 +25,7 @@ entryOf e =
       start = getD e 0 0;
       rules =
           record {
-            settings =
-                record {
-                  «slots_per_epoch» = getD e 2 0;
-                  «slots_per_historical_root» = getD e 3 0;
-                  «epochs_per_slashings_vector» = getD e 4 0;
-                  «effective_balance_increment» = getD e 5 0;
-                  «max_effective_balance» = getD e 6 0;
-                  «hysteresis_quotient» = getD e 7 0;
-                  «hysteresis_downward_multiplier» = getD e 8 0;
-                  «hysteresis_upward_multiplier» = getD e 9 0;
-                  «base_reward_factor» = getD e 10 0;
-                  «min_epochs_to_inactivity_penalty» = getD e 11 0;
-                  «inactivity_score_bias» = getD e 12 0;
-                  «inactivity_score_recovery_rate» = getD e 13 0;
-                  «inactivity_penalty_quotient_altair» = getD e 14 0;
-                  «proportional_slashing_multiplier_altair» = getD e 15 0;
-                  «max_seed_lookahead» = getD e 16 0;
-                  «min_validator_withdrawability_delay» = getD e 17 0;
-                  «ejection_balance» = getD e 18 0;
-                  «min_per_epoch_churn_limit» = getD e 19 0;
-                  «churn_limit_quotient» = getD e 20 0;
-                };
+            settings = settingsFrom (drop 2 e);
             fork = getD e 1 0;
             bellatrix = record { «inactivity_penalty_quotient_bellatrix» = getD e 21 0; «proportional_slashing_multiplier_bellatrix» = getD e 22 0 };
           };

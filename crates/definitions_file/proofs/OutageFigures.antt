@@ -4,10 +4,11 @@ use mathlib.Core.List.{List, [], _∷_, _++_, map}
 use mathlib.Core.Path.{_≡_, refl}
 use Prim.Native.Nat.{ℕ, _+_, _*_, _-_, _^_}
 use lib.ListN.{getD, replicate}
+use Rattle.definitions.specs.Refusals.{settingsFrom}
 use Rattle.definitions.specs.Lists.{range, every}
 use Rattle.definitions.specs.Record.{Validator, encode, decode, decodeFirst}
 use Rattle.definitions.specs.Checked.{bind}
-use Rattle.definitions_file.specs.File.{Contents, settingsFrom, noFinality, fromLittleEndian, numbersFromBytes, goodHeader, readTests, readFile, read}
+use Rattle.definitions_file.specs.File.{Contents, noFinality, fromLittleEndian, numbersFromBytes, goodHeader, readTests, readFile, read}
 use Rattle.definitions.specs.RegisterOrder.{mapBelow}
 use Rattle.definitions.specs.Document.Phase0.Helpers.{«compute_epoch_at_slot», «get_current_epoch», «compute_start_slot_at_epoch»}
 use Rattle.definitions_file.specs.Decimal.{digits, decimal, signedDecimal}

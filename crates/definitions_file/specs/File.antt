@@ -11,7 +11,7 @@ use Rattle.definitions.specs.declared.ExitQueue.{ExitQueue}
 use Rattle.definitions_file.specs.declared.Header.{Header}
 use Rattle.definitions.specs.Record.{Validator, decode}
 use Rattle.definitions.specs.Checked.{Checked, value, refused, badFile, numberOf, bind, codeOf, settle}
-use Rattle.definitions.specs.Refusals.{inOrder, isVectorLength, settingsShaped, registryShaped, rootsShaped, slashingsShaped, lengthIs, settingsNumbers, goodSettings, goodFinality, goodValidator, goodRegistry}
+use Rattle.definitions.specs.Refusals.{inOrder, isVectorLength, settingsShaped, registryShaped, rootsShaped, slashingsShaped, lengthIs, settingsNumbers, settingsFrom, goodSettings, goodFinality, goodValidator, goodRegistry}
 use Rattle.definitions.specs.ExitQueue.{queueOf, isQueueOf, queueTest}
 use Rattle.definitions.specs.Lists.{every}
 
@@ -122,30 +122,6 @@ unfoldable pub written : Contents → ExitQueue → List ℕ → List ℕ
 written c q file = settle (bind (writeTests c q file) (λ _. value (fileOf c q))) file
 
 -- Reading
-
-abbrev pub settingsFrom : List ℕ → Settings
-settingsFrom xs =
-    record {
-      «slots_per_epoch» = getD xs 0 0;
-      «slots_per_historical_root» = getD xs 1 0;
-      «epochs_per_slashings_vector» = getD xs 2 0;
-      «effective_balance_increment» = getD xs 3 0;
-      «max_effective_balance» = getD xs 4 0;
-      «hysteresis_quotient» = getD xs 5 0;
-      «hysteresis_downward_multiplier» = getD xs 6 0;
-      «hysteresis_upward_multiplier» = getD xs 7 0;
-      «base_reward_factor» = getD xs 8 0;
-      «min_epochs_to_inactivity_penalty» = getD xs 9 0;
-      «inactivity_score_bias» = getD xs 10 0;
-      «inactivity_score_recovery_rate» = getD xs 11 0;
-      «inactivity_penalty_quotient_altair» = getD xs 12 0;
-      «proportional_slashing_multiplier_altair» = getD xs 13 0;
-      «max_seed_lookahead» = getD xs 14 0;
-      «min_validator_withdrawability_delay» = getD xs 15 0;
-      «ejection_balance» = getD xs 16 0;
-      «min_per_epoch_churn_limit» = getD xs 17 0;
-      «churn_limit_quotient» = getD xs 18 0;
-    }
 
 abbrev pub numberAt : ℕ → List ℕ → ℕ
 numberAt offset bytes = fromLittleEndian (take 8 (drop offset bytes))

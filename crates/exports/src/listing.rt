@@ -34,7 +34,7 @@ pub extern "C" fn altair_listing_line(opening: &[u64], closing: &[u64], index: u
 pub extern "C" fn altair_net_change(opening: u64, closing: u64) -> PlainChange
     ensures { λ r. ⌜ r ≡ plainChange (changeFor (netChange opening closing)) ⌝ }
 {
-    match listing_lines::numbers::net_change(opening, closing) {
+    match arithmetic::signed::net_change(opening, closing) {
         Change::Value(value) => PlainChange { refusal: 0, value },
         Change::Refused(refusal) => PlainChange { refusal, value: 0 },
     }

@@ -3,8 +3,8 @@ ghost use mathlib.Core.Path.{_≡_};
 ghost use Prim.Native.Nat.{_+_, _*_, _≤_};
 ghost use lib.ListN.{length, drop};
 ghost use lib.Seq.{sets};
-ghost use Rattle.definitions.specs.Refusals.{settingsNumbers};
-ghost use Rattle.definitions_file.specs.File.{littleEndian, numbersToBytes, numbersFromBytes, settingsAt, settingsFrom, checkpointAt, finalityFrom, queueFrom, checkpointToBytes, finalityToBytes, queueToBytes};
+ghost use Rattle.definitions.specs.Refusals.{settingsNumbers, settingsFrom};
+ghost use Rattle.definitions_file.specs.File.{littleEndian, numbersToBytes, numbersFromBytes, settingsAt, checkpointAt, finalityFrom, queueFrom, checkpointToBytes, finalityToBytes, queueToBytes};
 
 pub mod decimals;
 pub mod reader;
@@ -15,6 +15,8 @@ use definitions::Finality;
 use definitions::Settings;
 use definitions_file::FINALITY_AT;
 use definitions_file::QUEUE_AT;
+use definitions_file::SETTINGS_AT;
+use refusals::settings_numbers;
 
 // As many numbers as the buffer holds.
 pub fn read_numbers(bytes: &[u8], at: usize, numbers: &mut [u64])
@@ -61,33 +63,41 @@ pub fn put_bytes(file: &mut [u8], at: usize, bytes: &[u8])
     }
 }
 
+// From numbers in document 01's order.
+pub fn settings_from(numbers: &[u64]) -> Settings
+    requires { ⌜ 19 ≤ length (now numbers) ⌝ }
+    ensures { λ r. ⌜ r ≡ settingsFrom (now (numbers .entry)) ⌝ }
+{
+    Settings {
+        slots_per_epoch: numbers[0],
+        slots_per_historical_root: numbers[1],
+        epochs_per_slashings_vector: numbers[2],
+        effective_balance_increment: numbers[3],
+        max_effective_balance: numbers[4],
+        hysteresis_quotient: numbers[5],
+        hysteresis_downward_multiplier: numbers[6],
+        hysteresis_upward_multiplier: numbers[7],
+        base_reward_factor: numbers[8],
+        min_epochs_to_inactivity_penalty: numbers[9],
+        inactivity_score_bias: numbers[10],
+        inactivity_score_recovery_rate: numbers[11],
+        inactivity_penalty_quotient_altair: numbers[12],
+        proportional_slashing_multiplier_altair: numbers[13],
+        max_seed_lookahead: numbers[14],
+        min_validator_withdrawability_delay: numbers[15],
+        ejection_balance: numbers[16],
+        min_per_epoch_churn_limit: numbers[17],
+        churn_limit_quotient: numbers[18],
+    }
+}
+
 pub fn read_settings(bytes: &[u8]) -> Settings
     requires { ⌜ 232 ≤ length (now bytes) ⌝ }
     ensures { λ r. ⌜ r ≡ settingsFrom (numbersFromBytes 19 (drop settingsAt (now (bytes .entry)))) ⌝ }
 {
     let mut n = [0u64; 19];
-    read_numbers(bytes, 80, &mut n);
-    Settings {
-        slots_per_epoch: n[0],
-        slots_per_historical_root: n[1],
-        epochs_per_slashings_vector: n[2],
-        effective_balance_increment: n[3],
-        max_effective_balance: n[4],
-        hysteresis_quotient: n[5],
-        hysteresis_downward_multiplier: n[6],
-        hysteresis_upward_multiplier: n[7],
-        base_reward_factor: n[8],
-        min_epochs_to_inactivity_penalty: n[9],
-        inactivity_score_bias: n[10],
-        inactivity_score_recovery_rate: n[11],
-        inactivity_penalty_quotient_altair: n[12],
-        proportional_slashing_multiplier_altair: n[13],
-        max_seed_lookahead: n[14],
-        min_validator_withdrawability_delay: n[15],
-        ejection_balance: n[16],
-        min_per_epoch_churn_limit: n[17],
-        churn_limit_quotient: n[18],
-    }
+    read_numbers(bytes, SETTINGS_AT, &mut n);
+    settings_from(&n)
 }
 
 // An epoch, then 32 bytes of root.
@@ -149,28 +159,7 @@ pub fn put_settings(file: &mut [u8], at: usize, s: Settings)
     requires { ⌜ at + 152 ≤ length (now file) ⌝ }
     ensures { λ _. ⌜ now (file .exit) ≡ sets (now (file .entry)) at (numbersToBytes (settingsNumbers s)) ⌝ }
 {
-    let numbers = [
-        s.slots_per_epoch,
-        s.slots_per_historical_root,
-        s.epochs_per_slashings_vector,
-        s.effective_balance_increment,
-        s.max_effective_balance,
-        s.hysteresis_quotient,
-        s.hysteresis_downward_multiplier,
-        s.hysteresis_upward_multiplier,
-        s.base_reward_factor,
-        s.min_epochs_to_inactivity_penalty,
-        s.inactivity_score_bias,
-        s.inactivity_score_recovery_rate,
-        s.inactivity_penalty_quotient_altair,
-        s.proportional_slashing_multiplier_altair,
-        s.max_seed_lookahead,
-        s.min_validator_withdrawability_delay,
-        s.ejection_balance,
-        s.min_per_epoch_churn_limit,
-        s.churn_limit_quotient,
-    ];
-    put_numbers(file, at, &numbers);
+    put_numbers(file, at, &settings_numbers(s));
 }
 
 fn put_checkpoint(file: &mut [u8], at: usize, c: Checkpoint)

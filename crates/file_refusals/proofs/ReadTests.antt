@@ -78,51 +78,62 @@ module _ (bytes registry slashings : List ℕ) where
   unfolding readTests position read bind
   answered-header l h = record { number = rw h; place = rw (le-ltb _ _ l, h); pair = rw h }
 
+-- the header is good, and x is what the other tests said
+pub record Others (bytes registry slashings : List ℕ) (x : ℕ) : Type 0 where
+  pub header : goodHeader bytes ≡ true
+  pub number : x ≡ codeOf (otherTests bytes registry slashings (goodRegistry (contentsOf bytes .registry)))
+
+module _ {bytes registry slashings : List ℕ} {x : ℕ} (o : Others bytes registry slashings x) where
   abbrev others : Checked (Unit {0})
   others = otherTests bytes registry slashings (goodRegistry (contentsOf bytes .registry))
 
-  module _ (h : goodHeader bytes ≡ true) {x : ℕ} (e : x ≡ codeOf others) where
-    enough : 80 ≤ length bytes
-    enough = good-header bytes h .enough
+  abbrev h : goodHeader bytes ≡ true
+  h = o .header
 
-    others-refused : (x ≡ 0 → ⊥) → {at : ℕ} → at ≡ position bytes registry slashings → Answered bytes registry slashings x at noQueue
-    unfolding readTests read bind
-    others-refused z {at} p = go others refl
-      where
-        go : (m : Checked (Unit {0})) → others ≡ m → Answered bytes registry slashings x at noQueue
-        go (value u) q = absurd (z (e ∙ ap codeOf q))
-        go (refused r) q = record { number = rw (h, q) (e ∙ ap codeOf q); place = p; pair = rw (h, q) }
+  abbrev e : x ≡ codeOf others
+  e = o .number
 
-    pub answered-sooner : (x ≡ 0 → ⊥) → (x ≡ 3 → ⊥) → Answered bytes registry slashings x 232 noQueue
+  enough : 80 ≤ length bytes
+  enough = good-header bytes h .enough
+
+  others-refused : (x ≡ 0 → ⊥) → {at : ℕ} → at ≡ position bytes registry slashings → Answered bytes registry slashings x at noQueue
+  unfolding readTests read bind
+  others-refused z {at} p = go others refl
+    where
+      go : (m : Checked (Unit {0})) → others ≡ m → Answered bytes registry slashings x at noQueue
+      go (value u) q = absurd (z (e ∙ ap codeOf q))
+      go (refused r) q = record { number = rw (h, q) (e ∙ ap codeOf q); place = p; pair = rw (h, q) }
+
+  pub answered-sooner : (x ≡ 0 → ⊥) → (x ≡ 3 → ⊥) → Answered bytes registry slashings x 232 noQueue
+  unfolding position
+  answered-sooner z n =
+      let t = sooner (fileShaped bytes registry slashings) (goodSettings (contentsOf bytes .settings)) (goodFinality (contentsOf bytes .finality)) (goodRegistry (contentsOf bytes .registry)) (λ y. z (e ∙ y)) (λ y. n (e ∙ y)) in
+      others-refused z (rw (le-ltb _ _ enough, h, t))
+
+  module _ (n : x ≡ 3) where
+    among : ((fileShaped bytes registry slashings && goodSettings (contentsOf bytes .settings)) ≡ true) × ((goodFinality (contentsOf bytes .finality) && goodRegistry (contentsOf bytes .registry)) ≡ false)
+    among = third _ _ _ _ (sym e ∙ n)
+
+    pub answered-finality : goodFinality (contentsOf bytes .finality) ≡ false → Answered bytes registry slashings 3 368 noQueue
     unfolding position
-    answered-sooner z n =
-        let t = sooner (fileShaped bytes registry slashings) (goodSettings (contentsOf bytes .settings)) (goodFinality (contentsOf bytes .finality)) (goodRegistry (contentsOf bytes .registry)) (λ y. z (e ∙ y)) (λ y. n (e ∙ y)) in
-        others-refused z (rw (le-ltb _ _ enough, h, t))
+    answered-finality f = rw n at (others-refused (λ y. omega (arith, y, n)) {at = 368} (rw (le-ltb _ _ enough, h, among .0, f)))
 
-    module _ (n : x ≡ 3) where
-      among : ((fileShaped bytes registry slashings && goodSettings (contentsOf bytes .settings)) ≡ true) × ((goodFinality (contentsOf bytes .finality) && goodRegistry (contentsOf bytes .registry)) ≡ false)
-      among = third _ _ _ _ (sym e ∙ n)
+    pub answered-registry : goodFinality (contentsOf bytes .finality) ≡ true → Answered bytes registry slashings 3 (stoppedAt (validatorsAt (versionOf bytes)) (decode (contentsOf bytes .registry))) noQueue
+    unfolding position
+    answered-registry f =
+        let r : goodRegistry (contentsOf bytes .registry) ≡ false = rw f at (among .1) in
+        rw n at (others-refused (λ y. omega (arith, y, n)) {at = stoppedAt (validatorsAt (versionOf bytes)) (decode (contentsOf bytes .registry))} (rw (le-ltb _ _ enough, h, among .0, f, r)))
 
-      pub answered-finality : goodFinality (contentsOf bytes .finality) ≡ false → Answered bytes registry slashings 3 368 noQueue
-      unfolding position
-      answered-finality f = rw n at (others-refused (λ y. omega (arith, y, n)) {at = 368} (rw (le-ltb _ _ enough, h, among .0, f)))
-
-      pub answered-registry : goodFinality (contentsOf bytes .finality) ≡ true → Answered bytes registry slashings 3 (stoppedAt (validatorsAt (versionOf bytes)) (decode (contentsOf bytes .registry))) noQueue
-      unfolding position
-      answered-registry f =
-          let r : goodRegistry (contentsOf bytes .registry) ≡ false = rw f at (among .1) in
-          rw n at (others-refused (λ y. omega (arith, y, n)) {at = stoppedAt (validatorsAt (versionOf bytes)) (decode (contentsOf bytes .registry))} (rw (le-ltb _ _ enough, h, among .0, f, r)))
-
-    pub answered-queue : x ≡ 0 → {y at : ℕ} {q : ExitQueue} → QueueAnswered bytes y at q → Answered bytes registry slashings y at q
-    unfolding readTests position read bind
-    answered-queue z a =
-        let p = in-order _ _ _ (sym e ∙ z) in
-        let m = passed others e z in
-        record {
-          number = rw (h, m) (a .number);
-          place = rw (le-ltb _ _ enough, h, p .shaped 0, p .settings 0, p .recorded 0, p .recorded 1) (a .place);
-          pair = rw (h, m) (a .pair);
-        }
+  pub answered-queue : x ≡ 0 → {y at : ℕ} {q : ExitQueue} → QueueAnswered bytes y at q → Answered bytes registry slashings y at q
+  unfolding readTests position read bind
+  answered-queue z a =
+      let p = in-order _ _ _ (sym e ∙ z) in
+      let m = passed others e z in
+      record {
+        number = rw (h, m) (a .number);
+        place = rw (le-ltb _ _ enough, h, p .shaped 0, p .settings 0, p .recorded 0, p .recorded 1) (a .place);
+        pair = rw (h, m) (a .pair);
+      }
 
 -- Test 8
 

@@ -2,11 +2,11 @@
 use mathlib.Core.Path.{_≡_, refl, ap}
 use mathlib.Core.Bool.{Bool, true, false, cond, _&&_, _||_, false≢true}
 use mathlib.Core.List.{List, [], _∷_, _++_}
-use Prim.Native.Nat.{ℕ, zero, suc, _-_, min}
+use Prim.Native.Nat.{ℕ, zero, suc, _-_, _<_, min}
 use native.Mathlib.Omega.{arith}
 use borrow.Author.Tests.{ltb-true, ltb-false}
 use lib.Dec.{ltb}
-use lib.ListN.{getD}
+use lib.ListN.{length, getD}
 use Rattle.definitions.specs.Lists.{all, every}
 use Rattle.definitions.specs.Checked.{Checked, value, refused, badShape, badSettings, badRecord, codeOf}
 use Rattle.definitions.specs.Refusals.{inOrder}
@@ -56,6 +56,13 @@ unfolding every
 test [] e i = refl
 test (t ∷ ts) e zero = both t (every ts) e .0
 test (t ∷ ts) e (suc i) = test ts (both t (every ts) e .1) i
+
+-- all pass: so does each
+pub all-at : {A : Type 0} (p : A → Bool) (xs : List A) (i : ℕ) (d : A) → i < length xs → all p xs ≡ true → p (getD xs i d) ≡ true
+unfolding all
+all-at p [] i d l h = absurd (omega arith)
+all-at p (x ∷ xs) zero d l h = both (p x) (all p xs) h .0
+all-at p (x ∷ xs) (suc i) d l h = all-at p xs i d (omega arith) (both (p x) (all p xs) h .1)
 
 pub every-all : (ts : List Bool) → every ts ≡ all (λ t. t) ts
 unfolding every all

@@ -15,6 +15,7 @@ ghost use Rattle.close.specs.Called.{called};
 ghost use Rattle.fields.specs.Put.{Put};
 ghost use Rattle.definitions_file.specs.NetChange.{changeTests};
 ghost use Rattle.definitions_file.specs.Lines.{headLine, lines, orRefused};
+ghost use Rattle.listing_lines.specs.Sizes.{longestHead, longestLine};
 ghost use Rattle.listing.specs.Listed.{ListedClose};
 use close::close_as_altair;
 use definitions::Finality;
@@ -36,7 +37,7 @@ fn put_close(
 ) -> usize
     requires { ⌜ 0 < s .«slots_per_epoch» ⌝ }
     requires { ⌜ (registryShaped (now registry) ≡ true) × (length (now «closing_registry») ≡ length (now registry)) ⌝ }
-    requires { ⌜ 207 + 127 * (length (now registry) / 10) ≤ length (now text) ⌝ }
+    requires { ⌜ longestHead + longestLine * (length (now registry) / 10) ≤ length (now text) ⌝ }
     ensures { λ r. ⌜
         Put (now (text .entry)) 0 (orRefused (codeOf (changeTests (decode (now (registry .entry))) (decode (now («closing_registry» .entry)))))
         (headLine («get_current_epoch» s «state_slot») («closing_finality» .«current_justified_checkpoint» .epoch)
@@ -65,7 +66,7 @@ pub fn list_close(
     closing_slashings: &mut [u64],
     text: &mut [u8],
 ) -> usize
-    requires { ⌜ 207 + 127 * (length (now registry) / 10) ≤ length (now text) ⌝ }
+    requires { ⌜ longestHead + longestLine * (length (now registry) / 10) ≤ length (now text) ⌝ }
     ensures { λ r. ⌜
         ListedClose (called (altairRules s) finality (now (registry .entry)) (now (slashings .entry)) (now (roots .entry)) (now («closing_registry» .entry))
         (now («closing_slashings» .entry))) (now (text .entry)) (now (text .exit)) r ⌝ }

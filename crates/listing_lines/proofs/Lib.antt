@@ -1,5 +1,4 @@
 -- Laws of the listing's lines.
-pub mod Change
 pub mod Fitting
 pub mod HeadNumbers
 pub mod LineNumbers

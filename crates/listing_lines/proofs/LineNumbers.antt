@@ -17,7 +17,7 @@ use Rattle.refusals.proofs.Laws.{registry-shaped}
 use Rattle.definitions_file.specs.NetChange.{netChange}
 use Rattle.definitions_file.specs.ListingAnswers.{lineTests, noLine, lineFor, lineOf}
 use Rattle.listing_lines.specs.Told.{lineTold}
-use Rattle.listing_lines.proofs.Change.{signed}
+use Rattle.arithmetic.proofs.signed.Change.{signed}
 
 module _ (opening closing : List ℕ) (index : ℕ) where
   -- x is the number that the tests gave

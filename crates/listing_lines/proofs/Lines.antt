@@ -15,6 +15,7 @@ use Rattle.fields.specs.Put.{Put}
 use Rattle.fields.proofs.decimals.Put.{put-more, put-length}
 use Rattle.laws.proofs.Loops.Entry.{number-at}
 use Rattle.definitions_file.specs.Lines.{validatorLine, lines}
+use Rattle.listing_lines.specs.Sizes.{longestLine}
 
 -- the line of the validator i, of its numbers where they stand
 abbrev pub lineAt : List ℕ → List ℕ → ℕ → List ℕ
@@ -28,7 +29,7 @@ linesFrom opening closing i = lines i (drop i (decode opening)) (drop i (decode 
 pub record Lining (before : List ℕ) (at : ℕ) (opening closing : List ℕ) (n : ℕ) (text : List ℕ) (end i : ℕ) : Type 0 where
   pub count : n ≡ length opening / 10
   pub below : i ≤ n
-  pub room : end + 127 * (n - i) ≤ length text
+  pub room : end + longestLine * (n - i) ≤ length text
   pub long : length text ≡ length before
   pub rest : (after : List ℕ) (last : ℕ) → Put text end (linesFrom opening closing i) after last → Put before at (linesFrom opening closing 0) after last
 
@@ -50,11 +51,11 @@ module _ (opening closing : List ℕ) (shaped : registryShaped opening ≡ true)
   unfolding lines
   none i l = let a : length (decode opening) ≤ i = omega (arith, many opening refl) in rw (drop-of-length-le (decode opening) a)
 
-  pub lining-none : (before : List ℕ) (at : ℕ) → at + 127 * (length opening / 10) ≤ length before → Lining before at opening closing (length opening / 10) before at 0
+  pub lining-none : (before : List ℕ) (at : ℕ) → at + longestLine * (length opening / 10) ≤ length before → Lining before at opening closing (length opening / 10) before at 0
   lining-none before at r = record { count = refl; below = omega arith; room = omega arith; long = refl; rest = λ after last p. p }
 
   module _ {before : List ℕ} {at n : ℕ} {text : List ℕ} {end i : ℕ} (s : Lining before at opening closing n text end i) where
-    pub lining-more : {after : List ℕ} {last : ℕ} → i < n → Put text end (lineAt opening closing i) after last → last ≤ end + 127 → Lining before at opening closing n after last (i + 1)
+    pub lining-more : {after : List ℕ} {last : ℕ} → i < n → Put text end (lineAt opening closing i) after last → last ≤ end + longestLine → Lining before at opening closing n after last (i + 1)
     lining-more {after} {last} h p few =
         let k : i < length opening / 10 = omega (arith, s .count) in
         record {

@@ -11,13 +11,13 @@ ghost use Rattle.listing_lines.specs.Told.{lineTold};
 pub mod numbers;
 pub mod text;
 
+use arithmetic::signed::net_change;
 use definitions::Finality;
 use definitions::Settings;
 use definitions_file::Change;
 use definitions_file::Head;
 use definitions_file::Line;
 use epochs::current_epoch;
-use numbers::net_change;
 use numbers::no_head;
 use numbers::no_line;
 use refusals::good_finality;

@@ -8,6 +8,7 @@ ghost use Rattle.definitions.specs.Record.{decode};
 ghost use Rattle.definitions.specs.Refusals.{registryShaped};
 ghost use Rattle.fields.specs.Put.{Put};
 ghost use Rattle.definitions_file.specs.Lines.{row, raisedFigures, headLine, validatorLine, lines, refusedLine};
+ghost use Rattle.listing_lines.specs.Sizes.{longestHead, longestLine, longestRefused};
 use definitions::Raised;
 use definitions_file::Head;
 use fields::decimals::put_change;
@@ -61,11 +62,11 @@ fn put_raised(text: &mut [u8], at: usize, raised: Raised) -> usize
 }
 
 pub fn put_head(text: &mut [u8], at: usize, h: Head) -> usize
-    requires { ⌜ at + 207 ≤ length (now text) ⌝ }
+    requires { ⌜ at + longestHead ≤ length (now text) ⌝ }
     ensures { λ r. ⌜
         Put (now (text .entry)) at (headLine (h .epoch) (h .«justified_epoch») (h .«finalized_epoch») (h .«justification_bits») (h .charged) (h .raised))
         (now (text .exit)) r ⌝ }
-    ensures { λ r. ⌜ r ≤ at + 207 ⌝ }
+    ensures { λ r. ⌜ r ≤ at + longestHead ⌝ }
 {
     let row = put_row(
         text,
@@ -95,9 +96,9 @@ fn put_line(
     effective: u64,
     score: u64,
 ) -> usize
-    requires { ⌜ at + 127 ≤ length (now text) ⌝ }
+    requires { ⌜ at + longestLine ≤ length (now text) ⌝ }
     ensures { λ r. ⌜ Put (now (text .entry)) at (validatorLine index opening closing effective score) (now (text .exit)) r ⌝ }
-    ensures { λ r. ⌜ r ≤ at + 127 ⌝ }
+    ensures { λ r. ⌜ r ≤ at + longestLine ⌝ }
 {
     let row = put_row(
         text,
@@ -120,7 +121,7 @@ fn put_line(
 // A line for each validator.
 pub fn put_lines(text: &mut [u8], at: usize, opening: &[u64], closing: &[u64]) -> usize
     requires { ⌜ (registryShaped (now opening) ≡ true) × (length (now closing) ≡ length (now opening)) ⌝ }
-    requires { ⌜ at + 127 * (length (now opening) / 10) ≤ length (now text) ⌝ }
+    requires { ⌜ at + longestLine * (length (now opening) / 10) ≤ length (now text) ⌝ }
     ensures { λ r. ⌜ Put (now (text .entry)) at (lines 0 (decode (now (opening .entry))) (decode (now (closing .entry)))) (now (text .exit)) r ⌝ }
     ensures { λ r. ⌜ r ≤ length (now (text .entry)) ⌝ }
 {
@@ -144,9 +145,9 @@ pub fn put_lines(text: &mut [u8], at: usize, opening: &[u64], closing: &[u64]) -
 }
 
 pub fn put_refused(text: &mut [u8], at: usize, number: u64) -> usize
-    requires { ⌜ at + 29 ≤ length (now text) ⌝ }
+    requires { ⌜ at + longestRefused ≤ length (now text) ⌝ }
     ensures { λ r. ⌜ Put (now (text .entry)) at (refusedLine number) (now (text .exit)) r ⌝ }
-    ensures { λ r. ⌜ r ≤ at + 29 ⌝ }
+    ensures { λ r. ⌜ r ≤ at + longestRefused ⌝ }
 {
     let end = put_labelled(text, at, b"refused ", number);
     put_end(text, end)

@@ -1,10 +1,10 @@
 -- What a run of an accepted file begins with.
-use mathlib.Core.Bool.{Bool, true, false, not}
+use mathlib.Core.Bool.{true}
 use mathlib.Core.List.{List}
 use mathlib.Core.Path.{_≡_, sym, ap, _∙_}
 use Prim.Native.Nat.{ℕ, _+_, _*_, _/_, _%_, _^_, _≤_}
 use native.Mathlib.Omega.{arith}
-use borrow.Author.Tests.{eq-eqb, le-leb, eqb-true, leb-true, not-true, not-false}
+use borrow.Author.Tests.{eq-eqb, le-leb, eqb-true, leb-true}
 use lib.Dec.{leb}
 use lib.ListN.{length, take, drop, replicate}
 use lib.Seq.{sets}
@@ -34,31 +34,37 @@ good-tail n tail e =
     let b = both (lengthIs (40 + 16 * n) tail) (leb (epochsIn tail) 4096) e in
     record { long = eqb-true (length tail) (40 + 16 * n) (b .0); few = leb-true (epochsIn tail) 4096 (b .1) }
 
--- `t` is what the code says of the tail
-module _ (tail : List ℕ) {t : Bool} {k n : ℕ} (e : t ≡ goodTail k tail) (same : k ≡ n) where
-  pub tail-fails : not t ≡ true → goodTail n tail ≡ false
-  tail-fails q = rw (← same) (sym e ∙ not-true t q)
-
-  pub tail-passes : not t ≡ false → goodTail n tail ≡ true
-  tail-passes q = rw (← same) (sym e ∙ not-false t q)
-
--- what the code read, from a file that is not refused
-module _ (file registry slashings : List ℕ) (l : length registry ≡ 10 * countOf file) (m : length slashings ≡ slashingCountOf file) {q : ℕ} (e : q ≡ read file registry slashings .refusal) (z : q ≡ 0) where
-  pub not-refused : opened file .refusal ≡ 0
-  not-refused = sym (opened-same file registry slashings l m) ∙ sym e ∙ z
-
-  contents : read file registry slashings .contents ≡ contentsOf file
-  contents = read-accepted file registry slashings (sym e ∙ z)
-
-  pub opened-from : {s : Settings} {f : Finality} {xs ys : List ℕ} → s ≡ read file registry slashings .contents .settings → f ≡ read file registry slashings .contents .finality → xs ≡ read file registry slashings .contents .registry → ys ≡ read file registry slashings .contents .slashings → Opened file s f xs ys
-  opened-from a b c d =
+-- what the code read
+module _ {file opening absences registry slashings roots closingRegistry closingSlashings text : List ℕ} (x : Exact file opening absences registry slashings roots closingRegistry closingSlashings text) where
+  pub exact-read : {xs ys : List ℕ} → length xs ≡ length registry → length ys ≡ length slashings → Exact file opening absences xs ys roots closingRegistry closingSlashings text
+  exact-read a b =
       record {
-        accepted = not-refused;
-        settings = a ∙ ap (λ (k : Contents). k .settings) contents;
-        finality = b ∙ ap (λ (k : Contents). k .finality) contents;
-        entries = c ∙ ap (λ (k : Contents). k .registry) contents;
-        sums = d ∙ ap (λ (k : Contents). k .slashings) contents;
+        header = x .header;
+        few = x .few;
+        openings = x .openings;
+        pairs = x .pairs;
+        entries = a ∙ x .entries;
+        sums = b ∙ x .sums;
+        places = x .places;
+        closing-entries = x .closing-entries;
+        closing-sums = x .closing-sums;
+        bytes = x .bytes;
       }
+
+  module _ {q : ℕ} (e : q ≡ read file registry slashings .refusal) where
+    pub refusal-read : q ≡ opened file .refusal
+    refusal-read = e ∙ opened-same file registry slashings (x .entries) (x .sums)
+
+    pub opened-from : {s : Settings} {f : Finality} {xs ys : List ℕ} → q ≡ 0 → s ≡ read file registry slashings .contents .settings → f ≡ read file registry slashings .contents .finality → xs ≡ read file registry slashings .contents .registry → ys ≡ read file registry slashings .contents .slashings → Opened file s f xs ys
+    opened-from z a b c d =
+        let contents = read-accepted file registry slashings (sym e ∙ z) in
+        record {
+          accepted = sym refusal-read ∙ z;
+          settings = a ∙ ap (λ (k : Contents). k .settings) contents;
+          finality = b ∙ ap (λ (k : Contents). k .finality) contents;
+          entries = c ∙ ap (λ (k : Contents). k .registry) contents;
+          sums = d ∙ ap (λ (k : Contents). k .slashings) contents;
+        }
 
 module _ {file opening absences registry slashings roots closingRegistry closingSlashings text : List ℕ} (x : Exact file opening absences registry slashings roots closingRegistry closingSlashings text) {s : Settings} {f : Finality} (o : Opened file s f registry slashings) where
   recorded : Accepted file

@@ -9,6 +9,7 @@ ghost use Rattle.fields.specs.Put.{Put};
 ghost use Rattle.definitions_file.specs.OutageInput.{planOf, goodTail};
 ghost use Rattle.definitions_file.specs.OutageRun.{run};
 ghost use Rattle.definitions_file.specs.Outage.{linesText, runText, textOf};
+ghost use Rattle.listing_lines.specs.Sizes.{longestHead, longestLine, longestRefused};
 ghost use Rattle.outage.specs.Ready.{Ready};
 ghost use Rattle.outage.specs.Went.{Room};
 ghost use Rattle.outage.specs.Lent.{Printed, Exact, Opened, Enough};
@@ -34,7 +35,7 @@ use refusals::buffers::copy;
 // The validator lines, or refusal 7 in place of all of them.
 fn put_rows(text: &mut [u8], at: usize, opening: &[u64], closing: &[u64]) -> usize
     requires { ⌜ (registryShaped (now opening) ≡ true) × (length (now closing) ≡ length (now opening)) ⌝ }
-    requires { ⌜ at + 29 + 127 * (length (now opening) / 10) ≤ length (now text) ⌝ }
+    requires { ⌜ at + longestRefused + longestLine * (length (now opening) / 10) ≤ length (now text) ⌝ }
     ensures { λ r. ⌜ Put (now (text .entry)) at (linesText (now (opening .entry)) (now (closing .entry))) (now (text .exit)) r ⌝ }
     ensures { λ r. ⌜ r ≤ length (now (text .entry)) ⌝ }
 {
@@ -63,7 +64,7 @@ fn put_run(
     requires { ⌜ Ready s (finality .slot) (length (now registry) / 10) (now registry) (now roots) (now root) (now absences) ⌝ }
     requires { ⌜ Room epochs (now registry) (now slashings) (now «closing_registry») (now «closing_slashings») (now text) 0 ⌝ }
     requires { ⌜ (registryShaped (now opening) ≡ true) × (now opening ≡ now registry) ⌝ }
-    requires { ⌜ 210 * epochs + 29 + 127 * (length (now opening) / 10) ≤ length (now text) ⌝ }
+    requires { ⌜ longestHead * epochs + longestRefused + longestLine * (length (now opening) / 10) ≤ length (now text) ⌝ }
     ensures { λ r. ⌜
         Printed (runText (contentsWith s finality (now (opening .entry)) (now (roots .entry)) (now (slashings .entry)))
         (run (planOf (now (root .entry)) (now (absences .entry))) epochs

@@ -1,3 +1,4 @@
 -- Laws of the amounts.
 pub mod Rated
 pub mod Charged
+mod Scored

@@ -12,6 +12,7 @@ use Rattle.definitions.specs.declared.DeltasAnswer.the-variants.{Value as Delta
 use Rattle.definitions.specs.Answers.{SaysDeltas, deltasAnswerFor}
 use Rattle.definitions.specs.Checked.{Checked, value, refused, overflow, bind, mul64}
 use Rattle.definitions.specs.Record.{Validator}
+use Rattle.definitions.specs.Updates.{withScore}
 use Rattle.definitions.specs.Document.Phase0.EpochProcessing.{isEligible}
 use Rattle.definitions.specs.Rust.Altair.Helpers.{«PARTICIPATION_FLAG_WEIGHTS», «WEIGHT_DENOMINATOR», FlagTotals, noDeltas, isUnslashedParticipating, «get_base_reward», hitDeltas, missDeltas, flagIndexDeltas, inactivityPenaltyDeltas}
 use Rattle.laws.proofs.Checked.{bound, value-same}
@@ -20,7 +21,8 @@ use Rattle.rewards.specs.declared.Shared.{Shared}
 use Rattle.rewards.specs.Shared.{totalsOf}
 use Rattle.rates.specs.declared.Amount.{Amount}
 use Rattle.rates.specs.declared.Rates.{Rates}
-use Rattle.rates.specs.Rated.{baseOf, rewardOf, penaltyOf, Told, Fits, byFlag, FlagBy, byScore}
+use Rattle.rates.specs.Rated.{baseOf, rewardOf, penaltyOf, Told, ratesOf, Fits, byFlag, FlagBy, byScore}
+use Rattle.rates.proofs.Scored.{eligible-scored, hit-scored}
 
 -- A hit is a reward alone, a miss a penalty alone
 
@@ -98,11 +100,24 @@ says-amount t z = record { is = ap deltasAnswerFor (sym (t .fits z)) }
 pub says-past : {m : Checked Deltas} {of : ℕ → Deltas} {a : Amount} → Told m of a → (a .over ≡ 0 → ⊥) → SaysDeltas m (DeltasRefused 5)
 says-past t n = record { is = ap deltasAnswerFor (sym (t .past n)) }
 
--- a validator of that effective balance
-module _ {s : Settings} {h : Shared} {source target head : ℕ} {q : Rates} (f : Fits s h source target head q) (v : Validator) (same : q .«effective_balance» ≡ v .«effective_balance») {eligible : Bool} (e : eligible ≡ isEligible (h .«previous_epoch») v) where
-  flag-is : (index increments : ℕ) {hit : Bool} → hit ≡ isUnslashedParticipating (h .«current_epoch») index (h .«previous_epoch») v → flagIndexDeltas s (h .«current_epoch») (h .«previous_epoch») index (totalsOf h increments) v ≡ byFlag eligible hit (bind (baseOf s (h .total) (q .«effective_balance»)) (hitDeltas s (getD «PARTICIPATION_FLAG_WEIGHTS» index 0) (totalsOf h increments))) (bind (baseOf s (h .total) (q .«effective_balance»)) (missDeltas index (getD «PARTICIPATION_FLAG_WEIGHTS» index 0)))
+-- as pairs_by takes them
+pub fits-each : {s : Settings} {h : Shared} {source target head : ℕ} {q : Rates} → Fits s h source target head q → Fits s h source target head (ratesOf (q .«effective_balance») (q .«source_reward») (q .«source_penalty») (q .«target_reward») (q .«target_penalty») (q .«head_reward») (q .«head_penalty») (q .«most_score»))
+fits-each f =
+    record {
+      sourceHit = f .sourceHit;
+      sourceMiss = f .sourceMiss;
+      targetHit = f .targetHit;
+      targetMiss = f .targetMiss;
+      headHit = f .headHit;
+      headMiss = f .headMiss;
+      most = f .most;
+    }
+
+-- a validator of that effective balance, with this score
+module _ {s : Settings} {h : Shared} {source target head : ℕ} {q : Rates} (f : Fits s h source target head q) (v : Validator) (score : ℕ) (same : q .«effective_balance» ≡ v .«effective_balance») {eligible : Bool} (e : eligible ≡ isEligible (h .«previous_epoch») v) where
+  flag-is : (index increments : ℕ) {hit : Bool} → hit ≡ isUnslashedParticipating (h .«current_epoch») index (h .«previous_epoch») v → flagIndexDeltas s (h .«current_epoch») (h .«previous_epoch») index (totalsOf h increments) (withScore score v) ≡ byFlag eligible hit (bind (baseOf s (h .total) (q .«effective_balance»)) (hitDeltas s (getD «PARTICIPATION_FLAG_WEIGHTS» index 0) (totalsOf h increments))) (bind (baseOf s (h .total) (q .«effective_balance»)) (missDeltas index (getD «PARTICIPATION_FLAG_WEIGHTS» index 0)))
   unfolding flagIndexDeltas «get_base_reward» byFlag
-  flag-is index increments {hit} i = rw (← e, ← i, same) (go eligible hit)
+  flag-is index increments {hit} i = rw (← eligible-scored _ score v e, ← hit-scored _ _ _ score v i, same) (go eligible hit)
     where
       base : Checked ℕ
       base = baseOf s (h .total) (v .«effective_balance»)
@@ -115,15 +130,15 @@ module _ {s : Settings} {h : Shared} {source target head : ℕ} {q : Rates} (f :
       go true false = refl
       go false t = refl
 
-  pub source-says : {hit : Bool} → hit ≡ isUnslashedParticipating (h .«current_epoch») 0 (h .«previous_epoch») v → {r : DeltasAnswer} → FlagBy eligible hit (q .«source_reward») (q .«source_penalty») r → SaysDeltas (flagIndexDeltas s (h .«current_epoch») (h .«previous_epoch») 0 (totalsOf h source) v) r
+  pub source-says : {hit : Bool} → hit ≡ isUnslashedParticipating (h .«current_epoch») 0 (h .«previous_epoch») v → {r : DeltasAnswer} → FlagBy eligible hit (q .«source_reward») (q .«source_penalty») r → SaysDeltas (flagIndexDeltas s (h .«current_epoch») (h .«previous_epoch») 0 (totalsOf h source) (withScore score v)) r
   source-says i b = rw (flag-is 0 source i) (b .of _ _ (f .sourceHit) (f .sourceMiss))
 
-  pub target-says : {hit : Bool} → hit ≡ isUnslashedParticipating (h .«current_epoch») 1 (h .«previous_epoch») v → {r : DeltasAnswer} → FlagBy eligible hit (q .«target_reward») (q .«target_penalty») r → SaysDeltas (flagIndexDeltas s (h .«current_epoch») (h .«previous_epoch») 1 (totalsOf h target) v) r
+  pub target-says : {hit : Bool} → hit ≡ isUnslashedParticipating (h .«current_epoch») 1 (h .«previous_epoch») v → {r : DeltasAnswer} → FlagBy eligible hit (q .«target_reward») (q .«target_penalty») r → SaysDeltas (flagIndexDeltas s (h .«current_epoch») (h .«previous_epoch») 1 (totalsOf h target) (withScore score v)) r
   target-says i b = rw (flag-is 1 target i) (b .of _ _ (f .targetHit) (f .targetMiss))
 
-  pub head-says : {hit : Bool} → hit ≡ isUnslashedParticipating (h .«current_epoch») 2 (h .«previous_epoch») v → {r : DeltasAnswer} → FlagBy eligible hit (q .«head_reward») (q .«head_penalty») r → SaysDeltas (flagIndexDeltas s (h .«current_epoch») (h .«previous_epoch») 2 (totalsOf h head) v) r
+  pub head-says : {hit : Bool} → hit ≡ isUnslashedParticipating (h .«current_epoch») 2 (h .«previous_epoch») v → {r : DeltasAnswer} → FlagBy eligible hit (q .«head_reward») (q .«head_penalty») r → SaysDeltas (flagIndexDeltas s (h .«current_epoch») (h .«previous_epoch») 2 (totalsOf h head) (withScore score v)) r
   head-says i b = rw (flag-is 2 head i) (b .of _ _ (f .headHit) (f .headMiss))
 
-  pub penalty-says : (quotient : ℕ) {hit : Bool} → hit ≡ isUnslashedParticipating (h .«current_epoch») 1 (h .«previous_epoch») v → {r : DeltasAnswer} → SaysDeltas (byScore (s .«inactivity_score_bias») quotient eligible hit (q .«effective_balance») (v .«inactivity_score»)) r → SaysDeltas (inactivityPenaltyDeltas s quotient (h .«current_epoch») (h .«previous_epoch») v) r
+  pub penalty-says : (quotient : ℕ) {hit : Bool} → hit ≡ isUnslashedParticipating (h .«current_epoch») 1 (h .«previous_epoch») v → {r : DeltasAnswer} → SaysDeltas (byScore (s .«inactivity_score_bias») quotient eligible hit (q .«effective_balance») score) r → SaysDeltas (inactivityPenaltyDeltas s quotient (h .«current_epoch») (h .«previous_epoch») (withScore score v)) r
   unfolding inactivityPenaltyDeltas byScore
-  penalty-says quotient i k = rw (← e, ← i, ← same) k
+  penalty-says quotient i k = rw (← eligible-scored _ score v e, ← hit-scored _ _ _ score v i, ← same) k

@@ -1,3 +1,4 @@
 -- What changes is the balance; what refuses does so by overflow.
 pub mod Only
+pub mod Paired
 pub mod Rewarded

@@ -42,6 +42,21 @@ pub record Most (balance most : ℕ) : Type 0 where
   pub fits : (score : ℕ) → score ≤ most → balance * score < 2 ^ 64
   pub over : (score : ℕ) → score < 2 ^ 64 → most < score → 2 ^ 64 ≤ balance * score
 
+-- amounts that are handed on one by one
+abbrev pub ratesOf : ℕ → Amount → Amount → Amount → Amount → Amount → Amount → ℕ → Rates
+ratesOf balance sourceReward sourcePenalty targetReward targetPenalty headReward headPenalty most =
+    record {
+      «effective_balance» = balance;
+      told = 1;
+      «source_reward» = sourceReward;
+      «source_penalty» = sourcePenalty;
+      «target_reward» = targetReward;
+      «target_penalty» = targetPenalty;
+      «head_reward» = headReward;
+      «head_penalty» = headPenalty;
+      «most_score» = most;
+    }
+
 -- the amounts are those of their effective balance
 pub record Fits (s : Settings) (h : Shared) (source target head : ℕ) (q : Rates) : Type 0 where
   pub sourceHit : Told (bind (baseOf s (h .total) (q .«effective_balance»)) (hitDeltas s 14 (totalsOf h source))) rewardOf (q .«source_reward»)

@@ -7,19 +7,21 @@ ghost use Prim.Native.Nat.{_<_};
 ghost use lib.Dec.{eqb};
 ghost use lib.ListN.{length, getD};
 ghost use Rattle.definitions.specs.Record.{decodeOne};
+ghost use Rattle.definitions.specs.Updates.{withScore};
 ghost use Rattle.definitions.specs.Checked.{mul64};
 ghost use Rattle.definitions.specs.Answers.{Says, SaysDeltas};
 ghost use Rattle.definitions.specs.Rust.Altair.EpochProcessing.{rewardAndPenalize};
 ghost use Rattle.laws.specs.Ran.{Settles};
 ghost use Rattle.rewards.specs.Shared.{SharedBy, totalsOf};
-ghost use Rattle.rates.specs.Balances.{rewardedBalance};
-ghost use Rattle.rates.specs.Rated.{baseOf, Hits, Misses, Most, Fits, MemoOf, FlagBy, byScore};
+ghost use Rattle.rates.specs.Balances.{SaysPairs, fourOf};
+ghost use Rattle.rates.specs.Rated.{baseOf, Hits, Misses, Most, ratesOf, Fits, MemoOf, FlagBy, byScore};
 
 pub mod reward_balances;
 
-use crate::reward_balances::all_applied;
+use crate::reward_balances::Pairs;
+use crate::reward_balances::PairsAnswer;
+use crate::reward_balances::pay;
 use arithmetic::mul64;
-use definitions::BALANCE;
 use definitions::Deltas;
 use definitions::DeltasAnswer;
 use definitions::INACTIVITY_SCORE;
@@ -270,50 +272,51 @@ fn penalty_by(
     DeltasAnswer::Value(deltas)
 }
 
-fn balance_by(
+// As four_pairs, from the amounts, of the validator with this score. A close runs this for every validator: answers kept for all_paired
+// make it a twentieth slower, and amounts in a struct keep the two calls from being inlined, so that a close with amounts takes twice as long.
+pub fn pairs_by(
     s: Settings,
     h: Shared,
     source: u64,
     target: u64,
     head: u64,
-    rates: Rates,
+    source_reward: Amount,
+    source_penalty: Amount,
+    target_reward: Amount,
+    target_penalty: Amount,
+    head_reward: Amount,
+    head_penalty: Amount,
+    balance: u64,
+    most_score: u64,
     quotient: u64,
     product: Number,
+    score: u64,
     entry: &[u64],
-) -> Number
+) -> PairsAnswer
     requires { ⌜ SharedBy s h ⌝ }
     requires { ⌜ (0 < s .«inactivity_score_bias») × (0 < quotient) ⌝ }
     requires { ⌜ Says (mul64 (s .«inactivity_score_bias») quotient) product ⌝ }
     requires { ⌜ length (now entry) ≡ 10 ⌝ }
-    requires { ⌜ Fits s h source target head rates ⌝ }
-    requires { ⌜ rates .«effective_balance» ≡ getD (now entry) 0 0 ⌝ }
+    requires { ⌜
+        Fits s h source target head
+        (ratesOf balance «source_reward» «source_penalty» «target_reward» «target_penalty» «head_reward» «head_penalty» «most_score») ⌝ }
+    requires { ⌜ balance ≡ getD (now entry) 0 0 ⌝ }
     ensures { λ r. ⌜
-        Says (rewardedBalance s quotient (h .«current_epoch») (h .«previous_epoch») (totalsOf h source) (totalsOf h target) (totalsOf h head)
-        (decodeOne (now (entry .entry)))) r ⌝ }
+        SaysPairs (fourOf s quotient (h .«current_epoch») (h .«previous_epoch») (totalsOf h source) (totalsOf h target) (totalsOf h head)
+        (withScore score (decodeOne (now (entry .entry))))) r ⌝ }
 {
     let eligible = entry_is_eligible(h.previous_epoch, entry);
     let source_is = entry_is_participating(h.current_epoch, 0, h.previous_epoch, entry);
     let target_is = entry_is_participating(h.current_epoch, 1, h.previous_epoch, entry);
     let head_is = entry_is_participating(h.current_epoch, 2, h.previous_epoch, entry);
-    let DeltasAnswer::Value(a) = flag_by(
-        eligible,
-        source_is,
-        rates.source_reward,
-        rates.source_penalty,
-    ) else {
-        return Number::Refused(5);
+    let DeltasAnswer::Value(a) = flag_by(eligible, source_is, source_reward, source_penalty) else {
+        return PairsAnswer::Refused(5);
     };
-    let DeltasAnswer::Value(b) = flag_by(
-        eligible,
-        target_is,
-        rates.target_reward,
-        rates.target_penalty,
-    ) else {
-        return Number::Refused(5);
+    let DeltasAnswer::Value(b) = flag_by(eligible, target_is, target_reward, target_penalty) else {
+        return PairsAnswer::Refused(5);
     };
-    let DeltasAnswer::Value(c) = flag_by(eligible, head_is, rates.head_reward, rates.head_penalty)
-    else {
-        return Number::Refused(5);
+    let DeltasAnswer::Value(c) = flag_by(eligible, head_is, head_reward, head_penalty) else {
+        return PairsAnswer::Refused(5);
     };
     let DeltasAnswer::Value(d) = penalty_by(
         s.inactivity_score_bias,
@@ -321,13 +324,18 @@ fn balance_by(
         product,
         eligible,
         target_is,
-        rates.effective_balance,
-        rates.most_score,
-        entry[INACTIVITY_SCORE],
+        balance,
+        most_score,
+        score,
     ) else {
-        return Number::Refused(5);
+        return PairsAnswer::Refused(5);
     };
-    all_applied(entry[BALANCE], a, b, c, d)
+    PairsAnswer::Value(Pairs {
+        source: a,
+        target: b,
+        head: c,
+        inactivity: d,
+    })
 }
 
 pub fn entry_reward_by(
@@ -351,19 +359,24 @@ pub fn entry_reward_by(
         Settles (rewardAndPenalize s quotient (h .«current_epoch») (h .«previous_epoch») (totalsOf h source) (totalsOf h target) (totalsOf h head))
         (now (entry .entry)) (now (entry .exit)) r ⌝ }
 {
-    let Number::Value(balance) = balance_by(
+    let answer = pairs_by(
         s,
         h,
         source,
         target,
         head,
-        rates,
+        rates.source_reward,
+        rates.source_penalty,
+        rates.target_reward,
+        rates.target_penalty,
+        rates.head_reward,
+        rates.head_penalty,
+        rates.effective_balance,
+        rates.most_score,
         quotient,
         product,
-        entry,
-    ) else {
-        return 5;
-    };
-    entry[BALANCE] = balance;
-    0
+        entry[INACTIVITY_SCORE],
+        &entry[..],
+    );
+    pay(answer, entry)
 }

@@ -5,7 +5,8 @@ ghost use mathlib.Core.List.{[]};
 ghost use lib.ListN.{length};
 ghost use lib.Seq.{sets};
 ghost use Rattle.definitions.specs.Checked.{codeOf};
-ghost use Rattle.definitions_file.specs.File.{validatorsAt, fileLength, versionOf, settingsFrom, noFinality, goodHeader, contentsOf, read, fileOf, writeTests, written, noHeader, headerRead, contentsWith};
+ghost use Rattle.definitions.specs.Refusals.{settingsFrom};
+ghost use Rattle.definitions_file.specs.File.{validatorsAt, fileLength, versionOf, noFinality, goodHeader, contentsOf, read, fileOf, writeTests, written, noHeader, headerRead, contentsWith};
 ghost use Rattle.record_file.specs.Sized.{Sized, headOf};
 
 pub mod file_round_trips;
@@ -20,6 +21,7 @@ use definitions_file::QUEUE_AT;
 use definitions_file::ReadAnswer;
 use definitions_file::SETTINGS_AT;
 use definitions_file::VALIDATORS_AT;
+use fields::settings_from;
 
 // The header
 
@@ -54,27 +56,7 @@ pub fn read_header(bytes: &[u8]) -> Header
 fn no_settings() -> Settings
     ensures { λ r. ⌜ r ≡ settingsFrom [] ⌝ }
 {
-    Settings {
-        slots_per_epoch: 0,
-        slots_per_historical_root: 0,
-        epochs_per_slashings_vector: 0,
-        effective_balance_increment: 0,
-        max_effective_balance: 0,
-        hysteresis_quotient: 0,
-        hysteresis_downward_multiplier: 0,
-        hysteresis_upward_multiplier: 0,
-        base_reward_factor: 0,
-        min_epochs_to_inactivity_penalty: 0,
-        inactivity_score_bias: 0,
-        inactivity_score_recovery_rate: 0,
-        inactivity_penalty_quotient_altair: 0,
-        proportional_slashing_multiplier_altair: 0,
-        max_seed_lookahead: 0,
-        min_validator_withdrawability_delay: 0,
-        ejection_balance: 0,
-        min_per_epoch_churn_limit: 0,
-        churn_limit_quotient: 0,
-    }
+    settings_from(&[0u64; 19])
 }
 
 fn no_finality() -> Finality

@@ -18,13 +18,6 @@ fails {t} e p = sym e ∙ not-true t p
 pub passes : {t u : Bool} → t ≡ u → not t ≡ false → u ≡ true
 passes {t} e p = sym e ∙ not-false t p
 
--- all pass: so does each
-pub all-at : {A : Type 0} (p : A → Bool) (xs : List A) (i : ℕ) (d : A) → i < length xs → all p xs ≡ true → p (getD xs i d) ≡ true
-unfolding all
-all-at p [] i d l h = absurd (omega arith)
-all-at p (x ∷ xs) zero d l h = both (p x) (all p xs) h .0
-all-at p (x ∷ xs) (suc i) d l h = all-at p xs i d (omega arith) (both (p x) (all p xs) h .1)
-
 -- the first i pass
 pub record Passed {A : Type 0} (p : A → Bool) (xs : List A) (i : ℕ) : Type 0 where
   pub below : i ≤ length xs

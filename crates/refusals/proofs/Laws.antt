@@ -12,8 +12,7 @@ use Rattle.definitions.specs.declared.Settings.{Settings}
 use Rattle.definitions.specs.Lists.{all}
 use Rattle.definitions.specs.Record.{Validator}
 use Rattle.definitions.specs.Refusals.{isVectorLength, settingsShaped, registryShaped, isSmall, settingsNumbers, divisors, goodSettings, goodFinality, goodValidator}
-use Rattle.laws.proofs.Tests.{both, test}
-use Rattle.refusals.proofs.All.{all-at}
+use Rattle.laws.proofs.Tests.{both, test, all-at}
 
 -- Test 1
 

@@ -2,12 +2,12 @@
 ghost use mathlib.Core.Path.{_≡_};
 ghost use mathlib.Core.Bool.{not};
 ghost use Prim.Native.Nat.{_*_};
-ghost use lib.Dec.{eqb};
+ghost use lib.Dec.{eqb, ltb};
 ghost use lib.ListN.{length};
 ghost use Rattle.definitions.specs.Lists.{all, every};
 ghost use Rattle.definitions.specs.Record.{decodeOne};
 ghost use Rattle.definitions.specs.Checked.{codeOf};
-ghost use Rattle.definitions.specs.Refusals.{inOrder, isSmall, isVectorLength, settingsShaped, goodSettings, goodFinality, registryShaped, goodValidator, goodRegistry};
+ghost use Rattle.definitions.specs.Refusals.{inOrder, isSmall, isVectorLength, settingsShaped, settingsNumbers, goodSettings, goodFinality, registryShaped, goodValidator, goodRegistry};
 
 pub mod buffers;
 pub mod rules;
@@ -92,29 +92,22 @@ fn none_zero(numbers: &[u64]) -> bool
     true
 }
 
-fn all_small(numbers: &[u64]) -> bool
-    ensures { λ r. ⌜ r ≡ all isSmall (now (numbers .entry)) ⌝ }
+pub fn all_below(numbers: &[u64], bound: u64) -> bool
+    ensures { λ r. ⌜ r ≡ all (λ n. ltb n bound) (now (numbers .entry)) ⌝ }
 {
     for i in 0..numbers.len() {
-        if 281474976710656 <= numbers[i] {
+        if bound <= numbers[i] {
             return false;
         }
     }
     true
 }
 
-pub fn good_settings(s: Settings) -> bool
-    ensures { λ r. ⌜ r ≡ goodSettings s ⌝ }
+// In document 01's order.
+pub fn settings_numbers(s: Settings) -> [u64; 19]
+    ensures { λ r. ⌜ r ≡ settingsNumbers s ⌝ }
 {
-    let divisors = [
-        s.slots_per_epoch,
-        s.effective_balance_increment,
-        s.hysteresis_quotient,
-        s.inactivity_score_bias,
-        s.inactivity_penalty_quotient_altair,
-        s.churn_limit_quotient,
-    ];
-    let numbers = [
+    [
         s.slots_per_epoch,
         s.slots_per_historical_root,
         s.epochs_per_slashings_vector,
@@ -134,11 +127,25 @@ pub fn good_settings(s: Settings) -> bool
         s.ejection_balance,
         s.min_per_epoch_churn_limit,
         s.churn_limit_quotient,
+    ]
+}
+
+pub fn good_settings(s: Settings) -> bool
+    ensures { λ r. ⌜ r ≡ goodSettings s ⌝ }
+{
+    let divisors = [
+        s.slots_per_epoch,
+        s.effective_balance_increment,
+        s.hysteresis_quotient,
+        s.inactivity_score_bias,
+        s.inactivity_penalty_quotient_altair,
+        s.churn_limit_quotient,
     ];
     if !none_zero(&divisors) {
         return false;
     }
-    all_small(&numbers)
+    let numbers = settings_numbers(s);
+    all_below(&numbers, 281474976710656)
 }
 
 pub fn good_finality(f: Finality) -> bool

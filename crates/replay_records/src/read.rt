@@ -2,6 +2,7 @@
 use definitions::Finality;
 use definitions::Settings;
 use definitions_file::ReadAnswer;
+use refusals::settings_numbers;
 use vectors::bytes_part;
 use vectors::finality_stands;
 use vectors::records::FINALITY;
@@ -18,30 +19,6 @@ use vectors::records::finality_place;
 use vectors::records::settings_words;
 use vectors::word;
 
-fn numbers(s: Settings) -> [u64; 19] {
-    [
-        s.slots_per_epoch,
-        s.slots_per_historical_root,
-        s.epochs_per_slashings_vector,
-        s.effective_balance_increment,
-        s.max_effective_balance,
-        s.hysteresis_quotient,
-        s.hysteresis_downward_multiplier,
-        s.hysteresis_upward_multiplier,
-        s.base_reward_factor,
-        s.min_epochs_to_inactivity_penalty,
-        s.inactivity_score_bias,
-        s.inactivity_score_recovery_rate,
-        s.inactivity_penalty_quotient_altair,
-        s.proportional_slashing_multiplier_altair,
-        s.max_seed_lookahead,
-        s.min_validator_withdrawability_delay,
-        s.ejection_balance,
-        s.min_per_epoch_churn_limit,
-        s.churn_limit_quotient,
-    ]
-}
-
 // The contents that come back are those of the file at a place.
 fn in_contents(
     s: Settings,
@@ -51,7 +28,7 @@ fn in_contents(
     words: &[u64],
     bytes: &[u8],
 ) -> u64 {
-    let found = numbers(s);
+    let found = settings_numbers(s);
     let stored = settings_words(file, words);
     if !after(0, stored, &stored[0..0], &found) {
         return SETTINGS;

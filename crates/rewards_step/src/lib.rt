@@ -12,8 +12,8 @@ ghost use Rattle.definitions.specs.Rust.Altair.EpochProcessing.{rewardAndPenali
 ghost use Rattle.laws.specs.Ran.{Ran};
 ghost use Rattle.definitions.specs.Closes.{Closes};
 ghost use Rattle.rewards.specs.Shared.{SharedBy, totalsOf};
-ghost use Rattle.rewards_step.specs.Totals.{flagTotalsOf};
-ghost use Rattle.rewards_step.specs.Step.{rewardsFromLeak, rewardsFromSource};
+ghost use Rattle.rewards_step.specs.Totals.{sourceTotals, targetTotals, headTotals};
+ghost use Rattle.rewards_step.specs.Step.{SaysTotals, stepTotals, totalsBy};
 
 pub mod flag_rewards;
 
@@ -75,109 +75,107 @@ fn reward_all(
     0
 }
 
-// From the balances of the three flags' participants, the total active balance and the leak.
+// What all validators share: the balances of the three flags' participants, the total active balance and the leak.
+pub struct StepTotals {
+    pub source: u64,
+    pub target: u64,
+    pub head: u64,
+    pub total: u64,
+    pub leaking: bool,
+}
+
+pub enum TotalsAnswer {
+    Value(StepTotals),
+    Refused(u64),
+}
+
+// Five answers as one: each refuses by 5 alone.
+fn all_totals(
+    source: Number,
+    total: Number,
+    leaking: Truth,
+    target: Number,
+    head: Number,
+) -> TotalsAnswer
+    ensures { λ r. ⌜ r ≡ totalsBy source total leaking target head ⌝ }
+{
+    let Number::Value(a) = source else {
+        return TotalsAnswer::Refused(5);
+    };
+    let Number::Value(b) = total else {
+        return TotalsAnswer::Refused(5);
+    };
+    let Truth::Value(c) = leaking else {
+        return TotalsAnswer::Refused(5);
+    };
+    let Number::Value(d) = target else {
+        return TotalsAnswer::Refused(5);
+    };
+    let Number::Value(e) = head else {
+        return TotalsAnswer::Refused(5);
+    };
+    TotalsAnswer::Value(StepTotals {
+        source: a,
+        target: d,
+        head: e,
+        total: b,
+        leaking: c,
+    })
+}
+
+pub fn step_totals(
+    s: Settings,
+    state_slot: u64,
+    finalized_epoch: u64,
+    current: u64,
+    previous: u64,
+    registry: &[u64],
+) -> TotalsAnswer
+    requires { ⌜ goodSettings s ≡ true ⌝ }
+    requires { ⌜ length (now registry) ≡ 10 * (length (now registry) / 10) ⌝ }
+    ensures { λ r. ⌜ SaysTotals (stepTotals s «state_slot» «finalized_epoch» current previous (decode (now (registry .entry)))) r ⌝ }
+{
+    let source = total_participating(s, current, 0, previous, registry);
+    let total = total_active(s, current, registry);
+    let leaking = inactivity_leak(s, state_slot, finalized_epoch);
+    let target = total_participating(s, current, 1, previous, registry);
+    let head = total_participating(s, current, 2, previous, registry);
+    all_totals(source, total, leaking, target, head)
+}
+
 fn reward_registry(
     s: Settings,
     quotient: u64,
     current_epoch: u64,
     previous_epoch: u64,
-    source: u64,
-    target: u64,
-    head: u64,
-    total: u64,
-    leaking: bool,
+    totals: StepTotals,
     registry: &mut [u64],
 ) -> u64
-    requires { ⌜ (0 < s .«effective_balance_increment») × (s .«effective_balance_increment» ≤ total) ⌝ }
+    requires { ⌜ (0 < s .«effective_balance_increment») × (s .«effective_balance_increment» ≤ totals .total) ⌝ }
     requires { ⌜ (0 < s .«inactivity_score_bias») × (0 < quotient) ⌝ }
     requires { ⌜ length (now registry) ≡ 10 * (length (now registry) / 10) ⌝ }
     ensures { λ r. ⌜
         Ran (mapChecked
-        (rewardAndPenalize s quotient «current_epoch» «previous_epoch» (flagTotalsOf s source total leaking) (flagTotalsOf s target total leaking)
-        (flagTotalsOf s head total leaking)) (decode (now (registry .entry)))) (now (registry .exit)) r ⌝ }
+        (rewardAndPenalize s quotient «current_epoch» «previous_epoch» (sourceTotals s totals) (targetTotals s totals) (headTotals s totals))
+        (decode (now (registry .entry)))) (now (registry .exit)) r ⌝ }
 {
     let increment = s.effective_balance_increment;
-    let shared = shared_numbers(s, current_epoch, previous_epoch, total, leaking);
+    let shared = shared_numbers(
+        s,
+        current_epoch,
+        previous_epoch,
+        totals.total,
+        totals.leaking,
+    );
     let product = mul64(s.inactivity_score_bias, quotient);
     reward_all(
         s,
         shared,
-        source / increment,
-        target / increment,
-        head / increment,
+        totals.source / increment,
+        totals.target / increment,
+        totals.head / increment,
         quotient,
         product,
-        registry,
-    )
-}
-
-// The flags' balances beside the source's, apart so that each chain of refusing calls is short.
-fn rewards_from_leak(
-    s: Settings,
-    quotient: u64,
-    current: u64,
-    previous: u64,
-    source: u64,
-    total: u64,
-    leaking: bool,
-    registry: &mut [u64],
-) -> u64
-    requires { ⌜ (0 < s .«effective_balance_increment») × (s .«effective_balance_increment» ≤ total) ⌝ }
-    requires { ⌜ (0 < s .«inactivity_score_bias») × (0 < quotient) ⌝ }
-    requires { ⌜ length (now registry) ≡ 10 * (length (now registry) / 10) ⌝ }
-    ensures { λ r. ⌜ Ran (rewardsFromLeak s quotient current previous source total leaking (decode (now (registry .entry)))) (now (registry .exit)) r ⌝ }
-{
-    let Number::Value(target) = total_participating(s, current, 1, previous, registry) else {
-        return 5;
-    };
-    let Number::Value(head) = total_participating(s, current, 2, previous, registry) else {
-        return 5;
-    };
-    reward_registry(
-        s,
-        quotient,
-        current,
-        previous,
-        source,
-        target,
-        head,
-        total,
-        leaking,
-        registry,
-    )
-}
-
-// What the three flags share, apart for the same reason.
-fn rewards_from_source(
-    s: Settings,
-    quotient: u64,
-    state_slot: u64,
-    finalized_epoch: u64,
-    current: u64,
-    previous: u64,
-    source: u64,
-    registry: &mut [u64],
-) -> u64
-    requires { ⌜ goodSettings s ≡ true ⌝ }
-    requires { ⌜ 0 < quotient ⌝ }
-    requires { ⌜ length (now registry) ≡ 10 * (length (now registry) / 10) ⌝ }
-    ensures { λ r. ⌜
-        Ran (rewardsFromSource s quotient «state_slot» «finalized_epoch» current previous source (decode (now (registry .entry)))) (now (registry .exit)) r ⌝ }
-{
-    let Number::Value(total) = total_active(s, current, registry) else {
-        return 5;
-    };
-    let Truth::Value(leaking) = inactivity_leak(s, state_slot, finalized_epoch) else {
-        return 5;
-    };
-    rewards_from_leak(
-        s,
-        quotient,
-        current,
-        previous,
-        source,
-        total,
-        leaking,
         registry,
     )
 }
@@ -201,19 +199,17 @@ pub fn rewards_core(
         return 0;
     }
     let previous = previous_epoch(s, state_slot);
-    let Number::Value(source) = total_participating(s, current, 0, previous, registry) else {
-        return 5;
-    };
-    rewards_from_source(
+    let TotalsAnswer::Value(totals) = step_totals(
         s,
-        quotient,
         state_slot,
         finalized_epoch,
         current,
         previous,
-        source,
-        registry,
-    )
+        &registry[..],
+    ) else {
+        return 5;
+    };
+    reward_registry(s, quotient, current, previous, totals, registry)
 }
 
 fn rewards_tests(

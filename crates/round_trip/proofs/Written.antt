@@ -12,9 +12,9 @@ use Rattle.definitions.specs.declared.ExitQueue.{ExitQueue}
 use Rattle.definitions.specs.Lists.{every}
 use Rattle.definitions.specs.Record.{decode}
 use Rattle.definitions.specs.Checked.{value, bind}
-use Rattle.definitions.specs.Refusals.{inOrder, settingsNumbers}
+use Rattle.definitions.specs.Refusals.{inOrder, settingsNumbers, settingsFrom}
 use Rattle.definitions.specs.ExitQueue.{isQueueOf, queueTest}
-use Rattle.definitions_file.specs.File.{Contents, littleEndian, versionOf, queueIn, numbersToBytes, numbersFromBytes, numberAt, countOf, rootCountOf, slashingCountOf, rootsAt, slashingsAt, header, checkpointToBytes, finalityToBytes, settingsFrom, fileOf, contentsOf, sameNumbers, goodHeader, fileShaped, readTests, readFile, position, read, writeTests, written}
+use Rattle.definitions_file.specs.File.{Contents, littleEndian, versionOf, queueIn, numbersToBytes, numbersFromBytes, numberAt, countOf, rootCountOf, slashingCountOf, rootsAt, slashingsAt, header, checkpointToBytes, finalityToBytes, fileOf, contentsOf, sameNumbers, goodHeader, fileShaped, readTests, readFile, position, read, writeTests, written}
 use Rattle.laws.proofs.Checked.{bound}
 use Rattle.round_trip.specs.RoundTrip.{Below, Typed, TypedCheckpoint, TypedQueue, WrittenRead}
 use Rattle.round_trip.proofs.Numbers.{below-nil, below-cons, below-append, little-below, to-bytes-below, length-little, length-to-bytes, number-at}

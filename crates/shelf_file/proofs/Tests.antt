@@ -163,32 +163,6 @@ module _ (fork : ℕ) (pair : Bellatrix) (file : List ℕ) where
     pub steps-tested : Tested (settingsUnder r) (c .finality) (c .registry) (c .slashings) (c .roots)
     steps-tested = lent call record-passes refl .opening
 
-    -- a record of the same lengths fits the part
-    pub sized : {s : Settings} {f : Finality} {us roots ys part : List ℕ} → s ≡ c .settings → roots ≡ c .roots → length us ≡ 10 * countOf file → length ys ≡ slashingCountOf file → length part ≡ length file → Sized (contentsWith s f us roots ys) part
-    sized {s} {f} {us} {roots} {ys} {part} a b l m n =
-        let k = passes .accepts in
-        let tens : length us / 10 ≡ countOf file = omega arith in
-        let S : s .«slots_per_historical_root» ≡ rootCountOf file = rw a (k .root-count) in
-        let L : s .«epochs_per_slashings_vector» ≡ slashingCountOf file = rw a (k .slashing-count) in
-        let long : length file ≡ fileLength 2 (countOf file) (rootCountOf file) (slashingCountOf file) = omega (arith, k .header .long, passes .second) in
-        record {
-          entries = omega arith;
-          roots = rw b (k .good .roots ∙ rw (k .root-count, S));
-          slashings = m ∙ sym L;
-          long = n ∙ long ∙ rw (tens, S, L);
-        }
-
-    -- the steps on what was read are those on the file's record
-    module _ {s : Settings} {f : Finality} {xs ys roots : List ℕ} (a : s ≡ settingsUnder r) (b : f ≡ c .finality) (d : xs ≡ c .registry) (g : ys ≡ c .slashings) (h : roots ≡ c .roots) where
-      pub read-tested : Tested s f xs ys roots
-      read-tested = rw (a, b, d, g, h) steps-tested
-
-      pub read-worked : {us : List ℕ} {answer : CloseAnswer} → Worked s (stateNow f xs ys roots) us (resetSlashings s (f .slot) ys) answer → Worked (settingsUnder r) (stateIn file) us (resetSlashings s (f .slot) ys) answer
-      read-worked {us} {answer} w = subst (λ (st : BeaconState). Worked (settingsUnder r) st us (resetSlashings s (f .slot) ys) answer) state (subst (λ (t : Settings). Worked t (stateNow f xs ys roots) us (resetSlashings s (f .slot) ys) answer) a w)
-        where
-          state : stateNow f xs ys roots ≡ stateIn file
-          state = rw (b, d, g, h)
-
     module _ {x : ℕ} (w : x ≡ codeOf (work fork pair file)) where
       answer-is : x ≡ answerFor fork pair file
       unfolding answerFor afterTests bind
@@ -206,17 +180,61 @@ module _ (fork : ℕ) (pair : Bellatrix) (file : List ℕ) where
       unfolding partFor closingBuffer
       closed-done before state v a = record { number = answer-is; part = a ∙ rw (e, v) }
 
-    -- from the steps' contract
-    module _ {us ys : List ℕ} {answer : CloseAnswer} (w : Worked (settingsUnder r) (stateIn file) us ys answer) where
-      pub put-refused : (answer .refusal ≡ 0 → ⊥) → (before : List ℕ) {after : List ℕ} → after ≡ file → FileClosed fork pair file before after (answer .refusal)
-      put-refused z before a = closed-refused (w .code) z before a
+-- what was read of a file that has passed its tests is what it holds
+pub record FileRead (own : Rules) (file : List ℕ) (s : Settings) (f : Finality) (xs ys rs : List ℕ) : Type 0 where
+  pub tests : fileTests (own .fork) (own .bellatrix) file ≡ value tt
+  pub settings : own .settings ≡ contentsOf file .settings
+  pub under : s ≡ settingsUnder own
+  pub finality : f ≡ contentsOf file .finality
+  pub registry : xs ≡ contentsOf file .registry
+  pub slashings : ys ≡ contentsOf file .slashings
+  pub roots : rs ≡ contentsOf file .roots
 
-      pub put-done : answer .refusal ≡ 0 → (before : List ℕ) {after : List ℕ} {s : Settings} {roots zs : List ℕ} → s ≡ c .settings → roots ≡ c .roots → zs ≡ ys → after ≡ fileOf (contentsWith s (answer .finality) us roots zs) (queueOf (decode us)) → FileClosed fork pair file before after 0
-      put-done y before {after} {s} {roots} {zs} a b d k =
-          let state = settle (work fork pair file) (stateIn file) in
-          let v : work fork pair file ≡ value state = code-value (work fork pair file) (stateIn file) (sym (w .code) ∙ y) in
-          let held = w .held state v in
-          let f : answer .finality ≡ state .finality = w .finality in
-          let vs : decode us ≡ state .validators = ap decode (held .0) ∙ decode-encode (state .validators) in
-          let same : contentsWith s (answer .finality) us roots zs ≡ closedContents file state = λ i. record { settings = a i; finality = f i; registry = held .0 i; roots = b i; slashings = (d ∙ held .1) i } in
-          closed-done (sym y ∙ w .code) before state v (k ∙ ap₂ fileOf same (ap queueOf vs))
+module _ {own : Rules} {file : List ℕ} {s : Settings} {f : Finality} {xs ys rs : List ℕ} (h : FileRead own file s f xs ys rs) where
+  abbrev rules : Rules
+  rules = rulesIn (own .fork) (own .bellatrix) file
+
+  under-rules : s ≡ settingsUnder rules
+  under-rules = h .under ∙ ap settingsUnder (same-rules (own .fork) (own .bellatrix) file own (h .settings) refl refl)
+
+  pub read-tested : Tested s f xs ys rs
+  read-tested = rw (under-rules, h .finality, h .registry, h .slashings, h .roots) (steps-tested (own .fork) (own .bellatrix) file (h .tests))
+
+  -- a record of the same lengths fits the part
+  pub sized : {g : Finality} {us zs part : List ℕ} → length us ≡ 10 * countOf file → length zs ≡ length ys → length part ≡ length file → Sized (contentsWith (own .settings) g us rs zs) part
+  sized {g} {us} {zs} {part} l m n =
+      let p = passes (own .fork) (own .bellatrix) file (h .tests) in
+      let k = p .accepts in
+      let tens : length us / 10 ≡ countOf file = omega arith in
+      let S : own .settings .«slots_per_historical_root» ≡ rootCountOf file = rw (h .settings) (k .root-count) in
+      let L : own .settings .«epochs_per_slashings_vector» ≡ slashingCountOf file = rw (h .settings) (k .slashing-count) in
+      let long : length file ≡ fileLength 2 (countOf file) (rootCountOf file) (slashingCountOf file) = omega (arith, k .header .long, p .second) in
+      record {
+        entries = omega arith;
+        roots = rw (h .roots) (k .good .roots ∙ rw (k .root-count, S));
+        slashings = m ∙ ap length (h .slashings) ∙ length-slashings file ∙ sym L;
+        long = n ∙ long ∙ rw (tens, S, L);
+      }
+
+  -- the steps on what was read are those on the file's record
+  module _ {us : List ℕ} {answer : CloseAnswer} (w : Worked s (stateNow f xs ys rs) us (resetSlashings s (f .slot) ys) answer) where
+    on-record : Worked (settingsUnder rules) (stateIn file) us (resetSlashings s (f .slot) ys) answer
+    on-record = subst (λ (st : BeaconState). Worked (settingsUnder rules) st us (resetSlashings s (f .slot) ys) answer) state (subst (λ (t : Settings). Worked t (stateNow f xs ys rs) us (resetSlashings s (f .slot) ys) answer) under-rules w)
+      where
+        state : stateNow f xs ys rs ≡ stateIn file
+        state = rw (h .finality, h .registry, h .slashings, h .roots)
+
+    pub put-refused : (answer .refusal ≡ 0 → ⊥) → (before : List ℕ) {after : List ℕ} → after ≡ file → FileClosed (own .fork) (own .bellatrix) file before after (answer .refusal)
+    put-refused z before a = closed-refused (own .fork) (own .bellatrix) file (h .tests) (on-record .code) z before a
+
+    pub put-done : answer .refusal ≡ 0 → (before : List ℕ) {after zs : List ℕ} → zs ≡ resetSlashings s (f .slot) ys → after ≡ fileOf (contentsWith (own .settings) (answer .finality) us rs zs) (queueOf (decode us)) → FileClosed (own .fork) (own .bellatrix) file before after 0
+    put-done y before {after} {zs} d k =
+        let w = on-record in
+        let m = work (own .fork) (own .bellatrix) file in
+        let state = settle m (stateIn file) in
+        let v : m ≡ value state = code-value m (stateIn file) (sym (w .code) ∙ y) in
+        let held = w .held state v in
+        let f : answer .finality ≡ state .finality = w .finality in
+        let vs : decode us ≡ state .validators = ap decode (held .0) ∙ decode-encode (state .validators) in
+        let same : contentsWith (own .settings) (answer .finality) us rs zs ≡ closedContents file state = λ i. record { settings = h .settings i; finality = f i; registry = held .0 i; roots = h .roots i; slashings = (d ∙ held .1) i } in
+        closed-done (own .fork) (own .bellatrix) file (h .tests) (sym y ∙ w .code) before state v (k ∙ ap₂ fileOf same (ap queueOf vs))

@@ -2,3 +2,4 @@
 pub mod Last
 pub mod Passed
 pub mod Added
+mod Put

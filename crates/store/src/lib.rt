@@ -22,8 +22,10 @@ use definitions::Rules;
 use definitions::Settings;
 use definitions_close::CountAnswer;
 use definitions_close::RulesAnswer;
+use fields::settings_from;
 use refusals::buffers::copy;
 use refusals::in_order;
+use refusals::settings_numbers;
 
 // The place of the last of the first n entries whose start is not above the epoch; n where there is none.
 fn find_entry(store: &[u64], n: usize, epoch: u64) -> usize
@@ -46,27 +48,7 @@ fn find_entry(store: &[u64], n: usize, epoch: u64) -> usize
 pub fn turned_away(refusal: u64) -> RulesAnswer
     ensures { λ r. ⌜ r ≡ turnedAway refusal ⌝ }
 {
-    let settings = Settings {
-        slots_per_epoch: 0,
-        slots_per_historical_root: 0,
-        epochs_per_slashings_vector: 0,
-        effective_balance_increment: 0,
-        max_effective_balance: 0,
-        hysteresis_quotient: 0,
-        hysteresis_downward_multiplier: 0,
-        hysteresis_upward_multiplier: 0,
-        base_reward_factor: 0,
-        min_epochs_to_inactivity_penalty: 0,
-        inactivity_score_bias: 0,
-        inactivity_score_recovery_rate: 0,
-        inactivity_penalty_quotient_altair: 0,
-        proportional_slashing_multiplier_altair: 0,
-        max_seed_lookahead: 0,
-        min_validator_withdrawability_delay: 0,
-        ejection_balance: 0,
-        min_per_epoch_churn_limit: 0,
-        churn_limit_quotient: 0,
-    };
+    let settings = settings_from(&[0u64; 19]);
     let bellatrix = Bellatrix {
         inactivity_penalty_quotient_bellatrix: 0,
         proportional_slashing_multiplier_bellatrix: 0,
@@ -179,32 +161,12 @@ fn put_entry(entry: &mut [u64], start: u64, rules: Rules)
 {
     let s = rules.settings;
     let pair = rules.bellatrix;
-    let numbers = [
-        start,
-        rules.fork,
-        s.slots_per_epoch,
-        s.slots_per_historical_root,
-        s.epochs_per_slashings_vector,
-        s.effective_balance_increment,
-        s.max_effective_balance,
-        s.hysteresis_quotient,
-        s.hysteresis_downward_multiplier,
-        s.hysteresis_upward_multiplier,
-        s.base_reward_factor,
-        s.min_epochs_to_inactivity_penalty,
-        s.inactivity_score_bias,
-        s.inactivity_score_recovery_rate,
-        s.inactivity_penalty_quotient_altair,
-        s.proportional_slashing_multiplier_altair,
-        s.max_seed_lookahead,
-        s.min_validator_withdrawability_delay,
-        s.ejection_balance,
-        s.min_per_epoch_churn_limit,
-        s.churn_limit_quotient,
-        pair.inactivity_penalty_quotient_bellatrix,
-        pair.proportional_slashing_multiplier_bellatrix,
-    ];
-    copy(&numbers, entry);
+    let numbers = settings_numbers(s);
+    entry[0] = start;
+    entry[1] = rules.fork;
+    entry[21] = pair.inactivity_penalty_quotient_bellatrix;
+    entry[22] = pair.proportional_slashing_multiplier_bellatrix;
+    copy(&numbers, &mut entry[2..21]);
 }
 
 pub fn add_rules(store: &mut [u64], count: u64, start: u64, rules: Rules) -> CountAnswer

@@ -10,6 +10,7 @@ ghost use Rattle.store.specs.Answers.{rulesPass};
 use definitions::Bellatrix;
 use definitions::Rules;
 use definitions::Settings;
+use fields::settings_from;
 use refusals::good_settings;
 use refusals::rules::rules_refusal;
 use refusals::settings_shaped;
@@ -19,27 +20,7 @@ pub fn entry_rules(entry: &[u64]) -> Rules
     requires { ⌜ length (now entry) ≡ 23 ⌝ }
     ensures { λ r. ⌜ r ≡ entryOf (now (entry .entry)) .rules ⌝ }
 {
-    let settings = Settings {
-        slots_per_epoch: entry[2],
-        slots_per_historical_root: entry[3],
-        epochs_per_slashings_vector: entry[4],
-        effective_balance_increment: entry[5],
-        max_effective_balance: entry[6],
-        hysteresis_quotient: entry[7],
-        hysteresis_downward_multiplier: entry[8],
-        hysteresis_upward_multiplier: entry[9],
-        base_reward_factor: entry[10],
-        min_epochs_to_inactivity_penalty: entry[11],
-        inactivity_score_bias: entry[12],
-        inactivity_score_recovery_rate: entry[13],
-        inactivity_penalty_quotient_altair: entry[14],
-        proportional_slashing_multiplier_altair: entry[15],
-        max_seed_lookahead: entry[16],
-        min_validator_withdrawability_delay: entry[17],
-        ejection_balance: entry[18],
-        min_per_epoch_churn_limit: entry[19],
-        churn_limit_quotient: entry[20],
-    };
+    let settings = settings_from(&entry[2..]);
     let bellatrix = Bellatrix {
         inactivity_penalty_quotient_bellatrix: entry[21],
         proportional_slashing_multiplier_bellatrix: entry[22],

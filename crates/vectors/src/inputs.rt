@@ -1,6 +1,5 @@
 // What a case hands to its leaf.
 ghost use Prim.Native.Nat.{_≤_};
-ghost use mathlib.Core.Path.{_≡_};
 ghost use lib.ListN.{length};
 use crate::case::Case;
 use crate::words::bytes_part;
@@ -10,41 +9,15 @@ use crate::words::word;
 use definitions::Checkpoint;
 use definitions::Finality;
 use definitions::Settings;
-
-fn settings_of(w: &[u64]) -> Settings
-    requires { ⌜ length (now w) ≡ 19 ⌝ }
-{
-    Settings {
-        slots_per_epoch: w[0],
-        slots_per_historical_root: w[1],
-        epochs_per_slashings_vector: w[2],
-        effective_balance_increment: w[3],
-        max_effective_balance: w[4],
-        hysteresis_quotient: w[5],
-        hysteresis_downward_multiplier: w[6],
-        hysteresis_upward_multiplier: w[7],
-        base_reward_factor: w[8],
-        min_epochs_to_inactivity_penalty: w[9],
-        inactivity_score_bias: w[10],
-        inactivity_score_recovery_rate: w[11],
-        inactivity_penalty_quotient_altair: w[12],
-        proportional_slashing_multiplier_altair: w[13],
-        max_seed_lookahead: w[14],
-        min_validator_withdrawability_delay: w[15],
-        ejection_balance: w[16],
-        min_per_epoch_churn_limit: w[17],
-        churn_limit_quotient: w[18],
-    }
-}
+use fields::settings_from;
 
 // The settings of nineteen words at a place; zeros where they do not lie inside.
 pub fn settings_at(words: &[u64], at: usize) -> Settings {
     let w = part(words, at, 19);
     if w.len() != 19 {
-        let zeros = [0u64; 19];
-        return settings_of(&zeros);
+        return settings_from(&[0u64; 19]);
     }
-    settings_of(w)
+    settings_from(w)
 }
 
 pub fn settings(c: Case, words: &[u64]) -> Settings {

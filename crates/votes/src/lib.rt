@@ -4,7 +4,6 @@ ghost use mathlib.Core.Path.{_≡_};
 ghost use Rattle.definitions.specs.Checked.{codeOf};
 ghost use Rattle.definitions.specs.Lists.{all};
 ghost use Rattle.definitions.specs.Refusals.{afterTests};
-ghost use Rattle.definitions_votes.specs.Filling.{goodMark};
 ghost use Rattle.definitions_votes.specs.Votes.{votes, votesTests, ballotOf};
 ghost use Rattle.definitions_votes.specs.Answers.{votesAnswerFor};
 
@@ -22,23 +21,13 @@ use epochs::current_epoch;
 use epochs::previous_epoch;
 use epochs::roots::epoch_lookup;
 use epochs::roots::roots_shaped;
+use refusals::all_below;
 use refusals::good_finality;
 use refusals::good_registry;
 use refusals::good_settings;
 use refusals::in_order;
 use refusals::registry_shaped;
 use refusals::settings_shaped;
-
-fn good_marks(marks: &[u64]) -> bool
-    ensures { λ r. ⌜ r ≡ all goodMark (now (marks .entry)) ⌝ }
-{
-    for i in 0..marks.len() {
-        if 3 < marks[i] {
-            return false;
-        }
-    }
-    true
-}
 
 pub fn votes_refusal(
     s: Settings,
@@ -60,7 +49,7 @@ pub fn votes_refusal(
         &[
             good_finality(finality),
             good_registry(registry),
-            good_marks(marks),
+            all_below(marks, 4),
         ],
     )
 }

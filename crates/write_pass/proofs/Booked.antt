@@ -11,19 +11,20 @@ use Rattle.definitions.specs.Record.{Validator}
 use Rattle.definitions.specs.Updates.{withScore, withBalance}
 use Rattle.definitions.specs.Checked.{Checked, value, refused, bind, add64, foldChecked}
 use Rattle.definitions.specs.Rust.Phase0.EpochProcessing.{isEligible}
-use Rattle.definitions.specs.Rust.Altair.Helpers.{FlagTotals, isUnslashedParticipating, flagIndexDeltas, inactivityPenaltyDeltas}
+use Rattle.definitions.specs.Rust.Altair.Helpers.{FlagTotals, isUnslashedParticipating}
 use Rattle.definitions.specs.Rust.Altair.EpochProcessing.{movedScore, recoveredScore, updateInactivityScore, rewardAndPenalize}
 use Rattle.definitions_close.specs.Amounts.{pairs, booked}
 use Rattle.arithmetic.proofs.Laws.{bind-value}
 use Rattle.laws.proofs.Checked.{not-value, value-same, bound, add64-value, add64-below}
-use Rattle.rates.specs.Balances.{appliedBalance, rewardedBalance}
+use Rattle.rates.specs.declared.reward_balances.Pairs.{Pairs}
+use Rattle.rates.specs.Balances.{appliedBalance, rewardedBalance, four, fourOf}
+use Rattle.rates.proofs.reward_balances.Paired.{four-first, balance-by}
 use Rattle.rates.proofs.reward_balances.Rewarded.{rewarded, not-rewarded}
 use Rattle.rewards.specs.Shared.{totalsOf}
 use Rattle.write_turn.specs.declared.Plan.{Plan}
 use Rattle.write_turn.specs.Planned.{scoredBy, rewardedBy, paidBy}
 use Rattle.write_pass.specs.declared.Booking.{Booking}
-use Rattle.write_pass.specs.declared.Pairs.{Pairs}
-use Rattle.write_pass.specs.Filled.{Gives, BooksPair, four, left, Fits, eightBy, nineBy, Between}
+use Rattle.write_pass.specs.Filled.{Gives, BooksPair, left, Fits, eightBy, nineBy, Between}
 use Rattle.laws.proofs.Tests.{lowered}
 
 -- From a balance on
@@ -47,6 +48,11 @@ applied balance (d ∷ ds) {x} e =
     let next : a .first ≡ balance + d .reward - min (balance + d .reward) (d .penalty) = sym (value-same (b .then)) ∙ lowered (b .first) (d .penalty) ∙ ap (λ (k : ℕ). k - min k (d .penalty)) (sym raised) in
     let rest = applied (balance + d .reward - min (balance + d .reward) (d .penalty)) ds (rw next at (a .then)) in
     record { fits = (add64-below balance (d .reward) (b .gave), rest .fits); is = rest .is }
+
+-- `pairs` as a struct's list
+pub pairs-four : (s : Settings) (quotient current previous : ℕ) (source target head : FlagTotals) (v : Validator) → pairs s quotient current previous source target head v ≡ bind (fourOf s quotient current previous source target head v) (λ p. value (four p))
+unfolding pairs fourOf
+pairs-four s quotient current previous source target head v = four-first _ _ _ _ (λ x y z w. value (x ∷ y ∷ z ∷ w ∷ []))
 
 -- Scores write the score alone, rewards the balance alone
 
@@ -130,14 +136,10 @@ module _ {s : Settings} {p : Plan} {v w : Validator} (b : Between s p v w) (n : 
       applies : foldChecked appliedBalance (v .balance) (four r) ≡ value (b .paid .balance)
 
     four-given : Four
-    unfolding rewardedBalance pairs
     four-given =
-        let h = bound (flagIndexDeltas s current previous 0 source scored) _ (known .rewards) in
-        let i = bound (flagIndexDeltas s current previous 1 target scored) _ (h .then) in
-        let j = bound (flagIndexDeltas s current previous 2 head scored) _ (i .then) in
-        let k = bound (inactivityPenaltyDeltas s (p .quotient) current previous scored) _ (j .then) in
-        let same : four r ≡ h .first ∷ i .first ∷ j .first ∷ k .first ∷ [] = rw (g .source _ (h .gave), g .target _ (i .gave), g .head _ (j .gave), g .inactivity _ (k .gave)) in
-        record { given = bind-value _ (h .gave) ∙ bind-value _ (i .gave) ∙ bind-value _ (j .gave) ∙ bind-value _ (k .gave) ∙ ap value (sym same); applies = rw same (k .then) }
+        let k = bound (fourOf s (p .quotient) current previous source target head scored) _ (sym (balance-by s (p .quotient) current previous source target head scored) ∙ known .rewards) in
+        let same = g .is (k .first) (k .gave) in
+        record { given = pairs-four s (p .quotient) current previous source target head scored ∙ bind-value _ (k .gave) ∙ ap (λ (x : Pairs). value (four x)) (sym same); applies = rw same (k .then) }
 
     pub paid-fits : Fits (v .balance) (four r)
     paid-fits = applied (v .balance) (four r) (four-given .applies) .fits

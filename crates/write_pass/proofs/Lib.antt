@@ -1,6 +1,5 @@
 -- The nine numbers of one validator, and the loop over all.
 pub mod Nine
-mod Scored
 pub mod Booked
 mod Between
 mod Loop

@@ -50,6 +50,10 @@ module _ {s : Settings} {p : Plan} {t : Course} {n : ℕ} {xs₀ : List ℕ} {fi
     pub passing-to : length (entryAt xs i) ≡ 10
     passing-to = writing-to (g .writing) l
 
+    -- it stands in both registries
+    pub passing-inside : (10 * i + 10 ≤ length xs₀) × (10 * i + 10 ≤ length xs) × (10 * i + 10 < 1152921504606846976)
+    passing-inside = let h = g .small in let a = g .writing .at .long in let b = g .writing .long in (omega arith, omega arith, omega arith)
+
     pub passing-few : first .number ≤ length xs₀ → q .number < 18446744073709551615
     passing-few h = omega (arith, g .few, g .small, g .writing .at .long, l, h)
 

@@ -1,58 +1,32 @@
 -- The nine numbers of a validator, from its ten in the opening and in the closing registry.
 use mathlib.Core.Path.{_≡_}
-use mathlib.Core.Bool.{Bool, cond}
+use mathlib.Core.Bool.{cond}
 use mathlib.Core.List.{List, [], _∷_, _++_}
 use Prim.Native.Nat.{ℕ, _+_, _-_, _*_, _/_, _^_, _≤_, _<_, min}
 use lib.Dec.{eqb}
 use lib.ListN.{length, getD, take, drop, replicate}
 use Rattle.definitions.specs.declared.Settings.{Settings}
 use Rattle.definitions.specs.declared.Deltas.{Deltas}
-use Rattle.definitions.specs.declared.DeltasAnswer.{DeltasAnswer}
-use Rattle.definitions.specs.declared.DeltasAnswer.the-variants.{Value, Refused}
 use Rattle.definitions.specs.Record.{Validator, decode, nobody}
 use Rattle.definitions.specs.Updates.{withScore}
 use Rattle.definitions.specs.Checked.{Checked, value, bind, settle}
-use Rattle.definitions.specs.Rust.Altair.Helpers.{noDeltas, flagIndexDeltas, inactivityPenaltyDeltas}
 use Rattle.definitions_close.specs.Amounts.{pairs, booked}
 use Rattle.rewards.specs.Shared.{totalsOf}
-use Rattle.rates.specs.declared.Amount.{Amount}
-use Rattle.rates.specs.Rated.{rewardOf, penaltyOf, byScore}
+use Rattle.rates.specs.declared.reward_balances.Pairs.{Pairs}
+use Rattle.rates.specs.Balances.{fourOf}
 use Rattle.write_turn.specs.declared.Plan.{Plan}
 use Rattle.write_turn.specs.Planned.{scoredBy}
 use Rattle.write_turn.specs.Written.{payOf}
 use Rattle.write_pass.specs.declared.Booking.{Booking}
-use Rattle.write_pass.specs.declared.Pairs.{Pairs}
 
--- what an amount, and a flag by its two amounts, answer
-unfoldable pub amountAnswer : (ℕ → Deltas) → Amount → DeltasAnswer
-amountAnswer of a = cond (eqb (a .over) 0) (Value (of (a .value))) (Refused 5)
-
-unfoldable pub flagAnswer : Bool → Bool → Amount → Amount → DeltasAnswer
-flagAnswer eligible hit reward penalty =
-    cond eligible (cond hit (amountAnswer rewardOf reward) (amountAnswer penaltyOf penalty)) (Value noDeltas)
-
--- the answer's value, where it is one
-pub record Given (answer : DeltasAnswer) (r : Deltas) : Type 0 where
-  pub is : (d : Deltas) → answer ≡ Value d → r ≡ d
-
--- inactivity's penalty, where it is a number
-pub record Charges (bias quotient : ℕ) (eligible hit : Bool) (balance score r : ℕ) : Type 0 where
-  pub is : (d : Deltas) → byScore bias quotient eligible hit balance score ≡ value d → penaltyOf r ≡ d
-
--- the four pairs, where the deltas of the validator v with this score are values
+-- the four pairs of the validator v with this score, where they are a value
 pub record Gives (s : Settings) (p : Plan) (score : ℕ) (v : Validator) (r : Pairs) : Type 0 where
-  pub source : (d : Deltas) → flagIndexDeltas s (p .shared .«current_epoch») (p .shared .«previous_epoch») 0 (totalsOf (p .shared) (p .source)) (withScore score v) ≡ value d → r .source ≡ d
-  pub target : (d : Deltas) → flagIndexDeltas s (p .shared .«current_epoch») (p .shared .«previous_epoch») 1 (totalsOf (p .shared) (p .target)) (withScore score v) ≡ value d → r .target ≡ d
-  pub head : (d : Deltas) → flagIndexDeltas s (p .shared .«current_epoch») (p .shared .«previous_epoch») 2 (totalsOf (p .shared) (p .head)) (withScore score v) ≡ value d → r .head ≡ d
-  pub inactivity : (d : Deltas) → inactivityPenaltyDeltas s (p .quotient) (p .shared .«current_epoch») (p .shared .«previous_epoch») (withScore score v) ≡ value d → r .inactivity ≡ d
+  pub is : (x : Pairs) → fourOf s (p .quotient) (p .shared .«current_epoch») (p .shared .«previous_epoch») (totalsOf (p .shared) (p .source)) (totalsOf (p .shared) (p .target)) (totalsOf (p .shared) (p .head)) (withScore score v) ≡ value x → r ≡ x
 
 -- a reward and then a penalty, from a balance on
 pub record BooksPair (balance : ℕ) (d : Deltas) (r : Booking) : Type 0 where
   pub taken : r .taken ≡ min (balance + d .reward) (d .penalty)
   pub left : r .left ≡ balance + d .reward - min (balance + d .reward) (d .penalty)
-
-abbrev pub four : Pairs → List Deltas
-four r = r .source ∷ r .target ∷ r .head ∷ r .inactivity ∷ []
 
 -- what is left of a balance after its pairs
 unfoldable pub left : ℕ → List Deltas → ℕ

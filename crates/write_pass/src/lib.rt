@@ -7,36 +7,26 @@ ghost use Prim.Native.Nat.{_+_, _-_, _*_, _/_, _^_, _≤_, _<_};
 ghost use lib.ListN.{length, getD};
 ghost use Rattle.definitions.specs.Record.{decodeOne, decode};
 ghost use Rattle.definitions_close.specs.Amounts.{booked};
-ghost use Rattle.definitions.specs.Checked.{mul64};
-ghost use Rattle.definitions.specs.Answers.{Says};
 ghost use Rattle.laws.specs.Ran.{Ran};
-ghost use Rattle.rates.specs.Rated.{Most, Fits as FitsRates};
+ghost use Rattle.rates.specs.Balances.{four};
+ghost use Rattle.rates.specs.Rated.{Fits as FitsRates};
 ghost use Rattle.write_turn.specs.Sweep.{sweep, dropped};
 ghost use Rattle.write_turn.specs.Planned.{Planned};
 ghost use Rattle.write_turn.specs.Written.{RatesFor, writtenWith};
-ghost use Rattle.write_pass.specs.Filled.{Given, flagAnswer, Charges, Gives, BooksPair, four, left, Fits, nineBy, Between, PutAt, Fills};
+ghost use Rattle.write_pass.specs.Filled.{Gives, BooksPair, left, Fits, nineBy, Between, PutAt, Fills};
 use definitions::BALANCE;
 use definitions::Deltas;
 use definitions::ExitQueue;
 use definitions::INACTIVITY_SCORE;
-use definitions::Number;
 use definitions::Settings;
-use entries::entry_is_eligible;
-use entries::entry_is_participating;
-use rates::Amount;
 use rates::Rates;
 use rates::no_memo;
+use rates::pairs_by;
+use rates::reward_balances::Pairs;
+use rates::reward_balances::PairsAnswer;
 use write_turn::Course;
 use write_turn::Plan;
 use write_turn::write_entry;
-
-// The four pairs of a validator.
-pub struct Pairs {
-    pub source: Deltas,
-    pub target: Deltas,
-    pub head: Deltas,
-    pub inactivity: Deltas,
-}
 
 // What a penalty took, and what it left.
 struct Booking {
@@ -44,109 +34,46 @@ struct Booking {
     left: u64,
 }
 
-// For a flag. Of an accepted close every amount that is wanted is a number.
-fn flag_pair(eligible: bool, hit: bool, reward: Amount, penalty: Amount) -> Deltas
-    ensures { λ r. ⌜ Given (flagAnswer eligible hit reward penalty) r ⌝ }
-{
-    if !eligible {
-        return Deltas {
-            reward: 0,
-            penalty: 0,
-        };
-    }
-    if hit {
-        return Deltas {
-            reward: reward.value,
-            penalty: 0,
-        };
-    }
-    Deltas {
-        reward: 0,
-        penalty: penalty.value,
-    }
-}
-
-// For inactivity, where an eligible validator missed the target. A score of 0 costs no division.
-fn charge(
-    bias: u64,
-    quotient: u64,
-    product: Number,
-    eligible: bool,
-    hit: bool,
-    balance: u64,
-    most_score: u64,
-    score: u64,
-) -> u64
-    requires { ⌜ (0 < bias) × (0 < quotient) ⌝ }
-    requires { ⌜ Says (mul64 bias quotient) product ⌝ }
-    requires { ⌜ Most balance «most_score» ⌝ }
-    ensures { λ r. ⌜ Charges bias quotient eligible hit balance score r ⌝ }
-{
-    if !eligible {
-        return 0;
-    }
-    if hit {
-        return 0;
-    }
-    let Number::Value(denominator) = product else {
-        return 0;
-    };
-    if score == 0 {
-        return 0;
-    }
-    if most_score < score {
-        return 0;
-    }
-    let penalty = balance * score / denominator;
-    penalty
-}
-
-fn pairs_by(s: Settings, p: Plan, rates: Rates, score: u64, entry: &[u64]) -> Pairs
+// By the closing score. Of an accepted close the answer is a value.
+fn pairs_of(s: Settings, p: Plan, rates: Rates, score: u64, entry: &[u64]) -> Pairs
     requires { ⌜ Planned s p ⌝ }
     requires { ⌜ length (now entry) ≡ 10 ⌝ }
     requires { ⌜ FitsRates s (p .shared) (p .source) (p .target) (p .head) rates ⌝ }
     requires { ⌜ rates .«effective_balance» ≡ getD (now entry) 0 0 ⌝ }
     ensures { λ r. ⌜ Gives s p score (decodeOne (now (entry .entry))) r ⌝ }
 {
-    let h = p.shared;
-    let eligible = entry_is_eligible(h.previous_epoch, entry);
-    let source_is = entry_is_participating(h.current_epoch, 0, h.previous_epoch, entry);
-    let target_is = entry_is_participating(h.current_epoch, 1, h.previous_epoch, entry);
-    let head_is = entry_is_participating(h.current_epoch, 2, h.previous_epoch, entry);
-    let source = flag_pair(
-        eligible,
-        source_is,
+    let product = p.product;
+    let PairsAnswer::Value(pairs) = pairs_by(
+        s,
+        p.shared,
+        p.source,
+        p.target,
+        p.head,
         rates.source_reward,
         rates.source_penalty,
-    );
-    let target = flag_pair(
-        eligible,
-        target_is,
         rates.target_reward,
         rates.target_penalty,
-    );
-    let head = flag_pair(eligible, head_is, rates.head_reward, rates.head_penalty);
-    let product = p.product;
-    let charged = charge(
-        s.inactivity_score_bias,
-        p.quotient,
-        product,
-        eligible,
-        target_is,
+        rates.head_reward,
+        rates.head_penalty,
         rates.effective_balance,
         rates.most_score,
+        p.quotient,
+        product,
         score,
-    );
-    let inactivity = Deltas {
-        reward: 0,
-        penalty: charged,
+        entry,
+    ) else {
+        let none = Deltas {
+            reward: 0,
+            penalty: 0,
+        };
+        return Pairs {
+            source: none,
+            target: none,
+            head: none,
+            inactivity: none,
+        };
     };
-    Pairs {
-        source: source,
-        target: target,
-        head: head,
-        inactivity: inactivity,
-    }
+    pairs
 }
 
 // A reward, then its penalty as far as there is balance.
@@ -234,7 +161,7 @@ fn fill_entry(s: Settings, p: Plan, rates: Rates, from: &[u64], to: &[u64], nine
         put_nine(0, 0, 0, 0, 0, 0, 0, 0, from[BALANCE] - to[BALANCE], nine);
         return;
     }
-    let pairs = pairs_by(s, p, rates, to[INACTIVITY_SCORE], from);
+    let pairs = pairs_of(s, p, rates, to[INACTIVITY_SCORE], from);
     put_amounts(pairs, from[BALANCE], to[BALANCE], nine)
 }
 
@@ -286,16 +213,8 @@ pub fn write_all(
     for i in 0..n {
         let a = 10 * i;
         let b = a + 10;
-        let written = write_entry(
-            s,
-            p,
-            t,
-            queue,
-            left,
-            memo,
-            &opening[a..b],
-            &mut closing[a..b],
-        );
+        let from = &opening[a..b];
+        let written = write_entry(s, p, t, queue, left, memo, from, &mut closing[a..b]);
         let refusal = written.refusal;
         if refusal != 0 {
             return refusal;
@@ -304,7 +223,7 @@ pub fn write_all(
         left = written.left;
         memo = written.memo;
         let rates = memo.last;
-        book_entry(s, p, rates, i, &opening[a..b], &closing[a..b], amounts);
+        book_entry(s, p, rates, i, from, &closing[a..b], amounts);
     }
     0
 }

@@ -28,8 +28,8 @@ returns c =
 copy-requires-2 : tie.Need-copy-requires-2
 copy-requires-2 c κs =
     let a : tie.Start = search needs in
-    let e : tie.Else1 = search needs in
-    omega (arith, a .pre .1 .0 .0, e .before .before .before .before .before .before .before .before .before .closing-registry .given)
+    let at-closing-registry = c .before .before .before .before .before .before .before .before .before .before in
+    omega (arith, a .pre .1 .0 .0, at-closing-registry .closing-registry .given)
 
 returns-2 : tie.Need-returns-2
 returns-2 c =

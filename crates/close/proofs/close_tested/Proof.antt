@@ -39,27 +39,28 @@ previous-epoch-requires c κs =
 
 survey-registry-requires : tie.Need-survey-registry-requires
 survey-registry-requires c κs =
-    let a = c .before .before .before .before .before .before .before .before .before in
-    (a .pre .0 .registry, (omega (arith, c .before .before .current-epoch .ensures, ep a .small), a .pre .1 .1))
+    let at-start = c .before .before .before .before .before .before .before .before .before in
+    (at-start .pre .0 .registry, (omega (arith, c .before .before .current-epoch .ensures, ep at-start .small), at-start .pre .1 .1))
 
 returns : tie.Need-returns
 returns c =
     let at-survey-registry : tie.After-survey-registry = search needs in
-    let at-start = at-survey-registry .before .before .before .before .before .before .before .before .before .before in
-    record { under = λ r u z. tests-refused (call r (at-start)) (tested r (at-survey-registry) z) (λ y. omega (arith, c .before .if1 .taken)) (c .none-raised .ensures) }
+    record { under = λ r u z. tests-refused (call r (start at-survey-registry)) (tested r at-survey-registry z) (λ y. omega (arith, c .before .if1 .taken)) (c .none-raised .ensures) }
 
 close-surveyed-requires : tie.Need-close-surveyed-requires
 close-surveyed-requires c κs =
     let at-survey-registry : tie.After-survey-registry = search needs in
     let at-previous-epoch = at-survey-registry .before .before in
     let at-current-epoch = at-previous-epoch .before in
-    let at-start = at-current-epoch .before .before .before .before .before .before .before in
+    let at-start = start at-survey-registry in
     (at-start .pre .0, (at-start .pre .1 .0, rw (← at-current-epoch .current-epoch .ensures, ← at-previous-epoch .previous-epoch .ensures) (at-survey-registry .survey-registry .ensures)))
 
 returns-2 : tie.Need-returns-2
 returns-2 c =
-    let k : tie.After-close-surveyed = search needs in
-    record { under = λ r u z. steps-closed (call r (k .before .before .before .before .before .before .before .before .before .before .before .before .before .before .before .before .before .before)) (tested r (k .before .before .before .before .before .before .before .before) z) (omega (arith, k .before .before .before .before .before .if1 .left)) u (k .close-surveyed .ensures .0) }
+    let at-close-surveyed : tie.After-close-surveyed = search needs in
+    let at-else1 = at-close-surveyed .before .before .before .before .before in
+    let at-survey-registry = at-else1 .before .before .before in
+    record { under = λ r u z. steps-closed (call r (start at-survey-registry)) (tested r at-survey-registry z) (omega (arith, at-else1 .if1 .left)) u (at-close-surveyed .close-surveyed .ensures .0) }
 
 pub close-tested-spec : {M : Type 1} → statement M
 close-tested-spec =

@@ -5,7 +5,11 @@ use Rattle.epochs.proofs.slot_refusal.Tie as tie
 
 returns : tie.Need-returns
 unfolding slotTests
-returns c = cc
+returns c =
+    let at-is-small = c .before .before in
+    let at-good-settings = at-is-small .before .before in
+    let at-settings-shaped = at-good-settings .before .before in
+    rw (at-settings-shaped .settings-shaped .ensures, at-good-settings .good-settings .ensures, at-is-small .is-small .ensures) at (c .in-order .ensures)
 
 pub slot-refusal-spec : {M : Type 1} → statement M
 slot-refusal-spec =

@@ -1,11 +1,11 @@
-use mathlib.Core.Path.{ap}
+use mathlib.Core.Path.{ap, _∙_}
+use Rattle.definitions.specs.Refusals.{settingsFrom}
 use borrow.Author.Needs.{needs}
-use Rattle.definitions_file.specs.File.{settingsFrom}
 use Rattle.fields.proofs.read_settings.Statement.{statement}
 use Rattle.fields.proofs.read_settings.Tie as tie
 
 returns : tie.Need-returns
-returns c = ap settingsFrom (c .before .read-numbers .ensures)
+returns c = c .settings-from .ensures ∙ ap settingsFrom (c .before .before .before .read-numbers .ensures)
 
 pub read-settings-spec : {M : Type 1} → statement M
 read-settings-spec =
@@ -14,22 +14,5 @@ read-settings-spec =
     (λ c. search needs)
     (λ c κs. search needs)
     (λ c. search needs)
-    (λ c. search needs)
-    (λ c. search needs)
-    (λ c. search needs)
-    (λ c. search needs)
-    (λ c. search needs)
-    (λ c. search needs)
-    (λ c. search needs)
-    (λ c. search needs)
-    (λ c. search needs)
-    (λ c. search needs)
-    (λ c. search needs)
-    (λ c. search needs)
-    (λ c. search needs)
-    (λ c. search needs)
-    (λ c. search needs)
-    (λ c. search needs)
-    (λ c. search needs)
-    (λ c. search needs)
+    (λ c κs. search needs)
     returns)

@@ -8,6 +8,9 @@ use Rattle.file_refusals.proofs.ReadTests.{shape-tested}
 use Rattle.file_refusals.proofs.other_tests.Statement.{statement}
 use Rattle.file_refusals.proofs.other_tests.Tie as tie
 
+abbrev start : tie.After-read-counts → tie.Start
+start c = c .before .before .before .before
+
 head : (c : tie.Start) → Header (c .args .bytes .now)
 head c = good-header _ (c .pre)
 
@@ -31,10 +34,10 @@ other-tests-spec =
     tie.close
     (tie.spec
     (λ c κs. head (c .before .before .before) .enough)
-    (λ c κs. omega (arith, head (c .before .before .before .before) .long))
-    (λ c κs. omega (arith, head (c .before .before .before .before .before) .long))
+    (λ c κs. omega (arith, head (start c) .long))
+    (λ c κs. omega (arith, head (start (c .before)) .long))
     (λ c κs. search needs)
-    (λ c. let counts = c .before .before .before .before .before .before .before .before .before in omega (arith, counts .read-counts .ensures .0, head (counts .before .before .before .before) .long, counts .before .before .before .before .good))
+    (λ c. let at-read-counts = c .before .before .before .before .before .before .before .before .before in omega (arith, at-read-counts .read-counts .ensures .0, head (start at-read-counts) .long, start at-read-counts .good))
     (λ c. search needs)
     (λ c κs. search needs)
     (λ c. search needs)

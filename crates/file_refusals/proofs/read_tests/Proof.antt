@@ -4,14 +4,12 @@ use mathlib.Core.List.{List}
 use Prim.Native.Nat.{ℕ}
 use native.Mathlib.Omega.{arith}
 use borrow.Author.Needs.{needs}
-use Rattle.definitions.specs.Checked.{codeOf}
-use Rattle.definitions.specs.Refusals.{goodFinality, goodRegistry}
+use Rattle.definitions.specs.Refusals.{goodFinality}
 use Rattle.definitions_file.specs.File.{versionOf, validatorsAt, countOf, contentsOf, goodHeader, stoppedAt}
 use Rattle.refusals.proofs.All.{fails, passes}
 use Rattle.round_trip.proofs.Passed.{Header, good-header}
-use Rattle.file_refusals.specs.Tests.{otherTests}
 use Rattle.file_refusals.proofs.Registry.{registryIn, registry-tested}
-use Rattle.file_refusals.proofs.ReadTests.{answered-short, answered-header, answered-sooner, answered-finality, answered-registry, answered-queue}
+use Rattle.file_refusals.proofs.ReadTests.{Others, answered-short, answered-header, answered-sooner, answered-finality, answered-registry, answered-queue}
 use Rattle.file_refusals.proofs.read_tests.Statement.{statement}
 use Rattle.file_refusals.proofs.read_tests.Tie as tie
 
@@ -38,11 +36,15 @@ from c = c .validators-at .ensures ∙ ap validatorsAt (c .before .read-counts .
 stopped : (c : tie.After-first-bad) → let xs = bytes (c .before .before .before) in let at = validatorsAt (versionOf xs) in c .first-bad .result ≡ stoppedAt at (registryIn xs at (countOf xs))
 stopped c = rw (from (c .before), count (c .before .before)) at (c .first-bad .ensures)
 
-tested : (c : tie.After-other-tests) → let a = start (c .before .before .before .before) .args in c .other-tests .result ≡ codeOf (otherTests (a .bytes .now) (a .registry .now) (a .slashings .now) (goodRegistry (contentsOf (a .bytes .now) .registry)))
+tested : (c : tie.After-other-tests) → let a = start (c .before .before .before .before) .args in Others (a .bytes .now) (a .registry .now) (a .slashings .now) (c .other-tests .result)
 unfolding contentsOf
 tested c =
-    let xs = bytes (c .before .before .before .before) in
-    rw (stopped (c .before), from (c .before .before), count (c .before .before .before), registry-tested xs (validatorsAt (versionOf xs)) (countOf xs)) at (c .other-tests .ensures)
+    let at-else2 = c .before .before .before .before in
+    let xs = bytes at-else2 in
+    record {
+      header = header at-else2;
+      number = rw (stopped (c .before), from (c .before .before), count (c .before .before .before), registry-tested xs (validatorsAt (versionOf xs)) (countOf xs)) at (c .other-tests .ensures);
+    }
 
 queue-tests-requires : tie.Need-queue-tests-requires
 queue-tests-requires c κs =
@@ -54,21 +56,8 @@ queue-tests-requires c κs =
     let v = counts .3 in
     ((v, at-validators-at .validators-at .ensures, counts .0), (omega (arith, h .some-version), omega (arith, h .known-version), omega (arith, count (at-read-counts), from (at-validators-at), h .long)))
 
-returns-3 : tie.Need-returns-3
-returns-3 c =
-    let at-other-tests = c .before .before in
-    let at-else2 : tie.Else2 = search needs in
-    answered-queue _ _ _ (header (at-else2)) (tested (at-other-tests)) (c .before .if3 .taken) (c .queue-tests .ensures)
-
-returns-4 : tie.Need-returns-4
-returns-4 c =
-    let at-else3 = c .before .before in
-    let at-other-tests = at-else3 .before in
-    let at-else2 : tie.Else2 = search needs in
-    rw (c .refused3 .ensures) (answered-sooner _ _ _ (header (at-else2)) (tested (at-other-tests)) (at-else3 .if3 .left) (c .before .if4 .taken))
-
 -- the finality, where 3 was told
-finality : (c : tie.After-good-finality) → c .good-finality .result ≡ goodFinality (contentsOf (bytes (c .before .before .before .before .before .before .before .before)) .finality)
+finality : (c : tie.After-good-finality) → let at-other-tests = c .before .before .before .before in c .good-finality .result ≡ goodFinality (contentsOf (bytes (at-other-tests .before .before .before .before)) .finality)
 unfolding contentsOf
 finality c = rw (c .before .read-finality .ensures) at (c .good-finality .ensures)
 
@@ -76,9 +65,7 @@ returns-5 : tie.Need-returns-5
 returns-5 c =
     let at-good-finality = c .before .before in
     let at-else4 = at-good-finality .before .before in
-    let at-other-tests = at-else4 .before .before in
-    let at-else2 : tie.Else2 = search needs in
-    rw (c .refused4 .ensures) (answered-finality _ _ _ (header (at-else2)) (tested (at-other-tests)) (at-else4 .if4 .left) (fails (finality (at-good-finality)) (c .before .if5 .taken)))
+    rw (c .refused4 .ensures) (answered-finality (tested (at-else4 .before .before)) (at-else4 .if4 .left) (fails (finality at-good-finality) (c .before .if5 .taken)))
 
 returns-6 : tie.Need-returns-6
 unfolding contentsOf
@@ -86,9 +73,7 @@ returns-6 c =
     let at-good-finality = c .before .before in
     let at-else4 = at-good-finality .before .before in
     let at-other-tests = at-else4 .before .before in
-    let at-first-bad = at-other-tests .before in
-    let at-else2 = at-first-bad .before .before .before in
-    rw (c .refused5 .ensures, stopped (at-first-bad)) (answered-registry _ _ _ (header (at-else2)) (tested (at-other-tests)) (at-else4 .if4 .left) (passes (finality (at-good-finality)) (c .before .if5 .left)))
+    rw (c .refused5 .ensures, stopped (at-other-tests .before)) (answered-registry (tested at-other-tests) (at-else4 .if4 .left) (passes (finality at-good-finality) (c .before .if5 .left)))
 
 pub read-tests-spec : {M : Type 1} → statement M
 read-tests-spec =
@@ -106,10 +91,10 @@ read-tests-spec =
     (λ c. let p = c .before .before .before in omega (arith, count (c .before .before), from (c .before), head p .long, start p .good))
     (λ c κs. header (c .before .before .before))
     queue-tests-requires
-    returns-3
+    (λ c. answered-queue (tested (c .before .before)) (c .before .if3 .taken) (c .queue-tests .ensures))
     (λ c κs. search needs)
-    returns-4
-    (λ c κs. omega (arith, head (c .before .before .before .before .before .before) .long))
+    (λ c. let at-else3 = c .before .before in rw (c .refused3 .ensures) (answered-sooner (tested (at-else3 .before)) (at-else3 .if3 .left) (c .before .if4 .taken)))
+    (λ c κs. let at-else2 = c .before .before .before .before .before .before in omega (arith, head at-else2 .long))
     (λ c κs. search needs)
     (λ c κs. search needs)
     returns-5

@@ -15,8 +15,11 @@ ep c = let p = c .pre .0 .settings in epochs (c .args .s) (c .args .finality .sl
 abbrev start : tie.After-close-surveyed → tie.Start
 start c = c .before .before .before .before .before .before .before .before .before .before .before
 
--- the steps were accepted; places are found by their types
-given : (c : tie.Else1) → c .before .before .before .before .before .before .before .before .before .before .close-surveyed .result .refusal ≡ 0
+abbrev surveyed : tie.After-struct-known → tie.After-close-surveyed
+surveyed c = c .before .before .before .before .before .before .before .before .before
+
+-- the steps were accepted
+given : (c : tie.Else1) → surveyed (c .before) .close-surveyed .result .refusal ≡ 0
 given c = omega (arith, c .if1 .left)
 
 close-surveyed-requires : tie.Need-close-surveyed-requires
@@ -26,32 +29,32 @@ close-surveyed-requires c κs =
 
 returns : tie.Need-returns
 returns c =
-    let e : tie.Then1 = search needs in
-    let cleared : tie.After-clear = search needs in
-    full-refused (e .before .before .before .before .before .before .before .before .before .before .close-surveyed .ensures .0) (e .if1 .taken) refl refl refl refl refl (cleared .clear .ensures ∙ ap (λ (n : ℕ). replicate n 0) (e .before .before .before .before .before .amounts .given))
+    let at-clear = c .before .before in
+    let at-then1 = at-clear .before .before in
+    let at-amounts = at-then1 .before .before .before .before .before in
+    full-refused (surveyed (at-then1 .before) .close-surveyed .ensures .0) (at-then1 .if1 .taken) refl refl refl refl refl (at-clear .clear .ensures ∙ ap (λ (n : ℕ). replicate n 0) (at-amounts .amounts .given))
 
 queue-of-requires : tie.Need-queue-of-requires
 queue-of-requires c κs =
-    let e : tie.Else1 = search needs in
-    let a = start (e .before .before .before .before .before .before .before .before .before .before) in
-    omega (arith, a .pre .0 .registry, a .pre .1 .0 .0, e .before .before .before .before .before .before .before .before .before .closing-registry .given)
+    let at-closing-registry = c .before .before .before .before .before .before .before .before .before .before in
+    let at-start = start (at-closing-registry .before) in
+    omega (arith, at-start .pre .0 .registry, at-start .pre .1 .0 .0, at-closing-registry .closing-registry .given)
 
 finalizing-test-requires : tie.Need-finalizing-test-requires
 finalizing-test-requires c κs =
-    let e : tie.Else1 = search needs in
-    let a = start (e .before .before .before .before .before .before .before .before .before .before) in
-    (good-settings _ (a .pre .0 .settings .good) .positive .«slots_per_epoch», a .pre .0 .finality)
+    let at-else1 = c .before .before in
+    let at-start = start (surveyed (at-else1 .before)) in
+    (good-settings _ (at-start .pre .0 .settings .good) .positive .«slots_per_epoch», at-start .pre .0 .finality)
 
 returns-2 : tie.Need-returns-2
 returns-2 c =
-    let e : tie.Else1 = search needs in
-    let k = e .before .before .before .before .before .before .before .before .before .before in
-    let a = start k in
-    let closed = k .close-surveyed .ensures in
-    let moved : tie.After-queue-of = search needs in
-    let tested : tie.After-finalizing-test = search needs in
-    full-accepted (closed .0) (given e) refl refl (moved .queue-of .ensures) refl (tested .finalizing-test .ensures)
-    (booked-gave (closed .0) (given e) (ep a) (a .args .registry .now) refl (a .pre .0 .registry) (closed .1 .booked (given e) (a .pre .1 .0 .2)))
+    let at-queue-of = c .before in
+    let at-else1 = at-queue-of .before .before in
+    let at-close-surveyed = surveyed (at-else1 .before) in
+    let at-start = start at-close-surveyed in
+    let closed = at-close-surveyed .close-surveyed .ensures in
+    full-accepted (closed .0) (given at-else1) refl refl (at-queue-of .queue-of .ensures) refl (c .finalizing-test .ensures)
+    (booked-gave (closed .0) (given at-else1) (ep at-start) (at-start .args .registry .now) refl (at-start .pre .0 .registry) (closed .1 .booked (given at-else1) (at-start .pre .1 .0 .2)))
 
 pub full-surveyed-spec : {M : Type 1} → statement M
 full-surveyed-spec =

@@ -28,7 +28,8 @@ start c = c .before .before .before .before .before .before .before .before .bef
 
 tested : (r : Rules) (c : tie.After-first-refusal) → codeOf (recordTests (call r (start c) .call)) ≡ 0 → c .first-refusal .result ≡ codeOf (fullTests (call r (start c)))
 tested r c z =
-    let found = c .before .before .before .before .before .survey-registry .ensures in
+    let at-survey-registry = c .before .before .before .before .before in
+    let found = at-survey-registry .survey-registry .ensures in
     queue-tested (call r (start c)) (start c .pre .1 .0 .2) (entries-tested (call r (start c) .call) (sym z) refl (found .tested)) (tracks-is (found .queue)) (c .before .queue-refusal .ensures) (c .first-refusal .ensures)
 
 current-epoch-requires : tie.Need-current-epoch-requires
@@ -43,13 +44,13 @@ previous-epoch-requires c κs =
 
 survey-registry-requires : tie.Need-survey-registry-requires
 survey-registry-requires c κs =
-    let a = c .before .before .before .before .before .before .before .before .before .before in
-    (a .pre .0 .registry, (omega (arith, c .before .before .current-epoch .ensures, ep a .small), a .pre .1 .1))
+    let at-start = c .before .before .before .before .before .before .before .before .before .before in
+    (at-start .pre .0 .registry, (omega (arith, c .before .before .current-epoch .ensures, ep at-start .small), at-start .pre .1 .1))
 
 returns : tie.Need-returns
 returns c =
-    let k = c .before .before in
-    record { under = λ r u z. full-tests-refused (call r (start k)) (tested r k z) (c .before .if1 .taken) (c .unclosed .ensures) }
+    let at-first-refusal = c .before .before in
+    record { under = λ r u z. full-tests-refused (call r (start at-first-refusal)) (tested r at-first-refusal z) (c .before .if1 .taken) (c .unclosed .ensures) }
 
 full-surveyed-requires : tie.Need-full-surveyed-requires
 full-surveyed-requires c κs =
@@ -62,10 +63,10 @@ full-surveyed-requires c κs =
 
 returns-2 : tie.Need-returns-2
 returns-2 c =
-    let closed : tie.After-full-surveyed = search needs in
-    let e = closed .before .before .before .before .before in
-    let k = e .before in
-    record { under = λ r u z. full-steps-closed (call r (start k)) (tested r k z) (omega (arith, e .if1 .left)) u (closed .full-surveyed .ensures) }
+    let at-full-surveyed : tie.After-full-surveyed = search needs in
+    let at-else1 = at-full-surveyed .before .before .before .before .before in
+    let at-first-refusal = at-else1 .before in
+    record { under = λ r u z. full-steps-closed (call r (start at-first-refusal)) (tested r at-first-refusal z) (omega (arith, at-else1 .if1 .left)) u (at-full-surveyed .full-surveyed .ensures) }
 
 pub full-tested-spec : {M : Type 1} → statement M
 full-tested-spec =

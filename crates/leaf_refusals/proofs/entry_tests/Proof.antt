@@ -15,7 +15,8 @@ returns-2 : tie.Need-returns-2
 unfolding entryTests inOrder every
 returns-2 c =
     let at-else1 : tie.Else1 = search needs in
-    rw (eq-eqb _ _ (at-else1 .if1 .left)) cc
+    let at-good-entry = c .before .before in
+    rw (eq-eqb _ _ (at-else1 .if1 .left)) (rw (at-good-entry .good-entry .ensures) at (c .in-order .ensures))
 
 pub entry-tests-spec : {M : Type 1} → statement M
 entry-tests-spec =

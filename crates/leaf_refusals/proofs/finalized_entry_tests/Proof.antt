@@ -15,7 +15,9 @@ returns-2 : tie.Need-returns-2
 unfolding finalizedEntryTests inOrder every
 returns-2 c =
     let at-else1 : tie.Else1 = search needs in
-    rw (eq-eqb _ _ (at-else1 .if1 .left)) cc
+    let at-good-entry = c .before .before in
+    let at-is-small = at-good-entry .before in
+    rw (eq-eqb _ _ (at-else1 .if1 .left)) (rw (at-is-small .is-small .ensures, at-good-entry .good-entry .ensures) at (c .in-order .ensures))
 
 pub finalized-entry-tests-spec : {M : Type 1} → statement M
 finalized-entry-tests-spec =

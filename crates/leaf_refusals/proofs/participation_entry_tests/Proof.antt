@@ -15,7 +15,12 @@ returns-2 : tie.Need-returns-2
 unfolding participationEntryTests inOrder every
 returns-2 c =
     let at-else1 : tie.Else1 = search needs in
-    rw (eq-eqb _ _ (at-else1 .if1 .left)) cc
+    let at-good-entry = c .before .before in
+    let at-is-small = at-good-entry .before in
+    let at-good-settings = at-is-small .before .before in
+    let at-is-participation-epoch = at-good-settings .before .before in
+    let at-settings-shaped = at-is-participation-epoch .before in
+    rw (eq-eqb _ _ (at-else1 .if1 .left)) (rw (at-settings-shaped .settings-shaped .ensures, at-is-participation-epoch .is-participation-epoch .ensures, at-good-settings .good-settings .ensures, at-is-small .is-small .ensures, at-good-entry .good-entry .ensures) at (c .in-order .ensures))
 
 pub participation-entry-tests-spec : {M : Type 1} → statement M
 participation-entry-tests-spec =

@@ -1,7 +1,7 @@
 use Prim.Native.Nat.{_-_}
 use native.Mathlib.Omega.{arith}
 use borrow.Author.Needs.{needs}
-use Rattle.listing_lines.proofs.Change.{given, wide}
+use Rattle.arithmetic.proofs.signed.Change.{given, wide}
 use Rattle.listing_lines.proofs.Fitting.{Fitting, fitting-none, fitting-more, fitting-wide, fitting-all}
 use Rattle.listing_lines.proofs.changes.Statement.{statement}
 use Rattle.listing_lines.proofs.changes.Tie as tie

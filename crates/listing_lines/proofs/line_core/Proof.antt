@@ -1,6 +1,6 @@
 use mathlib.Core.Path.{_∙_}
 use borrow.Author.Needs.{needs}
-use Rattle.listing_lines.proofs.Change.{given, wide}
+use Rattle.arithmetic.proofs.signed.Change.{given, wide}
 use Rattle.listing_lines.proofs.LineNumbers.{line-wide, line-read}
 use Rattle.listing_lines.proofs.line_core.Statement.{statement}
 use Rattle.listing_lines.proofs.line_core.Tie as tie

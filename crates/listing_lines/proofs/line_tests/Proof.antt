@@ -5,7 +5,9 @@ use Rattle.listing_lines.proofs.line_tests.Tie as tie
 
 returns : tie.Need-returns
 unfolding lineTests
-returns c = cc
+returns c =
+    let at-registry-shaped = c .before .before .before .before in
+    rw (at-registry-shaped .registry-shaped .ensures) at (c .in-order .ensures)
 
 pub line-tests-spec : {M : Type 1} → statement M
 line-tests-spec =

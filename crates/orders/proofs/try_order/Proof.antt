@@ -40,14 +40,17 @@ returns-3 c =
 -- places are found by their types, so that what is done with the exit's answer does not move them
 returns-4 : tie.Need-returns-4
 returns-4 c =
-    let t : tie.Else3 = search needs in
-    let exited : tie.After-exit-in-place = search needs in
-    let a = t .before .before .before .before .before .before .before .before .before in
-    let l = t .before .before .before .before .before .before .before .if1 .left in
-    let x = a .args in
-    let e = may-part (x .epoch) (x .period) (x .least) (x .limit) (x .delay) (x .n) (x .registry .now) (a .pre .0 .0) (x .validator) (x .start) l (passes (t .before .before .before .before .entry-may-exit .ensures) (t .before .before .before .if2 .left)) in
-    let d = due-part (x .epoch) (x .period) (x .least) (x .limit) (x .delay) (x .n) (x .registry .now) (a .pre .0 .0) (x .validator) (x .start) l in
-    exits (x .epoch) (x .period) (x .least) (x .limit) (x .delay) (x .n) (x .registry .now) (a .pre .0 .0) (x .validator) (x .start) l e (sym d ∙ passes (t .before .is-due .ensures) (t .if3 .left)) (exited .exit-in-place .ensures)
+    let at-exit-in-place : tie.After-exit-in-place = search needs in
+    let at-else3 : tie.Else3 = search needs in
+    let at-else2 = at-else3 .before .before .before in
+    let at-entry-may-exit = at-else2 .before in
+    let at-else1 = at-entry-may-exit .before .before .before in
+    let at-start = at-else1 .before .before in
+    let l = at-else1 .if1 .left in
+    let x = at-start .args in
+    let e = may-part (x .epoch) (x .period) (x .least) (x .limit) (x .delay) (x .n) (x .registry .now) (at-start .pre .0 .0) (x .validator) (x .start) l (passes (at-entry-may-exit .entry-may-exit .ensures) (at-else2 .if2 .left)) in
+    let d = due-part (x .epoch) (x .period) (x .least) (x .limit) (x .delay) (x .n) (x .registry .now) (at-start .pre .0 .0) (x .validator) (x .start) l in
+    exits (x .epoch) (x .period) (x .least) (x .limit) (x .delay) (x .n) (x .registry .now) (at-start .pre .0 .0) (x .validator) (x .start) l e (sym d ∙ passes (at-else3 .before .is-due .ensures) (at-else3 .if3 .left)) (at-exit-in-place .exit-in-place .ensures)
 
 pub try-order-spec : {M : Type 1} → statement M
 try-order-spec =

@@ -13,6 +13,7 @@ use Rattle.fields.specs.Put.{Put}
 use Rattle.definitions_file.specs.Listing.{callOf, closing}
 use Rattle.listing.proofs.Closing.{same-refusal, same-finality, same-registry}
 use Rattle.definitions_file.specs.OutageRun.{headOf, closedWith, closeOnce}
+use Rattle.listing_lines.specs.Sizes.{longestHead}
 use Rattle.outage.specs.Went.{Went}
 use Rattle.refusals.proofs.Answers.{same-buffer}
 
@@ -62,7 +63,7 @@ module _ (c : Contents) (xs ys : List ℕ) (l : length xs ≡ length (c .registr
       unfolding headOf
       line = rw (finality, raised)
 
-      pub once-closed : {text after : List ℕ} {at last : ℕ} → Put text at (headOf (callOf c xs ys) (outcome r us vs)) after last → last ≤ at + 210 → Went (closeOnce c) 1 text at after 0 (closedWith c (outcome r us vs)) last
+      pub once-closed : {text after : List ℕ} {at last : ℕ} → Put text at (headOf (callOf c xs ys) (outcome r us vs)) after last → last ≤ at + longestHead → Went (closeOnce c) 1 text at after 0 (closedWith c (outcome r us vs)) last
       unfolding closeOnce
       once-closed p h = rw (eq-eqb (close (closing c) .refusal) 0 (code ∙ z)) (record { code = refl; stands = left; put = rw line at p; inside = omega arith })
 

@@ -13,6 +13,7 @@ use Rattle.fields.proofs.decimals.Put.{put-more}
 use Rattle.definitions_file.specs.OutageInput.{Plan}
 use Rattle.definitions_file.specs.OutagePreparation.{prepared}
 use Rattle.definitions_file.specs.OutageRun.{Run, closeOnce, behind, andThen, run}
+use Rattle.listing_lines.specs.Sizes.{longestHead}
 use Rattle.outage.specs.Ready.{Ready}
 use Rattle.outage.specs.Went.{Went}
 
@@ -30,7 +31,7 @@ pub record Running (p : Plan) (epochs : ℕ) (first : Contents) (before : List �
   pub done : List ℕ
   pub put : Put before 0 done text last
   pub leads : run p epochs first ≡ behind done (run p (epochs - i) c)
-  pub inside : last ≤ 210 * i
+  pub inside : last ≤ longestHead * i
 
 pub running-none : (p : Plan) (epochs : ℕ) (first : Contents) (before : List ℕ) → Running p epochs first before 0 first before 0
 running-none p epochs first before =

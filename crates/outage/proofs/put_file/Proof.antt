@@ -1,107 +1,93 @@
-use mathlib.Core.Path.{_∙_}
+use mathlib.Core.Path.{_≡_, ap, _∙_}
+use Prim.Native.Nat.{ℕ}
 use native.Mathlib.Omega.{arith}
-use Rattle.listing.proofs.Opened.{opened-same}
-use Rattle.outage.proofs.Text.{text-refused, text-tail}
-use Rattle.outage.proofs.Filled.{tail-fails, tail-passes, not-refused, opened-from}
 use borrow.Author.Needs.{needs}
+use Rattle.definitions_file.specs.File.{countOf}
+use Rattle.definitions_file.specs.OutageInput.{goodTail}
+use Rattle.refusals.proofs.All.{fails, passes}
+use Rattle.outage.specs.Lent.{Exact, Opened}
+use Rattle.outage.proofs.Text.{text-refused, text-tail}
+use Rattle.outage.proofs.Filled.{exact-read, refusal-read, opened-from}
 use Rattle.outage.proofs.put_file.Statement.{statement}
 use Rattle.outage.proofs.put_file.Tie as tie
 
-put-refused-requires : tie.Need-put-refused-requires
-put-refused-requires c κs = omega (arith, c .before .before .before .before .before .before .before .before .before .before .before .before .before .before .before .before .before .before .before .before .pre .bytes)
+-- the places that the others are found from
+abbrev start : tie.After-read-file → tie.Start
+start c = c .before .before .before .before .before .before .before .before .before .before .before .before .before
+
+abbrev reading : tie.After-struct-known → tie.After-read-file
+reading c = c .before .before .before .before .before
+
+-- what was read is as long as the header calls for
+exact : (c : tie.After-read-file) → let a = start c .args in let read = c .read-file .last .1 in Exact (a .file .now) (a .opening .now) (a .absences .now) (read .0) (read .1 .0) (a .roots .now) (a .closing-registry .now) (a .closing-slashings .now) (a .text .now)
+exact c = let kept = c .read-file .kept .1 in exact-read (start c .pre) (kept .0) (kept .1 .0)
+
+opened : (c : tie.Else1) → let r = reading (c .before) in let read = r .read-file .last .1 in Opened (start r .args .file .now) (r .read-file .result .settings) (r .read-file .result .finality) (read .0) (read .1 .0)
+opened c =
+    let at-read-file = reading (c .before) in
+    let e = at-read-file .read-file .ensures in
+    opened-from (start at-read-file .pre) (e .0) (c .if1 .left) (e .1 .1 .0) (e .1 .1 .1 .0) (e .1 .1 .1 .1 .1 .0) (e .1 .1 .1 .1 .1 .1)
+
+tested : (c : tie.After-good-tail) → let a = start (reading (c .before .before)) .args in c .good-tail .result ≡ goodTail (countOf (a .file .now)) (a .tail .now)
+tested c =
+    let at-read-file = reading (c .before .before) in
+    c .good-tail .ensures ∙ ap (λ (n : ℕ). goodTail n (start at-read-file .args .tail .now)) (omega (arith, exact at-read-file .entries))
 
 returns : tie.Need-returns
 returns c =
-    let s = c .before .before .before .before .before .before .before .before .before .before .before .before .before .before .before .before .before .before .before .before .before .before .before in
-    let a = s .args in
-    let p = c .before .before .put-refused .ensures in
+    let at-put-refused = c .before .before in
+    let at-then1 = at-put-refused .before .before in
+    let at-read-file = reading (at-then1 .before) in
+    let at-start = start at-read-file in
+    let p = at-put-refused .put-refused .ensures in
     record {
-      put = rw (text-refused (a .file .now) (a .tail .now) (c .before .before .before .before .before .before .before .before .before .before .read-file .ensures .0 ∙ opened-same (a .file .now) (a .registry .now) (a .slashings .now) (s .pre .entries) (s .pre .sums)) (c .before .before .before .before .if1 .taken)) (p .0);
-      inside = omega (arith, p .1, s .pre .bytes);
+      put = rw (text-refused (at-start .args .file .now) (at-start .args .tail .now) (refusal-read (at-start .pre) (at-read-file .read-file .ensures .0)) (at-then1 .if1 .taken)) (p .0);
+      inside = omega (arith, p .1, at-start .pre .bytes);
     }
-
-good-tail-requires : tie.Need-good-tail-requires
-good-tail-requires c κs =
-    let s = c .before .before .before .before .before .before .before .before .before .before .before .before .before .before .before .before .before .before .before in
-    omega (arith, s .pre .entries, s .pre .few, c .before .before .before .before .before .registry .given)
-
-put-refused-requires-2 : tie.Need-put-refused-requires-2
-put-refused-requires-2 c κs = omega (arith, c .before .before .before .before .before .before .before .before .before .before .before .before .before .before .before .before .before .before .before .before .before .before .pre .bytes)
 
 returns-2 : tie.Need-returns-2
 returns-2 c =
-    let s = c .before .before .before .before .before .before .before .before .before .before .before .before .before .before .before .before .before .before .before .before .before .before .before .before .before in
-    let a = s .args in
-    let p = c .before .before .put-refused2 .ensures in
-    let z = not-refused (a .file .now) (a .registry .now) (a .slashings .now) (s .pre .entries) (s .pre .sums) (c .before .before .before .before .before .before .before .before .before .before .before .before .read-file .ensures .0) (c .before .before .before .before .before .before .if1 .left) in
+    let at-put-refused2 = c .before .before in
+    let at-then2 = at-put-refused2 .before .before in
+    let at-good-tail = at-then2 .before in
+    let at-else1 = at-good-tail .before in
+    let at-start = start (reading (at-else1 .before)) in
+    let p = at-put-refused2 .put-refused2 .ensures in
     record {
-      put = rw (text-tail (a .file .now) (a .tail .now) z (tail-fails (a .tail .now) (c .before .before .before .before .before .good-tail .ensures) (omega (arith, s .pre .entries, c .before .before .before .before .before .before .before .before .before .before .before .registry .given)) (c .before .before .before .before .if2 .taken))) (p .0);
-      inside = omega (arith, p .1, s .pre .bytes);
+      put = rw (text-tail (at-start .args .file .now) (at-start .args .tail .now) (opened at-else1 .accepted) (fails (tested at-good-tail) (at-then2 .if2 .taken))) (p .0);
+      inside = omega (arith, p .1, at-start .pre .bytes);
     }
 
 put-read-requires : tie.Need-put-read-requires
 put-read-requires c κs =
-    let s = c .before .before .before .before .before .before .before .before .before .before .before .before .before .before .before .before .before .before .before .before .before .before .before .before .before .before .before .before .before .before .before in
-    let a = s .args in
-    let x = s .pre in
-    let r = c .before .before .before .before .before .before .before .before .before .before .before .before .before .before .before .before .before .before .read-file .ensures in (
-      record { header = x .header; few = x .few; openings = x .openings; pairs = x .pairs; entries = c .before .before .before .before .before .before .before .before .before .before .before .before .before .before .before .before .before .registry .given ∙ x .entries; sums = c .before .before .before .before .before .before .before .before .before .before .before .before .before .before .before .slashings .given ∙ x .sums; places = x .places; closing-entries = x .closing-entries; closing-sums = x .closing-sums; bytes = x .bytes },
-      (
-        opened-from (a .file .now) (a .registry .now) (a .slashings .now) (x .entries) (x .sums) (r .0) (c .before .before .before .before .before .before .before .before .before .before .before .before .if1 .left) (r .1 .1 .0) (r .1 .1 .1 .0) (r .1 .1 .1 .1 .1 .0) (r .1 .1 .1 .1 .1 .1),
-        tail-passes (a .tail .now) (c .before .before .before .before .before .before .before .before .before .before .before .good-tail .ensures) (omega (arith, x .entries, c .before .before .before .before .before .before .before .before .before .before .before .before .before .before .before .before .before .registry .given)) (c .before .before .before .before .before .before .before .before .before .before .if2 .left),
-      ),
-    )
-
-same-length-7 : tie.Need-same-length-7
-same-length-7 c = c .before .before .before .before .before .before .before .before .before .before .before .before .before .before .before .opening .given
-
-same-length-8 : tie.Need-same-length-8
-same-length-8 c = c .before .before .before .before .before .before .before .before .before .before .before .before .before .absences .given
-
-same-length-9 : tie.Need-same-length-9
-same-length-9 c = c .before .before .before .before .before .before .before .before .before .before .before .registry2 .given ∙ c .before .before .before .before .before .before .before .before .before .before .before .before .before .before .before .before .before .before .before .before .before .before .before .before .before .before .before .before .before .before .before .before .before .before .registry .given
-
-same-length-10 : tie.Need-same-length-10
-same-length-10 c = c .before .before .before .before .before .before .before .before .before .slashings2 .given ∙ c .before .before .before .before .before .before .before .before .before .before .before .before .before .before .before .before .before .before .before .before .before .before .before .before .before .before .before .before .before .before .before .before .slashings .given
-
-same-length-11 : tie.Need-same-length-11
-same-length-11 c = c .before .before .before .before .before .before .before .roots .given
-
-same-length-12 : tie.Need-same-length-12
-same-length-12 c = c .before .before .before .before .before .closing-registry .given
-
-same-length-13 : tie.Need-same-length-13
-same-length-13 c = c .before .before .before .closing-slashings .given
-
-same-length-14 : tie.Need-same-length-14
-same-length-14 c = c .before .text3 .given
-
-returns-3 : tie.Need-returns-3
-returns-3 c = c .before .before .before .before .before .before .before .before .before .before .before .before .before .before .before .before .put-read .ensures
+    let at-else2 = c .before .before .before .before .before .before .before .before .before .before in
+    let at-good-tail = at-else2 .before in
+    let at-else1 = at-good-tail .before in
+    (exact (reading (at-else1 .before)), (opened at-else1, passes (tested at-good-tail) (at-else2 .if2 .left)))
 
 pub put-file-spec : {M : Type 1} → statement M
 put-file-spec =
     tie.close
     (tie.spec
     (λ c κs. search needs)
-    put-refused-requires
+    (λ c κs. omega (arith, start (reading (c .before .before)) .pre .bytes))
     (λ c. search needs)
     (λ c. search needs)
     (λ c. search needs)
     returns
-    good-tail-requires
-    put-refused-requires-2
+    (λ c κs. let at-read-file = reading (c .before) in omega (arith, exact at-read-file .entries, exact at-read-file .few))
+    (λ c κs. omega (arith, start (reading (c .before .before .before .before)) .pre .bytes))
     (λ c. search needs)
     (λ c. search needs)
     (λ c. search needs)
     returns-2
     put-read-requires
-    same-length-7
-    same-length-8
-    same-length-9
-    same-length-10
-    same-length-11
-    same-length-12
-    same-length-13
-    same-length-14
-    returns-3)
+    (λ c. search needs)
+    (λ c. search needs)
+    (λ c. search needs)
+    (λ c. search needs)
+    (λ c. search needs)
+    (λ c. search needs)
+    (λ c. search needs)
+    (λ c. search needs)
+    (λ c. search needs))

@@ -33,12 +33,16 @@ returns-5 c =
     too-much _ _ _ _ _ _ (at-else1 .if1 .left) (at-else2 .if2 .left) (at-start .pre .1 .1 .over _ (omega arith) (c .if4 .taken))
 
 mul-penalty : tie.Need-mul-penalty
-mul-penalty c = record { fits = c .before .before .before .before .before .before .before .pre .1 .1 .fits _ (c .if4 .left) }
+mul-penalty c =
+    let at-start : tie.Start = search needs in
+    record { fits = at-start .pre .1 .1 .fits _ (c .if4 .left) }
 
 div-penalty : tie.Need-div-penalty
 div-penalty c =
-    let a = c .before .before .before .before .before .before .before .pre in
-    let p = product-divides (a .0 .0) (a .0 .1) (a .1 .0) (c .before .before .before .product .given .1) in
+    let at-product = c .before .before .before in
+    let at-start : tie.Start = search needs in
+    let a = at-start .pre in
+    let p = product-divides (a .0 .0) (a .0 .1) (a .1 .0) (at-product .product .given .1) in
     omega (arith, p)
 
 returns-6 : tie.Need-returns-6

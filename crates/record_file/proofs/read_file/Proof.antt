@@ -9,7 +9,10 @@ use Rattle.record_file.proofs.read_file.Tie as tie
 abbrev Long : tie.Start → Type 0
 Long c = Lengths (c .args .bytes .now) (c .args .registry .now) (c .args .slashings .now)
 
-lengths : (c : tie.Else1) → Long (c .before .before .before .before .before .before .before .before .before)
+abbrev start : tie.Else1 → tie.Start
+start c = c .before .before .before .before .before .before .before .before .before
+
+lengths : (c : tie.Else1) → Long (start c)
 lengths c = read-lengths _ _ _ (c .before .before .before .read-tests .ensures .number) (c .if1 .left)
 
 returns : tie.Need-returns
@@ -37,8 +40,7 @@ registry-at-requires c κs = lengths (c .before .before) .header
 mul-slashings-at : tie.Need-mul-slashings-at
 mul-slashings-at c =
     let at-else1 = c .before .before .before in
-    let at-start : tie.Start = search needs in
-    omega (arith, lengths (at-else1), at-start .good)
+    omega (arith, lengths (at-else1), start at-else1 .good)
 
 sub-slashings-at : tie.Need-sub-slashings-at
 sub-slashings-at c = omega (arith, lengths (c .before .before .before))

@@ -4,8 +4,9 @@ use Rattle.rewards_step.proofs.reward_registry.Tie as tie
 
 returns : tie.Need-returns
 returns c =
-    let k = c .before .before in
-    rw (k .before .before .before .shared-numbers .ensures .is) at (k .reward-all .ensures)
+    let at-reward-all = c .before .before in
+    let at-shared-numbers : tie.After-shared-numbers = search needs in
+    rw (at-shared-numbers .shared-numbers .ensures .is) at (at-reward-all .reward-all .ensures)
 
 pub reward-registry-spec : {M : Type 1} → statement M
 reward-registry-spec =

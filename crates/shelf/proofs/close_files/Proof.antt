@@ -1,9 +1,9 @@
 use mathlib.Core.Path.{_≡_, refl, sym, _∙_}
-use Prim.Native.Nat.{_-_, _<_}
+use Prim.Native.Nat.{_+_, _-_, _≤_, _<_}
 use native.Mathlib.Omega.{arith}
 use borrow.Author.Tests.{ltb-true, ltb-false}
 use lib.Dec.{ltb}
-use lib.ListN.{length}
+use lib.ListN.{length, getD}
 use Rattle.shelf.proofs.Lengths.{each-longest, longest-drop}
 use Rattle.shelf.proofs.Shelving.{Shelving, shelving-none, shelving-more, shelving-all, inside, file-long, part-long, shaped}
 use Rattle.shelf.proofs.close_files.Statement.{statement}
@@ -19,9 +19,21 @@ Inv-loop files lengths closing₀ opening-numbers₀ closing-numbers₀ answers�
 abbrev μ-loop : tie.MeasureT-loop
 μ-loop files lengths closing₀ opening-numbers₀ closing-numbers₀ answers₀ fork bellatrix at₀ i₀ more₀ closing opening-numbers closing-numbers answers at i more = length lengths - i
 
+abbrev start : tie.At-loop Inv-loop μ-loop → tie.Start Inv-loop μ-loop
+start c = c .before .before .before .before .before .before .before
+
+abbrev entered : tie.After-slice-known7 Inv-loop μ-loop → tie.In-loop Inv-loop μ-loop
+entered c = c .before .before .before .before .before .before .before .before .before .before .before .before
+
 -- a file is left
-left : (c : tie.In-loop Inv-loop μ-loop) → c .before .loop .i < length (c .before .before .before .before .before .before .before .before .args .lengths .now)
+left : (c : tie.In-loop Inv-loop μ-loop) → c .before .loop .i < length (start (c .before) .args .lengths .now)
 left c = ltb-true _ _ (sym (c .before .loop .inv .3) ∙ c .loop-test .taken)
+
+-- and ends within the shelf
+fits : (c : tie.In-loop Inv-loop μ-loop) → let k = c .before .loop in let a = start (c .before) .args in let end = k .at + getD (a .lengths .now) (k .i) 0 in (end ≤ length (a .files .now)) × (end ≤ length (k .closing))
+fits c =
+    let g = c .before .loop .inv .0 in
+    let l = inside _ _ _ _ _ g (left c) in (l, omega (arith, l, g .as-long))
 
 loop-holds : tie.Need-loop-holds Inv-loop μ-loop
 loop-holds c =
@@ -32,7 +44,7 @@ close-file-requires : tie.Need-close-file-requires Inv-loop μ-loop
 close-file-requires c κs =
     let at-in-loop = c .before .before .before .before .before in
     let at-at-loop = at-in-loop .before in
-    let at-start = at-at-loop .before .before .before .before .before .before .before in
+    let at-start = start at-at-loop in
     let p = shaped _ (at-start .pre) in
     let k = at-at-loop .loop in
     let g = k .inv .0 in
@@ -47,19 +59,13 @@ loop-again c =
     let at-closing-numbers = c .before .before .before in
     let at-opening-numbers = at-closing-numbers .before .before in
     let at-close-file = at-opening-numbers .before in
-    let at-in-loop = at-close-file .before .before .before .before .before .before in
+    let at-in-loop = entered c in
     let at-at-loop = at-in-loop .before in
     let k = at-at-loop .loop in
     let g = k .inv .0 in
     let l = left (at-in-loop) in
     let f = at-close-file .close-file in
     (shelving-more _ _ _ _ _ g l (f .ensures .0) (f .ensures .1) (f .kept .1 .1 .1 .1 .1 .0 ∙ part-long _ _ _ _ _ g l), at-opening-numbers .opening-numbers .given ∙ k .inv .1, at-closing-numbers .closing-numbers .given ∙ k .inv .2, refl)
-
-same-length-2 : tie.Need-same-length-2 Inv-loop μ-loop
-same-length-2 c = c .before .loop .inv .1
-
-same-length-3 : tie.Need-same-length-3 Inv-loop μ-loop
-same-length-3 c = c .before .loop .inv .2
 
 returns : tie.Need-returns Inv-loop μ-loop
 returns c = let k = c .before .loop in shelving-all _ _ _ _ _ (k .inv .0) (ltb-false _ _ (sym (k .inv .3) ∙ c .loop-test .left))
@@ -73,21 +79,21 @@ close-files-spec =
     loop-holds
     (λ c. omega (arith, left c))
     (λ c. omega (arith, left (c .before)))
-    (λ c. let g = c .before .before .loop .inv .0 in omega (arith, inside _ _ _ _ _ g (left (c .before)), c .before .before .before .before .before .before .before .before .before .good .0))
-    (λ c. let g = c .before .before .loop .inv .0 in omega (arith, inside _ _ _ _ _ g (left (c .before)), g .as-long, g .within))
-    (λ c. let g = c .before .before .loop .inv .0 in omega (arith, inside _ _ _ _ _ g (left (c .before)), g .as-long, g .within))
-    (λ c. let g = c .before .before .loop .inv .0 in omega (arith, inside _ _ _ _ _ g (left (c .before)), g .as-long, g .within))
-    (λ c. let g = c .before .before .before .before .before .loop .inv .0 in omega (arith, inside _ _ _ _ _ g (left (c .before .before .before .before)), g .as-long, g .within))
-    (λ c. let g = c .before .before .before .before .before .loop .inv .0 in omega (arith, inside _ _ _ _ _ g (left (c .before .before .before .before)), g .as-long, g .within))
-    (λ c. let g = c .before .before .before .before .before .loop .inv .0 in omega (arith, inside _ _ _ _ _ g (left (c .before .before .before .before)), g .as-long, g .within))
+    (λ c. omega (arith, fits (c .before), start (c .before .before) .good .0))
+    (λ c. omega (arith, fits (c .before)))
+    (λ c. omega (arith, fits (c .before)))
+    (λ c. omega (arith, fits (c .before)))
+    (λ c. omega (arith, fits (c .before .before .before .before)))
+    (λ c. omega (arith, fits (c .before .before .before .before)))
+    (λ c. omega (arith, fits (c .before .before .before .before)))
     close-file-requires
-    (λ c. omega (arith, left (c .before .before .before .before .before .before .before .before .before .before .before .before)))
-    (λ c. let g = c .before .before .before .before .before .before .before .before .before .before .before .before .before .loop .inv .0 in omega (arith, g .as-many, left (c .before .before .before .before .before .before .before .before .before .before .before .before)))
-    (λ c. omega (arith, left (c .before .before .before .before .before .before .before .before .before .before .before .before)))
-    (λ c. omega (arith, left (c .before .before .before .before .before .before .before .before .before .before .before .before)))
+    (λ c. omega (arith, left (entered c)))
+    (λ c. omega (arith, entered c .before .loop .inv .0 .as-many, left (entered c)))
+    (λ c. omega (arith, left (entered c)))
+    (λ c. omega (arith, left (entered c)))
     loop-again
-    (λ c. let g = c .before .loop .inv in let p = shaped _ (c .before .before .before .before .before .before .before .before .pre) in omega (arith, g .0 .as-long, p .closing-long))
-    same-length-2
-    same-length-3
-    (λ c. let g = c .before .loop .inv in let p = shaped _ (c .before .before .before .before .before .before .before .before .pre) in omega (arith, g .0 .as-many, p .many))
+    (λ c. omega (arith, c .before .loop .inv .0 .as-long, shaped _ (start (c .before) .pre) .closing-long))
+    (λ c. c .before .loop .inv .1)
+    (λ c. c .before .loop .inv .2)
+    (λ c. omega (arith, c .before .loop .inv .0 .as-many, shaped _ (start (c .before) .pre) .many))
     returns)

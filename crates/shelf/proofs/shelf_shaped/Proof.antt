@@ -5,7 +5,11 @@ use Rattle.shelf.proofs.shelf_shaped.Tie as tie
 
 returns : tie.Need-returns
 unfolding shelfShaped
-returns c = cc
+returns c =
+    let at-holds-longest2 = c .before .before in
+    let at-holds-longest = at-holds-longest2 .before in
+    let at-sums-to = at-holds-longest .before in
+    rw (at-sums-to .sums-to .ensures, at-holds-longest .holds-longest .ensures, at-holds-longest2 .holds-longest2 .ensures) at (c .all-pass .ensures)
 
 pub shelf-shaped-spec : {M : Type 1} → statement M
 shelf-shaped-spec =

@@ -40,25 +40,40 @@ returns : tie.Need-returns
 unfolding additionShaped
 returns c = refuses _ _ (grouped _ _ _ (shape-failed _ _ _ 0 (no-room _ (c .if1 .taken)))) (λ z. omega arith)
 
-returns-2 : tie.Need-returns-2
+-- tests 1 and 2, once they are made
+abbrev start : tie.After-in-order → tie.Start
+start c = c .before .before .before .before .before .before .before .before .before .before .before
+
+abbrev store : tie.After-in-order → Store
+store c = lent (start c .args .store .now) (start c .args .count)
+
+abbrev new : tie.After-in-order → Entry
+new c = newEntry (start c .args .start) (start c .args .rules)
+
+told : (c : tie.After-in-order) → c .in-order .result ≡ codeOf (first (store c) (new c))
 unfolding additionShaped
-returns-2 c = refuses _ _ (grouped _ _ _ cc) (c .if2 .taken)
+told c =
+    let at-good-rules = c .before .before .before in
+    let at-good-entries = at-good-rules .before in
+    let at-keeps-last = at-good-entries .before .before in
+    let at-rules-shaped = at-keeps-last .before in
+    let at-store-shaped = at-rules-shaped .before in
+    grouped _ _ _ (rw (at-store-shaped .store-shaped .ensures, at-rules-shaped .rules-shaped .ensures, at-keeps-last .keeps-last .ensures, at-good-entries .good-entries .ensures, at-good-rules .good-rules .ensures) at (c .in-order .ensures))
+
+returns-2 : tie.Need-returns-2
+returns-2 c = let at = c .before in refuses (store at) (new at) (told at) (c .if2 .taken)
 
 returns-3 : tie.Need-returns-3
-unfolding additionShaped
 returns-3 c =
-    let start : tie.Start = search needs in
-    let a = start .args in
-    let u : tie.Else2 = search needs in
-    starts (lent (a .store .now) (a .count)) (newEntry (a .start) (a .rules)) (grouped _ _ _ cc) (u .if2 .left) _ (fails (c .before .starts-after .ensures) (c .if3 .taken))
+    let at-else = c .before .before in
+    let at = at-else .before in
+    starts (store at) (new at) (told at) (at-else .if2 .left) _ (fails (c .before .starts-after .ensures) (c .if3 .taken))
 
 returns-4 : tie.Need-returns-4
-unfolding additionShaped
 returns-4 c =
-    let start : tie.Start = search needs in
-    let a = start .args in
-    let u : tie.Else2 = search needs in
-    starts (lent (a .store .now) (a .count)) (newEntry (a .start) (a .rules)) (grouped _ _ _ cc) (u .if2 .left) _ (passes (c .before .starts-after .ensures) (c .if3 .left))
+    let at-else = c .before .before in
+    let at = at-else .before in
+    starts (store at) (new at) (told at) (at-else .if2 .left) _ (passes (c .before .starts-after .ensures) (c .if3 .left))
 
 pub addition-tests-spec : {M : Type 1} → statement M
 addition-tests-spec =

@@ -8,6 +8,7 @@ use lib.ListN.{length, getD, take, drop, length-take, length-drop}
 use lib.Seq.{getD-take, getD-drop, drop-drop}
 use Rattle.definitions.specs.declared.Rules.{Rules}
 use Rattle.definitions.specs.Lists.{every}
+use Rattle.definitions.specs.Refusals.{settingsFrom}
 use Rattle.definitions_close.specs.Store.{Entry, entryOf, entriesFrom}
 use Rattle.laws.proofs.Tests.{and-true}
 
@@ -36,9 +37,10 @@ entry-at (suc n) xs (suc i) l =
     rw e (entry-at n (drop 23 xs) i (omega arith) ∙ ap entryOf (drop-drop (23 * i) 23 xs))
 
 -- only 23 numbers are read
-pub entry-of-part : (xs : List ℕ) → entryOf (take 23 xs) ≡ entryOf xs
-entry-of-part xs =
+settings-same : (xs ys : List ℕ) → ((k : ℕ) → k < 19 → getD xs k 0 ≡ getD ys k 0) → settingsFrom xs ≡ settingsFrom ys
+settings-same xs ys at =
     rw (
+      settingsFrom,
       at 0 (omega arith),
       at 1 (omega arith),
       at 2 (omega arith),
@@ -58,14 +60,13 @@ entry-of-part xs =
       at 16 (omega arith),
       at 17 (omega arith),
       at 18 (omega arith),
-      at 19 (omega arith),
-      at 20 (omega arith),
-      at 21 (omega arith),
-      at 22 (omega arith),
     )
-  where
-    at : (k : ℕ) → k < 23 → getD (take 23 xs) k 0 ≡ getD xs k 0
-    at k l = getD-take 23 xs k 0 l
+
+pub entry-of-part : (xs : List ℕ) → entryOf (take 23 xs) ≡ entryOf xs
+entry-of-part xs =
+    let at : (k : ℕ) → k < 23 → getD (take 23 xs) k 0 ≡ getD xs k 0 = λ k l. getD-take 23 xs k 0 l in
+    let same : settingsFrom (drop 2 (take 23 xs)) ≡ settingsFrom (drop 2 xs) = settings-same (drop 2 (take 23 xs)) (drop 2 xs) (λ k l. getD-drop 2 (take 23 xs) k 0 ∙ at (2 + k) (omega arith) ∙ sym (getD-drop 2 xs k 0)) in
+    rw (same, at 0 (omega arith), at 1 (omega arith), at 21 (omega arith), at 22 (omega arith))
 
 module _ (n : ℕ) (xs : List ℕ) (long : 23 * n ≤ length xs) (i a b : ℕ) (from : a ≡ 23 * i) (to : b ≡ a + 23) (l : i < n) where
   pub part-length : length (take (b - a) (drop a xs)) ≡ 23

@@ -4,7 +4,7 @@ use mathlib.Core.List.{List}
 use mathlib.Core.Path.{_≡_, refl, sym, ap, _∙_}
 use Prim.Native.Nat.{ℕ, _+_, _-_, _*_, _/_, _<_}
 use native.Mathlib.Omega.{arith}
-use lib.ListN.{getD}
+use lib.ListN.{getD, drop}
 use lib.Seq.{getD-drop}
 use Rattle.definitions.specs.declared.Rules.{Rules}
 use Rattle.definitions.specs.Checked.{Checked, value, refused, Refusal, bind, numberOf, codeOf}
@@ -13,8 +13,7 @@ use Rattle.definitions_close.specs.declared.RulesAnswer.{RulesAnswer}
 use Rattle.definitions_close.specs.Store.{Entry, Store, entriesFrom, entries, goodEntries, rulesAt, rulesAnswerFor}
 use Rattle.definitions_close.specs.StoreClose.{StoreCall, storeCallShaped, rulesAtSlot, rulesFor}
 use Rattle.laws.proofs.Checked.{number-not-zero}
-use Rattle.laws.proofs.Tests.{both, test, in-order}
-use Rattle.refusals.proofs.All.{all-at}
+use Rattle.laws.proofs.Tests.{both, test, all-at, in-order}
 use Rattle.refusals.proofs.Answers.{after-passed, after-refused}
 use Rattle.refusals.proofs.Laws.{good-settings}
 use Rattle.store.proofs.store_entries.Entries.{blank, length-entries, entry-at}
@@ -45,7 +44,7 @@ rules-with c = refl
 
 module _ (n : ℕ) (xs : List ℕ) (i : ℕ) (l : i < n) where
   pub slots-at : getD (entriesFrom n xs) i blank .rules .settings .«slots_per_epoch» ≡ getD xs (23 * i + 2) 0
-  slots-at = ap (λ (e : Entry). e .rules .settings .«slots_per_epoch») (entry-at n xs i l) ∙ getD-drop (23 * i) xs 2 0
+  slots-at = ap (λ (e : Entry). e .rules .settings .«slots_per_epoch») (entry-at n xs i l) ∙ getD-drop 2 (drop (23 * i) xs) 0 0 ∙ getD-drop (23 * i) xs 2 0
 
   pub slots-positive : goodEntries (entriesFrom n xs) ≡ true → 0 < getD (entriesFrom n xs) i blank .rules .settings .«slots_per_epoch»
   unfolding goodEntries goodRules

@@ -11,7 +11,10 @@ returns c = shape-failed _ _ _ 0 (no-room _ (c .if1 .taken))
 
 returns-2 : tie.Need-returns-2
 unfolding storeTests
-returns-2 c = cc
+returns-2 c =
+    let at-good-entries = c .before .before .before in
+    let at-store-shaped = at-good-entries .before .before in
+    rw (at-store-shaped .store-shaped .ensures, at-good-entries .good-entries .ensures) at (c .in-order .ensures)
 
 pub store-tests-spec : {M : Type 1} → statement M
 store-tests-spec =

@@ -11,7 +11,13 @@ returns c = shape-failed _ _ _ 0 (no-room _ (c .if1 .taken))
 
 returns-2 : tie.Need-returns-2
 unfolding ninthTestsWith
-returns-2 c = cc
+returns-2 c =
+    let at-is-small = c .before .before .before in
+    let at-good-entries = at-is-small .before in
+    let at-orders-shaped = at-good-entries .before .before in
+    let at-registry-shaped = at-orders-shaped .before in
+    let at-store-shaped = at-registry-shaped .before in
+    rw (at-store-shaped .store-shaped .ensures, at-registry-shaped .registry-shaped .ensures, at-orders-shaped .orders-shaped .ensures, at-good-entries .good-entries .ensures, at-is-small .is-small .ensures) at (c .in-order .ensures)
 
 pub ninth-tests-spec : {M : Type 1} → statement M
 ninth-tests-spec =

@@ -8,10 +8,16 @@ use borrow.Author.Needs.{needs}
 use Rattle.store_steps.proofs.store_carry_out.Statement.{statement}
 use Rattle.store_steps.proofs.store_carry_out.Tie as tie
 
+abbrev start : tie.Else2 → tie.Start
+start c = c .before .before .before .before .before .before
+
+abbrev asking : tie.After-ninth-rules → tie.Else2
+asking c = c .before .before .before .before .before
+
 -- the call, and that its rules were asked
 abbrev call : tie.After-ninth-rules → StoreNinthCall
 call c =
-    let a = c .before .before .before .before .before .before .before .before .before .before .before .args in
+    let a = start (asking c) .args in
     storeNinthCalled (lent (a .store .now) (a .count)) (a .shard-committee-period) (a .running) (a .closing-registry .now) (a .orders .now) (a .answers .now)
 
 asked : (c : tie.After-ninth-rules) → c .ninth-rules .result ≡ rulesAnswerFor (ninthRules (call c))
@@ -26,14 +32,16 @@ unfolding storeCarryOut
 returns-2 c = rw (ne-eqb _ _ (c .before .if1 .left), ne-eqb _ _ (c .if2 .taken))
 
 returns-3 : tie.Need-returns-3
-returns-3 c = let d = c .before in ninth-turned (call d) (asked d) (d .before .before .before .before .before .if2 .left) (c .if3 .taken)
+returns-3 c =
+    let at-ninth-rules = c .before in
+    ninth-turned (call at-ninth-rules) (asked at-ninth-rules) (asking at-ninth-rules .if2 .left) (c .if3 .taken)
 
 returns-4 : tie.Need-returns-4
 returns-4 c =
-    let f = c .before .before .before .before in
-    let e = f .before .before .before in
-    let d = e .before in
-    f .carry-out .ensures ∙ ninth-by (call d) (asked d) (d .before .before .before .before .before .if2 .left) (e .if3 .left)
+    let at-carry-out = c .before .before .before .before in
+    let at-else3 = at-carry-out .before .before .before in
+    let at-ninth-rules = at-else3 .before in
+    at-carry-out .carry-out .ensures ∙ ninth-by (call at-ninth-rules) (asked at-ninth-rules) (asking at-ninth-rules .if2 .left) (at-else3 .if3 .left)
 
 pub store-carry-out-spec : {M : Type 1} → statement M
 store-carry-out-spec =

@@ -9,22 +9,23 @@ use Rattle.survey.proofs.entry_sums.Tie as tie
 returns : tie.Need-returns
 unfolding isUnslashedParticipating «is_active_validator»
 returns c =
-    let p = c .before .before .before .before .before in
-    let a = p .before .before .before .before in
-    let epoch = a .before .before .before .before .before .before .before .before .before .before .args .current-epoch in
+    let at-participates4 = c .before .before .before .before .before in
+    let at-is-active2 = at-participates4 .before .before .before .before in
+    let at-start = at-is-active2 .before .before .before .before .before .before .before .before .before .before in
+    let epoch = at-start .args .current-epoch in
     rw (
       c .before .before .before .before .weight-where .ensures,
       c .before .before .before .weight-where2 .ensures,
       c .before .before .weight-where3 .ensures,
       c .before .weight-where4 .ensures,
       c .weight-where5 .ensures,
-      p .before .before .before .participates .ensures,
-      p .before .before .participates2 .ensures,
-      p .before .participates3 .ensures,
-      p .participates4 .ensures,
-      a .before .is-active .ensures,
-      a .is-active2 .ensures,
-      a .before .before .flags-at .ensures,
+      at-participates4 .before .before .before .participates .ensures,
+      at-participates4 .before .before .participates2 .ensures,
+      at-participates4 .before .participates3 .ensures,
+      at-participates4 .participates4 .ensures,
+      at-is-active2 .before .is-active .ensures,
+      at-is-active2 .is-active2 .ensures,
+      at-is-active2 .before .before .flags-at .ensures,
       eq-eqb epoch epoch refl,
     )
 

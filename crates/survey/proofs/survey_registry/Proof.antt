@@ -1,4 +1,4 @@
-use Prim.Native.Nat.{_-_}
+use Prim.Native.Nat.{_+_, _-_, _*_, _<_}
 use borrow.Author.Needs.{needs}
 use Rattle.laws.proofs.Loops.Reading.{reading-ten}
 use Rattle.selection.proofs.Kept.{kept-same}
@@ -13,20 +13,20 @@ Inv-loop current-epoch previous-epoch registry kept₀ n most found₀ p₀ i₀
 abbrev μ-loop : tie.MeasureT-loop
 μ-loop current-epoch previous-epoch registry kept₀ n most found₀ p₀ i₀ kept found p i = n - i
 
+-- the registry is lent, so that it has no 2^60 numbers
+fewer : (c : tie.In-loop Inv-loop μ-loop) → 10 * c .before .loop .i + 10 < 1152921504606846976
+fewer c =
+    let at-start = c .before .before .before .before .before .before in
+    omega (arith, c .loop-test .taken, at-start .good .1 .1 .1 .0 .0)
+
 loop-holds : tie.Need-loop-holds Inv-loop μ-loop
 loop-holds c = let s = c .before .before .before .before in rw (c .before .no-sums .ensures, c .no-sums2 .ensures) (seeing-none _ _ _ (s .pre .0) (s .pre .1 .1 .0) (s .pre .1 .1 .1))
 
 survey-entry-requires : tie.Need-survey-entry-requires Inv-loop μ-loop
 survey-entry-requires c κs =
-    let at-at-loop = c .before .before in
-    let at-start = at-at-loop .before .before .before .before .before in
-    let g = at-at-loop .loop .inv in let long = at-start .good .1 .1 .1 .0 .0 in (reading-ten (g .at) (c .before .loop-test .taken), omega (arith, c .before .loop-test .taken, room-active g, long), omega (arith, c .before .loop-test .taken, room-queue g, long))
-
-mul-waiting-since : tie.Need-mul-waiting-since Inv-loop μ-loop
-mul-waiting-since c =
-    let at-in-loop = c .before .before in
-    let at-start = at-in-loop .before .before .before .before .before .before in
-    omega (arith, at-in-loop .loop-test .taken, at-start .good .1 .1 .1 .0 .0, at-start .good .1 .1 .1 .0 .1)
+    let at-in-loop = c .before in
+    let g = at-in-loop .before .loop .inv in
+    (reading-ten (g .at) (at-in-loop .loop-test .taken), omega (arith, room-active g, fewer at-in-loop), omega (arith, room-queue g, fewer at-in-loop))
 
 waiting-since-requires : tie.Need-waiting-since-requires Inv-loop μ-loop
 waiting-since-requires c κs = let l = c .before .before .before in (reading-ten (l .before .loop .inv .at) (l .loop-test .taken), omega arith)
@@ -38,9 +38,6 @@ slice-read-if1 : tie.Need-slice-read-if1 Inv-loop μ-loop
 slice-read-if1 c =
     let at-at-loop = c .before .before .before .before .before .before in
     at-at-loop .loop .inv .kept .top .inside
-
-add-i : tie.Need-add-i Inv-loop μ-loop
-add-i c = let l = c .before .before .before .before .before .before in omega (arith, l .loop-test .taken, l .before .before .before .before .before .before .good .1 .1 .1 .0 .0, l .before .before .before .before .before .before .good .1 .1 .1 .0 .1)
 
 loop-again : tie.Need-loop-again Inv-loop μ-loop
 loop-again c =
@@ -54,12 +51,6 @@ keep-requires : tie.Need-keep-requires Inv-loop μ-loop
 keep-requires c κs =
     let at-at-loop = c .before .before .before .before .before .before .before .before in
     at-at-loop .loop .inv .kept .top
-
-add-i-2 : tie.Need-add-i-2 Inv-loop μ-loop
-add-i-2 c =
-    let at-in-loop = c .before .before .before .before .before .before .before .before .before .before in
-    let at-start = at-in-loop .before .before .before .before .before .before in
-    omega (arith, at-in-loop .loop-test .taken, at-start .good .1 .1 .1 .0 .0, at-start .good .1 .1 .1 .0 .1)
 
 loop-again-2 : tie.Need-loop-again-2 Inv-loop μ-loop
 loop-again-2 c =
@@ -89,18 +80,18 @@ survey-registry-spec =
     (λ c. omega arith)
     (λ c. omega arith)
     survey-entry-requires
-    mul-waiting-since
+    (λ c. omega (arith, fewer (c .before .before)))
     (λ c. omega arith)
     (λ c. omega arith)
     (λ c. omega arith)
     waiting-since-requires
     mul-if1
     slice-read-if1
-    add-i
+    (λ c. let at-in-loop = c .before .before .before .before .before .before in omega (arith, fewer at-in-loop))
     (λ c. omega arith)
     loop-again
     keep-requires
-    add-i-2
+    (λ c. let at-in-loop = c .before .before .before .before .before .before .before .before .before .before in omega (arith, fewer at-in-loop))
     (λ c. omega arith)
     loop-again-2
     (λ c. omega arith)

@@ -66,7 +66,7 @@ see-registry-spec =
     (λ c. omega arith)
     (λ c. omega arith)
     entry-is-active-requires
-    (λ c κs. omega (arith, seeing-few (c .before .before .before .before .before .before .loop .inv)))
+    (λ c κs. let at-at-loop = c .before .before .before .before .before .before in omega (arith, seeing-few (at-at-loop .loop .inv)))
     (λ c. omega arith)
     (λ c. omega arith)
     (λ c. omega arith)

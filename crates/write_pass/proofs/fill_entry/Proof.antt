@@ -18,8 +18,8 @@ returns c =
     let at-start : tie.Start = search needs in
     at-put-nine .put-nine .ensures ∙ genesis-nine (at-start .pre .1 .1 .1) (at-then1 .if1 .taken)
 
-pairs-by-requires : tie.Need-pairs-by-requires
-pairs-by-requires c κs =
+pairs-of-requires : tie.Need-pairs-of-requires
+pairs-of-requires c κs =
     let at-start : tie.Start = search needs in
     let a = at-start .pre in
     let n = c .before .if1 .left in
@@ -37,21 +37,21 @@ shared-slice-read-put-amounts-2 c =
 
 put-amounts-requires : tie.Need-put-amounts-requires
 put-amounts-requires c κs =
-    let at-pairs-by = c .before .before .before in
-    let at-else1 = at-pairs-by .before .before in
+    let at-pairs-of = c .before .before .before in
+    let at-else1 = at-pairs-of .before .before in
     let at-start : tie.Start = search needs in
     let a = at-start .pre in
     let n = at-else1 .if1 .left in
-    let g = at-pairs-by .pairs-by .ensures in
+    let g = at-pairs-of .pairs-of .ensures in
     (a .1 .1 .0 .2, (paid-fits (a .1 .1 .1) n g, paid-left (a .1 .1 .1) n g))
 
 returns-2 : tie.Need-returns-2
 returns-2 c =
     let at-put-amounts = c .before .before in
-    let at-pairs-by : tie.After-pairs-by = search needs in
-    let at-else1 = at-pairs-by .before .before in
+    let at-pairs-of : tie.After-pairs-of = search needs in
+    let at-else1 = at-pairs-of .before .before in
     let at-start : tie.Start = search needs in
-    at-put-amounts .put-amounts .ensures ∙ paid-nine (at-start .pre .1 .1 .1) (at-else1 .if1 .left) (at-pairs-by .pairs-by .ensures)
+    at-put-amounts .put-amounts .ensures ∙ paid-nine (at-start .pre .1 .1 .1) (at-else1 .if1 .left) (at-pairs-of .pairs-of .ensures)
 
 pub fill-entry-spec : {M : Type 1} → statement M
 fill-entry-spec =
@@ -64,7 +64,7 @@ fill-entry-spec =
     (λ c. search needs)
     returns
     (λ c. search needs)
-    pairs-by-requires
+    pairs-of-requires
     shared-slice-read-put-amounts
     shared-slice-read-put-amounts-2
     put-amounts-requires

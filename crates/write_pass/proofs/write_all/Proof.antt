@@ -1,7 +1,8 @@
-use Prim.Native.Nat.{_-_}
-use mathlib.Core.Path.{_∙_}
+use mathlib.Core.Path.{_≡_, _∙_}
+use Prim.Native.Nat.{_+_, _-_, _*_, _≤_, _<_}
+use lib.ListN.{length}
 use native.Mathlib.Omega.{arith}
-use Rattle.write_pass.proofs.Loop.{Passing, passing-none, passing-few, passing-from, passing-to, passing-ten, passing-between, passing-more, passing-stop, passing-all, passing-filled}
+use Rattle.write_pass.proofs.Loop.{Passing, passing-none, passing-few, passing-from, passing-to, passing-inside, passing-ten, passing-between, passing-more, passing-stop, passing-all, passing-filled}
 use Rattle.write_pass.proofs.write_all.Statement.{statement}
 use Rattle.write_pass.proofs.write_all.Tie as tie
 
@@ -11,8 +12,24 @@ Inv-loop s p t quota opening closing₀ amounts₀ n queue₀ left₀ memo₀ i�
 abbrev μ-loop : tie.MeasureT-loop
 μ-loop s p t quota opening closing₀ amounts₀ n queue₀ left₀ memo₀ i₀ closing amounts queue left memo i = n - i
 
-no-memo-requires : tie.Need-no-memo-requires Inv-loop μ-loop
-no-memo-requires c κs = tt
+abbrev start : tie.At-loop Inv-loop μ-loop → tie.Start Inv-loop μ-loop
+start c = c .before .before .before .before .before
+
+abbrev turn : tie.After-write-entry Inv-loop μ-loop → tie.In-loop Inv-loop μ-loop
+turn c = c .before .before .before
+
+abbrev written : tie.After-rates Inv-loop μ-loop → tie.After-write-entry Inv-loop μ-loop
+written c = c .before .before .before .before .before .before
+
+abbrev rated : tie.After-slice-known4 Inv-loop μ-loop → tie.After-rates Inv-loop μ-loop
+rated c = c .before .before .before .before .before .before
+
+-- the turn's entry stands in both registries, and came back with its ten numbers
+inside : (c : tie.In-loop Inv-loop μ-loop) → let at = c .before in let i = at .loop .i in (10 * i + 10 ≤ length (start at .args .opening .now)) × (10 * i + 10 ≤ length (at .loop .closing)) × (10 * i + 10 < 1152921504606846976)
+inside c = passing-inside (c .before .loop .inv) (c .loop-test .taken)
+
+ten : (c : tie.After-write-entry Inv-loop μ-loop) → length (c .write-entry .last .1 .1 .1 .1 .1 .1 .1 .0) ≡ 10
+ten c = c .write-entry .kept .1 .1 .1 .1 .1 .1 .1 .0 ∙ passing-to (turn c .before .loop .inv) (turn c .loop-test .taken)
 
 loop-holds : tie.Need-loop-holds Inv-loop μ-loop
 loop-holds c =
@@ -21,55 +38,42 @@ loop-holds c =
 
 write-entry-requires : tie.Need-write-entry-requires Inv-loop μ-loop
 write-entry-requires c κs =
-    let g = c .before .before .before .loop .inv in
-    let l = c .before .before .loop-test .taken in
-    let a = c .before .before .before .before .before .before .before .before .pre in
+    let at-in-loop = c .before .before in
+    let g = at-in-loop .before .loop .inv in
+    let l = at-in-loop .loop-test .taken in
+    let a = start (at-in-loop .before) .pre in
     (a .0, (g .told, ((passing-from g l, passing-to g l), (a .1 .1 .0, passing-few g l (a .1 .1 .1)))))
 
 same-length : tie.Need-same-length Inv-loop μ-loop
 same-length c =
-    let g = c .before .before .before .before .before .before .before .loop .inv in
-    omega (arith, c .before .before .before .write-entry .kept .1 .1 .1 .1 .1 .1 .1 .0, g .writing .long, g .writing .at .long, c .before .before .before .before .before .before .before .before .before .before .before .before .pre .1 .0, c .before .before .before .before .before .before .loop-test .taken)
-
-same-length-2 : tie.Need-same-length-2 Inv-loop μ-loop
-same-length-2 c = c .before .before .before .before .before .before .before .loop .inv .kept
+    let at-write-entry = c .before .before .before in
+    let at-loop = turn at-write-entry .before in
+    omega (arith, ten at-write-entry, inside (turn at-write-entry), at-loop .loop .inv .writing .long, at-loop .loop .inv .writing .at .long, start at-loop .pre .1 .0)
 
 returns : tie.Need-returns Inv-loop μ-loop
-returns c = passing-stop (c .before .before .before .before .before .before .before .loop .inv) (c .before .before .before .before .before .before .loop-test .taken) (c .before .before .before .write-entry .ensures) (c .if1 .taken)
-
-part-book-entry-start-2 : tie.Need-part-book-entry-start-2 Inv-loop μ-loop
-part-book-entry-start-2 c = let g = c .before .before .before .before .before .before .before .before .before .before .before .before .loop .inv in omega (arith, c .before .before .before .before .before .before .before .before .before .before .before .loop-test .taken, g .small, g .writing .at .long, g .writing .long, c .before .before .before .before .before .before .before .before .write-entry .kept .1 .1 .1 .1 .1 .1 .1 .0)
-
-part-book-entry-end-2 : tie.Need-part-book-entry-end-2 Inv-loop μ-loop
-part-book-entry-end-2 c = let g = c .before .before .before .before .before .before .before .before .before .before .before .before .loop .inv in omega (arith, c .before .before .before .before .before .before .before .before .before .before .before .loop-test .taken, g .small, g .writing .at .long, g .writing .long, c .before .before .before .before .before .before .before .before .write-entry .kept .1 .1 .1 .1 .1 .1 .1 .0)
+returns c =
+    let at-write-entry = c .before .before .before in
+    let at-in-loop = turn at-write-entry in
+    passing-stop (at-in-loop .before .loop .inv) (at-in-loop .loop-test .taken) (at-write-entry .write-entry .ensures) (c .if1 .taken)
 
 book-entry-requires : tie.Need-book-entry-requires Inv-loop μ-loop
 book-entry-requires c κs =
-    let g = c .before .before .before .before .before .before .before .before .before .before .before .before .before .before .loop .inv in
-    let l = c .before .before .before .before .before .before .before .before .before .before .before .before .before .loop-test .taken in
-    let w = c .before .before .before .before .before .before .before .before .before .before .write-entry in
-    let k = w .kept .1 .1 .1 .1 .1 .1 .1 .0 in
-    let z = c .before .before .before .before .before .before .before .if1 .left in
-    let long = k ∙ passing-to g l in
-    (c .before .before .before .before .before .before .before .before .before .before .before .before .before .before .before .before .before .before .before .pre .0, (w .ensures .rates z, ((passing-from g l, passing-ten g l (w .ensures) z long, omega (arith, l, g .small)), passing-between g l (w .ensures) z long)))
-
-add-i : tie.Need-add-i Inv-loop μ-loop
-add-i c = let g = c .before .before .before .before .before .before .before .before .before .before .before .before .before .before .before .before .before .loop .inv in omega (arith, c .before .before .before .before .before .before .before .before .before .before .before .before .before .before .before .before .loop-test .taken, g .small, g .writing .at .long, g .writing .long)
-
-loop-less : tie.Need-loop-less Inv-loop μ-loop
-loop-less c = let g = c .before .before .before .before .before .before .before .before .before .before .before .before .before .before .before .before .before .loop .inv in omega (arith, c .before .before .before .before .before .before .before .before .before .before .before .before .before .before .before .before .loop-test .taken, g .small, g .writing .at .long, g .writing .long)
+    let at-rates = c .before .before .before in
+    let at-write-entry = written at-rates in
+    let at-in-loop = turn at-write-entry in
+    let g = at-in-loop .before .loop .inv in
+    let l = at-in-loop .loop-test .taken in
+    let w = at-write-entry .write-entry .ensures in
+    let z = at-rates .before .before .before .if1 .left in
+    (start (at-in-loop .before) .pre .0, (w .rates z, ((passing-from g l, passing-ten g l w z (ten at-write-entry), omega (arith, inside at-in-loop)), passing-between g l w z (ten at-write-entry))))
 
 loop-again : tie.Need-loop-again Inv-loop μ-loop
 loop-again c =
-    let g = c .before .before .before .before .before .before .before .before .before .before .before .before .before .before .before .before .before .loop .inv in
-    let l = c .before .before .before .before .before .before .before .before .before .before .before .before .before .before .before .before .loop-test .taken in
-    let w = c .before .before .before .before .before .before .before .before .before .before .before .before .before .write-entry in
-    let k = w .kept .1 .1 .1 .1 .1 .1 .1 .0 in
+    let at-rates = rated c in
+    let at-write-entry = written at-rates in
+    let at-in-loop = turn at-write-entry in
     let b = c .before .before .book-entry in
-    passing-more g l (w .ensures) (c .before .before .before .before .before .before .before .before .before .before .if1 .left) (k ∙ passing-to g l) (b .kept .1 .1 .1 .1 .1 .1 .0) (b .ensures)
-
-same-length-4 : tie.Need-same-length-4 Inv-loop μ-loop
-same-length-4 c = c .before .loop .inv .kept
+    passing-more (at-in-loop .before .loop .inv) (at-in-loop .loop-test .taken) (at-write-entry .write-entry .ensures) (at-rates .before .before .before .if1 .left) (ten at-write-entry) (b .kept .1 .1 .1 .1 .1 .1 .0) (b .ensures)
 
 returns-2 : tie.Need-returns-2 Inv-loop μ-loop
 returns-2 c = let g = c .before .loop .inv in let l = c .loop-test .left in (passing-all g l, passing-filled g l (omega (arith, g .writing .at .long)))
@@ -80,34 +84,30 @@ write-all-spec =
     (tie.spec
     Inv-loop
     μ-loop
-    no-memo-requires
+    (λ c κs. tt)
     loop-holds
-    (λ c. let g = c .before .loop .inv in omega (arith, c .loop-test .taken, g .small, g .writing .at .long, g .writing .long))
-    (λ c. let g = c .before .loop .inv in omega (arith, c .loop-test .taken, g .small, g .writing .at .long, g .writing .long))
-    (λ c. let g = c .before .loop .inv in omega (arith, c .loop-test .taken, g .small, g .writing .at .long, g .writing .long))
-    (λ c. let g = c .before .loop .inv in omega (arith, c .loop-test .taken, g .small, g .writing .at .long, g .writing .long))
-    (λ c. let g = c .before .loop .inv in omega (arith, c .loop-test .taken, g .small, g .writing .at .long, g .writing .long))
-    (λ c. let g = c .before .loop .inv in omega (arith, c .loop-test .taken, g .small, g .writing .at .long, g .writing .long))
-    (λ c. let g = c .before .before .loop .inv in omega (arith, c .before .loop-test .taken, g .small, g .writing .at .long, g .writing .long))
-    (λ c. let g = c .before .before .loop .inv in omega (arith, c .before .loop-test .taken, g .small, g .writing .at .long, g .writing .long))
-    (λ c. let g = c .before .before .loop .inv in omega (arith, c .before .loop-test .taken, g .small, g .writing .at .long, g .writing .long))
-    (λ c. let g = c .before .before .loop .inv in omega (arith, c .before .loop-test .taken, g .small, g .writing .at .long, g .writing .long))
+    (λ c. omega (arith, inside c))
+    (λ c. omega (arith, inside c))
+    (λ c. omega (arith, inside c))
+    (λ c. omega (arith, inside c))
+    (λ c. omega (arith, inside c))
+    (λ c. omega (arith, inside c))
+    (λ c. omega (arith, inside (c .before)))
+    (λ c. omega (arith, inside (c .before)))
+    (λ c. omega (arith, inside (c .before)))
+    (λ c. omega (arith, inside (c .before)))
     write-entry-requires
     same-length
-    same-length-2
+    (λ c. turn (c .before .before .before) .before .loop .inv .kept)
     returns
-    (λ c. let g = c .before .before .before .before .before .before .before .before .before .before .loop .inv in omega (arith, c .before .before .before .before .before .before .before .before .before .loop-test .taken, g .small, g .writing .at .long, g .writing .long))
-    (λ c. let g = c .before .before .before .before .before .before .before .before .before .before .loop .inv in omega (arith, c .before .before .before .before .before .before .before .before .before .loop-test .taken, g .small, g .writing .at .long, g .writing .long))
-    (λ c. let g = c .before .before .before .before .before .before .before .before .before .before .loop .inv in omega (arith, c .before .before .before .before .before .before .before .before .before .loop-test .taken, g .small, g .writing .at .long, g .writing .long))
-    (λ c. let g = c .before .before .before .before .before .before .before .before .before .before .loop .inv in omega (arith, c .before .before .before .before .before .before .before .before .before .loop-test .taken, g .small, g .writing .at .long, g .writing .long))
-    (λ c. let g = c .before .before .before .before .before .before .before .before .before .before .before .loop .inv in omega (arith, c .before .before .before .before .before .before .before .before .before .before .loop-test .taken, g .small, g .writing .at .long, g .writing .long))
-    (λ c. let g = c .before .before .before .before .before .before .before .before .before .before .before .loop .inv in omega (arith, c .before .before .before .before .before .before .before .before .before .before .loop-test .taken, g .small, g .writing .at .long, g .writing .long))
-    part-book-entry-start-2
-    part-book-entry-end-2
+    (λ c. omega (arith, inside (turn (written c))))
+    (λ c. omega (arith, inside (turn (written c))))
+    (λ c. let at-write-entry = written (c .before) in omega (arith, inside (turn at-write-entry), ten at-write-entry))
+    (λ c. let at-write-entry = written (c .before) in omega (arith, inside (turn at-write-entry), ten at-write-entry))
     book-entry-requires
-    add-i
-    loop-less
+    (λ c. omega (arith, inside (turn (written (rated c)))))
+    (λ c. omega (arith, turn (written (rated c)) .loop-test .taken))
     loop-again
-    (λ c. let g = c .before .loop .inv in omega (arith, g .writing .long, g .writing .at .long, c .before .before .before .before .before .before .pre .1 .0))
-    same-length-4
+    (λ c. let at-loop = c .before in omega (arith, at-loop .loop .inv .writing .long, at-loop .loop .inv .writing .at .long, start at-loop .pre .1 .0))
+    (λ c. c .before .loop .inv .kept)
     returns-2)

@@ -36,13 +36,17 @@ cut-queue-requires c κs =
 
 add-least : tie.Need-add-least
 add-least c =
-    let p = epochs _ _ (c .before .before .before .before .before .before .before .before .before .before .before .before .before .pre .0) (c .before .before .before .before .before .before .before .before .before .before .before .before .before .pre .1 .0 .0) in omega (arith, p .fits, c .before .before .before .before .before .before .before .before .before .before .current-epoch .ensures)
+    let at-current-epoch = c .before .before .before .before .before .before .before .before .before .before in
+    let at-start = at-current-epoch .before .before .before in
+    let p = epochs _ _ (at-start .pre .0) (at-start .pre .1 .0 .0) in
+    omega (arith, p .fits, at-current-epoch .current-epoch .ensures)
 
 add-least-2 : tie.Need-add-least-2
 add-least-2 c =
     let at-current-epoch = c .before .before .before .before .before .before .before .before .before .before .before in
     let at-start = at-current-epoch .before .before .before in
-    let p = epochs _ _ (at-start .pre .0) (at-start .pre .1 .0 .0) in omega (arith, p .fits, at-current-epoch .current-epoch .ensures)
+    let p = epochs _ _ (at-start .pre .0) (at-start .pre .1 .0 .0) in
+    omega (arith, p .fits, at-current-epoch .current-epoch .ensures)
 
 update-by-requires : tie.Need-update-by-requires
 update-by-requires c κs =

@@ -1,13 +1,6 @@
-use mathlib.Core.Path.{sym}
-use native.Mathlib.Omega.{arith}
-use Rattle.laws.proofs.Encode.{encode-decode}
 use Rattle.refusals.proofs.Laws.{good-settings}
-use Rattle.arithmetic.proofs.Answers.{tells-number, tells-truth, answers-value}
-use Rattle.arithmetic.proofs.Laws.{says-value}
-use Rattle.totals.proofs.Sums.{only-total}
-use Rattle.finality.proofs.Passed.{only-leak}
-use Rattle.rewards_step.proofs.flag_rewards.Totals.{total-least}
-use Rattle.rewards_step.proofs.Step.{ran-next, ran-stop, rewards-genesis, rewards-from}
+use Rattle.arithmetic.proofs.Answers.{answers-value, answers-overflow}
+use Rattle.rewards_step.proofs.Step.{tells-totals, only-totals, totals-least}
 use Rattle.close_by_steps.proofs.step_amounts.Rewards.{refused-booked, genesis-booked, step-booked}
 use borrow.Author.Needs.{needs}
 use Rattle.close_by_steps.proofs.step_amounts.rewards_booked.Statement.{statement}
@@ -15,51 +8,52 @@ use Rattle.close_by_steps.proofs.step_amounts.rewards_booked.Tie as tie
 
 current-epoch-requires : tie.Need-current-epoch-requires
 current-epoch-requires c κs =
-    good-settings _ (c .before .before .pre .0) .positive .«slots_per_epoch»
+    let at-start = c .before .before in
+    good-settings _ (at-start .pre .0) .positive .«slots_per_epoch»
 
 returns : tie.Need-returns
 returns c =
-    genesis-booked _ _ _ _ _ (c .before .before .before .before .before .before .before .before .pre .1 .1 .0) (c .before .before .before .before .before .current-epoch .ensures) (c .before .before .before .before .if1 .taken) (c .before .before .before .before .before .before .before .before .args .amounts .now) (rewards-genesis _ _ _ _ _ (c .before .before .before .before .before .current-epoch .ensures) (c .before .before .before .before .if1 .taken) (sym (encode-decode _ _ (c .before .before .before .before .before .before .before .before .pre .1 .1 .0)))) (c .before .before .before .before .before .before .before .before .pre .1 .1 .1) (c .before .before .clear .ensures)
+    let at-clear = c .before .before in
+    let at-then1 = at-clear .before .before in
+    let at-current-epoch = at-then1 .before in
+    let at-start = at-current-epoch .before .before .before in
+    let a = at-start .pre in
+    genesis-booked _ _ _ _ _ (a .1 .1 .0) (at-current-epoch .current-epoch .ensures) (at-then1 .if1 .taken) (at-start .args .amounts .now) (a .1 .1 .1) (at-clear .clear .ensures)
 
 previous-epoch-requires : tie.Need-previous-epoch-requires
 previous-epoch-requires c κs =
-    good-settings _ (c .before .before .before .before .pre .0) .positive .«slots_per_epoch»
+    let at-start : tie.Start = search needs in
+    good-settings _ (at-start .pre .0) .positive .«slots_per_epoch»
 
 returns-2 : tie.Need-returns-2
 returns-2 c =
-    refused-booked _ _ _ _ _ (c .before .before .before .before .before .before .before .before .before .pre .1 .1 .0) (rewards-from _ _ _ _ _ (c .before .before .before .before .before .before .current-epoch .ensures) (c .before .before .before .before .previous-epoch .ensures) (c .before .before .before .before .before .if1 .left) (ran-stop _ (only-total _ _) (c .before .before .total-participating .ensures) tells-number (c .enum-told .given .1)))
-
-returns-3 : tie.Need-returns-3
-returns-3 c =
-    refused-booked _ _ _ _ _ (c .before .before .before .before .before .before .before .before .before .before .before .before .before .before .pre .1 .1 .0) (rewards-from _ _ _ _ _ (c .before .before .before .before .before .before .before .before .before .before .before .current-epoch .ensures) (c .before .before .before .before .before .before .before .before .before .previous-epoch .ensures) (c .before .before .before .before .before .before .before .before .before .before .if1 .left) (ran-next _ (c .before .before .before .before .before .before .before .total-participating .ensures) tells-number (c .before .before .before .before .before .source .given .1) (ran-stop _ (only-total _ _) (c .before .before .total-active .ensures) tells-number (c .enum-told2 .given .1))))
-
-inactivity-leak-requires : tie.Need-inactivity-leak-requires
-inactivity-leak-requires c κs =
-    good-settings _ (c .before .before .before .before .before .before .before .before .before .before .before .before .before .before .before .pre .0) .positive .«slots_per_epoch»
-
-returns-4 : tie.Need-returns-4
-returns-4 c =
-    refused-booked _ _ _ _ _ (c .before .before .before .before .before .before .before .before .before .before .before .before .before .before .before .before .before .before .pre .1 .1 .0) (rewards-from _ _ _ _ _ (c .before .before .before .before .before .before .before .before .before .before .before .before .before .before .before .current-epoch .ensures) (c .before .before .before .before .before .before .before .before .before .before .before .before .before .previous-epoch .ensures) (c .before .before .before .before .before .before .before .before .before .before .before .before .before .before .if1 .left) (ran-next _ (c .before .before .before .before .before .before .before .before .before .before .before .total-participating .ensures) tells-number (c .before .before .before .before .before .before .before .before .before .source .given .1) (ran-next _ (c .before .before .before .before .before .before .total-active .ensures) tells-number (c .before .before .before .before .total .given .1) (ran-stop _ (only-leak _ _ _) (c .before .before .inactivity-leak .ensures) tells-truth (c .enum-told3 .given .1)))))
-
-returns-5 : tie.Need-returns-5
-returns-5 c =
-    refused-booked _ _ _ _ _ (c .before .before .before .before .before .before .before .before .before .before .before .before .before .before .before .before .before .before .before .before .before .before .before .pre .1 .1 .0) (rewards-from _ _ _ _ _ (c .before .before .before .before .before .before .before .before .before .before .before .before .before .before .before .before .before .before .before .before .current-epoch .ensures) (c .before .before .before .before .before .before .before .before .before .before .before .before .before .before .before .before .before .before .previous-epoch .ensures) (c .before .before .before .before .before .before .before .before .before .before .before .before .before .before .before .before .before .before .before .if1 .left) (ran-next _ (c .before .before .before .before .before .before .before .before .before .before .before .before .before .before .before .before .total-participating .ensures) tells-number (c .before .before .before .before .before .before .before .before .before .before .before .before .before .before .source .given .1) (ran-next _ (c .before .before .before .before .before .before .before .before .before .before .before .total-active .ensures) tells-number (c .before .before .before .before .before .before .before .before .before .total .given .1) (ran-next _ (c .before .before .before .before .before .before .before .inactivity-leak .ensures) tells-truth (c .before .before .before .before .before .leaking .given .1) (ran-stop _ (only-total _ _) (c .before .before .total-participating2 .ensures) tells-number (c .enum-told4 .given .1))))))
-
-total-participating-requires-3 : tie.Need-total-participating-requires-3
-total-participating-requires-3 c κs =
-    (c .before .before .before .before .before .before .before .before .before .before .before .before .before .before .before .before .before .before .before .before .before .before .before .before .before .pre .1 .1 .0, omega arith)
-
-returns-6 : tie.Need-returns-6
-returns-6 c =
-    refused-booked _ _ _ _ _ (c .before .before .before .before .before .before .before .before .before .before .before .before .before .before .before .before .before .before .before .before .before .before .before .before .before .before .before .before .pre .1 .1 .0) (rewards-from _ _ _ _ _ (c .before .before .before .before .before .before .before .before .before .before .before .before .before .before .before .before .before .before .before .before .before .before .before .before .before .current-epoch .ensures) (c .before .before .before .before .before .before .before .before .before .before .before .before .before .before .before .before .before .before .before .before .before .before .before .previous-epoch .ensures) (c .before .before .before .before .before .before .before .before .before .before .before .before .before .before .before .before .before .before .before .before .before .before .before .before .if1 .left) (ran-next _ (c .before .before .before .before .before .before .before .before .before .before .before .before .before .before .before .before .before .before .before .before .before .total-participating .ensures) tells-number (c .before .before .before .before .before .before .before .before .before .before .before .before .before .before .before .before .before .before .before .source .given .1) (ran-next _ (c .before .before .before .before .before .before .before .before .before .before .before .before .before .before .before .before .total-active .ensures) tells-number (c .before .before .before .before .before .before .before .before .before .before .before .before .before .before .total .given .1) (ran-next _ (c .before .before .before .before .before .before .before .before .before .before .before .before .inactivity-leak .ensures) tells-truth (c .before .before .before .before .before .before .before .before .before .before .leaking .given .1) (ran-next _ (c .before .before .before .before .before .before .before .total-participating2 .ensures) tells-number (c .before .before .before .before .before .target .given .1) (ran-stop _ (only-total _ _) (c .before .before .total-participating3 .ensures) tells-number (c .enum-told5 .given .1)))))))
+    let at-step-totals = c .before .before in
+    let at-previous-epoch = at-step-totals .before .before in
+    let at-else1 = at-previous-epoch .before in
+    let at-current-epoch = at-else1 .before in
+    let at-start = at-current-epoch .before .before .before in
+    refused-booked _ _ _ _ _ (at-start .pre .1 .1 .0) (at-current-epoch .current-epoch .ensures) (at-previous-epoch .previous-epoch .ensures) (at-else1 .if1 .left) (answers-overflow tells-totals (at-step-totals .step-totals .ensures) (only-totals _ _ _ _ _ _) (c .enum-told .given .1) .0)
 
 reward-registry-booked-requires : tie.Need-reward-registry-booked-requires
 reward-registry-booked-requires c κs =
-    let a = c .before .before .before .before .before .before .before .before .before .before .before .before .before .before .before .before .before .before .before .before .before .before .before .before .before .before .before .before .before .before .before .pre in let p = good-settings _ (a .0) .positive in let least = total-least _ _ (says-value (c .before .before .before .before .before .before .before .before .before .before .before .before .before .before .before .before .before .before .before .total-active .ensures) (c .before .before .before .before .before .before .before .before .before .before .before .before .before .before .before .before .before .total .given .1)) in ((p .«effective_balance_increment», least), ((p .«inactivity_score_bias», a .1 .0), a .1 .1))
+    let at-totals = c .before .before .before in
+    let at-step-totals = at-totals .before .before in
+    let at-start = at-step-totals .before .before .before .before .before .before .before in
+    let a = at-start .pre in
+    let p = good-settings _ (a .0) .positive in
+    let least = totals-least _ _ _ _ _ _ (answers-value tells-totals (at-step-totals .step-totals .ensures) (at-totals .totals .given .1)) in
+    ((p .«effective_balance_increment», least), ((p .«inactivity_score_bias», a .1 .0), a .1 .1))
 
-returns-7 : tie.Need-returns-7
-returns-7 c =
-    let k = c .before .before .before .before .reward-registry-booked .ensures in step-booked _ _ _ _ _ (c .before .before .before .before .before .before .before .before .before .before .before .before .before .before .before .before .before .before .before .before .before .before .before .before .before .before .before .before .before .before .before .before .before .before .before .before .pre .1 .1 .0) (c .before .before .before .before .before .before .before .before .before .before .before .before .before .before .before .before .before .before .before .before .before .before .before .before .before .before .before .before .before .before .before .before .before .current-epoch .ensures) (c .before .before .before .before .before .before .before .before .before .before .before .before .before .before .before .before .before .before .before .before .before .before .before .before .before .before .before .before .before .before .before .previous-epoch .ensures) (c .before .before .before .before .before .before .before .before .before .before .before .before .before .before .before .before .before .before .before .before .before .before .before .before .before .before .before .before .before .before .before .before .if1 .left) (says-value (c .before .before .before .before .before .before .before .before .before .before .before .before .before .before .before .before .before .before .before .before .before .before .before .before .before .before .before .before .before .total-participating .ensures) (c .before .before .before .before .before .before .before .before .before .before .before .before .before .before .before .before .before .before .before .before .before .before .before .before .before .before .before .source .given .1)) (says-value (c .before .before .before .before .before .before .before .before .before .before .before .before .before .before .before .before .before .before .before .before .before .before .before .before .total-active .ensures) (c .before .before .before .before .before .before .before .before .before .before .before .before .before .before .before .before .before .before .before .before .before .before .total .given .1)) (answers-value tells-truth (c .before .before .before .before .before .before .before .before .before .before .before .before .before .before .before .before .before .before .before .before .inactivity-leak .ensures) (c .before .before .before .before .before .before .before .before .before .before .before .before .before .before .before .before .before .before .leaking .given .1)) (says-value (c .before .before .before .before .before .before .before .before .before .before .before .before .before .before .before .total-participating2 .ensures) (c .before .before .before .before .before .before .before .before .before .before .before .before .before .target .given .1)) (says-value (c .before .before .before .before .before .before .before .before .before .before .total-participating3 .ensures) (c .before .before .before .before .before .before .before .before .head .given .1)) (rewards-from _ _ _ _ _ (c .before .before .before .before .before .before .before .before .before .before .before .before .before .before .before .before .before .before .before .before .before .before .before .before .before .before .before .before .before .before .before .before .before .current-epoch .ensures) (c .before .before .before .before .before .before .before .before .before .before .before .before .before .before .before .before .before .before .before .before .before .before .before .before .before .before .before .before .before .before .before .previous-epoch .ensures) (c .before .before .before .before .before .before .before .before .before .before .before .before .before .before .before .before .before .before .before .before .before .before .before .before .before .before .before .before .before .before .before .before .if1 .left) (ran-next _ (c .before .before .before .before .before .before .before .before .before .before .before .before .before .before .before .before .before .before .before .before .before .before .before .before .before .before .before .before .before .total-participating .ensures) tells-number (c .before .before .before .before .before .before .before .before .before .before .before .before .before .before .before .before .before .before .before .before .before .before .before .before .before .before .before .source .given .1) (ran-next _ (c .before .before .before .before .before .before .before .before .before .before .before .before .before .before .before .before .before .before .before .before .before .before .before .before .total-active .ensures) tells-number (c .before .before .before .before .before .before .before .before .before .before .before .before .before .before .before .before .before .before .before .before .before .before .total .given .1) (ran-next _ (c .before .before .before .before .before .before .before .before .before .before .before .before .before .before .before .before .before .before .before .before .inactivity-leak .ensures) tells-truth (c .before .before .before .before .before .before .before .before .before .before .before .before .before .before .before .before .before .before .leaking .given .1) (ran-next _ (c .before .before .before .before .before .before .before .before .before .before .before .before .before .before .before .total-participating2 .ensures) tells-number (c .before .before .before .before .before .before .before .before .before .before .before .before .before .target .given .1) (ran-next _ (c .before .before .before .before .before .before .before .before .before .before .total-participating3 .ensures) tells-number (c .before .before .before .before .before .before .before .before .head .given .1) (k .ran))))))) k
+returns-3 : tie.Need-returns-3
+returns-3 c =
+    let at-reward-registry-booked = c .before .before .before .before in
+    let at-totals = at-reward-registry-booked .before .before .before .before in
+    let at-step-totals = at-totals .before .before in
+    let at-previous-epoch = at-step-totals .before .before in
+    let at-else1 = at-previous-epoch .before in
+    let at-current-epoch = at-else1 .before in
+    let at-start = at-current-epoch .before .before .before in
+    step-booked _ _ _ _ _ (at-start .pre .1 .1 .0) (at-current-epoch .current-epoch .ensures) (at-previous-epoch .previous-epoch .ensures) (at-else1 .if1 .left) (answers-value tells-totals (at-step-totals .step-totals .ensures) (at-totals .totals .given .1)) (at-reward-registry-booked .reward-registry-booked .ensures)
 
 pub rewards-booked-spec : {M : Type 1} → statement M
 rewards-booked-spec =
@@ -75,27 +69,7 @@ rewards-booked-spec =
     (λ c. search needs)
     (λ c. search needs)
     returns-2
-    (λ c κs. search needs)
-    (λ c. search needs)
-    (λ c. search needs)
-    (λ c. search needs)
-    returns-3
-    inactivity-leak-requires
-    (λ c. search needs)
-    (λ c. search needs)
-    (λ c. search needs)
-    returns-4
-    (λ c κs. search needs)
-    (λ c. search needs)
-    (λ c. search needs)
-    (λ c. search needs)
-    returns-5
-    total-participating-requires-3
-    (λ c. search needs)
-    (λ c. search needs)
-    (λ c. search needs)
-    returns-6
     reward-registry-booked-requires
     (λ c. search needs)
     (λ c. search needs)
-    returns-7)
+    returns-3)

@@ -1,7 +1,7 @@
 -- The measure is the number: a tenth of one that has more than a digit is less.
 use mathlib.Core.Path.{refl}
 use mathlib.Core.List.{[], _∷_}
-use Prim.Native.Nat.{ℕ, _+_, _%_, _<_}
+use Prim.Native.Nat.{ℕ, _%_, _<_}
 use native.Mathlib.Nat.{le-of-lt}
 use native.Mathlib.Omega.{arith}
 use borrow.Author.Needs.{needs}
@@ -56,23 +56,27 @@ put-decimal-digit-requires-2 t c κs = search needs
 
 put-decimal-slice-write-text-2 : (t : ℕ) → put-decimal-lts.Need-slice-write-text-2 (digit-reads.Asked, digit-reads.Learnt, put-decimal-below t, put-decimal.Post) (put-decimal-at t) put-decimal.Post
 put-decimal-slice-write-text-2 t c =
-    let p = c .before .before .before .put-decimal .ensures in
-    let s = c .before .before .before .before .before .before .before in
-    omega (arith, p .stopped, put-length p, room-more _ _ _ (c .before .before .before .before .before .if1 .left) (s .pre .1))
+    let at-put-decimal = c .before .before .before in
+    let at-else1 = at-put-decimal .before .before in
+    let p = at-put-decimal .put-decimal .ensures in
+    omega (arith, p .stopped, put-length p, room-more _ _ _ (at-else1 .if1 .left) (at-else1 .before .before .pre .1))
 
 put-decimal-add-result-2 : (t : ℕ) → put-decimal-lts.Need-add-result-2 (digit-reads.Asked, digit-reads.Learnt, put-decimal-below t, put-decimal.Post) (put-decimal-at t) put-decimal.Post
 put-decimal-add-result-2 t c =
-    let p = c .before .before .before .put-decimal .ensures in
-    let s = c .before .before .before .before .before .before .before in
-    omega (arith, p .stopped, room-more _ _ _ (c .before .before .before .before .before .if1 .left) (s .pre .1))
+    let at-put-decimal = c .before .before .before in
+    let at-else1 = at-put-decimal .before .before in
+    let p = at-put-decimal .put-decimal .ensures in
+    omega (arith, p .stopped, room-more _ _ _ (at-else1 .if1 .left) (at-else1 .before .before .pre .1))
 
 put-decimal-same-length-2 : (t : ℕ) → put-decimal-lts.Need-same-length-2 (digit-reads.Asked, digit-reads.Learnt, put-decimal-below t, put-decimal.Post) (put-decimal-at t) put-decimal.Post
 put-decimal-same-length-2 t c = simp length-set (put-length (c .before .before .before .put-decimal .ensures))
 
 put-decimal-returns-2 : (t : ℕ) → put-decimal-lts.Need-returns-2 (digit-reads.Asked, digit-reads.Learnt, put-decimal-below t, put-decimal.Post) (put-decimal-at t) put-decimal.Post
 put-decimal-returns-2 t c =
-    let n = c .before .before .before .before .before .before .before .args .n in
-    rw (decimal-more n (c .before .before .before .before .before .if1 .left), c .digit2 .ensures) (put-byte (c .before .before .before .put-decimal .ensures) (digit (n % 10)))
+    let at-put-decimal = c .before .before .before in
+    let at-else1 = at-put-decimal .before .before in
+    let n = at-else1 .before .before .args .n in
+    rw (decimal-more n (at-else1 .if1 .left), c .digit2 .ensures) (put-byte (at-put-decimal .put-decimal .ensures) (digit (n % 10)))
 
 pub +put-decimal-spec : {M : Type 1} → statement M
 +put-decimal-spec =

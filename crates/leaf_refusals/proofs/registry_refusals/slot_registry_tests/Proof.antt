@@ -5,7 +5,13 @@ use Rattle.leaf_refusals.proofs.registry_refusals.slot_registry_tests.T
 
 returns : tie.Need-returns
 unfolding slotRegistryTests
-returns c = cc
+returns c =
+    let at-good-registry = c .before .before in
+    let at-is-small = at-good-registry .before in
+    let at-good-settings = at-is-small .before .before in
+    let at-registry-shaped = at-good-settings .before .before in
+    let at-settings-shaped = at-registry-shaped .before in
+    rw (at-settings-shaped .settings-shaped .ensures, at-registry-shaped .registry-shaped .ensures, at-good-settings .good-settings .ensures, at-is-small .is-small .ensures, at-good-registry .good-registry .ensures) at (c .in-order .ensures)
 
 pub slot-registry-tests-spec : {M : Type 1} → statement M
 slot-registry-tests-spec =

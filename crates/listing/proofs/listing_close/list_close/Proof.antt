@@ -22,10 +22,11 @@ returns c =
     let p = c .before .before .put-refused .ensures in
     record { text = rw (printed-refused (handed (start d)) (d .close-as-altair .ensures) (c .before .before .before .before .if1 .taken)) (p .0); inside = omega (arith, p .1, start d .pre) }
 
-passed : (c : tie.Else1) → Accepted (handed (start (c .before .before .before .before .before .before)))
-passed c =
-    let at-close-as-altair : tie.After-close-as-altair = search needs in
-    accepted _ (sym (ap (λ (o : Outcome). o .refusal) (at-close-as-altair .close-as-altair .ensures)) ∙ c .if1 .left)
+abbrev closing : tie.Else1 → tie.After-close-as-altair
+closing c = c .before .before .before .before .before .before
+
+passed : (c : tie.Else1) → Accepted (handed (start (closing c)))
+passed c = accepted _ (sym (ap (λ (o : Outcome). o .refusal) (closing c .close-as-altair .ensures)) ∙ c .if1 .left)
 
 put-close-requires : tie.Need-put-close-requires
 put-close-requires c κs =
@@ -38,7 +39,7 @@ returns-2 : tie.Need-returns-2
 unfolding closeText acceptedText
 returns-2 c =
     let z : tie.Else1 = search needs in
-    let d : tie.After-close-as-altair = search needs in
+    let d = closing z in
     let closed = d .close-as-altair .ensures in
     let flags = ap (λ (o : Outcome). o .raised) closed ∙ passed z .raised in
     record { text = rw (printed-text (handed (start d)) closed (z .if1 .left)) (rw (← flags) at (c .before .before .put-close .ensures .0)); inside = c .before .before .put-close .ensures .1 }

@@ -19,72 +19,57 @@ Inv-loop s epochs root absences registry₀ slashings₀ roots₀ closing-regist
 abbrev μ-loop : tie.MeasureT-loop
 μ-loop s epochs root absences registry₀ slashings₀ roots₀ closing-registry₀ closing-slashings₀ text₀ standing₀ end₀ i₀ registry slashings roots closing-registry closing-slashings text standing end i = epochs - i
 
+-- the places that the others are found from
+abbrev start : tie.At-loop Inv-loop μ-loop → tie.Start Inv-loop μ-loop
+start c = c .before .before .before .before .before .before .before .before .before
+
+abbrev turn : tie.After-try-epoch Inv-loop μ-loop → tie.In-loop Inv-loop μ-loop
+turn c = c .before .before .before .before .before .before .before
+
+abbrev tried : tie.After-struct-known Inv-loop μ-loop → tie.After-try-epoch Inv-loop μ-loop
+tried c = c .before .before .before .before .before .before .before .before .before .before .before .before .before
+
+lasting : (c : tie.After-try-epoch Inv-loop μ-loop) → let a = start (turn c .before) .args in let left = c .try-epoch .last .1 .1 .1 .1 in Lasting (a .registry .now) (a .slashings .now) (a .roots .now) (a .closing-registry .now) (a .closing-slashings .now) (a .text .now) (left .0) (left .1 .0) (left .1 .1 .0) (left .1 .1 .1 .0) (left .1 .1 .1 .1 .0) (left .1 .1 .1 .1 .1 .0)
+lasting c =
+    let k = turn c .before .loop .inv .2 in
+    let kept = c .try-epoch .kept .1 .1 .1 .1 in
+    record {
+      entries = kept .0 ∙ k .entries;
+      sums = kept .1 .0 ∙ k .sums;
+      places = kept .1 .1 .0 ∙ k .places;
+      closing-entries = kept .1 .1 .1 .0 ∙ k .closing-entries;
+      closing-sums = kept .1 .1 .1 .1 .0 ∙ k .closing-sums;
+      bytes = kept .1 .1 .1 .1 .1 .0 ∙ k .bytes;
+    }
+
 loop-holds : tie.Need-loop-holds Inv-loop μ-loop
-loop-holds c = (running-none _ _ _ _, c .before .before .before .before .before .before .before .before .pre .0, record { entries = refl; sums = refl; places = refl; closing-entries = refl; closing-sums = refl; bytes = refl })
+loop-holds c =
+    let at-start = c .before .before .before .before .before .before .before .before in
+    (running-none _ _ _ _, at-start .pre .0, record { entries = refl; sums = refl; places = refl; closing-entries = refl; closing-sums = refl; bytes = refl })
 
 try-epoch-requires : tie.Need-try-epoch-requires Inv-loop μ-loop
 try-epoch-requires c κs =
-    let g = c .before .before .before .before .before .before .before .loop .inv in
+    let at-in-loop = c .before .before .before .before .before .before in
+    let g = at-in-loop .before .loop .inv in
     let k = g .2 in
-    let r = c .before .before .before .before .before .before .before .before .before .before .before .before .before .before .before .before .pre .1 in
-    (g .1, record { entries = omega (arith, k .closing-entries, r .entries, k .entries); sums = omega (arith, k .closing-sums, r .sums, k .sums); few = omega arith; heads = omega (arith, g .0 .inside, c .before .before .before .before .before .before .loop-test .taken, r .heads, k .bytes) })
-
-same-length : tie.Need-same-length Inv-loop μ-loop
-same-length c = c .before .before .before .before .before .before .before .before .before .before .before .before .before .registry .given ∙ c .before .before .before .before .before .before .before .before .before .before .before .before .before .before .before .before .before .before .before .before .before .before .loop .inv .2 .entries
-
-same-length-2 : tie.Need-same-length-2 Inv-loop μ-loop
-same-length-2 c = c .before .before .before .before .before .before .before .before .before .before .before .slashings .given ∙ c .before .before .before .before .before .before .before .before .before .before .before .before .before .before .before .before .before .before .before .before .before .before .loop .inv .2 .sums
-
-same-length-3 : tie.Need-same-length-3 Inv-loop μ-loop
-same-length-3 c = c .before .before .before .before .before .before .before .before .before .roots .given ∙ c .before .before .before .before .before .before .before .before .before .before .before .before .before .before .before .before .before .before .before .before .before .before .loop .inv .2 .places
-
-same-length-4 : tie.Need-same-length-4 Inv-loop μ-loop
-same-length-4 c = c .before .before .before .before .before .before .before .closing-registry .given ∙ c .before .before .before .before .before .before .before .before .before .before .before .before .before .before .before .before .before .before .before .before .before .before .loop .inv .2 .closing-entries
-
-same-length-5 : tie.Need-same-length-5 Inv-loop μ-loop
-same-length-5 c = c .before .before .before .before .before .closing-slashings .given ∙ c .before .before .before .before .before .before .before .before .before .before .before .before .before .before .before .before .before .before .before .before .before .before .loop .inv .2 .closing-sums
-
-same-length-6 : tie.Need-same-length-6 Inv-loop μ-loop
-same-length-6 c = c .before .before .before .text .given ∙ c .before .before .before .before .before .before .before .before .before .before .before .before .before .before .before .before .before .before .before .before .before .before .loop .inv .2 .bytes
+    let r = start (at-in-loop .before) .pre .1 in
+    (g .1, record { entries = omega (arith, k .closing-entries, r .entries, k .entries); sums = omega (arith, k .closing-sums, r .sums, k .sums); few = omega arith; heads = omega (arith, g .0 .inside, at-in-loop .loop-test .taken, r .heads, k .bytes) })
 
 returns : tie.Need-returns Inv-loop μ-loop
-returns c = running-stop (c .before .before .before .before .before .before .before .before .before .before .before .before .before .before .before .before .before .before .before .before .before .before .loop .inv .0) (c .before .before .before .before .before .before .before .before .before .before .before .before .before .before .before .before .before .before .before .before .before .loop-test .taken) (c .before .before .before .before .before .before .before .before .before .before .before .before .before .before .try-epoch .ensures) (c .if1 .taken)
-
-add-i : tie.Need-add-i Inv-loop μ-loop
-add-i c = omega (arith, c .before .before .before .before .before .before .before .before .before .before .before .before .before .before .before .before .before .before .before .before .before .before .loop-test .taken, c .before .before .before .before .before .before .before .before .before .before .before .before .before .before .before .before .before .before .before .before .before .before .before .before .before .before .before .before .before .before .before .before .pre .1 .few)
-
-loop-less : tie.Need-loop-less Inv-loop μ-loop
-loop-less c = omega (arith, c .before .before .before .before .before .before .before .before .before .before .before .before .before .before .before .before .before .before .before .before .before .before .loop-test .taken)
+returns c =
+    let at-try-epoch = tried (c .before) in
+    let at-in-loop = turn at-try-epoch in
+    running-stop (at-in-loop .before .loop .inv .0) (at-in-loop .loop-test .taken) (at-try-epoch .try-epoch .ensures) (c .if1 .taken)
 
 loop-again : tie.Need-loop-again Inv-loop μ-loop
 loop-again c =
-    let t = c .before .before .before .before .before .before .before .before .before .before .before .before .before .before .before in
-    let g = c .before .before .before .before .before .before .before .before .before .before .before .before .before .before .before .before .before .before .before .before .before .before .before .loop .inv in
-    let k = g .2 in
-    let w = t .try-epoch .ensures in
+    let at-try-epoch = tried (c .before .before) in
+    let at-in-loop = turn at-try-epoch in
+    let g = at-in-loop .before .loop .inv in
+    let kept = at-try-epoch .try-epoch .kept .1 .1 .1 .1 in
+    let w = at-try-epoch .try-epoch .ensures in
     let z = c .before .if1 .left in
-    (running-more (g .0) (c .before .before .before .before .before .before .before .before .before .before .before .before .before .before .before .before .before .before .before .before .before .before .loop-test .taken) w z, ready-more (g .1) (went-small _ w z) (c .before .before .before .before .before .before .before .before .before .before .before .before .before .before .registry .given) (c .before .before .before .before .before .before .before .before .before .before .roots .given), record { entries = c .before .before .before .before .before .before .before .before .before .before .before .before .before .before .registry .given ∙ k .entries; sums = c .before .before .before .before .before .before .before .before .before .before .before .before .slashings .given ∙ k .sums; places = c .before .before .before .before .before .before .before .before .before .before .roots .given ∙ k .places; closing-entries = c .before .before .before .before .before .before .before .before .closing-registry .given ∙ k .closing-entries; closing-sums = c .before .before .before .before .before .before .closing-slashings .given ∙ k .closing-sums; bytes = c .before .before .before .before .text .given ∙ k .bytes })
-
-same-length-7 : tie.Need-same-length-7 Inv-loop μ-loop
-same-length-7 c = c .before .loop .inv .2 .entries
-
-same-length-8 : tie.Need-same-length-8 Inv-loop μ-loop
-same-length-8 c = c .before .loop .inv .2 .sums
-
-same-length-9 : tie.Need-same-length-9 Inv-loop μ-loop
-same-length-9 c = c .before .loop .inv .2 .places
-
-same-length-10 : tie.Need-same-length-10 Inv-loop μ-loop
-same-length-10 c = c .before .loop .inv .2 .closing-entries
-
-same-length-11 : tie.Need-same-length-11 Inv-loop μ-loop
-same-length-11 c = c .before .loop .inv .2 .closing-sums
-
-same-length-12 : tie.Need-same-length-12 Inv-loop μ-loop
-same-length-12 c = c .before .loop .inv .2 .bytes
-
-returns-2 : tie.Need-returns-2 Inv-loop μ-loop
-returns-2 c = running-all (c .before .loop .inv .0) (c .loop-test .left)
+    (running-more (g .0) (at-in-loop .loop-test .taken) w z, ready-more (g .1) (went-small _ w z) (kept .0) (kept .1 .1 .0), lasting at-try-epoch)
 
 pub run-epochs-spec : {M : Type 1} → statement M
 run-epochs-spec =
@@ -94,20 +79,20 @@ run-epochs-spec =
     μ-loop
     loop-holds
     try-epoch-requires
-    same-length
-    same-length-2
-    same-length-3
-    same-length-4
-    same-length-5
-    same-length-6
+    (λ c. lasting (tried (c .before)) .entries)
+    (λ c. lasting (tried (c .before)) .sums)
+    (λ c. lasting (tried (c .before)) .places)
+    (λ c. lasting (tried (c .before)) .closing-entries)
+    (λ c. lasting (tried (c .before)) .closing-sums)
+    (λ c. lasting (tried (c .before)) .bytes)
     returns
-    add-i
-    loop-less
+    (λ c. let at-in-loop = turn (tried (c .before .before)) in omega (arith, at-in-loop .loop-test .taken, start (at-in-loop .before) .pre .1 .few))
+    (λ c. omega (arith, turn (tried (c .before .before)) .loop-test .taken))
     loop-again
-    same-length-7
-    same-length-8
-    same-length-9
-    same-length-10
-    same-length-11
-    same-length-12
-    returns-2)
+    (λ c. c .before .loop .inv .2 .entries)
+    (λ c. c .before .loop .inv .2 .sums)
+    (λ c. c .before .loop .inv .2 .places)
+    (λ c. c .before .loop .inv .2 .closing-entries)
+    (λ c. c .before .loop .inv .2 .closing-sums)
+    (λ c. c .before .loop .inv .2 .bytes)
+    (λ c. running-all (c .before .loop .inv .0) (c .loop-test .left)))

@@ -29,7 +29,8 @@ returns-2 c p =
     let k : Contents = contentsWith (found .result .settings) (found .result .finality) (found .last .1 .0) (z .file-roots .result .now) (found .last .1 .1 .0) in
     let roots = z .file-roots .ensures ∙ sym (ap (λ (x : Contents). x .roots) (contents-found (a .bytes .now) (a .registry .now) (a .slashings .now) (p .tests))) in
     let same : k ≡ read (a .bytes .now) (a .registry .now) (a .slashings .now) .contents = λ i. record { settings = e .1 .1 .0 i; finality = e .1 .1 .1 .0 i; registry = e .1 .1 .1 .1 .1 .0 i; roots = roots i; slashings = e .1 .1 .1 .1 .1 .1 i } in
-    let bytes : Below 256 (a .bytes .now) = record { each = λ i l. r .before .before .before .before .before .before .shared-slice-known .given i .fits } in
+    let at-shared-slice-known = r .before .before .before .before .before .before in
+    let bytes : Below 256 (a .bytes .now) = record { each = λ i l. at-shared-slice-known .shared-slice-known .given i .fits } in
     let w : tie.After-write-file = search needs in
     same-bytes _ _ _ _ k (found .result .queue) bytes same (e .1 .1 .1 .1 .0) (w .write-file .ensures .0) (w .write-file .ensures .1) p
 

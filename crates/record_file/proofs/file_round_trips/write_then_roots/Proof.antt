@@ -22,7 +22,10 @@ returns c p =
     let w : tie.After-write-file = search needs in
     absurd (c .before .if1 .taken (w .write-file .ensures .0 ∙ ap codeOf (p .tests)))
 
-back : (c : tie.Else1) → let bytes = c .before .before .before .before .write-file .last .1 .1 .1 .1 .1 .1 .0 in (goodHeader bytes ≡ true) × (contentsOf bytes .roots ≡ c .before .before .before .before .before .before .before .before .before .before .args .roots .now)
+abbrev start : tie.After-write-file → tie.Start
+start c = c .before .before .before .before .before .before
+
+back : (c : tie.Else1) → let at-write-file = c .before .before .before .before in let bytes = at-write-file .write-file .last .1 .1 .1 .1 .1 .1 .0 in (goodHeader bytes ≡ true) × (contentsOf bytes .roots ≡ start at-write-file .args .roots .now)
 back c =
     let at-write-file : tie.After-write-file = search needs in
     let at-shared-slice-known3 = at-write-file .before .before .before in

@@ -15,7 +15,10 @@ returns-2 : tie.Need-returns-2
 unfolding totalEntryTests inOrder every
 returns-2 c =
     let at-else1 : tie.Else1 = search needs in
-    rw (eq-eqb _ _ (at-else1 .if1 .left)) cc
+    let at-good-entry = c .before .before in
+    let at-good-settings = at-good-entry .before .before in
+    let at-settings-shaped = at-good-settings .before .before in
+    rw (eq-eqb _ _ (at-else1 .if1 .left)) (rw (at-settings-shaped .settings-shaped .ensures, at-good-settings .good-settings .ensures, at-good-entry .good-entry .ensures) at (c .in-order .ensures))
 
 pub total-entry-tests-spec : {M : Type 1} → statement M
 total-entry-tests-spec =

@@ -1,17 +1,17 @@
 use mathlib.Core.Path.{sym}
 use Prim.Native.Nat.{_-_}
 use native.Mathlib.Omega.{arith}
-use borrow.Author.Tests.{le-leb, lt-leb}
-use Rattle.definitions_votes.specs.Filling.{goodMark}
+use borrow.Author.Tests.{lt-ltb, le-ltb}
+use lib.Dec.{ltb}
 use Rattle.refusals.proofs.All.{Passed, passed-none, passed-more, passed-stop, passed-all}
-use Rattle.votes.proofs.good_marks.Statement.{statement}
-use Rattle.votes.proofs.good_marks.Tie as tie
+use Rattle.refusals.proofs.all_below.Statement.{statement}
+use Rattle.refusals.proofs.all_below.Tie as tie
 
 abbrev Inv-loop : tie.InvT-loop
-Inv-loop marks i₀ i-end i = Passed goodMark marks i
+Inv-loop numbers bound i₀ i-end i = Passed (λ n. ltb n bound) numbers i
 
 abbrev μ-loop : tie.MeasureT-loop
-μ-loop marks i₀ i-end i = i-end - i
+μ-loop numbers bound i₀ i-end i = i-end - i
 
 loop-holds : tie.Need-loop-holds Inv-loop μ-loop
 loop-holds c = passed-none _ _
@@ -23,7 +23,7 @@ shared-slice-read-if1 : tie.Need-shared-slice-read-if1 Inv-loop μ-loop
 shared-slice-read-if1 c = omega arith
 
 returns : tie.Need-returns Inv-loop μ-loop
-returns c = sym (passed-stop (c .before .before .before .loop .inv) (c .before .before .loop-test .taken) 0 (lt-leb _ _ (c .if1 .taken)))
+returns c = sym (passed-stop (c .before .before .before .loop .inv) (c .before .before .loop-test .taken) 0 (le-ltb _ _ (c .if1 .taken)))
 
 add-i : tie.Need-add-i Inv-loop μ-loop
 add-i c = omega arith
@@ -32,13 +32,13 @@ loop-less : tie.Need-loop-less Inv-loop μ-loop
 loop-less c = omega arith
 
 loop-again : tie.Need-loop-again Inv-loop μ-loop
-loop-again c = passed-more (c .before .before .before .loop .inv) (c .before .before .loop-test .taken) 0 (le-leb _ _ (c .if1 .left))
+loop-again c = passed-more (c .before .before .before .loop .inv) (c .before .before .loop-test .taken) 0 (lt-ltb _ _ (c .if1 .left))
 
 returns-2 : tie.Need-returns-2 Inv-loop μ-loop
 returns-2 c = sym (passed-all (c .before .loop .inv) (c .loop-test .left))
 
-pub good-marks-spec : {M : Type 1} → statement M
-good-marks-spec =
+pub all-below-spec : {M : Type 1} → statement M
+all-below-spec =
     tie.close
     (tie.spec
     Inv-loop

@@ -4,9 +4,9 @@ use borrow.Author.Needs.{needs}
 use mir.Syntax.{w64}
 use mir.Facts.{toZ-pos}
 use Rattle.definitions_file.specs.declared.Change.the-variants.{Value}
-use Rattle.listing_lines.proofs.Change.{lost-fits, lost-told, gain, gain-wide, loses, loses-wide}
-use Rattle.listing_lines.proofs.numbers.net_change.Statement.{statement}
-use Rattle.listing_lines.proofs.numbers.net_change.Tie as tie
+use Rattle.arithmetic.proofs.signed.Change.{lost-fits, lost-told, gain, gain-wide, loses, loses-wide}
+use Rattle.arithmetic.proofs.signed.net_change.Statement.{statement}
+use Rattle.arithmetic.proofs.signed.net_change.Tie as tie
 
 returns : tie.Need-returns
 returns c = ap Value (toZ-pos w64 (c .if2 .taken)) ∙ gain _ _ (c .before .if1 .taken) (c .if2 .taken)

@@ -1,0 +1,2 @@
+-- Laws of the net change.
+pub mod Change
