@@ -43,7 +43,7 @@ pub fn participation_tests(
     )
 }
 
-// A step's: inactivity, rewards and registry.
+// A step's: inactivity and rewards.
 pub fn registry_tests(
     s: Settings,
     state_slot: u64,

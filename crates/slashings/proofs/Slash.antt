@@ -4,9 +4,10 @@ use Prim.Native.Nat.{ℕ, _/_}
 use borrow.Author.Tests.{eq-eqb, ne-eqb}
 use Rattle.definitions.specs.declared.Settings.{Settings}
 use Rattle.definitions.specs.Record.{Validator}
-use Rattle.definitions.specs.Checked.{value, refused, overflow, bind, add64, mul64}
+use Rattle.definitions.specs.Checked.{value, refused, overflow, bind, add64}
 use Rattle.definitions.specs.Rust.Phase0.Helpers.{«decrease_balance»}
 use Rattle.definitions.specs.Rust.Altair.EpochProcessing.{isSlashingDue, slashingPenalty, slash}
+use Rattle.arithmetic.proofs.Operations.{OnlyOverflow, only-bind, only-mul64}
 
 module _ (s : Settings) (epoch total adjusted : ℕ) (v : Validator) where
   pub unslashed : (v .slashed ≡ 1 → ⊥) → slash s epoch total adjusted v ≡ value v
@@ -24,15 +25,14 @@ module _ (s : Settings) (epoch total adjusted : ℕ) (v : Validator) where
       not-due n = rw (eq-eqb _ _ is, h, ne-eqb _ _ n)
 
       module _ (at : due ≡ v .«withdrawable_epoch») where
-        pub numerator-refused : mul64 (v .«effective_balance» / s .«effective_balance_increment») adjusted ≡ refused overflow → slash s epoch total adjusted v ≡ refused overflow
-        unfolding slash isSlashingDue slashingPenalty bind
-        numerator-refused g = rw (eq-eqb _ _ is, h, eq-eqb _ _ at, g)
+        pub penalty-refused : slashingPenalty s total adjusted v ≡ refused overflow → slash s epoch total adjusted v ≡ refused overflow
+        unfolding slash isSlashingDue bind
+        penalty-refused g = rw (eq-eqb _ _ is, h, eq-eqb _ _ at, g)
 
-        module _ {numerator : ℕ} (g : mul64 (v .«effective_balance» / s .«effective_balance_increment») adjusted ≡ value numerator) where
-          pub penalty-refused : mul64 (numerator / total) (s .«effective_balance_increment») ≡ refused overflow → slash s epoch total adjusted v ≡ refused overflow
-          unfolding slash isSlashingDue slashingPenalty bind
-          penalty-refused k = rw (eq-eqb _ _ is, h, eq-eqb _ _ at, g, k)
+        pub penalized : {penalty : ℕ} → slashingPenalty s total adjusted v ≡ value penalty → slash s epoch total adjusted v ≡ value («decrease_balance» v penalty)
+        unfolding slash isSlashingDue bind
+        penalized g = rw (eq-eqb _ _ is, h, eq-eqb _ _ at, g)
 
-          pub penalized : {penalty : ℕ} → mul64 (numerator / total) (s .«effective_balance_increment») ≡ value penalty → slash s epoch total adjusted v ≡ value («decrease_balance» v penalty)
-          unfolding slash isSlashingDue slashingPenalty bind
-          penalized k = rw (eq-eqb _ _ is, h, eq-eqb _ _ at, g, k)
+pub only-penalty : (s : Settings) (total adjusted : ℕ) (v : Validator) → OnlyOverflow (slashingPenalty s total adjusted v)
+unfolding slashingPenalty
+only-penalty s total adjusted v = only-bind (only-mul64 _ _) (λ numerator. only-mul64 _ _)

@@ -4,13 +4,13 @@ ghost use mathlib.Core.Bool.{true};
 ghost use mathlib.Core.List.{List};
 ghost use Prim.Native.Nat.{ℕ, _*_, _/_, _<_};
 ghost use lib.ListN.{length};
-ghost use Rattle.definitions.specs.Record.{decode, encode};
+ghost use Rattle.definitions.specs.Record.{decodeOne, decode, encode};
 ghost use Rattle.definitions.specs.Checked.{value, codeOf, sum64, mapChecked};
 ghost use Rattle.definitions.specs.Answers.{Says};
 ghost use Rattle.definitions.specs.Refusals.{goodSettings, slashingsResetTests};
 ghost use Rattle.definitions.specs.Rules.{settingsUnder, slashingsTests};
 ghost use Rattle.definitions.specs.Rust.Phase0.EpochProcessing.{resetSlashings};
-ghost use Rattle.definitions.specs.Rust.Altair.EpochProcessing.{slash, «process_slashings»};
+ghost use Rattle.definitions.specs.Rust.Altair.EpochProcessing.{slashingPenalty, slash, «process_slashings»};
 ghost use Rattle.agreement.specs.Bounds.{Passed};
 ghost use Rattle.laws.specs.Ran.{Settles, Ran};
 ghost use Rattle.definitions.specs.Closes.{Closes};
@@ -68,6 +68,17 @@ pub fn adjusted_balance(multiplier: u64, total: u64, slashings: &[u64]) -> Numbe
     Number::Value(adjusted)
 }
 
+fn slashing_penalty(s: Settings, total: u64, adjusted: u64, entry: &[u64]) -> Number
+    requires { ⌜ (length (now entry) ≡ 10) × (0 < s .«effective_balance_increment») × (0 < total) ⌝ }
+    ensures { λ r. ⌜ Says (slashingPenalty s total adjusted (decodeOne (now (entry .entry)))) r ⌝ }
+{
+    let increments = entry[EFFECTIVE_BALANCE] / s.effective_balance_increment;
+    let Number::Value(numerator) = mul64(increments, adjusted) else {
+        return Number::Refused(5);
+    };
+    mul64(numerator / total, s.effective_balance_increment)
+}
+
 // The epoch is compared only where the validator is slashed, and the penalty worked out only where it is due.
 pub fn entry_slash(s: Settings, epoch: u64, total: u64, adjusted: u64, entry: &mut [u64]) -> u64
     requires { ⌜ (length (now entry) ≡ 10) × (0 < s .«effective_balance_increment») × (0 < total) ⌝ }
@@ -82,11 +93,7 @@ pub fn entry_slash(s: Settings, epoch: u64, total: u64, adjusted: u64, entry: &m
     if due != entry[WITHDRAWABLE_EPOCH] {
         return 0;
     }
-    let increments = entry[EFFECTIVE_BALANCE] / s.effective_balance_increment;
-    let Number::Value(numerator) = mul64(increments, adjusted) else {
-        return 5;
-    };
-    let Number::Value(penalty) = mul64(numerator / total, s.effective_balance_increment) else {
+    let Number::Value(penalty) = slashing_penalty(s, total, adjusted, &entry[..]) else {
         return 5;
     };
     entry_decrease_balance(entry, penalty);

@@ -46,15 +46,4 @@ returns-3 c =
 pub rewards-core-spec : {M : Type 1} → statement M
 rewards-core-spec =
     tie.close
-    (tie.spec
-    current-epoch-requires
-    returns
-    previous-epoch-requires
-    (λ c κs. search needs)
-    (λ c. search needs)
-    (λ c. search needs)
-    (λ c. search needs)
-    returns-2
-    reward-registry-requires
-    (λ c. search needs)
-    returns-3)
+    (tie.spec current-epoch-requires returns previous-epoch-requires (λ c κs. search needs) (λ c. search needs) (λ c. search needs) (λ c. search needs) returns-2 reward-registry-requires (λ c. search needs) returns-3)

@@ -1,9 +1,9 @@
 use borrow.Author.Needs.{needs}
 use Rattle.laws.proofs.Encode.{ten}
-use Rattle.arithmetic.proofs.Operations.{only-add64, only-mul64}
+use Rattle.arithmetic.proofs.Operations.{only-add64}
 use Rattle.arithmetic.proofs.Laws.{says-value, says-overflow}
 use Rattle.laws.proofs.Loops.Checking.{settles-value, settles-refused}
-use Rattle.slashings.proofs.Slash.{unslashed, due-refused, not-due, numerator-refused, penalty-refused, penalized}
+use Rattle.slashings.proofs.Slash.{unslashed, due-refused, not-due, penalty-refused, penalized, only-penalty}
 use Rattle.slashings.proofs.entry_slash.Statement.{statement}
 use Rattle.slashings.proofs.entry_slash.Tie as tie
 
@@ -27,62 +27,26 @@ returns-3 c =
 
 returns-4 : tie.Need-returns-4
 returns-4 c =
-    let at-mul64 = c .before .before in
-    let at-else2 = at-mul64 .before .before .before in
+    let at-slashing-penalty = c .before .before in
+    let at-else2 = at-slashing-penalty .before .before in
     let at-due = at-else2 .before .before .before in
     let at-add64 = at-due .before .before in
     let at-else1 = at-add64 .before .before in
     let at-start = at-else1 .before .before .before in
-    settles-refused _ (at-start .pre .0) (numerator-refused _ _ _ _ _ (at-else1 .if1 .left) (says-value (at-add64 .add64 .ensures) (at-due .due .given .1)) (at-else2 .if2 .left) (says-overflow (at-mul64 .mul64 .ensures) (only-mul64 _ _) (c .enum-told2 .given .1) .0))
+    settles-refused _ (at-start .pre .0) (penalty-refused _ _ _ _ _ (at-else1 .if1 .left) (says-value (at-add64 .add64 .ensures) (at-due .due .given .1)) (at-else2 .if2 .left) (says-overflow (at-slashing-penalty .slashing-penalty .ensures) (only-penalty _ _ _ _) (c .enum-told2 .given .1) .0))
 
 returns-5 : tie.Need-returns-5
 returns-5 c =
-    let at-mul642 = c .before .before in
-    let at-numerator = at-mul642 .before .before in
-    let at-mul64 = at-numerator .before .before in
-    let at-else2 = at-mul64 .before .before .before in
-    let at-due = at-else2 .before .before .before in
-    let at-add64 = at-due .before .before in
-    let at-else1 = at-add64 .before .before in
-    let at-start = at-else1 .before .before .before in
-    settles-refused _ (at-start .pre .0) (penalty-refused _ _ _ _ _ (at-else1 .if1 .left) (says-value (at-add64 .add64 .ensures) (at-due .due .given .1)) (at-else2 .if2 .left) (says-value (at-mul64 .mul64 .ensures) (at-numerator .numerator .given .1)) (says-overflow (at-mul642 .mul642 .ensures) (only-mul64 _ _) (c .enum-told3 .given .1) .0))
-
-returns-6 : tie.Need-returns-6
-returns-6 c =
     let at-entry-decrease-balance = c .before .before in
     let at-penalty = at-entry-decrease-balance .before .before .before in
-    let at-mul642 = at-penalty .before .before in
-    let at-numerator = at-mul642 .before .before in
-    let at-mul64 = at-numerator .before .before in
-    let at-else2 = at-mul64 .before .before .before in
+    let at-slashing-penalty = at-penalty .before .before in
+    let at-else2 = at-slashing-penalty .before .before in
     let at-due = at-else2 .before .before .before in
     let at-add64 = at-due .before .before in
     let at-else1 = at-add64 .before .before in
-    settles-value _ (penalized _ _ _ _ _ (at-else1 .if1 .left) (says-value (at-add64 .add64 .ensures) (at-due .due .given .1)) (at-else2 .if2 .left) (says-value (at-mul64 .mul64 .ensures) (at-numerator .numerator .given .1)) (says-value (at-mul642 .mul642 .ensures) (at-penalty .penalty .given .1))) (at-entry-decrease-balance .entry-decrease-balance .ensures)
+    settles-value _ (penalized _ _ _ _ _ (at-else1 .if1 .left) (says-value (at-add64 .add64 .ensures) (at-due .due .given .1)) (at-else2 .if2 .left) (says-value (at-slashing-penalty .slashing-penalty .ensures) (at-penalty .penalty .given .1))) (at-entry-decrease-balance .entry-decrease-balance .ensures)
 
 pub entry-slash-spec : {M : Type 1} → statement M
 entry-slash-spec =
     tie.close
-    (tie.spec
-    (λ c. search needs)
-    returns
-    (λ c κs. search needs)
-    (λ c. search needs)
-    (λ c. search needs)
-    returns-2
-    (λ c. search needs)
-    returns-3
-    (λ c. search needs)
-    (λ c. search needs)
-    (λ c κs. search needs)
-    (λ c. search needs)
-    (λ c. search needs)
-    returns-4
-    (λ c. search needs)
-    (λ c κs. search needs)
-    (λ c. search needs)
-    (λ c. search needs)
-    returns-5
-    (λ c κs. search needs)
-    (λ c. search needs)
-    returns-6)
+    (tie.spec (λ c. search needs) returns (λ c κs. search needs) (λ c. search needs) (λ c. search needs) returns-2 (λ c. search needs) returns-3 (λ c κs. search needs) (λ c. search needs) (λ c. search needs) (λ c. search needs) returns-4 (λ c κs. search needs) (λ c. search needs) returns-5)
