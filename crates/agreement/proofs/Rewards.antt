@@ -57,10 +57,10 @@ abbrev totalsAt : Settings → BeaconState → ℕ → FlagTotals
 totalsAt s st flagIndex = totalsOf s (st .finality .slot) (st .finality .«finalized_checkpoint» .epoch) (st .validators) flagIndex
 
 rewards-one : (s : Settings) (st : BeaconState) (v : Validator) → Agrees Overflow (rust.rewardAndPenalize s (s .«inactivity_penalty_quotient_altair») («get_current_epoch» s (st .finality .slot)) («get_previous_epoch» s (st .finality .slot)) (totalsAt s st 0) (totalsAt s st 1) (totalsAt s st 2) v) (rewarded s st v)
-unfolding rust.rewardAndPenalize
+unfolding rust.rewardAndPenalize rust.allDeltas
 rewards-one s st v =
     let flag = flag-deltas s (st .finality .slot) (st .finality .«finalized_checkpoint» .epoch) (st .validators) in
-    bind-agrees _ (flag 0 v) (bind-agrees _ (flag 1 v) (bind-agrees _ (flag 2 v) (bind-agrees _ (inactivity-deltas s _ _ v) (fold-agrees apply-delta v _))))
+    bind-agrees _ (bind-agrees _ (flag 0 v) (bind-agrees _ (flag 1 v) (bind-agrees _ (flag 2 v) (bind-agrees _ (inactivity-deltas s _ _ v) value-agrees)))) (fold-agrees apply-delta v _)
 
 pub rewards : (s : Settings) (st : BeaconState) → Agrees Overflow (step s st rewardsStep) (document.«process_rewards_and_penalties» s (s .«inactivity_penalty_quotient_altair») st)
 unfolding step rust.«process_rewards_and_penalties» document.«process_rewards_and_penalties» «get_flag_index_deltas» «get_inactivity_penalty_deltas»

@@ -7,15 +7,15 @@ use Rattle.definitions.specs.declared.Settings.{Settings}
 use Rattle.definitions.specs.Record.{Validator, decodeOne, decode, nobody}
 use Rattle.definitions.specs.Checked.{Checked, value, bind, mapChecked}
 use Rattle.definitions.specs.Rust.Altair.Helpers.{FlagTotals}
-use Rattle.definitions.specs.Rust.Altair.EpochProcessing.{«process_rewards_and_penalties»}
-use Rattle.definitions_close.specs.Amounts.{pairs, booked, bookedByRewards, nines}
+use Rattle.definitions.specs.Rust.Altair.EpochProcessing.{allDeltas, «process_rewards_and_penalties»}
+use Rattle.definitions_close.specs.Amounts.{booked, bookedByRewards, nines}
 use Rattle.laws.specs.Ran.{Settles, Ran}
 use Rattle.write_pass.specs.Filled.{nineAt}
 
 -- what `bookedByRewards` puts down for a validator
 unfoldable pub eightOf : Settings → ℕ → ℕ → ℕ → FlagTotals → FlagTotals → FlagTotals → Validator → Checked (List ℕ)
 eightOf s quotient current previous source target head v =
-    bind (pairs s quotient current previous source target head v) (λ ds. value (booked (v .balance) ds))
+    bind (allDeltas s quotient current previous source target head v) (λ ds. value (booked (v .balance) ds))
 
 -- f is what is done to a validator, g what is booked of it: eight numbers, and 0 as the ninth
 

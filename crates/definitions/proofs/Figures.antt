@@ -21,7 +21,7 @@ use Rattle.definitions.specs.Document.Phase0.EpochProcessing.{justifiedB
 use Rattle.definitions.specs.Rust.Phase0.Helpers.{«is_active_validator», «compute_epoch_at_slot», «get_current_epoch», «get_previous_epoch», «compute_start_slot_at_epoch», «get_block_root», «get_block_root_at_slot», «get_active_validator_indices», «get_validator_churn_limit», «get_total_balance», «get_total_active_balance», «increase_balance», «decrease_balance»}
 use Rattle.definitions.specs.Rust.Phase0.EpochProcessing.{isJustified, rootWhere, «weigh_justification_and_finalization», «get_finality_delay», «is_in_inactivity_leak», isEligible, updateEffectiveBalance, «process_effective_balance_updates»}
 use Rattle.definitions.specs.Rust.Altair.Helpers.{«has_flag», isUnslashedParticipating, «get_unslashed_participating_indices», «get_base_reward_per_increment», «get_base_reward», flagTotals, hitDeltas, missDeltas, flagIndexDeltas, «get_flag_index_deltas», inactivityPenaltyDeltas, «get_inactivity_penalty_deltas»}
-use Rattle.definitions.specs.Rust.Altair.EpochProcessing.{movedScore, recoveredScore, updateInactivityScore, «process_inactivity_updates», applyDelta, rewardAndPenalize, «process_rewards_and_penalties», isSlashingDue, slashingPenalty, slash, «process_slashings», «process_justification_and_finalization»}
+use Rattle.definitions.specs.Rust.Altair.EpochProcessing.{movedScore, recoveredScore, updateInactivityScore, «process_inactivity_updates», applyDelta, allDeltas, rewardAndPenalize, «process_rewards_and_penalties», isSlashingDue, slashingPenalty, slash, «process_slashings», «process_justification_and_finalization»}
 
 -- "five validators of 32×10^9, all active": balance, both epochs' flags and score are given
 abbrev validator : ℕ → ℕ → ℕ → ℕ → Validator
@@ -250,7 +250,7 @@ all-active zero = refl
 all-active (suc n) = ap suc (all-active n)
 
 pub figures : Figures
-unfolding «integer_squareroot» rootWithin «get_total_active_balance» «get_total_balance» sum64 sum filter bind add64 sub64 mul64 mapChecked foldChecked «get_active_validator_indices» «is_active_validator» «get_current_epoch» «get_previous_epoch» «compute_epoch_at_slot» «get_base_reward_per_increment» «get_base_reward» «get_flag_index_deltas» flagTotals flagIndexDeltas hitDeltas missDeltas isEligible isUnslashedParticipating «get_unslashed_participating_indices» «has_flag» «is_in_inactivity_leak» «get_finality_delay» «process_rewards_and_penalties» rewardAndPenalize inactivityPenaltyDeltas «get_inactivity_penalty_deltas» applyDelta «increase_balance» «decrease_balance» movedScore recoveredScore updateInactivityScore «process_inactivity_updates» «process_slashings» slash isSlashingDue slashingPenalty «process_effective_balance_updates» updateEffectiveBalance roundedBalance isJustified «get_block_root_at_slot» document.«get_block_root_at_slot» «get_block_root» «compute_start_slot_at_epoch» «process_justification_and_finalization» «weigh_justification_and_finalization» rootWhere weighed justifiedBits finalizedBy settingsUnder
+unfolding «integer_squareroot» rootWithin «get_total_active_balance» «get_total_balance» sum64 sum filter bind add64 sub64 mul64 mapChecked foldChecked «get_active_validator_indices» «is_active_validator» «get_current_epoch» «get_previous_epoch» «compute_epoch_at_slot» «get_base_reward_per_increment» «get_base_reward» «get_flag_index_deltas» flagTotals flagIndexDeltas hitDeltas missDeltas isEligible isUnslashedParticipating «get_unslashed_participating_indices» «has_flag» «is_in_inactivity_leak» «get_finality_delay» «process_rewards_and_penalties» allDeltas rewardAndPenalize inactivityPenaltyDeltas «get_inactivity_penalty_deltas» applyDelta «increase_balance» «decrease_balance» movedScore recoveredScore updateInactivityScore «process_inactivity_updates» «process_slashings» slash isSlashingDue slashingPenalty «process_effective_balance_updates» updateEffectiveBalance roundedBalance isJustified «get_block_root_at_slot» document.«get_block_root_at_slot» «get_block_root» «compute_start_slot_at_epoch» «process_justification_and_finalization» «weigh_justification_and_finalization» rootWhere weighed justifiedBits finalizedBy settingsUnder
 figures =
     record {
       root-of-total = refl;

@@ -11,8 +11,8 @@ use Rattle.definitions.specs.Record.{Validator, BeaconState, «GENESIS_EPOCH»}
 use Rattle.definitions.specs.Checked.{Checked, value, bind, mul64, sum64}
 use Rattle.definitions.specs.Refusals.{lengthIs, closingBuffer}
 use Rattle.definitions.specs.Rust.Phase0.Helpers.{«get_current_epoch», «get_previous_epoch», «get_total_active_balance»}
-use Rattle.definitions.specs.Rust.Altair.Helpers.{«TIMELY_SOURCE_FLAG_INDEX», «TIMELY_TARGET_FLAG_INDEX», «TIMELY_HEAD_FLAG_INDEX», FlagTotals, flagTotals, flagIndexDeltas, inactivityPenaltyDeltas}
-use Rattle.definitions.specs.Rust.Altair.EpochProcessing.{isSlashingDue, slashingPenalty}
+use Rattle.definitions.specs.Rust.Altair.Helpers.{«TIMELY_SOURCE_FLAG_INDEX», «TIMELY_TARGET_FLAG_INDEX», «TIMELY_HEAD_FLAG_INDEX», flagTotals}
+use Rattle.definitions.specs.Rust.Altair.EpochProcessing.{allDeltas, isSlashingDue, slashingPenalty}
 use Rattle.definitions.specs.Close.{finalizedEpochOf, closeUpTo, «process_epoch»}
 
 -- `mapChecked` of definitions, Checked.antt, to another type
@@ -22,17 +22,7 @@ eachChecked f (x ∷ xs) = bind (f x) (λ y. bind (eachChecked f xs) (λ ys. val
 
 -- Rewards and penalties
 
--- the four pairs of a validator that `rewardAndPenalize` applies, in its order
-unfoldable pub pairs : Settings → ℕ → ℕ → ℕ → FlagTotals → FlagTotals → FlagTotals → Validator → Checked (List Deltas)
-pairs s quotient currentEpoch previousEpoch source target head v =
-    let deltas = flagIndexDeltas s currentEpoch previousEpoch in
-    bind (deltas «TIMELY_SOURCE_FLAG_INDEX» source v) (λ a.
-    bind (deltas «TIMELY_TARGET_FLAG_INDEX» target v) (λ b.
-    bind (deltas «TIMELY_HEAD_FLAG_INDEX» head v) (λ c.
-    bind (inactivityPenaltyDeltas s quotient currentEpoch previousEpoch v) (λ d.
-    value (a ∷ b ∷ c ∷ d ∷ [])))))
-
--- from a balance on, each reward and the "amount really taken" after it: "An amount cut off at balance 0 is given as cut."
+-- of the pairs that `rewardAndPenalize` applies: from a balance on, each reward and the "amount really taken" after it: "An amount cut off at balance 0 is given as cut."
 unfoldable pub booked : ℕ → List Deltas → List ℕ
 booked balance [] = []
 booked balance (d ∷ ds) =
@@ -45,7 +35,7 @@ unfoldable pub bookedByRewards : Settings → ℕ → ℕ → ℕ → List Valid
 bookedByRewards s quotient stateSlot finalizedEpoch vs =
     let totals = flagTotals s stateSlot finalizedEpoch vs in
     let currentEpoch = «get_current_epoch» s stateSlot in
-    let of = pairs s quotient currentEpoch («get_previous_epoch» s stateSlot) in
+    let of = allDeltas s quotient currentEpoch («get_previous_epoch» s stateSlot) in
     cond (eqb currentEpoch «GENESIS_EPOCH») (value (map (λ v. replicate 8 0) vs))
     (bind (totals «TIMELY_SOURCE_FLAG_INDEX») (λ source.
     bind (totals «TIMELY_TARGET_FLAG_INDEX») (λ target.

@@ -2,13 +2,15 @@
 use mathlib.Core.Path.{_≡_, refl}
 use mathlib.Core.List.{List, [], _∷_}
 use Prim.Native.Nat.{ℕ}
-use lib.ListN.{replicate}
+use lib.ListN.{drop, replicate}
 use Rattle.definitions.specs.declared.Settings.{Settings}
 use Rattle.definitions.specs.declared.Checkpoint.{Checkpoint}
 use Rattle.definitions.specs.declared.Finality.{Finality}
 use Rattle.definitions.specs.Lists.{filter, sum, all}
 use Rattle.definitions.specs.Record.{Validator, «FAR_FUTURE_EPOCH»}
 use Rattle.definitions.specs.Checked.{Checked, value, refused, noRoot, overflow, bind, add64, mul64, sum64}
+use Rattle.definitions.specs.Mainnet.{mainnet}
+use Rattle.definitions.specs.Refusals.{settingsNumbers, settingsFrom}
 use Rattle.definitions.specs.Document.Phase0.Helpers as document
 use Rattle.definitions.specs.Document.Phase0.EpochProcessing.{justifiedBits, finalizedBy}
 use Rattle.definitions.specs.Rust.Phase0.Helpers.{«is_active_validator», «compute_epoch_at_slot», «get_current_epoch», «get_previous_epoch», «compute_start_slot_at_epoch», «get_block_root», «get_block_root_at_slot», «get_active_validator_indices», «get_total_balance», «get_total_active_balance»}
@@ -33,29 +35,9 @@ validator effective before now =
       «inactivity_score» = 0;
     }
 
+-- mainnet's settings, but epochs of 8 slots, 64 roots and 64 slashings
 abbrev small : Settings
-small =
-    record {
-      «slots_per_epoch» = 8;
-      «slots_per_historical_root» = 64;
-      «epochs_per_slashings_vector» = 64;
-      «effective_balance_increment» = 1_000_000_000;
-      «max_effective_balance» = 32_000_000_000;
-      «hysteresis_quotient» = 4;
-      «hysteresis_downward_multiplier» = 1;
-      «hysteresis_upward_multiplier» = 5;
-      «base_reward_factor» = 64;
-      «min_epochs_to_inactivity_penalty» = 4;
-      «inactivity_score_bias» = 4;
-      «inactivity_score_recovery_rate» = 16;
-      «inactivity_penalty_quotient_altair» = 50_331_648;
-      «proportional_slashing_multiplier_altair» = 2;
-      «max_seed_lookahead» = 4;
-      «min_validator_withdrawability_delay» = 256;
-      «ejection_balance» = 16_000_000_000;
-      «min_per_epoch_churn_limit» = 4;
-      «churn_limit_quotient» = 65_536;
-    }
+small = settingsFrom (8 ∷ 64 ∷ 64 ∷ drop 3 (settingsNumbers mainnet))
 
 abbrev at : ℕ → Checkpoint
 at epoch = record { epoch = epoch; root = replicate 32 0 }

@@ -10,7 +10,7 @@ use Rattle.definitions_close.specs.CloseBySteps.{StepOutcome}
 use Rattle.definitions_close.specs.Orders.{OrderCall, OrderOutcome, takeOrder, NinthOutcome}
 use Rattle.definitions_close.specs.StoreClose.{StoreCall}
 use Rattle.definitions_close.specs.StoreSteps.{StoreStepCall, storeStep, StoreNinthCall}
-use Rattle.theorems.specs.CloseBySteps.Desk.{Desk, Act, stepping, ordering, orderCall, stepsOf, oneToEight}
+use Rattle.theorems.specs.CloseBySteps.Desk.{Desk, Act, stepping, ordering, orderCall, afterStep, afterOrder, stepsOf, oneToEight}
 use Rattle.definitions_close.specs.Calls.{stepOutcome, orderCalled, orderOutcome, ninthOutcome, lent, storeCalled, storeStepCalled, storeNinthCalled}
 use Rattle.theorems.specs.StoreHistory.Steps.{stepCall, act, acts, NotBegun}
 use Rattle.exports.proofs.exit_orders.altair_close_step.Kinds as stepKinds
@@ -83,24 +83,8 @@ actOf (ofOrder o) = ordering (orderOf o .order)
 
 -- what the desk has in hand once it came back
 abbrev pub after : Desk → ActCame → Desk
-after d (ofStep s) =
-    let out = stepBack s in
-    record {
-      running = out .answer .running;
-      closingRegistry = out .closingRegistry;
-      closingSlashings = out .closingSlashings;
-      amounts = out .amounts;
-      orders = d .orders;
-    }
-after d (ofOrder o) =
-    let out = orderBack o in
-    record {
-      running = out .answer .running;
-      closingRegistry = d .closingRegistry;
-      closingSlashings = d .closingSlashings;
-      amounts = d .amounts;
-      orders = out .orders;
-    }
+after d (ofStep s) = afterStep d (stepBack s)
+after d (ofOrder o) = afterOrder d (orderBack o)
 
 abbrev pub afterAll : Desk → List ActCame → Desk
 afterAll d [] = d
@@ -131,24 +115,8 @@ eighth s = afterAll (s .desk) (s .calls)
 
 one : (c : StoreCall) (d : Desk) (a : ActCame) → Handed c d a → after d a ≡ act c d (actOf a)
 unfolding act
-one c d (ofStep s) h =
-    ap (λ (out : StepOutcome).
-    record {
-      running = out .answer .running;
-      closingRegistry = out .closingRegistry;
-      closingSlashings = out .closingSlashings;
-      amounts = out .amounts;
-      orders = d .orders;
-    }) (s .holds ∙ ap storeStep h)
-one c d (ofOrder o) h =
-    ap (λ (out : OrderOutcome).
-    record {
-      running = out .answer .running;
-      closingRegistry = d .closingRegistry;
-      closingSlashings = d .closingSlashings;
-      amounts = d .amounts;
-      orders = out .orders;
-    }) (o .holds ∙ ap takeOrder h)
+one c d (ofStep s) h = ap (λ (out : StepOutcome). afterStep d out) (s .holds ∙ ap storeStep h)
+one c d (ofOrder o) h = ap (λ (out : OrderOutcome). afterOrder d out) (o .holds ∙ ap takeOrder h)
 
 pub all-acts : (c : StoreCall) (d : Desk) (calls : List ActCame) → Chained c d calls → afterAll d calls ≡ acts c d (map actOf calls)
 unfolding acts

@@ -159,7 +159,8 @@ pub extern "C" fn altair_get_block_root(
     state_slot: u64,
     epoch: u64,
 ) -> PlainRoot
-    ensures { λ r. ⌜ r ≡ plainRoot (afterTests (rootTests s (now (roots .entry)) «state_slot») («get_block_root» s (now (roots .entry)) «state_slot» epoch)) ⌝ }
+    ensures { λ r. ⌜
+        r ≡ plainRoot (afterTests (rootTests s (now (roots .entry)) «state_slot») («get_block_root» s (now (roots .entry)) «state_slot» epoch)) ⌝ }
 {
     let refusal = epochs::roots::get_block_root_refusal(s, roots, state_slot, epoch);
     plain_root(

@@ -39,7 +39,8 @@ fn put_row(
 ) -> usize
     requires { ⌜ at + (length (now a) + length (now b) + length (now c) + length (now d) + length (now e)) + 100 ≤ length (now text) ⌝ }
     ensures { λ r. ⌜
-        Put (now (text .entry)) at (row (now (a .entry)) k (now (b .entry)) l (now (c .entry)) m (now (d .entry)) n (now (e .entry)) o) (now (text .exit)) r ⌝ }
+        Put (now (text .entry)) at (row (now (a .entry)) k (now (b .entry)) l (now (c .entry)) m (now (d .entry)) n (now (e .entry)) o)
+        (now (text .exit)) r ⌝ }
     ensures { λ r. ⌜
         r ≤ at + (length (now (a .entry)) + length (now (b .entry)) + length (now (c .entry)) + length (now (d .entry)) + length (now (e .entry))) + 100 ⌝ }
 {

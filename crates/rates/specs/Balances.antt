@@ -10,8 +10,8 @@ use Rattle.definitions.specs.declared.Settings.{Settings}
 use Rattle.definitions.specs.Checked.{Checked, value, refused, numberOf, bind, add64, foldChecked}
 use Rattle.definitions.specs.Answers.{Answers}
 use Rattle.definitions.specs.Record.{Validator, decodeOne}
-use Rattle.definitions.specs.Rust.Altair.Helpers.{«TIMELY_SOURCE_FLAG_INDEX», «TIMELY_TARGET_FLAG_INDEX», «TIMELY_HEAD_FLAG_INDEX», FlagTotals, flagIndexDeltas, inactivityPenaltyDeltas}
-use Rattle.definitions.specs.Rust.Altair.EpochProcessing.{rewardAndPenalize}
+use Rattle.definitions.specs.Rust.Altair.Helpers.{FlagTotals, flagIndexDeltas, inactivityPenaltyDeltas}
+use Rattle.definitions.specs.Rust.Altair.EpochProcessing.{allDeltas, rewardAndPenalize}
 use Rattle.laws.specs.Ran.{Settles}
 use Rattle.rates.specs.declared.reward_balances.Pairs.{Pairs}
 use Rattle.rates.specs.declared.reward_balances.PairsAnswer.{PairsAnswer}
@@ -22,12 +22,7 @@ appliedBalance balance d = bind (add64 balance (d .reward)) (λ raised. value (c
 
 unfoldable pub rewardedBalance : Settings → ℕ → ℕ → ℕ → FlagTotals → FlagTotals → FlagTotals → Validator → Checked ℕ
 rewardedBalance s quotient currentEpoch previousEpoch source target head v =
-    let deltas = flagIndexDeltas s currentEpoch previousEpoch in
-    bind (deltas «TIMELY_SOURCE_FLAG_INDEX» source v) (λ a.
-    bind (deltas «TIMELY_TARGET_FLAG_INDEX» target v) (λ b.
-    bind (deltas «TIMELY_HEAD_FLAG_INDEX» head v) (λ c.
-    bind (inactivityPenaltyDeltas s quotient currentEpoch previousEpoch v) (λ d.
-    foldChecked appliedBalance (v .balance) (a ∷ b ∷ c ∷ d ∷ [])))))
+    bind (allDeltas s quotient currentEpoch previousEpoch source target head v) (foldChecked appliedBalance (v .balance))
 
 -- the four pairs of a validator, and an answer with them
 
@@ -41,7 +36,7 @@ pairsFor (refused r) = Refused (numberOf r)
 abbrev pub SaysPairs : Checked Pairs → PairsAnswer → Type 0
 SaysPairs m r = Answers pairsFor m r
 
--- `pairs` of definitions_close, Amounts.antt, as a struct
+-- `allDeltas` as a struct
 unfoldable pub fourOf : Settings → ℕ → ℕ → ℕ → FlagTotals → FlagTotals → FlagTotals → Validator → Checked Pairs
 fourOf s quotient current previous source target head v =
     bind (flagIndexDeltas s current previous 0 source v) (λ a.

@@ -40,7 +40,8 @@ pub struct Amount {
 }
 
 // Of an eligible validator of that effective balance: the reward for each flag that it hit, the penalty for each that it missed, and the
-// largest score by which the effective balance can be multiplied in 64 bits. `told` is 1 where they are those of `effective_balance`, and 0 where there are none yet.
+// largest score by which the effective balance can be multiplied in 64 bits. `told` is 1 where they are those of `effective_balance`, and 0
+// where there are none yet.
 pub struct Rates {
     pub effective_balance: u64,
     pub told: u64,

@@ -14,7 +14,8 @@ use Rattle.definitions.specs.declared.ExitQueue.{ExitQueue}
 use Rattle.definitions.specs.Lists.{all, filter, maximum, every}
 use Rattle.definitions.specs.Record.{decodeFirst, decode}
 use Rattle.definitions.specs.Checked.{value, refused, badFile, bind}
-use Rattle.definitions.specs.Refusals.{inOrder, settingsNumbers, settingsShaped, registryShaped, goodSettings, goodFinality, goodValidator, goodRegistry}
+use Rattle.definitions.specs.Mainnet.{mainnet}
+use Rattle.definitions.specs.Refusals.{inOrder, settingsNumbers, settingsFrom, settingsShaped, registryShaped, goodSettings, goodFinality, goodValidator, goodRegistry}
 use Rattle.definitions.specs.ExitQueue.{queueOf, isQueueOf, queueTest}
 use Rattle.definitions_file.specs.File.{Contents, header, finalityToBytes, queueToBytes, queueIn, readTests, readFile, littleEndian, fromLittleEndian, numbersToBytes, numbersFromBytes, contentsOf, fileOf, sameNumbers, goodHeader, fileShaped, badPlace, stoppedAt, position, writeTests}
 use Rattle.laws.proofs.Tests.{both}
@@ -33,28 +34,7 @@ below-by n (x ∷ xs) e =
 
 -- mainnet's settings, but one root and one slashing
 abbrev settings : Settings
-settings =
-    record {
-      «slots_per_epoch» = 32;
-      «slots_per_historical_root» = 1;
-      «epochs_per_slashings_vector» = 1;
-      «effective_balance_increment» = 1000000000;
-      «max_effective_balance» = 32000000000;
-      «hysteresis_quotient» = 4;
-      «hysteresis_downward_multiplier» = 1;
-      «hysteresis_upward_multiplier» = 5;
-      «base_reward_factor» = 64;
-      «min_epochs_to_inactivity_penalty» = 4;
-      «inactivity_score_bias» = 4;
-      «inactivity_score_recovery_rate» = 16;
-      «inactivity_penalty_quotient_altair» = 50331648;
-      «proportional_slashing_multiplier_altair» = 2;
-      «max_seed_lookahead» = 4;
-      «min_validator_withdrawability_delay» = 256;
-      «ejection_balance» = 16000000000;
-      «min_per_epoch_churn_limit» = 4;
-      «churn_limit_quotient» = 65536;
-    }
+settings = settingsFrom (32 ∷ 1 ∷ 1 ∷ drop 3 (settingsNumbers mainnet))
 
 abbrev checkpoint : ℕ → Checkpoint
 checkpoint e = record { epoch = e; root = replicate 32 e }

@@ -26,6 +26,7 @@ use Rattle.selection.proofs.Waiting.{smallest-kept}
 use Rattle.exit_queue.specs.Queue.{Tracks}
 use Rattle.exit_queue.proofs.Tracks.{tracks-none, tracks-last, tracks-few}
 use Rattle.survey.specs.declared.Sums.{Sums}
+use Rattle.survey.specs.declared.Overs.{Overs}
 use Rattle.survey.specs.declared.Findings.{Findings}
 use Rattle.survey.specs.Sums.{weight, activeAt, PlainSums}
 use Rattle.survey.specs.Found.{PlainSum, Finds, overAfter, foundAfter, allFit}
@@ -114,8 +115,9 @@ pub record Found (current previous : ℕ) (us : List Validator) (r : Findings) :
 
 abbrev pub nothing : Findings
 nothing =
-    let none : Sums = record { active = 0; source = 0; target = 0; head = 0; «current_target» = 0 } in
-    record { refusal = 0; sums = none; over = none; active = 0; queue = record { «last_epoch» = 0; number = 0 } }
+    let sums : Sums = record { active = 0; source = 0; target = 0; head = 0; «current_target» = 0 } in
+    let over : Overs = record { active = 0; source = 0; target = 0; head = 0; «current_target» = 0 } in
+    record { refusal = 0; sums = sums; over = over; active = 0; queue = record { «last_epoch» = 0; number = 0 } }
 
 found-none : (current previous : ℕ) → Found current previous [] nothing
 unfolding all filter

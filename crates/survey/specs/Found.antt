@@ -15,6 +15,7 @@ use Rattle.agreement.specs.Cut.{eligibleNow}
 use Rattle.selection.specs.Keep.{Smallest}
 use Rattle.exit_queue.specs.Queue.{Tracks, joined}
 use Rattle.survey.specs.declared.Sums.{Sums}
+use Rattle.survey.specs.declared.Overs.{Overs}
 use Rattle.survey.specs.declared.Findings.{Findings}
 use Rattle.survey.specs.Sums.{activeAt, sumsOf, balanceOf}
 use Rattle.definitions.specs.Lists.{every}
@@ -51,7 +52,7 @@ sumsAfter t own =
       «current_target» = (t .«current_target» + own .«current_target») % 2 ^ 64;
     }
 
-abbrev pub oversAfter : Sums → Sums → Sums → Sums
+abbrev pub oversAfter : Overs → Sums → Sums → Overs
 oversAfter over t own =
     record {
       active = overAfter (over .active) (t .active) (own .active);
@@ -72,6 +73,6 @@ foundAfter current previous r v =
     }
 
 -- whether no sum has left 64 bits
-unfoldable pub allFit : Sums → Bool
+unfoldable pub allFit : Overs → Bool
 allFit over =
     every (eqb (over .active) 0 ∷ eqb (over .source) 0 ∷ eqb (over .target) 0 ∷ eqb (over .head) 0 ∷ eqb (over .«current_target») 0 ∷ [])

@@ -10,6 +10,7 @@ use Rattle.definitions.specs.Record.{Validator}
 use Rattle.definitions.specs.Rust.Phase0.Helpers.{«is_active_validator», «get_active_validator_indices», «get_total_balance»}
 use Rattle.definitions.specs.Rust.Altair.Helpers.{«TIMELY_SOURCE_FLAG_INDEX», «TIMELY_TARGET_FLAG_INDEX», «TIMELY_HEAD_FLAG_INDEX», isUnslashedParticipating}
 use Rattle.survey.specs.declared.Sums.{Sums}
+use Rattle.survey.specs.declared.Totals.{Totals}
 
 -- a validator's weight where it passes a test
 abbrev pub weight : (Validator → Bool) → Validator → ℕ
@@ -41,20 +42,18 @@ pub record PlainSums (current previous : ℕ) (vs : List Validator) (t : Sums) :
   pub head : balanceOf (isUnslashedParticipating current «TIMELY_HEAD_FLAG_INDEX» previous) vs ≡ value (t .head)
   pub «current_target» : balanceOf (isUnslashedParticipating current «TIMELY_TARGET_FLAG_INDEX» current) vs ≡ value (t .«current_target»)
 
-abbrev pub raisedTo : ℕ → Sums → Sums
+abbrev pub raisedTo : ℕ → Sums → Totals
 raisedTo increment t =
     record {
       active = max increment (t .active);
       source = max increment (t .source);
       target = max increment (t .target);
       head = max increment (t .head);
-      «current_target» = max increment (t .«current_target»);
     }
 
 -- t holds the totals, none of which leaves 64 bits
-pub record Totals (s : Settings) (current previous : ℕ) (vs : List Validator) (t : Sums) : Type 0 where
+pub record TotalsOf (s : Settings) (current previous : ℕ) (vs : List Validator) (t : Totals) : Type 0 where
   pub active : «get_total_balance» s («get_active_validator_indices» vs current) ≡ value (t .active)
   pub source : «get_total_balance» s (filter (isUnslashedParticipating current «TIMELY_SOURCE_FLAG_INDEX» previous) vs) ≡ value (t .source)
   pub target : «get_total_balance» s (filter (isUnslashedParticipating current «TIMELY_TARGET_FLAG_INDEX» previous) vs) ≡ value (t .target)
   pub head : «get_total_balance» s (filter (isUnslashedParticipating current «TIMELY_HEAD_FLAG_INDEX» previous) vs) ≡ value (t .head)
-  pub «current_target» : «get_total_balance» s (filter (isUnslashedParticipating current «TIMELY_TARGET_FLAG_INDEX» current) vs) ≡ value (t .«current_target»)

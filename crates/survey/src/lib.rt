@@ -39,6 +39,23 @@ pub struct Sums {
     pub current_target: u64,
 }
 
+// Of each of these sums 1 where it has left 64 bits, and else 0.
+pub struct Overs {
+    pub active: u64,
+    pub source: u64,
+    pub target: u64,
+    pub head: u64,
+    pub current_target: u64,
+}
+
+// The totals that the steps after justification go by: each sum, or one increment where that is more.
+pub struct Totals {
+    pub active: u64,
+    pub source: u64,
+    pub target: u64,
+    pub head: u64,
+}
+
 fn weight_where(on: bool, weight: u64) -> u64
     ensures { λ r. ⌜ r ≡ cond on weight 0 ⌝ }
 {
@@ -75,25 +92,23 @@ fn entry_sums(current_epoch: u64, previous_epoch: u64, entry: &[u64]) -> Sums
     }
 }
 
-// The totals: each sum is at least one increment.
-pub fn totals(sums: Sums, increment: u64) -> Sums
+pub fn raised_totals(sums: Sums, increment: u64) -> Totals
     ensures { λ r. ⌜ r ≡ raisedTo increment sums ⌝ }
 {
-    Sums {
+    Totals {
         active: raised(sums.active, increment),
         source: raised(sums.source, increment),
         target: raised(sums.target, increment),
         head: raised(sums.head, increment),
-        current_target: raised(sums.current_target, increment),
     }
 }
 
-// What one pass over the opening registry finds. A plain sum is a number where its `over` is 0, and has left 64 bits where it is 1. The pair of
-// the exit queue is the record's: the largest exit epoch below FAR, or 0, and how many have exactly it.
+// What one pass over the opening registry finds. A plain sum is a number where its `over` is 0. The pair of the exit queue is the record's:
+// the largest exit epoch below FAR, or 0, and how many have exactly it.
 pub struct Findings {
     pub refusal: u64,
     pub sums: Sums,
-    pub over: Sums,
+    pub over: Overs,
     pub active: u64,
     pub queue: ExitQueue,
 }
@@ -119,10 +134,10 @@ fn sums_after(t: Sums, own: Sums) -> Sums
     }
 }
 
-fn overs_after(over: Sums, t: Sums, own: Sums) -> Sums
+fn overs_after(over: Overs, t: Sums, own: Sums) -> Overs
     ensures { λ r. ⌜ r ≡ oversAfter over t own ⌝ }
 {
-    Sums {
+    Overs {
         active: over_after(over.active, t.active, own.active),
         source: over_after(over.source, t.source, own.source),
         target: over_after(over.target, t.target, own.target),
@@ -196,6 +211,18 @@ fn no_sums() -> Sums
     }
 }
 
+fn no_overs() -> Overs
+    ensures { λ r. ⌜ r ≡ record { active = 0; source = 0; target = 0; head = 0; «current_target» = 0 } ⌝ }
+{
+    Overs {
+        active: 0,
+        source: 0,
+        target: 0,
+        head: 0,
+        current_target: 0,
+    }
+}
+
 // The one survey of a close. It never refuses: test 3 of every entry is among what it finds. `kept`, lent with FAR in its 64 places, is left
 // with the smallest epochs since which one waits for activation, those that become eligible in this close among them; the finalized epoch,
 // which is not known yet, cuts a prefix of them later.
@@ -216,7 +243,7 @@ pub fn survey_registry(
     let mut found = Findings {
         refusal: 0,
         sums: no_sums(),
-        over: no_sums(),
+        over: no_overs(),
         active: 0,
         queue: ExitQueue {
             last_epoch: 0,
@@ -237,7 +264,7 @@ pub fn survey_registry(
     found
 }
 
-pub fn all_fit(over: Sums) -> bool
+pub fn all_fit(over: Overs) -> bool
     ensures { λ r. ⌜ r ≡ allFit over ⌝ }
 {
     all_pass(

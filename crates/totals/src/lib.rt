@@ -172,7 +172,8 @@ pub fn participating_total(
 ) -> TotalAnswer
     requires { ⌜ length (now registry) ≡ 10 * (length (now registry) / 10) ⌝ }
     requires { ⌜ «flag_index» ≤ 7 ⌝ }
-    ensures { λ r. ⌜ SaysTotal (totalWithRaised s (filter (isUnslashedParticipating «current_epoch» «flag_index» epoch) (decode (now (registry .entry))))) r ⌝ }
+    ensures { λ r. ⌜
+        SaysTotal (totalWithRaised s (filter (isUnslashedParticipating «current_epoch» «flag_index» epoch) (decode (now (registry .entry))))) r ⌝ }
 {
     let members = Members::Participating {
         current_epoch: current_epoch,

@@ -12,13 +12,13 @@ use Rattle.definitions.specs.Updates.{withScore, withBalance}
 use Rattle.definitions.specs.Checked.{Checked, value, refused, bind, add64, foldChecked}
 use Rattle.definitions.specs.Rust.Phase0.EpochProcessing.{isEligible}
 use Rattle.definitions.specs.Rust.Altair.Helpers.{FlagTotals, isUnslashedParticipating}
-use Rattle.definitions.specs.Rust.Altair.EpochProcessing.{movedScore, recoveredScore, updateInactivityScore, rewardAndPenalize}
-use Rattle.definitions_close.specs.Amounts.{pairs, booked}
+use Rattle.definitions.specs.Rust.Altair.EpochProcessing.{movedScore, recoveredScore, updateInactivityScore, allDeltas, rewardAndPenalize}
+use Rattle.definitions_close.specs.Amounts.{booked}
 use Rattle.arithmetic.proofs.Laws.{bind-value}
 use Rattle.laws.proofs.Checked.{not-value, value-same, bound, add64-value, add64-below}
 use Rattle.rates.specs.declared.reward_balances.Pairs.{Pairs}
 use Rattle.rates.specs.Balances.{appliedBalance, rewardedBalance, four, fourOf}
-use Rattle.rates.proofs.reward_balances.Paired.{four-first, balance-by}
+use Rattle.rates.proofs.reward_balances.Paired.{deltas-four, balance-by}
 use Rattle.rates.proofs.reward_balances.Rewarded.{rewarded, not-rewarded}
 use Rattle.rewards.specs.Shared.{totalsOf}
 use Rattle.write_turn.specs.declared.Plan.{Plan}
@@ -48,11 +48,6 @@ applied balance (d ∷ ds) {x} e =
     let next : a .first ≡ balance + d .reward - min (balance + d .reward) (d .penalty) = sym (value-same (b .then)) ∙ lowered (b .first) (d .penalty) ∙ ap (λ (k : ℕ). k - min k (d .penalty)) (sym raised) in
     let rest = applied (balance + d .reward - min (balance + d .reward) (d .penalty)) ds (rw next at (a .then)) in
     record { fits = (add64-below balance (d .reward) (b .gave), rest .fits); is = rest .is }
-
--- `pairs` as a struct's list
-pub pairs-four : (s : Settings) (quotient current previous : ℕ) (source target head : FlagTotals) (v : Validator) → pairs s quotient current previous source target head v ≡ bind (fourOf s quotient current previous source target head v) (λ p. value (four p))
-unfolding pairs fourOf
-pairs-four s quotient current previous source target head v = four-first _ _ _ _ (λ x y z w. value (x ∷ y ∷ z ∷ w ∷ []))
 
 -- Scores write the score alone, rewards the balance alone
 
@@ -132,14 +127,14 @@ module _ {s : Settings} {p : Plan} {v w : Validator} (b : Between s p v w) (n : 
   -- by the pairs that the code has
   module _ {r : Pairs} (g : Gives s p (w .«inactivity_score») v r) where
     record Four : Type 0 where
-      given : pairs s (p .quotient) current previous source target head scored ≡ value (four r)
+      given : allDeltas s (p .quotient) current previous source target head scored ≡ value (four r)
       applies : foldChecked appliedBalance (v .balance) (four r) ≡ value (b .paid .balance)
 
     four-given : Four
     four-given =
         let k = bound (fourOf s (p .quotient) current previous source target head scored) _ (sym (balance-by s (p .quotient) current previous source target head scored) ∙ known .rewards) in
         let same = g .is (k .first) (k .gave) in
-        record { given = pairs-four s (p .quotient) current previous source target head scored ∙ bind-value _ (k .gave) ∙ ap (λ (x : Pairs). value (four x)) (sym same); applies = rw same (k .then) }
+        record { given = deltas-four s (p .quotient) current previous source target head scored ∙ bind-value _ (k .gave) ∙ ap (λ (x : Pairs). value (four x)) (sym same); applies = rw same (k .then) }
 
     pub paid-fits : Fits (v .balance) (four r)
     paid-fits = applied (v .balance) (four r) (four-given .applies) .fits

@@ -10,7 +10,8 @@ use Rattle.definitions.specs.declared.Deltas.{Deltas}
 use Rattle.definitions.specs.Record.{Validator, decode, nobody}
 use Rattle.definitions.specs.Updates.{withScore}
 use Rattle.definitions.specs.Checked.{Checked, value, bind, settle}
-use Rattle.definitions_close.specs.Amounts.{pairs, booked}
+use Rattle.definitions.specs.Rust.Altair.EpochProcessing.{allDeltas}
+use Rattle.definitions_close.specs.Amounts.{booked}
 use Rattle.rewards.specs.Shared.{totalsOf}
 use Rattle.rates.specs.declared.reward_balances.Pairs.{Pairs}
 use Rattle.rates.specs.Balances.{fourOf}
@@ -44,7 +45,7 @@ Fits balance (d ∷ ds) = (balance + d .reward < 2 ^ 64) × Fits (balance + d .r
 unfoldable pub eightBy : Settings → Plan → Validator → Checked (List ℕ)
 eightBy s p v =
     let h = p .shared in
-    let of = pairs s (p .quotient) (h .«current_epoch») (h .«previous_epoch») (totalsOf h (p .source)) (totalsOf h (p .target)) (totalsOf h (p .head)) in
+    let of = allDeltas s (p .quotient) (h .«current_epoch») (h .«previous_epoch») (totalsOf h (p .source)) (totalsOf h (p .target)) (totalsOf h (p .head)) in
     cond (eqb (h .«current_epoch») 0) (value (replicate 8 0))
     (bind (scoredBy s p v) (λ scored. bind (of scored) (λ ds. value (booked (scored .balance) ds))))
 

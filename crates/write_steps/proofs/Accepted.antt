@@ -36,6 +36,7 @@ use Rattle.slashings.proofs.Adjusted.{slashings-by}
 use Rattle.balances.specs.Thresholds.{thresholdsOf}
 use Rattle.balances.proofs.effective_balances.Step.{updates-by}
 use Rattle.survey.specs.declared.Sums.{Sums}
+use Rattle.survey.specs.declared.Totals.{Totals}
 use Rattle.survey.specs.Sums.{weight, activeAt, balanceOf, PlainSums}
 use Rattle.write_steps.specs.RegistrySteps.{registrySteps}
 use Rattle.write_steps.specs.Numbers.{leakOf, Lacks, noLeak, noAdjusted, noThresholds}
@@ -86,7 +87,7 @@ pub record Accepted (s : Settings) (slot fin : ℕ) (slashings : List ℕ) (vs :
   pub adjusted : (total : ℕ) → Gave (adjustedBalance (s .«proportional_slashing_multiplier_altair») total slashings)
   pub thresholds : Gave (thresholdsOf s)
 
-pub none-lacks : {s : Settings} {slot fin : ℕ} {t : Sums} {slashings : List ℕ} {vs : List Validator} → Accepted s slot fin slashings vs → Lacks s slot fin t slashings → ⊥
+pub none-lacks : {s : Settings} {slot fin : ℕ} {t : Totals} {slashings : List ℕ} {vs : List Validator} → Accepted s slot fin slashings vs → Lacks s slot fin t slashings → ⊥
 none-lacks g (noLeak e) = none-gave e (g .leak)
 none-lacks g (noAdjusted e) = none-gave e (g .adjusted _)
 none-lacks g (noThresholds e) = none-gave e (g .thresholds)

@@ -16,8 +16,8 @@ use Rattle.laws.proofs.Checked.{not-value, value-same, bound}
 use Rattle.laws.proofs.Loops.Filtered.{sum64-filter}
 use Rattle.rates.specs.Balances.{rewardedBalance}
 use Rattle.rates.proofs.reward_balances.Rewarded.{rewarded, not-rewarded}
-use Rattle.survey.specs.declared.Sums.{Sums}
-use Rattle.survey.specs.Sums.{weight, activeAt, Totals}
+use Rattle.survey.specs.declared.Totals.{Totals}
+use Rattle.survey.specs.Sums.{weight, activeAt, TotalsOf}
 use Rattle.laws.proofs.Frame.Entries.{kept-map, Keeps}
 
 -- a validator but for its balance and score
@@ -50,7 +50,7 @@ module _ (f : Validator → Checked Validator) (vs : List Validator) {ws : List 
   kept-total s p k =
       rw (sum64-filter p (λ v. v .«effective_balance») ws, sum64-filter p (λ v. v .«effective_balance») vs, kept-map f (weight p) k vs e)
 
-  pub totals-kept : Keeps f bare → (s : Settings) (current previous : ℕ) {t : Sums} → Totals s current previous vs t → Totals s current previous ws t
+  pub totals-kept : Keeps f bare → (s : Settings) (current previous : ℕ) {t : Totals} → TotalsOf s current previous vs t → TotalsOf s current previous ws t
   unfolding isUnslashedParticipating «is_active_validator» «get_active_validator_indices»
   totals-kept k s current previous t =
       record {
@@ -58,5 +58,4 @@ module _ (f : Validator → Checked Validator) (vs : List Validator) {ws : List 
         source = kept-total s (isUnslashedParticipating current 0 previous) (λ v w q. ap (weight (isUnslashedParticipating current 0 previous)) (k v w q)) ∙ t .source;
         target = kept-total s (isUnslashedParticipating current 1 previous) (λ v w q. ap (weight (isUnslashedParticipating current 1 previous)) (k v w q)) ∙ t .target;
         head = kept-total s (isUnslashedParticipating current 2 previous) (λ v w q. ap (weight (isUnslashedParticipating current 2 previous)) (k v w q)) ∙ t .head;
-        «current_target» = kept-total s (isUnslashedParticipating current 1 current) (λ v w q. ap (weight (isUnslashedParticipating current 1 current)) (k v w q)) ∙ t .«current_target»;
       }

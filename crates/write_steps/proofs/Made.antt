@@ -24,6 +24,7 @@ use Rattle.slashings.specs.Adjusted.{adjustedBalance}
 use Rattle.balances.specs.declared.effective_balances.Thresholds.{Thresholds}
 use Rattle.balances.specs.Thresholds.{thresholdsOf}
 use Rattle.survey.specs.declared.Sums.{Sums}
+use Rattle.survey.specs.declared.Totals.{Totals}
 use Rattle.survey.specs.declared.Findings.{Findings}
 use Rattle.survey.specs.Sums.{balanceOf, PlainSums, raisedTo}
 use Rattle.survey.specs.Found.{PlainSum, Finds, allFit}
@@ -54,7 +55,7 @@ module _ {s : Settings} {current previous : ℕ} {xs kept : List ℕ} {r : Findi
       rw (zero-over (h .active) (g .active), zero-over (h .source) (g .source), zero-over (h .target) (g .target), zero-over (h .head) (g .head), zero-over (h .«current_target») (g .«current_target»))
 
 -- what the steps ask for, where no sum has gone over
-pub found-all : (s : Settings) (slot fin : ℕ) → Epochs s slot → (xs : List ℕ) {kept : List ℕ} {r : Findings} → Finds s («get_current_epoch» s slot) («get_previous_epoch» s slot) xs kept r → allFit (r .over) ≡ true → {t : Sums} → t ≡ raisedTo (s .«effective_balance_increment») (r .sums) → {limit : ℕ} → limit ≡ max (s .«min_per_epoch_churn_limit») (r .active / s .«churn_limit_quotient») → {q : ExitQueue} → q ≡ startPair (leastExit s («get_current_epoch» s slot)) (r .queue) → {bound quota : ℕ} → CutAt limit fin (eligibleNow s («get_current_epoch» s slot) (decode xs)) bound quota → Found s slot fin (decode xs) t limit q bound quota
+pub found-all : (s : Settings) (slot fin : ℕ) → Epochs s slot → (xs : List ℕ) {kept : List ℕ} {r : Findings} → Finds s («get_current_epoch» s slot) («get_previous_epoch» s slot) xs kept r → allFit (r .over) ≡ true → {t : Totals} → t ≡ raisedTo (s .«effective_balance_increment») (r .sums) → {limit : ℕ} → limit ≡ max (s .«min_per_epoch_churn_limit») (r .active / s .«churn_limit_quotient») → {q : ExitQueue} → q ≡ startPair (leastExit s («get_current_epoch» s slot)) (r .queue) → {bound quota : ℕ} → CutAt limit fin (eligibleNow s («get_current_epoch» s slot) (decode xs)) bound quota → Found s slot fin (decode xs) t limit q bound quota
 unfolding «get_validator_churn_limit»
 found-all s slot fin ep xs h fit t l q cut =
     record {
@@ -65,7 +66,7 @@ found-all s slot fin ep xs h fit t l q cut =
     }
 
 -- The plan, or that there is none
-module _ {s : Settings} {slot fin : ℕ} {t : Sums} {ys : List ℕ} where
+module _ {s : Settings} {slot fin : ℕ} {t : Totals} {ys : List ℕ} where
   pub plan-made : {leaking : Bool} → leakOf s slot fin ≡ value leaking → {adjusted : ℕ} → adjustedBalance (s .«proportional_slashing_multiplier_altair») (t .active) ys ≡ value adjusted → {thresholds : Thresholds} → thresholdsOf s ≡ value thresholds → {p : Plan} → Makes s («get_current_epoch» s slot) («get_previous_epoch» s slot) leaking t adjusted (thresholds .downward) (thresholds .upward) p → Plans s slot fin t ys (Value p)
   plan-made {leaking} l {adjusted} a {thresholds} h {p} m =
       let by : PlanFor s slot fin t ys p = record { leaking = leaking; adjusted = adjusted; thresholds = thresholds; leak = l; times = a; limits = h; makes = m } in

@@ -14,8 +14,8 @@ use Rattle.definitions.specs.Rust.Altair.EpochProcessing.{updateInactivityScore
 use Rattle.rewards_step.specs.Totals.{flagTotalsOf}
 use Rattle.write_turn.specs.Runs.{both}
 use Rattle.write_turn.proofs.Sweeps.Pure.{fused}
-use Rattle.survey.specs.declared.Sums.{Sums}
-use Rattle.survey.specs.Sums.{Totals}
+use Rattle.survey.specs.declared.Totals.{Totals}
+use Rattle.survey.specs.Sums.{TotalsOf}
 use Rattle.write_steps.proofs.Kept.{score-keeps, totals-kept}
 use Rattle.write_steps.proofs.Only.{only-score, only-reward}
 
@@ -38,16 +38,16 @@ module _ (s : Settings) (quotient stateSlot finalizedEpoch : ℕ) {current : ℕ
       unfolding «process_inactivity_updates» bind
       scores vs = rw (← e, ← p, ne-eqb _ _ n, leak)
 
-      module _ (t : Sums) where
+      module _ (t : Totals) where
         abbrev pub rewardsBy : Validator → Checked Validator
         rewardsBy = rewardAndPenalize s quotient current previous (flagTotalsOf s (t .source) (t .active) leaking) (flagTotalsOf s (t .target) (t .active) leaking) (flagTotalsOf s (t .head) (t .active) leaking)
 
-        rewards : {vs : List Validator} → Totals s current previous vs t → «process_rewards_and_penalties» s quotient stateSlot finalizedEpoch vs ≡ mapChecked rewardsBy vs
+        rewards : {vs : List Validator} → TotalsOf s current previous vs t → «process_rewards_and_penalties» s quotient stateSlot finalizedEpoch vs ≡ mapChecked rewardsBy vs
         unfolding «process_rewards_and_penalties» flagTotals «get_unslashed_participating_indices» «get_total_active_balance» bind
         rewards h = rw (← e, ← p, ne-eqb _ _ n, h .source, h .active, leak, h .target, h .head)
 
         -- the rewards read the totals of the registry that the scores left, which are the opening's
-        pub one-pass : {vs : List Validator} → Totals s current previous vs t → scoredAndRewarded vs ≡ mapChecked (both (updateInactivityScore s current previous leaking) rewardsBy) vs
+        pub one-pass : {vs : List Validator} → TotalsOf s current previous vs t → scoredAndRewarded vs ≡ mapChecked (both (updateInactivityScore s current previous leaking) rewardsBy) vs
         unfolding bind
         one-pass {vs} h = rw (scores vs) (go (mapChecked f vs) refl ∙ sym (fused (only-score s current previous leaking) (only-reward s quotient current previous _ _ _) vs))
           where

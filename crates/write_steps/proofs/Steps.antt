@@ -28,8 +28,8 @@ use Rattle.exit_queue.specs.Queue.{Tracks}
 use Rattle.slashings.specs.Adjusted.{adjustedBalance}
 use Rattle.balances.specs.declared.effective_balances.Thresholds.{Thresholds}
 use Rattle.balances.specs.Thresholds.{thresholdsOf}
-use Rattle.survey.specs.declared.Sums.{Sums}
-use Rattle.survey.specs.Sums.{Totals}
+use Rattle.survey.specs.declared.Totals.{Totals}
+use Rattle.survey.specs.Sums.{TotalsOf}
 use Rattle.write_turn.specs.Sweep.{sweep, dropped}
 use Rattle.write_turn.specs.declared.Plan.{Plan}
 use Rattle.write_turn.specs.Planned.{paidBy, lastBy}
@@ -60,7 +60,7 @@ grouped : (s : Settings) (stateSlot finalizedEpoch : ℕ) (slashings : List ℕ)
 unfolding registrySteps lastSteps
 grouped s stateSlot finalizedEpoch slashings vs = sym (bind-bind _ _ _)
 
-module _ (s : Settings) (slot fin : ℕ) (ep : Epochs s slot) (totals : Sums) (leaking : Bool) (a b c : Number) (adjusted : ℕ) (thresholds : Thresholds) where
+module _ (s : Settings) (slot fin : ℕ) (ep : Epochs s slot) (totals : Totals) (leaking : Bool) (a b c : Number) (adjusted : ℕ) (thresholds : Thresholds) where
   abbrev current : ℕ
   current = «get_current_epoch» s slot
 
@@ -76,7 +76,7 @@ module _ (s : Settings) (slot fin : ℕ) (ep : Epochs s slot) (totals : Sums) (l
   abbrev pub plan : Plan
   plan = planOf s current previous leaking totals a b c adjusted (thresholds .downward) (thresholds .upward)
 
-  pub pays : (vs : List Validator) → Totals s current previous vs totals → ((current ≡ 0 → ⊥) → «is_in_inactivity_leak» s slot fin ≡ value leaking) → bind («process_inactivity_updates» s slot fin vs) («process_rewards_and_penalties» s quotient slot fin) ≡ mapChecked (payOf s plan) vs
+  pub pays : (vs : List Validator) → TotalsOf s current previous vs totals → ((current ≡ 0 → ⊥) → «is_in_inactivity_leak» s slot fin ≡ value leaking) → bind («process_inactivity_updates» s slot fin vs) («process_rewards_and_penalties» s quotient slot fin) ≡ mapChecked (payOf s plan) vs
   unfolding bind
   pays vs h leak = go (eqb current 0) refl
     where
@@ -108,7 +108,7 @@ module _ (s : Settings) (slot fin : ℕ) (ep : Epochs s slot) (totals : Sums) (l
     unfolding bind
     lastly updated h = as-one s multiplier slot (totals .active) slashings updated h ∙ rw (times, limits)
 
-    pub steps-are : (t : Course) (q : ExitQueue) (quota : ℕ) (vs : List Validator) → Totals s current previous vs totals → ((current ≡ 0 → ⊥) → «is_in_inactivity_leak» s slot fin ≡ value leaking) → t .«finalized_epoch» ≡ fin → t .«activation_epoch» ≡ leastExit s current → «get_validator_churn_limit» s slot vs ≡ t .limit → Tracks (leastExit s current) vs q → CutAt (t .limit) (t .«finalized_epoch») (eligibleNow s current vs) (t .bound) quota → registrySteps s slot fin slashings vs ≡ dropped (sweep (writtenWith s plan t) (q, quota) vs)
+    pub steps-are : (t : Course) (q : ExitQueue) (quota : ℕ) (vs : List Validator) → TotalsOf s current previous vs totals → ((current ≡ 0 → ⊥) → «is_in_inactivity_leak» s slot fin ≡ value leaking) → t .«finalized_epoch» ≡ fin → t .«activation_epoch» ≡ leastExit s current → «get_validator_churn_limit» s slot vs ≡ t .limit → Tracks (leastExit s current) vs q → CutAt (t .limit) (t .«finalized_epoch») (eligibleNow s current vs) (t .bound) quota → registrySteps s slot fin slashings vs ≡ dropped (sweep (writtenWith s plan t) (q, quota) vs)
     unfolding bind «get_total_active_balance»
     steps-are t q quota vs h leak isFin isLeast churn tracks cut =
         grouped s slot fin slashings vs ∙ rw (pays vs h leak) (go (mapChecked (payOf s plan) vs) refl) ∙ sym (closing-is s plan t quota vs cut tracks)
@@ -132,7 +132,7 @@ module _ (s : Settings) (slot fin : ℕ) (ep : Epochs s slot) (totals : Sums) (l
 
 -- The same of what the code has: the numbers as they were told
 module _ {s : Settings} {slot fin : ℕ} (ep : Epochs s slot) (slashings : List ℕ) {vs : List Validator} where
-  pub steps-run : {t : Sums} {q : ExitQueue} (course : Course) {quota : ℕ} → Found s slot fin vs t (course .limit) q (course .bound) quota → course .«finalized_epoch» ≡ fin → course .«activation_epoch» ≡ leastExit s («get_current_epoch» s slot) → {p : Plan} → PlanFor s slot fin t slashings p → {xs : List ℕ} {r : ℕ} → Ran (dropped (sweep (writtenWith s p course) (q, quota) vs)) xs r → Ran (registrySteps s slot fin slashings vs) xs r
+  pub steps-run : {t : Totals} {q : ExitQueue} (course : Course) {quota : ℕ} → Found s slot fin vs t (course .limit) q (course .bound) quota → course .«finalized_epoch» ≡ fin → course .«activation_epoch» ≡ leastExit s («get_current_epoch» s slot) → {p : Plan} → PlanFor s slot fin t slashings p → {xs : List ℕ} {r : ℕ} → Ran (dropped (sweep (writtenWith s p course) (q, quota) vs)) xs r → Ran (registrySteps s slot fin slashings vs) xs r
   steps-run {t} {q} course {quota} found isFin isLeast {p} by {xs} {r} ran =
       let are = steps-are s slot fin ep t (by .leaking) (p .shared .«per_increment») (p .shared .denominator) (p .product) (by .adjusted) (by .thresholds) slashings (by .times) (by .limits) course q quota vs (found .totals) (λ n. sym (leak-some s slot fin n) ∙ by .leak) isFin isLeast (found .churn) (found .queue) (rw isFin (found .cut)) in
       subst (λ k. Ran k xs r) (ap (λ (p : Plan). dropped (sweep (writtenWith s p course) (q, quota) vs)) (by .makes .is) ∙ sym are) ran

@@ -15,8 +15,8 @@ use Rattle.agreement.specs.Cut.{CutAt, eligibleNow}
 use Rattle.definitions.specs.declared.ExitQueue.{ExitQueue}
 use Rattle.exit_queue.specs.Queue.{Tracks}
 use Rattle.registry.specs.Updates.{leastExit}
-use Rattle.survey.specs.declared.Sums.{Sums}
-use Rattle.survey.specs.Sums.{Totals}
+use Rattle.survey.specs.declared.Totals.{Totals}
+use Rattle.survey.specs.Sums.{TotalsOf}
 use Rattle.slashings.specs.Adjusted.{adjustedBalance}
 use Rattle.balances.specs.declared.effective_balances.Thresholds.{Thresholds}
 use Rattle.balances.specs.Thresholds.{thresholdsOf}
@@ -31,7 +31,7 @@ unfoldable pub leakOf : Settings → ℕ → ℕ → Checked Bool
 leakOf s slot finalizedEpoch = cond (eqb («get_current_epoch» s slot) 0) (value false) («is_in_inactivity_leak» s slot finalizedEpoch)
 
 -- the three that may have left 64 bits and be wanted by nobody are perIncrement, denominator and product
-abbrev pub planOf : Settings → ℕ → ℕ → Bool → Sums → Number → Number → Number → ℕ → ℕ → ℕ → Plan
+abbrev pub planOf : Settings → ℕ → ℕ → Bool → Totals → Number → Number → Number → ℕ → ℕ → ℕ → Plan
 planOf s current previous leaking t perIncrement denominator product adjusted downward upward =
     record {
       shared = record { «current_epoch» = current; «previous_epoch» = previous; total = t .active; leaking = leaking; «per_increment» = perIncrement; denominator = denominator };
@@ -45,12 +45,12 @@ planOf s current previous leaking t perIncrement denominator product adjusted do
       upward = upward;
     }
 
-pub record Makes (s : Settings) (current previous : ℕ) (leaking : Bool) (t : Sums) (adjusted downward upward : ℕ) (p : Plan) : Type 0 where
+pub record Makes (s : Settings) (current previous : ℕ) (leaking : Bool) (t : Totals) (adjusted downward upward : ℕ) (p : Plan) : Type 0 where
   pub planned : Planned s p
   pub is : p ≡ planOf s current previous leaking t (p .shared .«per_increment») (p .shared .denominator) (p .product) adjusted downward upward
 
 -- the leak, the adjusted balance and the thresholds of which p is made
-pub record PlanFor (s : Settings) (slot finalizedEpoch : ℕ) (t : Sums) (slashings : List ℕ) (p : Plan) : Type 0 where
+pub record PlanFor (s : Settings) (slot finalizedEpoch : ℕ) (t : Totals) (slashings : List ℕ) (p : Plan) : Type 0 where
   pub leaking : Bool
   pub adjusted : ℕ
   pub thresholds : Thresholds
@@ -60,27 +60,27 @@ pub record PlanFor (s : Settings) (slot finalizedEpoch : ℕ) (t : Sums) (slashi
   pub makes : Makes s («get_current_epoch» s slot) («get_previous_epoch» s slot) leaking t adjusted (thresholds .downward) (thresholds .upward) p
 
 -- one of the three has left 64 bits
-pub data Lacks (s : Settings) (slot finalizedEpoch : ℕ) (t : Sums) (slashings : List ℕ) : Type 0 where
+pub data Lacks (s : Settings) (slot finalizedEpoch : ℕ) (t : Totals) (slashings : List ℕ) : Type 0 where
   noLeak : leakOf s slot finalizedEpoch ≡ refused overflow → Lacks s slot finalizedEpoch t slashings
   noAdjusted : adjustedBalance (s .«proportional_slashing_multiplier_altair») (t .active) slashings ≡ refused overflow → Lacks s slot finalizedEpoch t slashings
   noThresholds : thresholdsOf s ≡ refused overflow → Lacks s slot finalizedEpoch t slashings
 
-pub record Plans (s : Settings) (slot finalizedEpoch : ℕ) (t : Sums) (slashings : List ℕ) (r : PlanAnswer) : Type 0 where
+pub record Plans (s : Settings) (slot finalizedEpoch : ℕ) (t : Totals) (slashings : List ℕ) (r : PlanAnswer) : Type 0 where
   pub given : (p : Plan) → r ≡ Value p → PlanFor s slot finalizedEpoch t slashings p
   pub none : (q : ℕ) → r ≡ Refused q → Lacks s slot finalizedEpoch t slashings
 
 -- What the steps ask of the whole registry, found before them
-pub record Found (s : Settings) (slot finalizedEpoch : ℕ) (vs : List Validator) (t : Sums) (limit : ℕ) (q : ExitQueue) (bound quota : ℕ) : Type 0 where
-  pub totals : Totals s («get_current_epoch» s slot) («get_previous_epoch» s slot) vs t
+pub record Found (s : Settings) (slot finalizedEpoch : ℕ) (vs : List Validator) (t : Totals) (limit : ℕ) (q : ExitQueue) (bound quota : ℕ) : Type 0 where
+  pub totals : TotalsOf s («get_current_epoch» s slot) («get_previous_epoch» s slot) vs t
   pub churn : «get_validator_churn_limit» s slot vs ≡ limit
   pub queue : Tracks (leastExit s («get_current_epoch» s slot)) vs q
   pub cut : CutAt limit finalizedEpoch (eligibleNow s («get_current_epoch» s slot) vs) bound quota
 
 -- What is booked: by the plan that the opening's totals make
 pub record BookedBy (s : Settings) (slot finalizedEpoch : ℕ) (slashings opening closing xs : List ℕ) : Type 0 where
-  pub totals : Sums
+  pub totals : Totals
   pub plan : Plan
-  pub summed : Totals s («get_current_epoch» s slot) («get_previous_epoch» s slot) (decode opening) totals
+  pub summed : TotalsOf s («get_current_epoch» s slot) («get_previous_epoch» s slot) (decode opening) totals
   pub planned : PlanFor s slot finalizedEpoch totals slashings plan
   pub filled : Filled s plan opening closing xs
 

@@ -28,9 +28,9 @@ use selection::Cut;
 use selection::queue_cut::cut_queue;
 use slashings::adjusted_balance;
 use survey::Findings;
-use survey::Sums;
+use survey::Totals;
 use survey::all_fit;
-use survey::totals;
+use survey::raised_totals;
 use totals::churn_by;
 use write_pass::write_all;
 use write_turn::Course;
@@ -52,7 +52,7 @@ fn make_plan(
     current_epoch: u64,
     previous_epoch: u64,
     leaking: bool,
-    totals: Sums,
+    totals: Totals,
     adjusted: u64,
     downward: u64,
     upward: u64,
@@ -91,7 +91,7 @@ fn plan_for(
     s: Settings,
     state_slot: u64,
     finalized_epoch: u64,
-    totals: Sums,
+    totals: Totals,
     slashings: &[u64],
 ) -> PlanAnswer
     requires { ⌜ (goodSettings s ≡ true) × (s .«effective_balance_increment» ≤ totals .active) ⌝ }
@@ -130,7 +130,7 @@ fn write_found(
     s: Settings,
     state_slot: u64,
     finalized_epoch: u64,
-    totals: Sums,
+    totals: Totals,
     limit: u64,
     queue: ExitQueue,
     cut: Cut,
@@ -183,7 +183,7 @@ pub fn write_registry(
     if !all_fit(found.over) {
         return 5;
     }
-    let totals = totals(found.sums, s.effective_balance_increment);
+    let totals = raised_totals(found.sums, s.effective_balance_increment);
     let epoch = current_epoch(s, state_slot);
     let limit = churn_by(s, found.active);
     let least = epoch + 1 + s.max_seed_lookahead;

@@ -12,8 +12,8 @@ use Rattle.definitions.specs.Record.{Validator, decodeOne, decode, nobody}
 use Rattle.definitions.specs.Checked.{overflow, Checked, value, refused, foldChecked}
 use Rattle.definitions.specs.Rust.Phase0.Helpers.{«get_current_epoch», «get_previous_epoch»}
 use Rattle.definitions.specs.Rust.Altair.Helpers.{FlagTotals, flagIndexDeltas, inactivityPenaltyDeltas}
-use Rattle.definitions.specs.Rust.Altair.EpochProcessing.{rewardAndPenalize}
-use Rattle.definitions_close.specs.Amounts.{eachChecked, pairs, booked, bookedByRewards, nines}
+use Rattle.definitions.specs.Rust.Altair.EpochProcessing.{allDeltas, rewardAndPenalize}
+use Rattle.definitions_close.specs.Amounts.{eachChecked, booked, bookedByRewards, nines}
 use Rattle.laws.proofs.Checked.{value-same, bound}
 use Rattle.laws.proofs.Encode.{length-decode, encode-decode}
 use Rattle.arithmetic.proofs.Laws.{bind-value}
@@ -22,14 +22,14 @@ use Rattle.laws.proofs.Loops.Mapped.{mapped-is}
 use Rattle.laws.proofs.Loops.Checking.{Checking, checking-none, checking-ten, checking-more, checking-stop, checking-all, settles-value, settles-refused}
 use Rattle.rates.specs.declared.reward_balances.Pairs.{Pairs}
 use Rattle.rates.specs.Balances.{appliedBalance, four, fourOf}
-use Rattle.rates.proofs.reward_balances.Paired.{pairs-refused, not-paid, paid}
+use Rattle.rates.proofs.reward_balances.Paired.{deltas-four, pairs-refused, not-paid, paid}
 use Rattle.rates.proofs.reward_balances.Rewarded.{put-balance}
 use Rattle.rewards_step.specs.declared.StepTotals.{StepTotals}
 use Rattle.rewards_step.specs.Totals.{sourceTotals, targetTotals, headTotals}
 use Rattle.rewards_step.specs.Step.{stepTotals}
 use Rattle.rewards_step.proofs.Step.{by-totals, rewards-genesis, rewards-refused, rewards-by}
 use Rattle.write_pass.specs.Filled.{left, Fits, nineAt, putNine}
-use Rattle.write_pass.proofs.Booked.{applied, pairs-four}
+use Rattle.write_pass.proofs.Booked.{applied}
 use Rattle.write_pass.proofs.Nine.{nine-nine, nine-same, nine-other}
 use Rattle.theorems.proofs.Amounts.Lists.{each-length, each-at, at-map}
 use Rattle.theorems.proofs.Amounts.Nines.{Eights, nine-at, nines-long, nine-ext}
@@ -63,7 +63,7 @@ module _ (s : Settings) (quotient current previous : ℕ) (source target head : 
       entry-booked {nine} {x} k n =
           let is = applied (getD e 6 0) (four p) k .is in
           let zero : left (getD e 6 0) (four p) - x ≡ 0 = omega (arith, is) in
-          let ds = pairs-four s quotient current previous source target head (decodeOne e) ∙ bind-value (λ p. value (four p)) h in
+          let ds = deltas-four s quotient current previous source target head (decodeOne e) ∙ bind-value (λ p. value (four p)) h in
           let eight = bind-value (λ ds. value (booked (decodeOne e .balance) ds)) ds in
           record {
             settles = settles-value f (paid s quotient current previous source target head (decodeOne e) h k) (put-balance e x ten);
@@ -71,7 +71,7 @@ module _ (s : Settings) (quotient current previous : ℕ) (source target head : 
           }
 
   pub eight-long : (v : Validator) {e : List ℕ} → g v ≡ value e → length e ≡ 8
-  unfolding eightOf pairs booked
+  unfolding eightOf allDeltas booked
   eight-long v q =
       let a = bound _ _ q in
       let b = bound (flagIndexDeltas s current previous 0 source v) _ (a .gave) in

@@ -14,10 +14,11 @@ use Rattle.definitions.specs.Checked.{Checked, value, bind, mapChecked}
 use Rattle.definitions.specs.Rust.Phase0.Helpers.{«get_current_epoch», «get_previous_epoch», «get_total_active_balance»}
 use Rattle.definitions.specs.Rust.Phase0.EpochProcessing.{«is_in_inactivity_leak»}
 use Rattle.definitions.specs.Rust.Altair.Helpers.{«get_unslashed_participating_indices», flagTotals}
+use Rattle.definitions.specs.Rust.Altair.EpochProcessing.{allDeltas}
 use Rattle.laws.proofs.Checked.{value-same}
 use Rattle.laws.proofs.Encode.{length-decode}
 use Rattle.arithmetic.proofs.Laws.{bind-value}
-use Rattle.definitions_close.specs.Amounts.{eachChecked, pairs, booked, bookedByRewards, nines}
+use Rattle.definitions_close.specs.Amounts.{eachChecked, booked, bookedByRewards, nines}
 use Rattle.theorems.specs.Amounts.Laws.{nineOf}
 use Rattle.theorems.proofs.Amounts.Lists.{each-length, each-at, each-map, at-map}
 use Rattle.theorems.proofs.Amounts.Nines.{Eights, nine-at, nines-long, nine-ext}
@@ -25,8 +26,8 @@ use Rattle.theorems.proofs.Amounts.Accounted.{Way, by-rewards, by-slashings, fi
 use Rattle.rewards.specs.Shared.{totalsOf}
 use Rattle.balances.specs.declared.effective_balances.Thresholds.{Thresholds}
 use Rattle.registry.proofs.Epochs.{Epochs}
-use Rattle.survey.specs.declared.Sums.{Sums}
-use Rattle.survey.specs.Sums.{Totals}
+use Rattle.survey.specs.declared.Totals.{Totals}
+use Rattle.survey.specs.Sums.{TotalsOf}
 use Rattle.write_turn.specs.declared.Plan.{Plan}
 use Rattle.write_turn.specs.Planned.{scoredBy}
 use Rattle.write_turn.specs.Written.{payOf}
@@ -56,7 +57,7 @@ module _ {s : Settings} {slot fin : ℕ} {ys : List ℕ} {vs ws : List Validator
         eight = λ i l. by-rewards w .eight i (omega (arith, l, by-rewards w .long));
       }
 
-  module _ (ep : Epochs s slot) {t : Sums} (totals : Totals s («get_current_epoch» s slot) («get_previous_epoch» s slot) vs t) (leaking : Bool) (leak : leakOf s slot fin ≡ value leaking) (a b c : Number) (adjusted : ℕ) (thresholds : Thresholds) where
+  module _ (ep : Epochs s slot) {t : Totals} (totals : TotalsOf s («get_current_epoch» s slot) («get_previous_epoch» s slot) vs t) (leaking : Bool) (leak : leakOf s slot fin ≡ value leaking) (a b c : Number) (adjusted : ℕ) (thresholds : Thresholds) where
     abbrev current : ℕ
     current = «get_current_epoch» s slot
 
@@ -98,7 +99,7 @@ module _ {s : Settings} {slot fin : ℕ} {ys : List ℕ} {vs ws : List Validator
 
         -- the eight numbers of a validator as the scores left it
         eightOf : Validator → Checked (List ℕ)
-        eightOf u = bind (pairs s (plan .quotient) current previous (totalsOf (plan .shared) (plan .source)) (totalsOf (plan .shared) (plan .target)) (totalsOf (plan .shared) (plan .head)) u) (λ ds. value (booked (u .balance) ds))
+        eightOf u = bind (allDeltas s (plan .quotient) current previous (totalsOf (plan .shared) (plan .source)) (totalsOf (plan .shared) (plan .target)) (totalsOf (plan .shared) (plan .head)) u) (λ ds. value (booked (u .balance) ds))
 
         -- the rewards read the totals of the registry that the scores left, which are the opening's
         booked-all : bookedByRewards s (s .«inactivity_penalty_quotient_altair») slot fin (w .scored) ≡ eachChecked eightOf (w .scored)

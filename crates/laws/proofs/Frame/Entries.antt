@@ -67,10 +67,7 @@ pub reward-writes : (s : Settings) (quotient currentEpoch previousEpoch : ℕ) (
 unfolding rewardAndPenalize
 reward-writes s quotient currentEpoch previousEpoch source target head v w p =
     let a = bound _ _ p in
-    let b = bound _ _ (a .then) in
-    let c = bound _ _ (b .then) in
-    let d = bound _ _ (c .then) in
-    deltas-write (a .first ∷ b .first ∷ c .first ∷ d .first ∷ []) v w (d .then)
+    deltas-write (a .first) v w (a .then)
 
 pub slash-writes : (s : Settings) (epoch total adjusted : ℕ) → Keeps (slash s epoch total adjusted) (withBalance 0)
 unfolding slash «decrease_balance»

@@ -9,6 +9,7 @@ use Rattle.definitions.specs.Checked.{Checked, foldChecked}
 use Rattle.definitions.specs.Record.{Validator}
 use Rattle.definitions.specs.Document.Phase0.EpochProcessing.{isEligible}
 use Rattle.definitions.specs.Rust.Altair.Helpers.{«TIMELY_HEAD_FLAG_INDEX», isUnslashedParticipating, FlagTotals, hitDeltas, missDeltas, flagIndexDeltas, inactivityPenaltyDeltas}
+use Rattle.definitions.specs.Rust.Altair.EpochProcessing.{allDeltas}
 use Rattle.arithmetic.proofs.Operations.{OnlyOverflow, only-value, only-add64, only-mul64, only-bind}
 use Rattle.rewards.proofs.base_rewards.Base.{only-base}
 use Rattle.rates.specs.Balances.{appliedBalance, rewardedBalance}
@@ -49,7 +50,9 @@ only-all-applied balance [] = only-value balance
 only-all-applied balance (d ∷ ds) = only-bind (only-applied balance d) (λ b. only-all-applied b ds)
 
 pub only-rewarded : (s : Settings) (quotient currentEpoch previousEpoch : ℕ) (source target head : FlagTotals) (v : Validator) → OnlyOverflow (rewardedBalance s quotient currentEpoch previousEpoch source target head v)
-unfolding rewardedBalance
+unfolding rewardedBalance allDeltas
 only-rewarded s quotient currentEpoch previousEpoch source target head v =
     let flag = only-flag s currentEpoch previousEpoch in
-    only-bind (flag 0 source v) (λ a. only-bind (flag 1 target v) (λ b. only-bind (flag 2 head v) (λ c. only-bind (only-penalty s quotient currentEpoch previousEpoch v) (λ d. only-all-applied _ _))))
+    only-bind
+    (only-bind (flag 0 source v) (λ a. only-bind (flag 1 target v) (λ b. only-bind (flag 2 head v) (λ c. only-bind (only-penalty s quotient currentEpoch previousEpoch v) (λ d. only-value _)))))
+    (λ ds. only-all-applied _ ds)

@@ -12,9 +12,10 @@ use Rattle.definitions.specs.Checked.{overflow, Checked, value, refused, bind, 
 use Rattle.definitions.specs.Record.{Validator}
 use Rattle.definitions.specs.Updates.{withBalance}
 use Rattle.definitions.specs.Rust.Altair.Helpers.{FlagTotals, flagIndexDeltas, inactivityPenaltyDeltas}
-use Rattle.definitions.specs.Rust.Altair.EpochProcessing.{rewardAndPenalize}
+use Rattle.definitions.specs.Rust.Altair.EpochProcessing.{allDeltas, rewardAndPenalize}
 use Rattle.arithmetic.proofs.Answers.{Tells, tells-deltas, answers-overflow}
 use Rattle.arithmetic.proofs.Laws.{bind-value, bind-refused}
+use Rattle.laws.proofs.Checked.{bind-bind}
 use Rattle.arithmetic.proofs.Operations.{OnlyOverflow, only-value, only-bind}
 use Rattle.rates.specs.declared.reward_balances.Pairs.{Pairs}
 use Rattle.rates.specs.declared.reward_balances.PairsAnswer.{PairsAnswer}
@@ -26,14 +27,14 @@ use Rattle.rates.proofs.reward_balances.Rewarded.{rewarded, not-rewarde
 pub tells-pairs : Tells pairsFor Value Refused
 tells-pairs = record { of-value = λ x. refl; of-refused = λ p. refl; one-value = λ x y e. cc; one-number = λ p q e. cc; apart = λ x q e. (let z : _≡_ {A = ℕ} 0 1 = cc in omega arith) }
 
--- what is worked out from four deltas is worked out from their pairs
-pub four-first : {B : Type 0} (a b c d : Checked Deltas) (k : Deltas → Deltas → Deltas → Deltas → Checked B) → bind a (λ x. bind b (λ y. bind c (λ z. bind d (λ w. k x y z w)))) ≡ bind (bind a (λ x. bind b (λ y. bind c (λ z. bind d (λ w. value (record { source = x; target = y; head = z; inactivity = w })))))) (λ (p : Pairs). k (p .source) (p .target) (p .head) (p .inactivity))
+-- four deltas as a list, and as a struct
+as-struct : (a b c d : Checked Deltas) → bind a (λ x. bind b (λ y. bind c (λ z. bind d (λ w. value (x ∷ y ∷ z ∷ w ∷ []))))) ≡ bind (bind a (λ x. bind b (λ y. bind c (λ z. bind d (λ w. value (record { source = x; target = y; head = z; inactivity = w })))))) (λ (p : Pairs). value (four p))
 unfolding bind
-four-first (value x) (value y) (value z) (value w) k = refl
-four-first (value x) (value y) (value z) (refused r) k = refl
-four-first (value x) (value y) (refused r) d k = refl
-four-first (value x) (refused r) c d k = refl
-four-first (refused r) b c d k = refl
+as-struct (value x) (value y) (value z) (value w) = refl
+as-struct (value x) (value y) (value z) (refused r) = refl
+as-struct (value x) (value y) (refused r) d = refl
+as-struct (value x) (refused r) c d = refl
+as-struct (refused r) b c d = refl
 
 -- by answers that refuse by 5 alone
 by-answers : (k l m n : Checked Deltas) → OnlyOverflow k → OnlyOverflow l → OnlyOverflow m → OnlyOverflow n → pairsBy (deltasAnswerFor k) (deltasAnswerFor l) (deltasAnswerFor m) (deltasAnswerFor n) ≡ pairsFor (bind k (λ a. bind l (λ b. bind m (λ c. bind n (λ d. value (record { source = a; target = b; head = c; inactivity = d }))))))
@@ -94,9 +95,13 @@ module _ (s : Settings) (quotient current previous : ℕ) (source target head : 
     unfolding fourOf
     inactivity-stops h e = stops (only-penalty s quotient current previous v) h e (λ z. over-later _ _ (only-flag s current previous 0 source v) (λ x. over-later _ _ (only-flag s current previous 1 target v) (λ y. over-later _ _ (only-flag s current previous 2 head v) (λ w. bind-refused _ z))))
 
+  pub deltas-four : allDeltas s quotient current previous source target head v ≡ bind pairs (λ p. value (four p))
+  unfolding allDeltas fourOf
+  deltas-four = as-struct (flag 0 source) (flag 1 target) (flag 2 head) penalty
+
   pub balance-by : rewardedBalance s quotient current previous source target head v ≡ bind pairs (λ p. foldChecked appliedBalance (v .balance) (four p))
-  unfolding rewardedBalance fourOf
-  balance-by = four-first (flag 0 source) (flag 1 target) (flag 2 head) penalty (λ x y z w. foldChecked appliedBalance (v .balance) (x ∷ y ∷ z ∷ w ∷ []))
+  unfolding rewardedBalance bind
+  balance-by = rw deltas-four (bind-bind pairs (λ p. value (four p)) (foldChecked appliedBalance (v .balance)))
 
   pub pairs-refused : pairs ≡ refused overflow → rewardAndPenalize s quotient current previous source target head v ≡ refused overflow
   pairs-refused h = not-rewarded s quotient current previous source target head v (balance-by ∙ bind-refused (λ p. foldChecked appliedBalance (v .balance) (four p)) h)

@@ -11,8 +11,8 @@ use Rattle.definitions.specs.Checked.{Refusal, Checked, value, refused, bind, a
 use Rattle.definitions.specs.Record.{Validator, decodeOne, encodeOne}
 use Rattle.definitions.specs.Updates.{withBalance}
 use Rattle.definitions.specs.Rust.Phase0.Helpers.{«increase_balance», «decrease_balance»}
-use Rattle.definitions.specs.Rust.Altair.Helpers.{FlagTotals, flagIndexDeltas, inactivityPenaltyDeltas}
-use Rattle.definitions.specs.Rust.Altair.EpochProcessing.{applyDelta, rewardAndPenalize}
+use Rattle.definitions.specs.Rust.Altair.Helpers.{FlagTotals}
+use Rattle.definitions.specs.Rust.Altair.EpochProcessing.{applyDelta, allDeltas, rewardAndPenalize}
 use Rattle.laws.proofs.Encode.{ten}
 use Rattle.rates.specs.Balances.{appliedBalance, rewardedBalance}
 
@@ -37,14 +37,11 @@ apply-all x v (d ∷ ds) = rw (apply-one x v d) (go (appliedBalance x d) (λ y. 
 module _ (s : Settings) (quotient currentEpoch previousEpoch : ℕ) (source target head : FlagTotals) (v : Validator) where
   only-balance : rewardAndPenalize s quotient currentEpoch previousEpoch source target head v ≡ bind (rewardedBalance s quotient currentEpoch previousEpoch source target head v) (λ x. value (withBalance x v))
   unfolding rewardAndPenalize rewardedBalance bind
-  only-balance = go (flagIndexDeltas s currentEpoch previousEpoch 0 source v) (flagIndexDeltas s currentEpoch previousEpoch 1 target v) (flagIndexDeltas s currentEpoch previousEpoch 2 head v) (inactivityPenaltyDeltas s quotient currentEpoch previousEpoch v)
+  only-balance = go (allDeltas s quotient currentEpoch previousEpoch source target head v)
     where
-      go : (k l m n : Checked Deltas) → bind k (λ a. bind l (λ b. bind m (λ c. bind n (λ d. foldChecked applyDelta v (a ∷ b ∷ c ∷ d ∷ []))))) ≡ bind (bind k (λ a. bind l (λ b. bind m (λ c. bind n (λ d. foldChecked appliedBalance (v .balance) (a ∷ b ∷ c ∷ d ∷ [])))))) (λ x. value (withBalance x v))
-      go (refused r) l m n = refl
-      go (value a) (refused r) m n = refl
-      go (value a) (value b) (refused r) n = refl
-      go (value a) (value b) (value c) (refused r) = refl
-      go (value a) (value b) (value c) (value d) = apply-all (v .balance) v (a ∷ b ∷ c ∷ d ∷ [])
+      go : (m : Checked (List Deltas)) → bind m (foldChecked applyDelta v) ≡ bind (bind m (foldChecked appliedBalance (v .balance))) (λ x. value (withBalance x v))
+      go (refused r) = refl
+      go (value ds) = apply-all (v .balance) v ds
 
   pub rewarded : {x : ℕ} → rewardedBalance s quotient currentEpoch previousEpoch source target head v ≡ value x → rewardAndPenalize s quotient currentEpoch previousEpoch source target head v ≡ value (withBalance x v)
   unfolding bind

@@ -20,7 +20,7 @@ fewer c =
     omega (arith, c .loop-test .taken, at-start .good .1 .1 .1 .0 .0)
 
 loop-holds : tie.Need-loop-holds Inv-loop μ-loop
-loop-holds c = let s = c .before .before .before .before in rw (c .before .no-sums .ensures, c .no-sums2 .ensures) (seeing-none _ _ _ (s .pre .0) (s .pre .1 .1 .0) (s .pre .1 .1 .1))
+loop-holds c = let s = c .before .before .before .before in rw (c .before .no-sums .ensures, c .no-overs .ensures) (seeing-none _ _ _ (s .pre .0) (s .pre .1 .1 .0) (s .pre .1 .1 .1))
 
 survey-entry-requires : tie.Need-survey-entry-requires Inv-loop μ-loop
 survey-entry-requires c κs =

@@ -14,10 +14,10 @@ use Rattle.definitions.specs.Updates.{withBalance}
 use Rattle.definitions.specs.Checked.{Checked, value, bind, add64, mapChecked, foldChecked}
 use Rattle.definitions.specs.Rust.Phase0.Helpers.{«get_current_epoch», «get_previous_epoch», «increase_balance», «decrease_balance»}
 use Rattle.definitions.specs.Rust.Altair.Helpers.{FlagTotals, flagTotals, flagIndexDeltas, «get_flag_index_deltas», inactivityPenaltyDeltas, «get_inactivity_penalty_deltas»}
-use Rattle.definitions.specs.Rust.Altair.EpochProcessing.{applyDelta, rewardAndPenalize, «process_rewards_and_penalties»}
+use Rattle.definitions.specs.Rust.Altair.EpochProcessing.{applyDelta, allDeltas, rewardAndPenalize, «process_rewards_and_penalties»}
 use Rattle.laws.proofs.Checked.{value-same, bound, add64-value}
 use Rattle.arithmetic.proofs.Laws.{bind-value}
-use Rattle.definitions_close.specs.Amounts.{eachChecked, pairs, booked, bookedByRewards}
+use Rattle.definitions_close.specs.Amounts.{eachChecked, booked, bookedByRewards}
 use Rattle.theorems.specs.Amounts.Laws.{balanceAt}
 use Rattle.theorems.proofs.Amounts.Lists.{Gave, each-length, each-at, each-gave, each-map, at-map}
 use Rattle.laws.proofs.Tests.{lowered}
@@ -64,9 +64,10 @@ record Paid (s : Settings) (quotient current previous : ℕ) (source target head
 
 module _ (s : Settings) (quotient current previous : ℕ) (source target head : FlagTotals) (v : Validator) where
   paid : {w : Validator} → rewardAndPenalize s quotient current previous source target head v ≡ value w → Paid s quotient current previous source target head v w
-  unfolding rewardAndPenalize
+  unfolding rewardAndPenalize allDeltas
   paid e =
-      let h = bound (flagIndexDeltas s current previous 0 source v) _ e in
+      let all = bound (allDeltas s quotient current previous source target head v) (foldChecked applyDelta v) e in
+      let h = bound (flagIndexDeltas s current previous 0 source v) _ (all .gave) in
       let i = bound (flagIndexDeltas s current previous 1 target v) _ (h .then) in
       let j = bound (flagIndexDeltas s current previous 2 head v) _ (i .then) in
       let k = bound (inactivityPenaltyDeltas s quotient current previous v) _ (j .then) in
@@ -79,14 +80,14 @@ module _ (s : Settings) (quotient current previous : ℕ) (source target head : 
         b-is = i .gave;
         c-is = j .gave;
         d-is = k .gave;
-        equal = tally v (h .first ∷ i .first ∷ j .first ∷ k .first ∷ []) (k .then);
+        equal = tally v (h .first ∷ i .first ∷ j .first ∷ k .first ∷ []) (ap (foldChecked applyDelta v) (value-same (k .then)) ∙ all .then);
       }
 
   abbrev eightOf : Checked (List ℕ)
-  eightOf = bind (pairs s quotient current previous source target head v) (λ ds. value (booked (v .balance) ds))
+  eightOf = bind (allDeltas s quotient current previous source target head v) (λ ds. value (booked (v .balance) ds))
 
   eight : {w : Validator} (p : Paid s quotient current previous source target head v w) → eightOf ≡ value (booked (v .balance) (p .a ∷ p .b ∷ p .c ∷ p .d ∷ []))
-  unfolding pairs
+  unfolding allDeltas
   eight p =
       bind-value _ (bind-value _ (p .a-is) ∙ bind-value _ (p .b-is) ∙ bind-value _ (p .c-is) ∙ bind-value _ (p .d-is))
 

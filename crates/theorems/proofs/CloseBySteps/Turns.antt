@@ -23,7 +23,7 @@ use Rattle.definitions_close.specs.CloseBySteps.{StepCall, StepOutcome, isFirst
 use Rattle.definitions_close.specs.Orders.{Order, ordersIn}
 use Rattle.laws.proofs.Checked.{number-not-zero}
 use Rattle.laws.proofs.Encode.{decode-encode}
-use Rattle.theorems.specs.CloseBySteps.Desk.{Desk, stepping, stepCall, act, NotBegun, Gives}
+use Rattle.theorems.specs.CloseBySteps.Desk.{Desk, stepping, stepCall, afterStep, act, NotBegun, Gives}
 use Rattle.theorems.proofs.CloseBySteps.Tests.{recordAt, Passed, full-passed, Sound, sound-opening, sound-step, tested-again}
 use Rattle.theorems.proofs.CloseBySteps.Folded.{one-more, stopped, later-finality}
 use Rattle.theorems.proofs.CloseBySteps.Amounts.{amountsAt, amounts-turn, amounts-long}
@@ -182,19 +182,9 @@ pub data On (c : FullCall) (n : ℕ) (d : Desk) (os : List Order) (size : ℕ) :
 
 -- A call
 
-abbrev asDesk : StepOutcome → List ℕ → Desk
-asDesk out orders =
-    record {
-      running = out .answer .running;
-      closingRegistry = out .closingRegistry;
-      closingSlashings = out .closingSlashings;
-      amounts = out .amounts;
-      orders = orders;
-    }
-
-acted : (c : FullCall) (d : Desk) (k : ℕ) {out : StepOutcome} → closeStep (stepCall c d k) ≡ out → act c d (stepping k) ≡ asDesk out (d .orders)
+acted : (c : FullCall) (d : Desk) (k : ℕ) {out : StepOutcome} → closeStep (stepCall c d k) ≡ out → act c d (stepping k) ≡ afterStep d out
 unfolding act
-acted c d k e = ap (λ (out : StepOutcome). asDesk out (d .orders)) e
+acted c d k e = ap (λ (out : StepOutcome). afterStep d out) e
 
 -- The first call
 

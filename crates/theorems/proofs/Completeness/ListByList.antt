@@ -11,7 +11,7 @@ use Rattle.definitions.specs.declared.Settings.{Settings}
 use Rattle.definitions.specs.declared.Deltas.{Deltas}
 use Rattle.definitions.specs.Lists.{all}
 use Rattle.definitions.specs.Record.{Validator, nobody}
-use Rattle.definitions.specs.Checked.{Checked, value, bind, mapChecked, foldChecked}
+use Rattle.definitions.specs.Checked.{Checked, value, refused, bind, mapChecked, foldChecked}
 use Rattle.definitions.specs.Document.Phase0.Helpers.{«get_current_epoch», «get_previous_epoch»}
 use Rattle.definitions.specs.Document.Altair.Helpers as document
 use Rattle.definitions.specs.Document.Altair.EpochProcessing as documentEpoch
@@ -21,7 +21,7 @@ use Rattle.definitions.specs.Rust.Altair.EpochProcessing as byValidator
 use Rattle.theorems.specs.Completeness.ListByList as byLists
 use Rattle.theorems.specs.Completeness.ListByList.{traverse, zipChecked, SameByLists, LeavesOfOne}
 use Rattle.laws.proofs.Checked.{bound, value-same}
-use Rattle.agreement.proofs.Agrees.{Agrees, Overflow, bind-agrees, map-agrees, fold-agrees}
+use Rattle.agreement.proofs.Agrees.{Agrees, Overflow, value-agrees, bind-agrees, map-agrees, fold-agrees}
 use Rattle.agreement.proofs.Deltas.{totalsOf, flag-totals, flag-deltas, inactivity-deltas}
 use Rattle.agreement.proofs.Rewards.{map-same, apply-delta}
 use Rattle.theorems.proofs.Completeness.Laws.{traverse-agrees}
@@ -36,6 +36,15 @@ totals-first true true true true false c r = refl
 totals-first true true true false false c r = refl
 totals-first true false true b false c r = refl
 totals-first true a true b true c r = refl
+
+-- what is worked out from a list of four, one after the other
+one-chain : {A B : Type 0} (a b c d : Checked A) (k : List A → Checked B) → bind (bind a (λ x. bind b (λ y. bind c (λ z. bind d (λ w. value (x ∷ y ∷ z ∷ w ∷ [])))))) k ≡ bind a (λ x. bind b (λ y. bind c (λ z. bind d (λ w. k (x ∷ y ∷ z ∷ w ∷ [])))))
+unfolding bind
+one-chain (refused r) b c d k = refl
+one-chain (value x) (refused r) c d k = refl
+one-chain (value x) (value y) (refused r) d k = refl
+one-chain (value x) (value y) (value z) (refused r) k = refl
+one-chain (value x) (value y) (value z) (value w) k = refl
 
 module _ (s : Settings) (quotient stateSlot finalizedEpoch : ℕ) (vs : List Validator) where
   -- a validator's four deltas, plain and checked
@@ -124,16 +133,17 @@ module _ (s : Settings) (quotient stateSlot finalizedEpoch : ℕ) (vs : List Val
   one = byValidator.rewardAndPenalize s quotient («get_current_epoch» s stateSlot) («get_previous_epoch» s stateSlot) (totalsOf s stateSlot finalizedEpoch vs 0) (totalsOf s stateSlot finalizedEpoch vs 1) (totalsOf s stateSlot finalizedEpoch vs 2)
 
   one-agrees : (v : Validator) → Agrees Overflow (one v) (rewarded v)
-  unfolding byValidator.rewardAndPenalize
+  unfolding byValidator.rewardAndPenalize byValidator.allDeltas
   one-agrees v =
       let flag = flag-deltas s stateSlot finalizedEpoch vs in
-      bind-agrees _ (flag 0 v) (bind-agrees _ (flag 1 v) (bind-agrees _ (flag 2 v) (bind-agrees _ (inactivity-deltas s quotient stateSlot v) (fold-agrees apply-delta v _))))
+      bind-agrees _ (bind-agrees _ (flag 0 v) (bind-agrees _ (flag 1 v) (bind-agrees _ (flag 2 v) (bind-agrees _ (inactivity-deltas s quotient stateSlot v) value-agrees)))) (fold-agrees apply-delta v _)
 
   one-gives : (v : Validator) → gives (one v) ≡ (gives (deltas 0 v) && (gives (deltas 1 v) && (gives (deltas 2 v) && (gives (penalty v) && gives (applied v)))))
-  unfolding byValidator.rewardAndPenalize
+  unfolding byValidator.rewardAndPenalize byValidator.allDeltas
   one-gives v =
       let flag = flag-deltas s stateSlot finalizedEpoch vs in
-      gives-bind _ (flag 0 v)
+      ap gives (one-chain (deltas 0 v) (deltas 1 v) (deltas 2 v) (penalty v) (foldChecked byValidator.applyDelta v))
+      ∙ gives-bind _ (flag 0 v)
       ∙ ap (λ t. gives (deltas 0 v) && t) (gives-bind _ (flag 1 v)
       ∙ ap (λ t. gives (deltas 1 v) && t) (gives-bind _ (flag 2 v)
       ∙ ap (λ t. gives (deltas 2 v) && t) (gives-bind _ (inactivity-deltas s quotient stateSlot v))))

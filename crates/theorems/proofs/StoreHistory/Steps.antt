@@ -27,7 +27,7 @@ use Rattle.laws.proofs.Checked.{value-same, bound, number-not-zero}
 use Rattle.laws.proofs.Frame.Frames.{frames}
 use Rattle.laws.proofs.Tests.{in-order-value}
 use Rattle.theorems.specs.CloseBySteps.Desk as desk
-use Rattle.theorems.specs.CloseBySteps.Desk.{Desk, Act, stepping, ordering, stepsOf, oneToEight, Gives}
+use Rattle.theorems.specs.CloseBySteps.Desk.{Desk, Act, stepping, ordering, afterStep, stepsOf, oneToEight, Gives}
 use Rattle.theorems.proofs.CloseBySteps.Tests.{full-passed, shaped-as, long-as}
 use Rattle.theorems.proofs.CloseBySteps.Turns.{UnderWay, deskAt, On, waiting, onward, ended}
 use Rattle.theorems.proofs.CloseBySteps.Eight.{stopped-done, next, step-on, order-on, eight-on, eight-calls}
@@ -156,14 +156,7 @@ module _ (c : StoreCall) (rules : Rules) (e : rulesFor c ≡ value rules) where
   same-step : (n : ℕ) (d : Desk) (os : List Order) (size : ℕ) → On whole n d os size → (k : ℕ) → act c d (stepping k) ≡ desk.act whole d (stepping k)
   unfolding act desk.act
   same-step n d os size h k =
-      ap (λ (out : StepOutcome).
-      record {
-        running = out .answer .running;
-        closingRegistry = out .closingRegistry;
-        closingSlashings = out .closingSlashings;
-        amounts = out .amounts;
-        orders = d .orders;
-      }) (step-by (stepCall c d k) rules (rules-on n d os size h k))
+      ap (λ (out : StepOutcome). afterStep d out) (step-by (stepCall c d k) rules (rules-on n d os size h k))
 
   same-order : (d : Desk) (o : Order) → act c d (ordering o) ≡ desk.act whole d (ordering o)
   unfolding act desk.act

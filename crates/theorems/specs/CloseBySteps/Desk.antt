@@ -11,7 +11,7 @@ use Rattle.definitions.specs.Record.{encode, decode}
 use Rattle.definitions.specs.ExitQueue.{queueOf}
 use Rattle.definitions_close.specs.FullClose.{FullCall, FullOutcome, settingsOf, fullClose}
 use Rattle.definitions_close.specs.declared.Running.{Running}
-use Rattle.definitions_close.specs.CloseBySteps.{StepCall, closeStep, saysEnded}
+use Rattle.definitions_close.specs.CloseBySteps.{StepCall, StepOutcome, closeStep, saysEnded}
 use Rattle.definitions_close.specs.Orders.{Order, OrderCall, OrderOutcome, takeOrder, NinthCall, NinthOutcome, carryOut, carriedOut, answersTo, room, untried}
 
 -- What a desk has in hand between the calls of one close, besides the opening, which stays lent
@@ -50,9 +50,9 @@ stepCall c d k = record { number = k; running = d .running; whole = lent c d }
 abbrev pub orderCall : Desk → Order → OrderCall
 orderCall d o = record { running = d .running; order = o; orders = d .orders }
 
-unfoldable pub act : FullCall → Desk → Act → Desk
-act c d (stepping k) =
-    let out = closeStep (stepCall c d k) in
+-- what is in hand after a step and after an order
+abbrev pub afterStep : Desk → StepOutcome → Desk
+afterStep d out =
     record {
       running = out .answer .running;
       closingRegistry = out .closingRegistry;
@@ -60,8 +60,9 @@ act c d (stepping k) =
       amounts = out .amounts;
       orders = d .orders;
     }
-act c d (ordering o) =
-    let out = takeOrder (orderCall d o) in
+
+abbrev pub afterOrder : Desk → OrderOutcome → Desk
+afterOrder d out =
     record {
       running = out .answer .running;
       closingRegistry = d .closingRegistry;
@@ -69,6 +70,10 @@ act c d (ordering o) =
       amounts = d .amounts;
       orders = out .orders;
     }
+
+unfoldable pub act : FullCall → Desk → Act → Desk
+act c d (stepping k) = afterStep d (closeStep (stepCall c d k))
+act c d (ordering o) = afterOrder d (takeOrder (orderCall d o))
 
 unfoldable pub acts : FullCall → Desk → List Act → Desk
 acts c d [] = d

@@ -11,7 +11,7 @@ use Rattle.definitions_close.specs.Store.{noRules}
 use Rattle.definitions_close.specs.StoreClose.{StoreCall, callBy, rulesFor, storeClose}
 use Rattle.definitions_close.specs.StoreSteps.{StoreStepCall, storeStep, StoreNinthCall, ninthOf, storeCarryOut}
 use Rattle.theorems.specs.CloseBySteps.Desk as desk
-use Rattle.theorems.specs.CloseBySteps.Desk.{Desk, Act, stepping, ordering, orderCall, stepsOf, oneToEight, Gives, NinthLent, Carries, arrived}
+use Rattle.theorems.specs.CloseBySteps.Desk.{Desk, Act, stepping, ordering, orderCall, afterStep, afterOrder, stepsOf, oneToEight, Gives, NinthLent, Carries, arrived}
 
 -- what the next call is handed: store and opening as they were lent, and all else as it was handed back
 abbrev pub lent : StoreCall → Desk → StoreCall
@@ -32,24 +32,8 @@ abbrev pub stepCall : StoreCall → Desk → ℕ → StoreStepCall
 stepCall c d k = record { number = k; running = d .running; whole = lent c d }
 
 unfoldable pub act : StoreCall → Desk → Act → Desk
-act c d (stepping k) =
-    let out = storeStep (stepCall c d k) in
-    record {
-      running = out .answer .running;
-      closingRegistry = out .closingRegistry;
-      closingSlashings = out .closingSlashings;
-      amounts = out .amounts;
-      orders = d .orders;
-    }
-act c d (ordering o) =
-    let out = takeOrder (orderCall d o) in
-    record {
-      running = out .answer .running;
-      closingRegistry = d .closingRegistry;
-      closingSlashings = d .closingSlashings;
-      amounts = d .amounts;
-      orders = out .orders;
-    }
+act c d (stepping k) = afterStep d (storeStep (stepCall c d k))
+act c d (ordering o) = afterOrder d (takeOrder (orderCall d o))
 
 unfoldable pub acts : StoreCall → Desk → List Act → Desk
 acts c d [] = d

@@ -64,12 +64,12 @@ write-found-requires c κs =
     let at-start-pair = at-cut-queue .before in
     let at-churn-by = at-start-pair .before .before in
     let at-current-epoch = at-churn-by .before in
-    let at-totals = at-current-epoch .before in
-    let at-else1 = at-totals .before in
+    let at-raised-totals = at-current-epoch .before in
+    let at-else1 = at-raised-totals .before in
     let at-all-fit = at-else1 .before in
     let at-start = at-all-fit .before .before .before .before .before .before in
     let e = at-current-epoch .current-epoch .ensures in
-    ((at-start .pre .0 .0, at-start .pre .0 .1), (at-start .pre .1 .0, found-all (at-start .args .s) (at-start .args .state-slot) (at-start .args .finalized-epoch) (ep at-start) (at-start .args .opening .now) (at-start .pre .1 .1) (passes (at-all-fit .all-fit .ensures) (at-else1 .if1 .left)) (at-totals .totals .ensures) (at-churn-by .churn-by .ensures) (rw e at (at-start-pair .start-pair .ensures)) (rw e at (at-cut-queue .cut-queue .ensures))))
+    ((at-start .pre .0 .0, at-start .pre .0 .1), (at-start .pre .1 .0, found-all (at-start .args .s) (at-start .args .state-slot) (at-start .args .finalized-epoch) (ep at-start) (at-start .args .opening .now) (at-start .pre .1 .1) (passes (at-all-fit .all-fit .ensures) (at-else1 .if1 .left)) (at-raised-totals .raised-totals .ensures) (at-churn-by .churn-by .ensures) (rw e at (at-start-pair .start-pair .ensures)) (rw e at (at-cut-queue .cut-queue .ensures))))
 
 returns-2 : tie.Need-returns-2
 returns-2 c = c .before .before .before .before .write-found .ensures

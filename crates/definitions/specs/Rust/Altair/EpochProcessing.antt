@@ -52,15 +52,20 @@ unfoldable pub «process_inactivity_updates» : Settings → ℕ → ℕ → Lis
 unfoldable pub applyDelta : Validator → Deltas → Checked Validator
 applyDelta v d = bind («increase_balance» v (d .reward)) (λ w. value («decrease_balance» w (d .penalty)))
 
--- 157, a validator: all deltas are worked out before the first is applied
-unfoldable pub rewardAndPenalize : Settings → ℕ → ℕ → ℕ → FlagTotals → FlagTotals → FlagTotals → Validator → Checked Validator
-rewardAndPenalize s quotient currentEpoch previousEpoch source target head v =
+-- 157, a validator: its four pairs, in order
+unfoldable pub allDeltas : Settings → ℕ → ℕ → ℕ → FlagTotals → FlagTotals → FlagTotals → Validator → Checked (List Deltas)
+allDeltas s quotient currentEpoch previousEpoch source target head v =
     let deltas = flagIndexDeltas s currentEpoch previousEpoch in
     bind (deltas «TIMELY_SOURCE_FLAG_INDEX» source v) (λ a.
     bind (deltas «TIMELY_TARGET_FLAG_INDEX» target v) (λ b.
     bind (deltas «TIMELY_HEAD_FLAG_INDEX» head v) (λ c.
     bind (inactivityPenaltyDeltas s quotient currentEpoch previousEpoch v) (λ d.
-    foldChecked applyDelta v (a ∷ b ∷ c ∷ d ∷ [])))))
+    value (a ∷ b ∷ c ∷ d ∷ [])))))
+
+-- 157, a validator: all deltas are worked out before the first is applied
+unfoldable pub rewardAndPenalize : Settings → ℕ → ℕ → ℕ → FlagTotals → FlagTotals → FlagTotals → Validator → Checked Validator
+rewardAndPenalize s quotient currentEpoch previousEpoch source target head v =
+    bind (allDeltas s quotient currentEpoch previousEpoch source target head v) (foldChecked applyDelta v)
 
 -- 157: here validator by validator. The Rust's order, list by list, gives the same: theorems, Completeness/ListByList.antt.
 unfoldable pub «process_rewards_and_penalties» : Settings → ℕ → ℕ → ℕ → List Validator → Checked (List Validator)
