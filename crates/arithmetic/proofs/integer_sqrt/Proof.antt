@@ -17,26 +17,8 @@ returns : tie.Need-returns Inv-loop μ-loop
 unfolding «integer_squareroot» rootWithin
 returns c = rw (c .if1 .taken)
 
-sub-r : tie.Need-sub-r Inv-loop μ-loop
-sub-r c = omega (arith, leading-le 64 (c .before .args .n))
-
-cast-r : tie.Need-cast-r Inv-loop μ-loop
-cast-r c = omega arith
-
-shl-r : tie.Need-shl-r Inv-loop μ-loop
-shl-r c = omega (arith, exponent (c .before .args .n) (c .before .fits .n .fits))
-
 loop-holds : tie.Need-loop-holds Inv-loop μ-loop
 loop-holds c = first (c .before .args .n) (omega arith) (c .before .fits .n .fits)
-
-div-loop : tie.Need-div-loop Inv-loop μ-loop
-div-loop c = omega arith
-
-div-r : tie.Need-div-r Inv-loop μ-loop
-div-r c = omega arith
-
-add-r : tie.Need-add-r Inv-loop μ-loop
-add-r c = omega arith
 
 loop-less : tie.Need-loop-less Inv-loop μ-loop
 loop-less c = falls _ _ (c .loop-test .taken)
@@ -54,13 +36,13 @@ integer-sqrt-spec =
     Inv-loop
     μ-loop
     returns
-    sub-r
-    cast-r
-    shl-r
+    (λ c. omega (arith, leading-le 64 (c .before .args .n)))
+    (λ c. omega arith)
+    (λ c. omega (arith, exponent (c .before .args .n) (c .before .fits .n .fits)))
     loop-holds
-    div-loop
-    div-r
-    add-r
+    (λ c. omega arith)
+    (λ c. omega arith)
+    (λ c. omega arith)
     loop-less
     loop-again
     returns-2)

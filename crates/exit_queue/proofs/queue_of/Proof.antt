@@ -13,27 +13,6 @@ abbrev μ-loop : tie.MeasureT-loop
 loop-holds : tie.Need-loop-holds Inv-loop μ-loop
 loop-holds c = tracking-none (c .before .pre)
 
-mul-exited : tie.Need-mul-exited Inv-loop μ-loop
-mul-exited c = omega arith
-
-add-exited : tie.Need-add-exited Inv-loop μ-loop
-add-exited c = omega arith
-
-mul-exited-2 : tie.Need-mul-exited-2 Inv-loop μ-loop
-mul-exited-2 c = omega arith
-
-shared-slice-read-exited : tie.Need-shared-slice-read-exited Inv-loop μ-loop
-shared-slice-read-exited c = omega arith
-
-exited-requires : tie.Need-exited-requires Inv-loop μ-loop
-exited-requires c κs = omega (arith, tracking-few (c .before .before .loop .inv))
-
-add-i : tie.Need-add-i Inv-loop μ-loop
-add-i c = omega arith
-
-loop-less : tie.Need-loop-less Inv-loop μ-loop
-loop-less c = omega arith
-
 loop-again : tie.Need-loop-again Inv-loop μ-loop
 loop-again c = tracking-more (c .before .before .before .loop .inv) (c .before .before .loop-test .taken) (c .exited .ensures)
 
@@ -47,12 +26,12 @@ queue-of-spec =
     Inv-loop
     μ-loop
     loop-holds
-    mul-exited
-    add-exited
-    mul-exited-2
-    shared-slice-read-exited
-    exited-requires
-    add-i
-    loop-less
+    (λ c. omega arith)
+    (λ c. omega arith)
+    (λ c. omega arith)
+    (λ c. omega arith)
+    (λ c κs. omega (arith, tracking-few (c .before .before .loop .inv)))
+    (λ c. omega arith)
+    (λ c. omega arith)
     loop-again
     returns)

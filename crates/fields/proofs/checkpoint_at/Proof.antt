@@ -6,12 +6,6 @@ use Rattle.fields.proofs.Stores.{sets-part}
 use Rattle.fields.proofs.checkpoint_at.Statement.{statement}
 use Rattle.fields.proofs.checkpoint_at.Tie as tie
 
-add-to : tie.Need-add-to
-add-to c = omega arith
-
-part-put-bytes-end : tie.Need-part-put-bytes-end
-part-put-bytes-end c = omega arith
-
 returns : tie.Need-returns
 returns c =
     let at-read-number : tie.After-read-number = search needs in
@@ -27,10 +21,10 @@ checkpoint-at-spec =
     tie.close
     (tie.spec
     (λ c κs. search needs)
-    add-to
+    (λ c. omega arith)
     (λ c. search needs)
     (λ c. search needs)
     (λ c. search needs)
-    part-put-bytes-end
+    (λ c. omega arith)
     (λ c κs. search needs)
     returns)

@@ -16,29 +16,11 @@ abbrev μ-loop : tie.MeasureT-loop
 loop-holds : tie.Need-loop-holds Inv-loop μ-loop
 loop-holds c = (omega arith, storing-none _ _ _ _ (omega arith))
 
-add-to : tie.Need-add-to Inv-loop μ-loop
-add-to c = omega arith
-
-shared-slice-read-file : tie.Need-shared-slice-read-file Inv-loop μ-loop
-shared-slice-read-file c = omega arith
-
-slice-write-file : tie.Need-slice-write-file Inv-loop μ-loop
-slice-write-file c = omega arith
-
-add-i : tie.Need-add-i Inv-loop μ-loop
-add-i c = omega arith
-
-loop-less : tie.Need-loop-less Inv-loop μ-loop
-loop-less c = omega arith
-
 loop-again : tie.Need-loop-again Inv-loop μ-loop
 loop-again c =
     let i = c .before .before .loop .i in
     let bytes = c .before .before .before .args .bytes .now in
     (omega arith, storing-one (c .before .before .loop .inv .1) (getD bytes i 0) (drop (i + 1) bytes) _ (rw (add-one i) (drop-cons bytes i 0 (c .before .loop-test .taken))) (omega arith))
-
-same-length : tie.Need-same-length Inv-loop μ-loop
-same-length c = omega arith
 
 returns : tie.Need-returns Inv-loop μ-loop
 returns c = storing-all (c .before .loop .inv .1) (drop-of-length-le _ (c .loop-test .left))
@@ -50,11 +32,11 @@ put-bytes-spec =
     Inv-loop
     μ-loop
     loop-holds
-    add-to
-    shared-slice-read-file
-    slice-write-file
-    add-i
-    loop-less
+    (λ c. omega arith)
+    (λ c. omega arith)
+    (λ c. omega arith)
+    (λ c. omega arith)
+    (λ c. omega arith)
     loop-again
-    same-length
+    (λ c. omega arith)
     returns)

@@ -15,28 +15,10 @@ abbrev μ-loop : tie.MeasureT-loop
 loop-holds : tie.Need-loop-holds Inv-loop μ-loop
 loop-holds c = (omega arith, storing-none _ _ _ _ (omega arith))
 
-add-i : tie.Need-add-i Inv-loop μ-loop
-add-i c = omega arith
-
-cast-file : tie.Need-cast-file Inv-loop μ-loop
-cast-file c = omega arith
-
-slice-write-file : tie.Need-slice-write-file Inv-loop μ-loop
-slice-write-file c = omega arith
-
-add-k : tie.Need-add-k Inv-loop μ-loop
-add-k c = omega arith
-
-loop-less : tie.Need-loop-less Inv-loop μ-loop
-loop-less c = omega arith
-
 loop-again : tie.Need-loop-again Inv-loop μ-loop
 loop-again c =
     let l = c .before .loop in
     (omega arith, storing-one (l .inv .1) (l .left % 256) _ _ (little-more (8 - l .k) _ (l .left) (omega arith)) (omega arith))
-
-same-length : tie.Need-same-length Inv-loop μ-loop
-same-length c = omega arith
 
 returns : tie.Need-returns Inv-loop μ-loop
 returns c = storing-all (c .before .loop .inv .1) (little-none _ _ (omega arith))
@@ -48,11 +30,11 @@ put-number-spec =
     Inv-loop
     μ-loop
     loop-holds
-    add-i
-    cast-file
-    slice-write-file
-    add-k
-    loop-less
+    (λ c. omega arith)
+    (λ c. omega arith)
+    (λ c. omega arith)
+    (λ c. omega arith)
+    (λ c. omega arith)
     loop-again
-    same-length
+    (λ c. omega arith)
     returns)

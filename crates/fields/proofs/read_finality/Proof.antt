@@ -3,12 +3,6 @@ use borrow.Author.Needs.{needs}
 use Rattle.fields.proofs.read_finality.Statement.{statement}
 use Rattle.fields.proofs.read_finality.Tie as tie
 
-read-number-requires-2 : tie.Need-read-number-requires-2
-read-number-requires-2 c κs = omega arith
-
-checkpoint-at-requires : tie.Need-checkpoint-at-requires
-checkpoint-at-requires c κs = omega arith
-
 returns : tie.Need-returns
 returns c =
     let slot = c .before .before .before .before .read-number .ensures in
@@ -20,8 +14,8 @@ read-finality-spec =
     tie.close
     (tie.spec
     (λ c κs. search needs)
-    read-number-requires-2
-    checkpoint-at-requires
+    (λ c κs. omega arith)
+    (λ c κs. omega arith)
     (λ c κs. search needs)
     (λ c κs. search needs)
     returns)

@@ -25,21 +25,6 @@ loop-holds c =
     let k : a .at + 0 ≡ a .at = omega arith in
     (omega arith, omega arith, rw (m, k) (storing-none _ _ _ _ refl))
 
-read-number-requires : tie.Need-read-number-requires Inv-loop μ-loop
-read-number-requires c κs = omega arith
-
-mul-numbers : tie.Need-mul-numbers Inv-loop μ-loop
-mul-numbers c = omega arith
-
-slice-write-numbers : tie.Need-slice-write-numbers Inv-loop μ-loop
-slice-write-numbers c = omega arith
-
-add-i : tie.Need-add-i Inv-loop μ-loop
-add-i c = omega arith
-
-loop-less : tie.Need-loop-less Inv-loop μ-loop
-loop-less c = omega arith
-
 loop-again : tie.Need-loop-again Inv-loop μ-loop
 loop-again c =
     let at-at-loop = c .before .before in
@@ -51,9 +36,6 @@ loop-again c =
       rw (c .read-number .ensures .0, l .inv .1)
           (storing-one (l .inv .2) _ _ _ (from-bytes-more (length (a .numbers .now)) (a .bytes .now) (a .at) (l .i) (omega arith)) (omega arith)),
     )
-
-same-length : tie.Need-same-length Inv-loop μ-loop
-same-length c = omega arith
 
 returns : tie.Need-returns Inv-loop μ-loop
 returns c =
@@ -69,11 +51,11 @@ read-numbers-spec =
     Inv-loop
     μ-loop
     loop-holds
-    read-number-requires
-    mul-numbers
-    slice-write-numbers
-    add-i
-    loop-less
+    (λ c κs. omega arith)
+    (λ c. omega arith)
+    (λ c. omega arith)
+    (λ c. omega arith)
+    (λ c. omega arith)
     loop-again
-    same-length
+    (λ c. omega arith)
     returns)

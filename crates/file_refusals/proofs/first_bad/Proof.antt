@@ -27,15 +27,6 @@ validators-holds c = (omega arith, passing-none _ _ _)
 loop-holds : tie.Need-loop-holds Inv-loop μ-loop Inv-validators μ-validators
 loop-holds c = (omega arith, omega arith, λ j l. absurd (omega arith))
 
-read-number-requires : tie.Need-read-number-requires Inv-loop μ-loop Inv-validators μ-validators
-read-number-requires c κs = omega arith
-
-add-k : tie.Need-add-k Inv-loop μ-loop Inv-validators μ-validators
-add-k c = omega arith
-
-loop-less : tie.Need-loop-less Inv-loop μ-loop Inv-validators μ-validators
-loop-less c = omega arith
-
 loop-again : tie.Need-loop-again Inv-loop μ-loop Inv-validators μ-validators
 loop-again c =
     let at-limit = c .before .before in
@@ -49,12 +40,6 @@ loop-again c =
     let next = at-read-number .read-number .ensures in
     let h : numberAt (a .from + 80 * i + 8 * l .k) (a .bytes .now) ≤ limitAt (l .k) = rw (at-limit .limit .ensures, next .0, l .inv .0) at (c .if1 .left) in
     (omega arith, omega arith, below-more _ (l .k) (l .inv .2) h)
-
-add-i : tie.Need-add-i Inv-loop μ-loop Inv-validators μ-validators
-add-i c = omega arith
-
-validators-less : tie.Need-validators-less Inv-loop μ-loop Inv-validators μ-validators
-validators-less c = omega arith
 
 validators-again : tie.Need-validators-again Inv-loop μ-loop Inv-validators μ-validators
 validators-again c =
@@ -93,13 +78,13 @@ first-bad-spec =
     μ-validators
     validators-holds
     loop-holds
-    read-number-requires
+    (λ c κs. omega arith)
     (λ c κs. search needs)
-    add-k
-    loop-less
+    (λ c. omega arith)
+    (λ c. omega arith)
     loop-again
-    add-i
-    validators-less
+    (λ c. omega arith)
+    (λ c. omega arith)
     validators-again
     returns
     returns-2)

@@ -13,9 +13,6 @@ use Rattle.full_close.proofs.full_close.Tie as tie
 abbrev call : tie.Start → FullCall
 call c = fullCalled (c .args .rules) (c .args .finality) (c .args .queue) (c .args .registry .now) (c .args .slashings .now) (c .args .roots .now) (c .args .closing-registry .now) (c .args .closing-slashings .now) (c .args .amounts .now)
 
-mul-if1 : tie.Need-mul-if1
-mul-if1 c = omega arith
-
 returns : tie.Need-returns
 returns c =
     let at-start : tie.Start = search needs in
@@ -50,7 +47,7 @@ pub full-close-spec : {M : Type 1} → statement M
 full-close-spec =
     tie.close
     (tie.spec
-    mul-if1
+    (λ c. omega arith)
     (λ c κs. search needs)
     returns
     (λ c κs. search needs)

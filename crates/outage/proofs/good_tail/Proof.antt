@@ -8,12 +8,6 @@ use borrow.Author.Needs.{needs}
 use Rattle.outage.proofs.good_tail.Statement.{statement}
 use Rattle.outage.proofs.good_tail.Tie as tie
 
-mul-if1 : tie.Need-mul-if1
-mul-if1 c = omega arith
-
-add-if1 : tie.Need-add-if1
-add-if1 c = omega arith
-
 returns : tie.Need-returns
 unfolding goodTail
 returns c = rw (ne-eqb _ _ (c .if1 .taken))
@@ -23,4 +17,4 @@ unfolding goodTail
 returns-2 c = rw (eq-eqb _ _ (c .before .before .if1 .left)) (ap (λ (n : ℕ). leb n 4096) (c .before .read-number .ensures .0))
 
 pub good-tail-spec : {M : Type 1} → statement M
-good-tail-spec = tie.close (tie.spec mul-if1 add-if1 returns (λ c κs. search needs) returns-2)
+good-tail-spec = tie.close (tie.spec (λ c. omega arith) (λ c. omega arith) returns (λ c κs. search needs) returns-2)

@@ -24,9 +24,6 @@ inside c = omega (arith, good-header _ (c .before .before .before .pre) .long, c
 read-counts-requires : tie.Need-read-counts-requires
 read-counts-requires c κs = good-header _ (c .before .pre) .enough
 
-mul-from : tie.Need-mul-from
-mul-from c = omega (arith, inside c, c .before .before .before .good)
-
 returns : tie.Need-returns
 returns c =
     let s : tie.Start = search needs in
@@ -40,7 +37,7 @@ file-roots-spec =
     (tie.spec
     read-counts-requires
     (λ c κs. search needs)
-    mul-from
+    (λ c. omega (arith, inside c, c .before .before .before .good))
     (λ c. omega (arith, inside c, c .before .before .before .good))
     (λ c. omega (arith, inside c, c .before .before .before .good))
     (λ c. omega (arith, inside c))

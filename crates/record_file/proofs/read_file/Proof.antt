@@ -28,12 +28,6 @@ returns c =
     let slashings = sym (ap (λ (k : Contents). k .slashings) (g .contents)) in
     (g .number, (t .place, (settings, (finality, (t .pair, (registry, slashings))))))
 
-read-settings-requires : tie.Need-read-settings-requires
-read-settings-requires c κs = omega (arith, lengths (c))
-
-read-finality-requires : tie.Need-read-finality-requires
-read-finality-requires c κs = omega (arith, lengths (c .before))
-
 registry-at-requires : tie.Need-registry-at-requires
 registry-at-requires c κs = lengths (c .before .before) .header
 
@@ -41,12 +35,6 @@ mul-slashings-at : tie.Need-mul-slashings-at
 mul-slashings-at c =
     let at-else1 = c .before .before .before in
     omega (arith, lengths (at-else1), start at-else1 .good)
-
-sub-slashings-at : tie.Need-sub-slashings-at
-sub-slashings-at c = omega (arith, lengths (c .before .before .before))
-
-read-numbers-requires : tie.Need-read-numbers-requires
-read-numbers-requires c κs = omega (arith, lengths (c .before .before .before .before), c .before .registry-at .ensures)
 
 read-numbers-requires-2 : tie.Need-read-numbers-requires-2
 read-numbers-requires-2 c κs =
@@ -82,12 +70,12 @@ read-file-spec =
     (λ c. search needs)
     (λ c. search needs)
     returns
-    read-settings-requires
-    read-finality-requires
+    (λ c κs. omega (arith, lengths (c)))
+    (λ c κs. omega (arith, lengths (c .before)))
     registry-at-requires
     mul-slashings-at
-    sub-slashings-at
-    read-numbers-requires
+    (λ c. omega (arith, lengths (c .before .before .before)))
+    (λ c κs. omega (arith, lengths (c .before .before .before .before), c .before .registry-at .ensures))
     read-numbers-requires-2
     (λ c. search needs)
     (λ c. search needs)

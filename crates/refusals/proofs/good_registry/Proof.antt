@@ -17,24 +17,6 @@ abbrev μ-loop : tie.MeasureT-loop
 loop-holds : tie.Need-loop-holds Inv-loop μ-loop
 loop-holds c = passed-none _ _
 
-mul-a : tie.Need-mul-a Inv-loop μ-loop
-mul-a c = omega arith
-
-add-b : tie.Need-add-b Inv-loop μ-loop
-add-b c = omega arith
-
-mul-good-entry : tie.Need-mul-good-entry Inv-loop μ-loop
-mul-good-entry c = omega arith
-
-sub-good-entry : tie.Need-sub-good-entry Inv-loop μ-loop
-sub-good-entry c = omega arith
-
-part-good-entry-start : tie.Need-part-good-entry-start Inv-loop μ-loop
-part-good-entry-start c = omega arith
-
-part-good-entry-end : tie.Need-part-good-entry-end Inv-loop μ-loop
-part-good-entry-end c = omega arith
-
 good-entry-requires : tie.Need-good-entry-requires Inv-loop μ-loop
 good-entry-requires c κs = part-length _ _ (c .before .loop-test .taken)
 
@@ -44,12 +26,6 @@ returns c =
     let s = c .before .before .before in
     let xs = s .before .before .before .args .registry .now in
     sym (passed-stop (s .before .loop .inv) (omega (arith, length-decoded xs)) nobody (part-tested goodValidator xs (s .loop-test .taken) (fails (c .before .good-entry .ensures) (c .if1 .taken))))
-
-add-i : tie.Need-add-i Inv-loop μ-loop
-add-i c = omega arith
-
-loop-less : tie.Need-loop-less Inv-loop μ-loop
-loop-less c = omega arith
 
 loop-again : tie.Need-loop-again Inv-loop μ-loop
 loop-again c =
@@ -68,15 +44,15 @@ good-registry-spec =
     Inv-loop
     μ-loop
     loop-holds
-    mul-a
-    add-b
-    mul-good-entry
-    sub-good-entry
-    part-good-entry-start
-    part-good-entry-end
+    (λ c. omega arith)
+    (λ c. omega arith)
+    (λ c. omega arith)
+    (λ c. omega arith)
+    (λ c. omega arith)
+    (λ c. omega arith)
     good-entry-requires
     returns
-    add-i
-    loop-less
+    (λ c. omega arith)
+    (λ c. omega arith)
     loop-again
     returns-2)

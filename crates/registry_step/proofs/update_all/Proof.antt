@@ -14,50 +14,20 @@ abbrev μ-loop : tie.MeasureT-loop
 loop-holds : tie.Need-loop-holds Inv-loop μ-loop
 loop-holds c = updating-none _ _ _ (c .before .pre .0) (c .before .pre .2)
 
-mul-a : tie.Need-mul-a Inv-loop μ-loop
-mul-a c = omega arith
-
-add-b : tie.Need-add-b Inv-loop μ-loop
-add-b c = omega arith
-
-mul-update-entry : tie.Need-mul-update-entry Inv-loop μ-loop
-mul-update-entry c = omega arith
-
-sub-update-entry : tie.Need-sub-update-entry Inv-loop μ-loop
-sub-update-entry c = omega arith
-
-part-update-entry-start : tie.Need-part-update-entry-start Inv-loop μ-loop
-part-update-entry-start c = omega arith
-
-part-update-entry-end : tie.Need-part-update-entry-end Inv-loop μ-loop
-part-update-entry-end c = omega arith
-
 update-entry-requires : tie.Need-update-entry-requires Inv-loop μ-loop
 update-entry-requires c κs =
     let g = c .before .before .loop .inv in
     (updating-ten g (c .before .loop-test .taken), c .before .before .before .before .pre .1, omega (arith, updating-few g))
-
-same-length : tie.Need-same-length Inv-loop μ-loop
-same-length c = omega arith
 
 returns : tie.Need-returns Inv-loop μ-loop
 returns c =
     let u = c .before .before .before in
     updating-stop (u .before .before .before .loop .inv) (u .before .before .loop-test .taken) (u .update-entry .ensures) (c .if1 .taken)
 
-add-i : tie.Need-add-i Inv-loop μ-loop
-add-i c = omega arith
-
-loop-less : tie.Need-loop-less Inv-loop μ-loop
-loop-less c = omega arith
-
 loop-again : tie.Need-loop-again Inv-loop μ-loop
 loop-again c =
     let u = c .before .before .before .before in
     updating-more (u .before .before .before .loop .inv) (u .before .before .loop-test .taken) (u .update-entry .ensures) (c .before .if1 .left) (omega arith)
-
-same-length-2 : tie.Need-same-length-2 Inv-loop μ-loop
-same-length-2 c = omega arith
 
 returns-2 : tie.Need-returns-2 Inv-loop μ-loop
 returns-2 c = updating-all (c .before .loop .inv) (c .loop-test .left)
@@ -69,17 +39,17 @@ update-all-spec =
     Inv-loop
     μ-loop
     loop-holds
-    mul-a
-    add-b
-    mul-update-entry
-    sub-update-entry
-    part-update-entry-start
-    part-update-entry-end
+    (λ c. omega arith)
+    (λ c. omega arith)
+    (λ c. omega arith)
+    (λ c. omega arith)
+    (λ c. omega arith)
+    (λ c. omega arith)
     update-entry-requires
-    same-length
+    (λ c. omega arith)
     returns
-    add-i
-    loop-less
+    (λ c. omega arith)
+    (λ c. omega arith)
     loop-again
-    same-length-2
+    (λ c. omega arith)
     returns-2)

@@ -10,12 +10,6 @@ Inv-loop tally leaf₀ t3 leaf = leaf ≤ 30
 abbrev μ-loop : tie.MeasureT-loop
 μ-loop tally leaf₀ t3 leaf = 30 - leaf
 
-add-leaf : tie.Need-add-leaf Inv-loop μ-loop
-add-leaf c = omega arith
-
-loop-less : tie.Need-loop-less Inv-loop μ-loop
-loop-less c = omega arith
-
 pub print-tally-spec : {M : Type 1} → statement M
 print-tally-spec =
     tie.close
@@ -24,8 +18,8 @@ print-tally-spec =
     μ-loop
     (λ c. search needs)
     (λ c κs. search needs)
-    add-leaf
-    loop-less
+    (λ c. omega arith)
+    (λ c. omega arith)
     (λ c. search needs)
     (λ c κs. search needs)
     (λ c κs. search needs)

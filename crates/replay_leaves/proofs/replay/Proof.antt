@@ -11,12 +11,6 @@ Inv-loop tally₀ turns₀ tally turns = length tally ≡ length tally₀
 abbrev μ-loop : tie.MeasureT-loop
 μ-loop tally₀ turns₀ tally turns = turns
 
-sub-turns : tie.Need-sub-turns Inv-loop μ-loop
-sub-turns c = omega arith
-
-loop-less : tie.Need-loop-less Inv-loop μ-loop
-loop-less c = omega arith
-
 pub replay-spec : {M : Type 1} → statement M
 replay-spec =
     tie.close
@@ -27,8 +21,8 @@ replay-spec =
     (λ c κs. search needs)
     (λ c. search needs)
     (λ c. search needs)
-    sub-turns
-    loop-less
+    (λ c. omega arith)
+    (λ c. omega arith)
     (λ c. search needs)
     (λ c. search needs)
     (λ c. search needs))

@@ -11,12 +11,6 @@ Inv-loop words bytes room₀ tally₀ left₀ at₀ room tally left at = (length
 abbrev μ-loop : tie.MeasureT-loop
 μ-loop words bytes room₀ tally₀ left₀ at₀ room tally left at = left
 
-sub-left : tie.Need-sub-left Inv-loop μ-loop
-sub-left c = omega arith
-
-loop-less : tie.Need-loop-less Inv-loop μ-loop
-loop-less c = omega arith
-
 pub replay-cases-spec : {M : Type 1} → statement M
 replay-cases-spec =
     tie.close
@@ -31,8 +25,8 @@ replay-cases-spec =
     (λ c. search needs)
     (λ c. search needs)
     (λ c. search needs)
-    sub-left
-    loop-less
+    (λ c. omega arith)
+    (λ c. omega arith)
     (λ c. search needs)
     (λ c. search needs)
     (λ c. search needs)

@@ -11,18 +11,6 @@ Inv-loop tally₀ turns₀ tally turns = length tally ≡ length tally₀
 abbrev μ-loop : tie.MeasureT-loop
 μ-loop tally₀ turns₀ tally turns = turns
 
-same-length : tie.Need-same-length Inv-loop μ-loop
-same-length c = omega arith
-
-sub-turns : tie.Need-sub-turns Inv-loop μ-loop
-sub-turns c = omega arith
-
-loop-less : tie.Need-loop-less Inv-loop μ-loop
-loop-less c = omega arith
-
-same-length-2 : tie.Need-same-length-2 Inv-loop μ-loop
-same-length-2 c = omega arith
-
 pub replay-spec : {M : Type 1} → statement M
 replay-spec =
     tie.close
@@ -31,10 +19,10 @@ replay-spec =
     μ-loop
     (λ c. search needs)
     (λ c κs. search needs)
-    same-length
+    (λ c. omega arith)
     (λ c. search needs)
-    sub-turns
-    loop-less
+    (λ c. omega arith)
+    (λ c. omega arith)
     (λ c. search needs)
-    same-length-2
+    (λ c. omega arith)
     (λ c. search needs))

@@ -12,18 +12,6 @@ Inv-loop words bytes at end tally₀ number r answers answer₀ operation₀ tal
 abbrev μ-loop : tie.MeasureT-loop
 μ-loop words bytes at end tally₀ number r answers answer₀ operation₀ tally answer operation = answers - operation
 
-same-length : tie.Need-same-length Inv-loop μ-loop
-same-length c = omega arith
-
-add-operation : tie.Need-add-operation Inv-loop μ-loop
-add-operation c = omega arith
-
-loop-less : tie.Need-loop-less Inv-loop μ-loop
-loop-less c = omega arith
-
-same-length-2 : tie.Need-same-length-2 Inv-loop μ-loop
-same-length-2 c = omega arith
-
 pub replay-record-spec : {M : Type 1} → statement M
 replay-record-spec =
     tie.close
@@ -33,15 +21,15 @@ replay-record-spec =
     (λ c κs. search needs)
     (λ c κs. search needs)
     (λ c κs. search needs)
-    same-length
+    (λ c. omega arith)
     (λ c. search needs)
     (λ c. search needs)
     (λ c κs. search needs)
     (λ c κs. search needs)
     (λ c κs. search needs)
-    add-operation
-    loop-less
+    (λ c. omega arith)
+    (λ c. omega arith)
     (λ c. search needs)
     (λ c κs. search needs)
-    same-length-2
+    (λ c. omega arith)
     (λ c. search needs))

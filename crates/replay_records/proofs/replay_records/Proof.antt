@@ -11,18 +11,6 @@ Inv-loop words bytes tally₀ left₀ at₀ tally left at = length tally ≡ len
 abbrev μ-loop : tie.MeasureT-loop
 μ-loop words bytes tally₀ left₀ at₀ tally left at = left
 
-same-length : tie.Need-same-length Inv-loop μ-loop
-same-length c = omega arith
-
-sub-left : tie.Need-sub-left Inv-loop μ-loop
-sub-left c = omega arith
-
-loop-less : tie.Need-loop-less Inv-loop μ-loop
-loop-less c = omega arith
-
-same-length-2 : tie.Need-same-length-2 Inv-loop μ-loop
-same-length-2 c = omega arith
-
 pub replay-records-spec : {M : Type 1} → statement M
 replay-records-spec =
     tie.close
@@ -33,10 +21,10 @@ replay-records-spec =
     (λ c. search needs)
     (λ c κs. search needs)
     (λ c κs. search needs)
-    same-length
+    (λ c. omega arith)
     (λ c. search needs)
-    sub-left
-    loop-less
+    (λ c. omega arith)
+    (λ c. omega arith)
     (λ c. search needs)
-    same-length-2
+    (λ c. omega arith)
     (λ c. search needs))

@@ -18,20 +18,8 @@ abbrev μ-loop : tie.MeasureT-loop
 loop-holds : tie.Need-loop-holds Inv-loop μ-loop
 loop-holds c = picking-none _ (c .before .before .pre .1)
 
-mul-keep : tie.Need-mul-keep Inv-loop μ-loop
-mul-keep c = omega arith
-
-shared-slice-read-keep : tie.Need-shared-slice-read-keep Inv-loop μ-loop
-shared-slice-read-keep c = omega arith
-
 keep-requires : tie.Need-keep-requires Inv-loop μ-loop
 keep-requires c κs = c .before .before .before .loop .inv .top
-
-add-j : tie.Need-add-j Inv-loop μ-loop
-add-j c = omega arith
-
-loop-less : tie.Need-loop-less Inv-loop μ-loop
-loop-less c = omega arith
 
 loop-again : tie.Need-loop-again Inv-loop μ-loop
 loop-again c =
@@ -40,17 +28,8 @@ loop-again c =
     let at-at-loop = at-in-loop .before in
     picking-more (at-at-loop .loop .inv) 0 (at-in-loop .loop-test .taken) refl (at-keep .keep .ensures)
 
-mul-at-most-next : tie.Need-mul-at-most-next Inv-loop μ-loop
-mul-at-most-next c = omega arith
-
-slice-read-at-most-next : tie.Need-slice-read-at-most-next Inv-loop μ-loop
-slice-read-at-most-next c = omega arith
-
 sub-t18 : tie.Need-sub-t18 Inv-loop μ-loop
 sub-t18 c = let b = c .before .before in omega (arith, c .count-under .ensures, filter-le (under (b .at-most-next .result)) (b .before .before .before .loop .first))
-
-same-length : tie.Need-same-length Inv-loop μ-loop
-same-length c = omega arith
 
 returns : tie.Need-returns Inv-loop μ-loop
 returns c = let b = c .before .before in let l = b .before .before in rw (c .count-under .ensures, l .before .loop .inv .places) (picking-cut (l .before .loop .inv) (l .loop-test .left) (omega arith) (b .at-most-next .ensures))
@@ -62,16 +41,16 @@ pick-spec =
     Inv-loop
     μ-loop
     loop-holds
-    mul-keep
-    shared-slice-read-keep
+    (λ c. omega arith)
+    (λ c. omega arith)
     keep-requires
-    add-j
-    loop-less
+    (λ c. omega arith)
+    (λ c. omega arith)
     loop-again
-    mul-at-most-next
-    slice-read-at-most-next
+    (λ c. omega arith)
+    (λ c. omega arith)
     (λ c κs. search needs)
     (λ c κs. search needs)
     sub-t18
-    same-length
+    (λ c. omega arith)
     returns)

@@ -19,21 +19,6 @@ abbrev μ-loop : tie.MeasureT-loop
 loop-holds : tie.Need-loop-holds Inv-loop μ-loop
 loop-holds c = (omega arith, refl)
 
-mul-needed : tie.Need-mul-needed Inv-loop μ-loop
-mul-needed c = omega arith
-
-shared-slice-read-needed : tie.Need-shared-slice-read-needed Inv-loop μ-loop
-shared-slice-read-needed c = omega arith
-
-mul-needed-2 : tie.Need-mul-needed-2 Inv-loop μ-loop
-mul-needed-2 c = omega arith
-
-shared-slice-read-needed-2 : tie.Need-shared-slice-read-needed-2 Inv-loop μ-loop
-shared-slice-read-needed-2 c = omega arith
-
-add-needed : tie.Need-add-needed Inv-loop μ-loop
-add-needed c = omega arith
-
 add-needed-2 : tie.Need-add-needed-2 Inv-loop μ-loop
 add-needed-2 c = let i = c .before .before .before .loop .i in omega (arith, c .shared-slice-known2 .given i, c .before .shared-slice-known .given i)
 
@@ -43,12 +28,6 @@ returns c =
     let at-at-loop = at-in-loop .before in
     let at-start = at-at-loop .before in
     let a = at-start .args in let l = at-at-loop .loop in sym (l .inv .1 ∙ beyond (a .lengths .now) (l .i) (8 * length (a .numbers .now)) (at-in-loop .loop-test .taken) (omega arith))
-
-add-i : tie.Need-add-i Inv-loop μ-loop
-add-i c = omega arith
-
-loop-less : tie.Need-loop-less Inv-loop μ-loop
-loop-less c = omega arith
 
 loop-again : tie.Need-loop-again Inv-loop μ-loop
 loop-again c =
@@ -67,14 +46,14 @@ holds-longest-spec =
     Inv-loop
     μ-loop
     loop-holds
-    mul-needed
-    shared-slice-read-needed
-    mul-needed-2
-    shared-slice-read-needed-2
-    add-needed
+    (λ c. omega arith)
+    (λ c. omega arith)
+    (λ c. omega arith)
+    (λ c. omega arith)
+    (λ c. omega arith)
     add-needed-2
     returns
-    add-i
-    loop-less
+    (λ c. omega arith)
+    (λ c. omega arith)
     loop-again
     returns-2)

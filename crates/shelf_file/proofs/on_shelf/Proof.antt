@@ -16,9 +16,6 @@ first-or-second (suc (suc (suc k))) l m f g = absurd (omega arith)
 returns : tie.Need-returns
 returns c = rw (fails (c .before .good-header .ensures) (c .if1 .taken))
 
-read-number-requires : tie.Need-read-number-requires
-read-number-requires c κs = omega (arith, good-header _ (passes (c .before .good-header .ensures) (c .if1 .left)) .enough)
-
 -- a header is of version 1 or 2, and what is answered is computed of each
 returns-2 : tie.Need-returns-2
 returns-2 c =
@@ -30,4 +27,4 @@ returns-2 c =
     (λ e. rw (good, sym number, e))
 
 pub on-shelf-spec : {M : Type 1} → statement M
-on-shelf-spec = tie.close (tie.spec (λ c κs. search needs) returns read-number-requires returns-2)
+on-shelf-spec = tie.close (tie.spec (λ c κs. search needs) returns (λ c κs. omega (arith, good-header _ (passes (c .before .good-header .ensures) (c .if1 .left)) .enough)) returns-2)

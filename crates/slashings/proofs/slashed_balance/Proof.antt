@@ -15,26 +15,8 @@ abbrev μ-loop : tie.MeasureT-loop
 loop-holds : tie.Need-loop-holds Inv-loop μ-loop
 loop-holds c = added-none _
 
-mul-amount : tie.Need-mul-amount Inv-loop μ-loop
-mul-amount c = omega arith
-
-shared-slice-read-amount : tie.Need-shared-slice-read-amount Inv-loop μ-loop
-shared-slice-read-amount c = omega arith
-
-sub-if1 : tie.Need-sub-if1 Inv-loop μ-loop
-sub-if1 c = omega arith
-
 returns : tie.Need-returns Inv-loop μ-loop
 returns c = record { is = ap numberFor (sym (added-over (c .before .before .before .loop .inv) (c .before .before .loop-test .taken) 0 refl (omega arith))) }
-
-add-sum : tie.Need-add-sum Inv-loop μ-loop
-add-sum c = omega arith
-
-add-i : tie.Need-add-i Inv-loop μ-loop
-add-i c = omega arith
-
-loop-less : tie.Need-loop-less Inv-loop μ-loop
-loop-less c = omega arith
 
 loop-again : tie.Need-loop-again Inv-loop μ-loop
 loop-again c = added-more (c .before .before .before .loop .inv) (c .before .before .loop-test .taken) 0 refl refl (omega arith)
@@ -49,12 +31,12 @@ slashed-balance-spec =
     Inv-loop
     μ-loop
     loop-holds
-    mul-amount
-    shared-slice-read-amount
-    sub-if1
+    (λ c. omega arith)
+    (λ c. omega arith)
+    (λ c. omega arith)
     returns
-    add-sum
-    add-i
-    loop-less
+    (λ c. omega arith)
+    (λ c. omega arith)
+    (λ c. omega arith)
     loop-again
     returns-2)

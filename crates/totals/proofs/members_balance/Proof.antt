@@ -16,41 +16,11 @@ abbrev μ-loop : tie.MeasureT-loop
 loop-holds : tie.Need-loop-holds Inv-loop μ-loop
 loop-holds c = summed-none _ (c .before .pre .0)
 
-mul-a : tie.Need-mul-a Inv-loop μ-loop
-mul-a c = omega arith
-
-add-b : tie.Need-add-b Inv-loop μ-loop
-add-b c = omega arith
-
-mul-member-weight : tie.Need-mul-member-weight Inv-loop μ-loop
-mul-member-weight c = omega arith
-
-sub-member-weight : tie.Need-sub-member-weight Inv-loop μ-loop
-sub-member-weight c = omega arith
-
-part-member-weight-start : tie.Need-part-member-weight-start Inv-loop μ-loop
-part-member-weight-start c = omega arith
-
-part-member-weight-end : tie.Need-part-member-weight-end Inv-loop μ-loop
-part-member-weight-end c = omega arith
-
 member-weight-requires : tie.Need-member-weight-requires Inv-loop μ-loop
 member-weight-requires c κs = (reading-ten (c .before .before .loop .inv .at) (c .before .loop-test .taken), c .before .before .before .before .pre .1)
 
-sub-if1 : tie.Need-sub-if1 Inv-loop μ-loop
-sub-if1 c = omega arith
-
 returns : tie.Need-returns Inv-loop μ-loop
 returns c = balance-over _ (c .before .before .before .before .loop .inv) (c .before .before .before .loop-test .taken) (c .before .member-weight .ensures) (omega arith)
-
-add-sum : tie.Need-add-sum Inv-loop μ-loop
-add-sum c = omega arith
-
-add-i : tie.Need-add-i Inv-loop μ-loop
-add-i c = omega arith
-
-loop-less : tie.Need-loop-less Inv-loop μ-loop
-loop-less c = omega arith
 
 loop-again : tie.Need-loop-again Inv-loop μ-loop
 loop-again c = summed-more (c .before .before .before .before .loop .inv) (c .before .before .before .loop-test .taken) (c .before .member-weight .ensures) (omega arith) (omega arith)
@@ -65,17 +35,17 @@ members-balance-spec =
     Inv-loop
     μ-loop
     loop-holds
-    mul-a
-    add-b
-    mul-member-weight
-    sub-member-weight
-    part-member-weight-start
-    part-member-weight-end
+    (λ c. omega arith)
+    (λ c. omega arith)
+    (λ c. omega arith)
+    (λ c. omega arith)
+    (λ c. omega arith)
+    (λ c. omega arith)
     member-weight-requires
-    sub-if1
+    (λ c. omega arith)
     returns
-    add-sum
-    add-i
-    loop-less
+    (λ c. omega arith)
+    (λ c. omega arith)
+    (λ c. omega arith)
     loop-again
     returns-2)

@@ -16,44 +16,11 @@ abbrev μ-loop : tie.MeasureT-loop
 loop-holds : tie.Need-loop-holds Inv-loop μ-loop
 loop-holds c = counted-none _ (c .before .pre .0)
 
-mul-a : tie.Need-mul-a Inv-loop μ-loop
-mul-a c = omega arith
-
-add-b : tie.Need-add-b Inv-loop μ-loop
-add-b c = omega arith
-
-mul-is-member : tie.Need-mul-is-member Inv-loop μ-loop
-mul-is-member c = omega arith
-
-sub-is-member : tie.Need-sub-is-member Inv-loop μ-loop
-sub-is-member c = omega arith
-
-part-is-member-start : tie.Need-part-is-member-start Inv-loop μ-loop
-part-is-member-start c = omega arith
-
-part-is-member-end : tie.Need-part-is-member-end Inv-loop μ-loop
-part-is-member-end c = omega arith
-
 is-member-requires : tie.Need-is-member-requires Inv-loop μ-loop
 is-member-requires c κs = (reading-ten (c .before .before .loop .inv .at) (c .before .loop-test .taken), c .before .before .before .before .pre .1)
 
-add-i : tie.Need-add-i Inv-loop μ-loop
-add-i c = omega arith
-
-loop-less : tie.Need-loop-less Inv-loop μ-loop
-loop-less c = omega arith
-
 loop-again : tie.Need-loop-again Inv-loop μ-loop
 loop-again c = counted-no (c .before .before .before .before .loop .inv) (c .before .before .before .loop-test .taken) (c .before .is-member .ensures) (not-true _ (c .if1 .taken))
-
-add-count : tie.Need-add-count Inv-loop μ-loop
-add-count c = omega arith
-
-add-i-2 : tie.Need-add-i-2 Inv-loop μ-loop
-add-i-2 c = omega arith
-
-loop-less-2 : tie.Need-loop-less-2 Inv-loop μ-loop
-loop-less-2 c = omega arith
 
 loop-again-2 : tie.Need-loop-again-2 Inv-loop μ-loop
 loop-again-2 c = counted-yes (c .before .before .before .before .loop .inv) (c .before .before .before .loop-test .taken) (c .before .is-member .ensures) (not-false _ (c .if1 .left))
@@ -68,18 +35,18 @@ members-count-spec =
     Inv-loop
     μ-loop
     loop-holds
-    mul-a
-    add-b
-    mul-is-member
-    sub-is-member
-    part-is-member-start
-    part-is-member-end
+    (λ c. omega arith)
+    (λ c. omega arith)
+    (λ c. omega arith)
+    (λ c. omega arith)
+    (λ c. omega arith)
+    (λ c. omega arith)
     is-member-requires
-    add-i
-    loop-less
+    (λ c. omega arith)
+    (λ c. omega arith)
     loop-again
-    add-count
-    add-i-2
-    loop-less-2
+    (λ c. omega arith)
+    (λ c. omega arith)
+    (λ c. omega arith)
     loop-again-2
     returns)

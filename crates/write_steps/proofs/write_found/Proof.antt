@@ -42,9 +42,6 @@ start c = c .before .before .before .before .before .before .before .before .bef
 current-small : (c : tie.After-current-epoch) → c .current-epoch .result < 2 ^ 48
 current-small c = rw (c .current-epoch .ensures) (ep (start c) .small)
 
-add-t16 : tie.Need-add-t16
-add-t16 c = omega (arith, current-small c)
-
 add-t17 : tie.Need-add-t17
 add-t17 c = let k = c .before in omega (arith, current-small k, good-settings _ (start k .pre .0 .0) .small .«max_seed_lookahead»)
 
@@ -75,7 +72,7 @@ write-found-spec =
     (λ c. search needs)
     returns
     current-epoch-requires
-    add-t16
+    (λ c. omega (arith, current-small c))
     add-t17
     write-all-requires
     (λ c. search needs)

@@ -42,9 +42,6 @@ current-small c =
     let at-start = c .before .before .before .before .before .before .before .before .before in
     rw (c .current-epoch .ensures) (ep (at-start) .small)
 
-add-least : tie.Need-add-least
-add-least c = omega (arith, current-small (c .before))
-
 add-least-2 : tie.Need-add-least-2
 add-least-2 c =
     let at-current-epoch = c .before .before in
@@ -83,7 +80,7 @@ write-registry-spec =
     (λ c κs. search needs)
     current-epoch-requires
     churn-by-requires
-    add-least
+    (λ c. omega (arith, current-small (c .before)))
     add-least-2
     (λ c κs. search needs)
     cut-queue-requires

@@ -7,15 +7,6 @@ use borrow.Author.Needs.{needs}
 use Rattle.epochs.proofs.roots.slot_root.Statement.{statement}
 use Rattle.epochs.proofs.roots.slot_root.Tie as tie
 
-mul-a : tie.Need-mul-a
-mul-a c = omega (arith, mod-lt (c .before .args .slot) (c .before .pre .1))
-
-add-b : tie.Need-add-b
-add-b c = omega (arith, mod-lt (c .before .args .slot) (c .before .pre .1))
-
-part-result-end : tie.Need-part-result-end
-part-result-end c = omega (arith, mod-lt (c .before .args .slot) (c .before .pre .1))
-
 returns : tie.Need-returns
 unfolding «get_block_root_at_slot»
 returns c =
@@ -26,4 +17,4 @@ returns c =
 
 pub slot-root-spec : {M : Type 1} → statement M
 slot-root-spec =
-    tie.close (tie.spec (λ c. search needs) mul-a add-b (λ c. search needs) (λ c. search needs) part-result-end returns)
+    tie.close (tie.spec (λ c. search needs) (λ c. omega (arith, mod-lt (c .before .args .slot) (c .before .pre .1))) (λ c. omega (arith, mod-lt (c .before .args .slot) (c .before .pre .1))) (λ c. search needs) (λ c. search needs) (λ c. omega (arith, mod-lt (c .before .args .slot) (c .before .pre .1))) returns)

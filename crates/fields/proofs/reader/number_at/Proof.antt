@@ -17,15 +17,6 @@ loop-holds : tie.Need-loop-holds Inv-loop μ-loop
 unfolding fromLittleEndian
 loop-holds c = (omega arith, refl)
 
-sub-k : tie.Need-sub-k Inv-loop μ-loop
-sub-k c = omega arith
-
-add-i : tie.Need-add-i Inv-loop μ-loop
-add-i c = omega arith
-
-shared-slice-read-wide : tie.Need-shared-slice-read-wide Inv-loop μ-loop
-shared-slice-read-wide c = omega arith
-
 wide-requires : tie.Need-wide-requires Inv-loop μ-loop
 wide-requires c κs = tt
 
@@ -37,15 +28,6 @@ small c =
     let a = at-start .args in
     let l = at-at-loop .loop in
     rw (l .inv .1) (field-small (a .bytes .now) (λ i. c .before .shared-slice-known2 .given i .fits) (8 - l .k) (a .at + l .k) (omega arith) (omega arith))
-
-mul-n : tie.Need-mul-n Inv-loop μ-loop
-mul-n c = omega (arith, small c)
-
-add-n : tie.Need-add-n Inv-loop μ-loop
-add-n c = omega (arith, small c)
-
-loop-less : tie.Need-loop-less Inv-loop μ-loop
-loop-less c = omega arith
 
 loop-again : tie.Need-loop-again Inv-loop μ-loop
 loop-again c =
@@ -65,12 +47,12 @@ number-at-spec =
     Inv-loop
     μ-loop
     loop-holds
-    sub-k
-    add-i
-    shared-slice-read-wide
+    (λ c. omega arith)
+    (λ c. omega arith)
+    (λ c. omega arith)
     wide-requires
-    mul-n
-    add-n
-    loop-less
+    (λ c. omega (arith, small c))
+    (λ c. omega (arith, small c))
+    (λ c. omega arith)
     loop-again
     returns)

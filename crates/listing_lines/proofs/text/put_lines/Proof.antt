@@ -15,48 +15,6 @@ loop-holds c =
     let s = c .before .before .before in
     lining-none _ _ (s .pre .0 .0) (s .pre .0 .1) _ _ (s .pre .1)
 
-mul-a : tie.Need-mul-a Inv-loop μ-loop
-mul-a c = omega arith
-
-add-balance-at : tie.Need-add-balance-at Inv-loop μ-loop
-add-balance-at c = omega arith
-
-add-score-at : tie.Need-add-score-at Inv-loop μ-loop
-add-score-at c = omega arith
-
-mul-put-line : tie.Need-mul-put-line Inv-loop μ-loop
-mul-put-line c = omega arith
-
-shared-slice-read-put-line : tie.Need-shared-slice-read-put-line Inv-loop μ-loop
-shared-slice-read-put-line c = omega arith
-
-mul-put-line-2 : tie.Need-mul-put-line-2 Inv-loop μ-loop
-mul-put-line-2 c = omega arith
-
-shared-slice-read-put-line-2 : tie.Need-shared-slice-read-put-line-2 Inv-loop μ-loop
-shared-slice-read-put-line-2 c = omega arith
-
-mul-put-line-3 : tie.Need-mul-put-line-3 Inv-loop μ-loop
-mul-put-line-3 c = omega arith
-
-shared-slice-read-put-line-3 : tie.Need-shared-slice-read-put-line-3 Inv-loop μ-loop
-shared-slice-read-put-line-3 c = omega arith
-
-mul-put-line-4 : tie.Need-mul-put-line-4 Inv-loop μ-loop
-mul-put-line-4 c = omega arith
-
-shared-slice-read-put-line-4 : tie.Need-shared-slice-read-put-line-4 Inv-loop μ-loop
-shared-slice-read-put-line-4 c = omega arith
-
-put-line-requires : tie.Need-put-line-requires Inv-loop μ-loop
-put-line-requires c κs = omega arith
-
-add-i : tie.Need-add-i Inv-loop μ-loop
-add-i c = omega arith
-
-loop-less : tie.Need-loop-less Inv-loop μ-loop
-loop-less c = omega arith
-
 loop-again : tie.Need-loop-again Inv-loop μ-loop
 loop-again c =
     let at-put-line = c .before .before in
@@ -65,9 +23,6 @@ loop-again c =
     let at-start = at-at-loop .before .before .before .before in
     let p = at-put-line .put-line .ensures in
     lining-more _ _ (at-start .pre .0 .0) (at-start .pre .0 .1) (at-at-loop .loop .inv) (at-in-loop .loop-test .taken) (p .0) (p .1)
-
-same-length : tie.Need-same-length Inv-loop μ-loop
-same-length c = omega arith
 
 returns : tie.Need-returns Inv-loop μ-loop
 returns c =
@@ -82,20 +37,20 @@ put-lines-spec =
     Inv-loop
     μ-loop
     loop-holds
-    mul-a
-    add-balance-at
-    add-score-at
-    mul-put-line
-    shared-slice-read-put-line
-    mul-put-line-2
-    shared-slice-read-put-line-2
-    mul-put-line-3
-    shared-slice-read-put-line-3
-    mul-put-line-4
-    shared-slice-read-put-line-4
-    put-line-requires
-    add-i
-    loop-less
+    (λ c. omega arith)
+    (λ c. omega arith)
+    (λ c. omega arith)
+    (λ c. omega arith)
+    (λ c. omega arith)
+    (λ c. omega arith)
+    (λ c. omega arith)
+    (λ c. omega arith)
+    (λ c. omega arith)
+    (λ c. omega arith)
+    (λ c. omega arith)
+    (λ c κs. omega arith)
+    (λ c. omega arith)
+    (λ c. omega arith)
     loop-again
-    same-length
+    (λ c. omega arith)
     returns)

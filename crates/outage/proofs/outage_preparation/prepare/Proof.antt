@@ -8,9 +8,6 @@ use Rattle.outage.proofs.outage_preparation.prepare.Tie as tie
 last-slot-of-next-requires : tie.Need-last-slot-of-next-requires
 last-slot-of-next-requires c κs = let r = c .before .before .before .before .pre in (r .positive, r .short, r .small)
 
-sub-put-roots : tie.Need-sub-put-roots
-sub-put-roots c = omega (arith, c .before .last-slot-of-next .ensures)
-
 put-roots-requires : tie.Need-put-roots-requires
 put-roots-requires c κs =
     let at-start : tie.Start = search needs in
@@ -41,7 +38,7 @@ prepare-spec =
     tie.close
     (tie.spec
     last-slot-of-next-requires
-    sub-put-roots
+    (λ c. omega (arith, c .before .last-slot-of-next .ensures))
     put-roots-requires
     current-epoch-requires
     set-flags-requires

@@ -14,48 +14,18 @@ abbrev μ-loop : tie.MeasureT-loop
 loop-holds : tie.Need-loop-holds Inv-loop μ-loop
 loop-holds c = checking-none _ (omega arith)
 
-mul-a : tie.Need-mul-a Inv-loop μ-loop
-mul-a c = omega arith
-
-add-b : tie.Need-add-b Inv-loop μ-loop
-add-b c = omega arith
-
-mul-entry-update-score : tie.Need-mul-entry-update-score Inv-loop μ-loop
-mul-entry-update-score c = omega arith
-
-sub-entry-update-score : tie.Need-sub-entry-update-score Inv-loop μ-loop
-sub-entry-update-score c = omega arith
-
-part-entry-update-score-start : tie.Need-part-entry-update-score-start Inv-loop μ-loop
-part-entry-update-score-start c = omega arith
-
-part-entry-update-score-end : tie.Need-part-entry-update-score-end Inv-loop μ-loop
-part-entry-update-score-end c = omega arith
-
 entry-update-score-requires : tie.Need-entry-update-score-requires Inv-loop μ-loop
 entry-update-score-requires c κs = checking-ten (c .before .before .loop .inv) (c .before .loop-test .taken)
-
-same-length : tie.Need-same-length Inv-loop μ-loop
-same-length c = omega arith
 
 returns : tie.Need-returns Inv-loop μ-loop
 returns c =
     let k = c .before .before .before in
     checking-stop (k .before .before .before .loop .inv) (k .before .before .loop-test .taken) (k .entry-update-score .ensures) (c .if1 .taken)
 
-add-i : tie.Need-add-i Inv-loop μ-loop
-add-i c = omega arith
-
-loop-less : tie.Need-loop-less Inv-loop μ-loop
-loop-less c = omega arith
-
 loop-again : tie.Need-loop-again Inv-loop μ-loop
 loop-again c =
     let k = c .before .before .before in
     checking-more (k .before .before .before .loop .inv) (k .before .before .loop-test .taken) (k .entry-update-score .ensures) (c .if1 .left)
-
-same-length-2 : tie.Need-same-length-2 Inv-loop μ-loop
-same-length-2 c = omega arith
 
 returns-2 : tie.Need-returns-2 Inv-loop μ-loop
 returns-2 c = checking-all (c .before .loop .inv) (c .loop-test .left)
@@ -67,17 +37,17 @@ update-scores-spec =
     Inv-loop
     μ-loop
     loop-holds
-    mul-a
-    add-b
-    mul-entry-update-score
-    sub-entry-update-score
-    part-entry-update-score-start
-    part-entry-update-score-end
+    (λ c. omega arith)
+    (λ c. omega arith)
+    (λ c. omega arith)
+    (λ c. omega arith)
+    (λ c. omega arith)
+    (λ c. omega arith)
     entry-update-score-requires
-    same-length
+    (λ c. omega arith)
     returns
-    add-i
-    loop-less
+    (λ c. omega arith)
+    (λ c. omega arith)
     loop-again
-    same-length-2
+    (λ c. omega arith)
     returns-2)

@@ -15,32 +15,8 @@ abbrev μ-loop : tie.MeasureT-loop
 loop-holds : tie.Need-loop-holds Inv-loop μ-loop
 loop-holds c = mapped-none rotateParticipation (c .before .pre)
 
-mul-a : tie.Need-mul-a Inv-loop μ-loop
-mul-a c = omega arith
-
-add-b : tie.Need-add-b Inv-loop μ-loop
-add-b c = omega arith
-
-mul-entry-rotate : tie.Need-mul-entry-rotate Inv-loop μ-loop
-mul-entry-rotate c = omega arith
-
-sub-entry-rotate : tie.Need-sub-entry-rotate Inv-loop μ-loop
-sub-entry-rotate c = omega arith
-
-part-entry-rotate-start : tie.Need-part-entry-rotate-start Inv-loop μ-loop
-part-entry-rotate-start c = omega arith
-
-part-entry-rotate-end : tie.Need-part-entry-rotate-end Inv-loop μ-loop
-part-entry-rotate-end c = omega arith
-
 entry-rotate-requires : tie.Need-entry-rotate-requires Inv-loop μ-loop
 entry-rotate-requires c κs = mapped-ten (c .before .before .loop .inv) (c .before .loop-test .taken)
-
-add-i : tie.Need-add-i Inv-loop μ-loop
-add-i c = omega arith
-
-loop-less : tie.Need-loop-less Inv-loop μ-loop
-loop-less c = omega arith
 
 loop-again : tie.Need-loop-again Inv-loop μ-loop
 loop-again c =
@@ -48,9 +24,6 @@ loop-again c =
     let at-in-loop = at-entry-rotate .before .before in
     let at-at-loop = at-in-loop .before in
     mapped-more (at-at-loop .loop .inv) (at-in-loop .loop-test .taken) (at-entry-rotate .entry-rotate .ensures)
-
-same-length : tie.Need-same-length Inv-loop μ-loop
-same-length c = omega arith
 
 returns : tie.Need-returns Inv-loop μ-loop
 unfolding «process_participation_flag_updates»
@@ -63,15 +36,15 @@ participation-flags-core-spec =
     Inv-loop
     μ-loop
     loop-holds
-    mul-a
-    add-b
-    mul-entry-rotate
-    sub-entry-rotate
-    part-entry-rotate-start
-    part-entry-rotate-end
+    (λ c. omega arith)
+    (λ c. omega arith)
+    (λ c. omega arith)
+    (λ c. omega arith)
+    (λ c. omega arith)
+    (λ c. omega arith)
     entry-rotate-requires
-    add-i
-    loop-less
+    (λ c. omega arith)
+    (λ c. omega arith)
     loop-again
-    same-length
+    (λ c. omega arith)
     returns)

@@ -19,35 +19,17 @@ abbrev μ-loop : tie.MeasureT-loop
 loop-holds : tie.Need-loop-holds Inv-loop μ-loop
 loop-holds c = c .before .pre .1 .1
 
-sub-middle : tie.Need-sub-middle Inv-loop μ-loop
-sub-middle c = omega arith
-
-sub-middle-2 : tie.Need-sub-middle-2 Inv-loop μ-loop
-sub-middle-2 c = omega arith
-
 count-waiting-requires : tie.Need-count-waiting-requires Inv-loop μ-loop
 count-waiting-requires c κs = c .before .before .before .pre .0
 
 returns : tie.Need-returns Inv-loop μ-loop
 returns c = let k = c .before in let l = k .before .before in let a = l .before .before .args in bracket-hit (l .loop .inv) (k .count-waiting .ensures ∙ count-waiting (a .s) (a .epoch) _ (omega arith) (decode (a .registry .now))) (omega arith) (c .if1 .taken)
 
-loop-less : tie.Need-loop-less Inv-loop μ-loop
-loop-less c = omega arith
-
 loop-again : tie.Need-loop-again Inv-loop μ-loop
 loop-again c = let k = c .before .before in let l = k .before .before in let a = l .before .before .args in bracket-low (l .loop .inv) (k .count-waiting .ensures ∙ count-waiting (a .s) (a .epoch) _ (omega arith) (decode (a .registry .now))) (omega arith) (omega arith)
 
-sub-high : tie.Need-sub-high Inv-loop μ-loop
-sub-high c = omega arith
-
-loop-less-2 : tie.Need-loop-less-2 Inv-loop μ-loop
-loop-less-2 c = omega arith
-
 loop-again-2 : tie.Need-loop-again-2 Inv-loop μ-loop
 loop-again-2 c = let k = c .before .before in let l = k .before .before in let a = l .before .before .args in bracket-high (l .loop .inv) (k .count-waiting .ensures ∙ count-waiting (a .s) (a .epoch) _ (omega arith) (decode (a .registry .now))) (omega arith) (omega arith) (omega arith)
-
-sub-quota : tie.Need-sub-quota Inv-loop μ-loop
-sub-quota c = omega arith
 
 returns-2 : tie.Need-returns-2 Inv-loop μ-loop
 returns-2 c = bracket-done (c .before .loop .inv) (c .loop-test .left)
@@ -59,14 +41,14 @@ bisect-spec =
     Inv-loop
     μ-loop
     loop-holds
-    sub-middle
-    sub-middle-2
+    (λ c. omega arith)
+    (λ c. omega arith)
     count-waiting-requires
     returns
-    loop-less
+    (λ c. omega arith)
     loop-again
-    sub-high
-    loop-less-2
+    (λ c. omega arith)
+    (λ c. omega arith)
     loop-again-2
-    sub-quota
+    (λ c. omega arith)
     returns-2)

@@ -19,44 +19,11 @@ abbrev μ-loop : tie.MeasureT-loop
 loop-holds : tie.Need-loop-holds Inv-loop μ-loop
 loop-holds c = counted-none _ (c .before .pre .0)
 
-mul-a : tie.Need-mul-a Inv-loop μ-loop
-mul-a c = omega arith
-
-add-b : tie.Need-add-b Inv-loop μ-loop
-add-b c = omega arith
-
-mul-waiting-since : tie.Need-mul-waiting-since Inv-loop μ-loop
-mul-waiting-since c = omega arith
-
-sub-waiting-since : tie.Need-sub-waiting-since Inv-loop μ-loop
-sub-waiting-since c = omega arith
-
-part-waiting-since-start : tie.Need-part-waiting-since-start Inv-loop μ-loop
-part-waiting-since-start c = omega arith
-
-part-waiting-since-end : tie.Need-part-waiting-since-end Inv-loop μ-loop
-part-waiting-since-end c = omega arith
-
 waiting-since-requires : tie.Need-waiting-since-requires Inv-loop μ-loop
 waiting-since-requires c κs = let l = c .before in (reading-ten (l .before .loop .inv .at) (l .loop-test .taken), omega arith)
 
-add-count : tie.Need-add-count Inv-loop μ-loop
-add-count c = omega arith
-
-add-i : tie.Need-add-i Inv-loop μ-loop
-add-i c = omega arith
-
-loop-less : tie.Need-loop-less Inv-loop μ-loop
-loop-less c = omega arith
-
 loop-again : tie.Need-loop-again Inv-loop μ-loop
 loop-again c = let l = c .before .before .before in let bound = l .before .before .before .args .bound in counted-yes (l .before .loop .inv) (l .loop-test .taken) (ap (λ (x : ℕ). ltb x bound) (c .before .waiting-since .ensures)) (lt-ltb _ bound (c .if1 .taken))
-
-add-i-2 : tie.Need-add-i-2 Inv-loop μ-loop
-add-i-2 c = omega arith
-
-loop-less-2 : tie.Need-loop-less-2 Inv-loop μ-loop
-loop-less-2 c = omega arith
 
 loop-again-2 : tie.Need-loop-again-2 Inv-loop μ-loop
 loop-again-2 c = let l = c .before .before .before in let bound = l .before .before .before .args .bound in counted-no (l .before .loop .inv) (l .loop-test .taken) (ap (λ (x : ℕ). ltb x bound) (c .before .waiting-since .ensures)) (le-ltb _ bound (c .if1 .left))
@@ -71,18 +38,18 @@ count-waiting-spec =
     Inv-loop
     μ-loop
     loop-holds
-    mul-a
-    add-b
-    mul-waiting-since
-    sub-waiting-since
-    part-waiting-since-start
-    part-waiting-since-end
+    (λ c. omega arith)
+    (λ c. omega arith)
+    (λ c. omega arith)
+    (λ c. omega arith)
+    (λ c. omega arith)
+    (λ c. omega arith)
     waiting-since-requires
-    add-count
-    add-i
-    loop-less
+    (λ c. omega arith)
+    (λ c. omega arith)
+    (λ c. omega arith)
     loop-again
-    add-i-2
-    loop-less-2
+    (λ c. omega arith)
+    (λ c. omega arith)
     loop-again-2
     returns)

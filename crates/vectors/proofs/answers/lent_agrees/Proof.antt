@@ -12,18 +12,6 @@ Inv-loop refusal words after at before answer n i₀ i = (i ≤ n) × (n ≡ len
 abbrev μ-loop : tie.MeasureT-loop
 μ-loop refusal words after at before answer n i₀ i = n - i
 
-mul-if3 : tie.Need-mul-if3 Inv-loop μ-loop
-mul-if3 c = omega arith
-
-shared-slice-read-if3 : tie.Need-shared-slice-read-if3 Inv-loop μ-loop
-shared-slice-read-if3 c = omega arith
-
-add-i : tie.Need-add-i Inv-loop μ-loop
-add-i c = omega arith
-
-loop-less : tie.Need-loop-less Inv-loop μ-loop
-loop-less c = omega arith
-
 pub lent-agrees-spec : {M : Type 1} → statement M
 lent-agrees-spec =
     tie.close
@@ -35,11 +23,11 @@ lent-agrees-spec =
     (λ c. search needs)
     (λ c κs. search needs)
     (λ c. search needs)
-    mul-if3
-    shared-slice-read-if3
+    (λ c. omega arith)
+    (λ c. omega arith)
     (λ c κs. search needs)
     (λ c. search needs)
-    add-i
-    loop-less
+    (λ c. omega arith)
+    (λ c. omega arith)
     (λ c. search needs)
     (λ c. search needs))

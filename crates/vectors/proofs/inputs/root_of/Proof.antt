@@ -12,18 +12,6 @@ Inv-loop b r₀ i₀ r i = (i ≤ 32) × ((length b ≡ 32) × (length r ≡ 32)
 abbrev μ-loop : tie.MeasureT-loop
 μ-loop b r₀ i₀ r i = 32 - i
 
-shared-slice-read-r : tie.Need-shared-slice-read-r Inv-loop μ-loop
-shared-slice-read-r c = omega arith
-
-array-write-r : tie.Need-array-write-r Inv-loop μ-loop
-array-write-r c = omega arith
-
-add-i : tie.Need-add-i Inv-loop μ-loop
-add-i c = omega arith
-
-loop-less : tie.Need-loop-less Inv-loop μ-loop
-loop-less c = omega arith
-
 loop-again : tie.Need-loop-again Inv-loop μ-loop
 loop-again c = simp length-set (omega arith)
 
@@ -35,9 +23,9 @@ root-of-spec =
     μ-loop
     (λ c. search needs)
     (λ c. search needs)
-    shared-slice-read-r
-    array-write-r
-    add-i
-    loop-less
+    (λ c. omega arith)
+    (λ c. omega arith)
+    (λ c. omega arith)
+    (λ c. omega arith)
     loop-again
     (λ c. search needs))

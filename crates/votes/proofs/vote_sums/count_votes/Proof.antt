@@ -16,30 +16,6 @@ abbrev μ-loop : tie.MeasureT-loop
 loop-holds : tie.Need-loop-holds Inv-loop μ-loop
 loop-holds c = counting-none _ _ _ (c .before .before .pre .0)
 
-mul-a : tie.Need-mul-a Inv-loop μ-loop
-mul-a c = omega arith
-
-add-b : tie.Need-add-b Inv-loop μ-loop
-add-b c = omega arith
-
-mul-mark : tie.Need-mul-mark Inv-loop μ-loop
-mul-mark c = omega arith
-
-shared-slice-read-mark : tie.Need-shared-slice-read-mark Inv-loop μ-loop
-shared-slice-read-mark c = omega arith
-
-mul-entry-sums : tie.Need-mul-entry-sums Inv-loop μ-loop
-mul-entry-sums c = omega arith
-
-sub-entry-sums : tie.Need-sub-entry-sums Inv-loop μ-loop
-sub-entry-sums c = omega arith
-
-part-entry-sums-start : tie.Need-part-entry-sums-start Inv-loop μ-loop
-part-entry-sums-start c = omega arith
-
-part-entry-sums-end : tie.Need-part-entry-sums-end Inv-loop μ-loop
-part-entry-sums-end c = omega arith
-
 entry-sums-requires : tie.Need-entry-sums-requires Inv-loop μ-loop
 entry-sums-requires c κs =
     let at-in-loop = c .before .before in
@@ -52,12 +28,6 @@ returns c =
     let d = c .before .before in
     let l = d .before .before .before .before in
     counted-refused (counting-over (l .before .loop .inv) (l .loop-test .taken) (d .before .entry-sums .ensures) (answers-refused tells-sums (d .added .ensures) (c .enum-told .given .1) .gave))
-
-add-i : tie.Need-add-i Inv-loop μ-loop
-add-i c = omega arith
-
-loop-less : tie.Need-loop-less Inv-loop μ-loop
-loop-less c = omega arith
 
 loop-again : tie.Need-loop-again Inv-loop μ-loop
 loop-again c =
@@ -75,20 +45,20 @@ count-votes-spec =
     Inv-loop
     μ-loop
     loop-holds
-    mul-a
-    add-b
-    mul-mark
-    shared-slice-read-mark
-    mul-entry-sums
-    sub-entry-sums
-    part-entry-sums-start
-    part-entry-sums-end
+    (λ c. omega arith)
+    (λ c. omega arith)
+    (λ c. omega arith)
+    (λ c. omega arith)
+    (λ c. omega arith)
+    (λ c. omega arith)
+    (λ c. omega arith)
+    (λ c. omega arith)
     entry-sums-requires
     (λ c κs. search needs)
     (λ c. search needs)
     (λ c. search needs)
     returns
-    add-i
-    loop-less
+    (λ c. omega arith)
+    (λ c. omega arith)
     loop-again
     returns-2)

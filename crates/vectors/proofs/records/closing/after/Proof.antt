@@ -13,18 +13,6 @@ Inv-loop refusal opening changes closing n i₀ i = (i ≤ n) × (n ≡ length c
 abbrev μ-loop : tie.MeasureT-loop
 μ-loop refusal opening changes closing n i₀ i = n - i
 
-mul-if1 : tie.Need-mul-if1 Inv-loop μ-loop
-mul-if1 c = omega arith
-
-shared-slice-read-if1 : tie.Need-shared-slice-read-if1 Inv-loop μ-loop
-shared-slice-read-if1 c = omega arith
-
-add-i : tie.Need-add-i Inv-loop μ-loop
-add-i c = omega arith
-
-loop-less : tie.Need-loop-less Inv-loop μ-loop
-loop-less c = omega arith
-
 pub after-spec : {M : Type 1} → statement M
 after-spec =
     tie.close
@@ -32,11 +20,11 @@ after-spec =
     Inv-loop
     μ-loop
     (λ c. search needs)
-    mul-if1
-    shared-slice-read-if1
+    (λ c. omega arith)
+    (λ c. omega arith)
     (λ c κs. search needs)
     (λ c. search needs)
-    add-i
-    loop-less
+    (λ c. omega arith)
+    (λ c. omega arith)
     (λ c. search needs)
     (λ c. search needs))
