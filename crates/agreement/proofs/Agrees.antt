@@ -73,7 +73,7 @@ sum64-agrees xs = either-agrees (ltb (sum xs) (2 ^ 64)) value-agrees (refused-ag
 
 -- Loops
 
-pub map-agrees : {A : Type 0} {P : Refusal → Type 0} {f : A → Checked A} {g : A → A} → ((x : A) → Agrees P (f x) (g x)) → (xs : List A) → Agrees P (mapChecked f xs) (map g xs)
+pub map-agrees : {A B : Type 0} {P : Refusal → Type 0} {f : A → Checked B} {g : A → B} → ((x : A) → Agrees P (f x) (g x)) → (xs : List A) → Agrees P (mapChecked f xs) (map g xs)
 unfolding mapChecked
 map-agrees h [] = value-agrees
 map-agrees h (x ∷ xs) = bind-agrees _ (h x) (bind-agrees _ (map-agrees h xs) value-agrees)

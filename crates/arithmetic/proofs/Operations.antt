@@ -1,5 +1,5 @@
 -- Where each checked operation gives its value, where it is refused, and that overflow is its one refusal.
-use mathlib.Core.Path.{_≡_, refl, sym, _∙_}
+use mathlib.Core.Path.{_≡_, refl, sym, ap, _∙_}
 use mathlib.Core.Bool.{Bool, true, false, cond, _&&_, true≢false}
 use mathlib.Core.List.{List}
 use Prim.Native.Nat.{ℕ, _+_, _-_, _*_, _/_, _^_, _≤_, _<_}
@@ -83,3 +83,12 @@ only-bind {A} {B} {m} {k} h g = go m h
     go (refused p) h = record { why = λ q e. h .why q (cc) }
 
 pub ruleset only = (only-value, only-add64, only-sub64, only-mul64, only-sum64, only-bind)
+
+-- what comes after is refused by 5, so that the whole is
+pub refused-after : {A B : Type 0} {m : Checked A} {k : A → Checked B} → OnlyOverflow m → ((x : A) → k x ≡ refused overflow) → bind m k ≡ refused overflow
+unfolding bind
+refused-after {A} {B} {m} {k} o h = go m o
+  where
+    go : (m : Checked A) → OnlyOverflow m → bind m k ≡ refused overflow
+    go (value x) o = h x
+    go (refused p) o = ap refused (o .why p refl)

@@ -13,7 +13,7 @@ use Rattle.definitions.specs.declared.Finality.{Finality}
 use Rattle.definitions.specs.declared.FullAnswer.{FullAnswer}
 use Rattle.definitions.specs.Lists.{all, every}
 use Rattle.definitions.specs.Record.{BeaconState, decode}
-use Rattle.definitions.specs.Checked.{Refusal, badShape, wrongQueue, numberOf, Checked, value, refused, bind, codeOf, settle}
+use Rattle.definitions.specs.Checked.{Refusal, badShape, numberOf, Checked, value, refused, bind, codeOf, settle, wrongQueue}
 use Rattle.definitions.specs.ExitQueue.{queueOf, isQueueOf, queueTest}
 use Rattle.definitions.specs.Raised.{wasRaised, raisedTotals}
 use Rattle.definitions.specs.Refusals.{inOrder, settingsShaped, goodSettings, goodValidator, registryShaped, rootsShaped, goodFinality, goodRegistry, justificationTests, afterTests, closingBuffer}
@@ -26,7 +26,7 @@ use Rattle.definitions_close.specs.FinalizingTest.{finalizingTest}
 use Rattle.definitions_close.specs.FullClose.{FullCall, fullTests, settingsOf}
 use Rattle.definitions_close.specs.declared.Running.{Running}
 use Rattle.definitions_close.specs.CloseBySteps.{StepCall, StepOutcome, inTurn, soFar, found, stepTests, stepAfter, stepped, amountsBy, steppedAmounts, endedBy, goesOn, runningAfter, unwritten, stepInTurn, closeStep}
-use Rattle.laws.proofs.Checked.{not-value, bound}
+use Rattle.laws.proofs.Checked.{not-value, bound, checked-value}
 use Rattle.laws.proofs.Encode.{encode-decode}
 use Rattle.laws.proofs.Rules.{by-fork}
 use Rattle.refusals.proofs.Answers.{passed}
@@ -37,14 +37,10 @@ use Rattle.definitions_close.specs.declared.RunningAnswer.{RunningAnswer}
 use Rattle.close_by_steps.specs.Called.{stepCalled, endedAnswer, firstBy, laterBy, laterOf}
 use Rattle.definitions_close.specs.Calls.{stepOutcome}
 use Rattle.close_by_steps.specs.Ready.{Ready}
-use Rattle.close_by_steps.specs.Later.{soFarState}
 use Rattle.close_by_steps.specs.Stepped.{FirstCalled, LaterCalled}
 use Rattle.theorems.proofs.CloseBySteps.Turns.{settled-buffer}
+use Rattle.registry_close.specs.Worked.{stateNow}
 use Rattle.laws.proofs.Queue.{is-queue}
-
-where-true : (t : Bool) → _≡_ {A = Checked (Unit {0})} (cond t (value tt) (refused wrongQueue)) (value tt) → t ≡ true
-where-true true e = refl
-where-true false e = absurd (not-value e)
 
 shaped-bind : (t : Bool) {m : Checked (Unit {0})} → cond t m (refused badShape) ≡ value tt → m ≡ value tt
 shaped-bind true e = e
@@ -63,7 +59,7 @@ record-code c t = record-fewer _ _ (goodFinality (c .finality) ∷ []) (goodRegi
 
 pair-is : (c : FullCall) → queueTest (c .queue) (decode (c .call .registry)) ≡ value tt → c .queue ≡ queueOf (decode (c .call .registry))
 unfolding queueTest
-pair-is c t = is-queue (c .queue) (decode (c .call .registry)) (where-true (isQueueOf (c .queue) (decode (c .call .registry))) t)
+pair-is c t = is-queue (c .queue) (decode (c .call .registry)) (checked-value wrongQueue (isQueueOf (c .queue) (decode (c .call .registry))) t .0)
 
 justifying : (s : Settings) (roots : List ℕ) (f : Finality) (registry : List ℕ) → settingsShaped s ≡ true → rootsShaped s roots ≡ true → registryShaped registry ≡ true → goodSettings s ≡ true → goodFinality f ≡ true → all goodValidator (decode registry) ≡ true → justificationTests s roots f registry ≡ value tt
 unfolding justificationTests inOrder goodRegistry every
@@ -143,7 +139,7 @@ module _ (c : FullCall) (running : Running) (number : ℕ) (n : running .done �
   before = soFar running c
 
   abbrev st : BeaconState
-  st = soFarState (running .answer .finality) (c .call .closingRegistry) (c .call .closingSlashings) (c .call .roots)
+  st = stateNow (running .answer .finality) (c .call .closingRegistry) (c .call .closingSlashings) (c .call .roots)
 
   later : eqb (running .done) 0 ≡ false
   later = ne-eqb (running .done) 0 n

@@ -16,8 +16,8 @@ use Rattle.definitions_close.specs.declared.Running.{Running}
 use Rattle.definitions_close.specs.declared.RunningAnswer.{RunningAnswer}
 use Rattle.definitions.specs.Close.{step}
 use Rattle.definitions_close.specs.CloseBySteps.{StepCall, StepOutcome, stepAfter, amountsBy}
+use Rattle.registry_close.specs.Worked.{stateNow}
 use Rattle.definitions_close.specs.Calls.{stepOutcome}
-use Rattle.close_by_steps.specs.Later.{soFarState}
 
 abbrev pub stepCalled : ℕ → Running → FullCall → StepCall
 stepCalled number running whole = record { number = number; running = running; whole = whole }
@@ -67,6 +67,6 @@ laterBy done soFar orders f queue registry slashings lent booked (refused r) =
 
 abbrev pub laterOf : ℕ → Settings → FullAnswer → ℕ → Finality → ExitQueue → List ℕ → List ℕ → List ℕ → List ℕ → List ℕ → List ℕ → StepOutcome
 laterOf done s soFar orders f queue registry slashings roots closingRegistry closingSlashings lent =
-    let before = soFarState (soFar .finality) closingRegistry closingSlashings roots in
+    let before = stateNow (soFar .finality) closingRegistry closingSlashings roots in
     laterBy done soFar orders f queue registry slashings lent (settle (amountsBy (stepAfter done) s before lent) (replicate (length lent) 0))
     (step s before (stepAfter done))

@@ -6,8 +6,7 @@ use Prim.Native.Nat.{ℕ}
 use lib.Dec.{eqb}
 use lib.ListN.{length, replicate}
 use Rattle.definitions.specs.declared.Settings.{Settings}
-use Rattle.definitions.specs.declared.Finality.{Finality}
-use Rattle.definitions.specs.Record.{Validator, BeaconState, encode, decode}
+use Rattle.definitions.specs.Record.{Validator, BeaconState, encode}
 use Rattle.definitions.specs.Checked.{Checked, value, codeOf, settle}
 use Rattle.definitions.specs.Rust.Phase0.EpochProcessing.{«process_registry_updates», «process_effective_balance_updates»}
 use Rattle.definitions.specs.Rust.Altair.EpochProcessing.{«process_inactivity_updates», «process_participation_flag_updates»}
@@ -20,10 +19,6 @@ plainBy done s stateSlot finalizedEpoch vs =
     cond (eqb done 1) («process_inactivity_updates» s stateSlot finalizedEpoch vs)
     (cond (eqb done 3) («process_registry_updates» s stateSlot finalizedEpoch vs)
     (cond (eqb done 5) («process_effective_balance_updates» s vs) (value («process_participation_flag_updates» vs))))
-
-abbrev pub soFarState : Finality → List ℕ → List ℕ → List ℕ → BeaconState
-soFarState f registry slashings roots =
-    record { finality = f; validators = decode registry; slashings = slashings; «block_roots» = roots }
 
 -- the step after so many, on the state `before` with these amounts. The caller puts the opening back where it is refused.
 pub record LaterRan (done : ℕ) (s : Settings) (before : BeaconState) (lent registry slashings amounts : List ℕ) (r : ℕ) : Type 0 where

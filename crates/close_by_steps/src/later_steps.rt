@@ -9,7 +9,8 @@ ghost use Rattle.definitions.specs.Rust.Phase0.EpochProcessing.{«process_regis
 ghost use Rattle.agreement.specs.Bounds.{Passed};
 ghost use Rattle.laws.specs.Ran.{Ran};
 ghost use Rattle.selection.specs.Keep.{Blank};
-ghost use Rattle.close_by_steps.specs.Later.{plainBy, soFarState, LaterRan};
+ghost use Rattle.registry_close.specs.Worked.{stateNow};
+ghost use Rattle.close_by_steps.specs.Later.{plainBy, LaterRan};
 use crate::slashings_amounts::slashings_booked;
 use crate::step_amounts::rewards_booked;
 use balances::effective_balances::effective_balances_core;
@@ -110,7 +111,7 @@ pub fn later_step(
         × (length (now amounts) ≡ 9 * (length (now registry) / 10))
         × (length (now slashings) ≡ s .«epochs_per_slashings_vector») ⌝ }
     ensures { λ r. ⌜
-        LaterRan done s (soFarState finality (now (registry .entry)) (now (slashings .entry)) (now (roots .entry))) (now (amounts .entry))
+        LaterRan done s (stateNow finality (now (registry .entry)) (now (slashings .entry)) (now (roots .entry))) (now (amounts .entry))
         (now (registry .exit)) (now (slashings .exit)) (now (amounts .exit)) r ⌝ }
 {
     let slot = finality.slot;

@@ -2,12 +2,13 @@
 ghost use mathlib.Core.Path.{_≡_};
 ghost use mathlib.Core.Bool.{true};
 ghost use mathlib.Core.List.{[], _∷_, _++_};
-ghost use Prim.Native.Nat.{_-_, _*_, _/_};
+ghost use Prim.Native.Nat.{_*_, _/_};
 ghost use lib.ListN.{length, take};
 ghost use Rattle.definitions.specs.Refusals.{goodSettings};
 ghost use Rattle.close_by_steps.specs.Taken.{SlashingsBooked, NinthsPut, NinthsTaken};
 use definitions::BALANCE;
 use definitions::Settings;
+use rates::reward_balances::lowered_by;
 use slashings::slashings_core;
 
 fn put_ninth(x: u64, nine: &mut [u64])
@@ -15,16 +16,6 @@ fn put_ninth(x: u64, nine: &mut [u64])
     ensures { λ _. ⌜ now (nine .exit) ≡ take 8 (now (nine .entry)) ++ (x ∷ []) ⌝ }
 {
     nine[8] = x;
-}
-
-// Stops at 0.
-fn less(a: u64, b: u64) -> u64
-    ensures { λ r. ⌜ r ≡ a - b ⌝ }
-{
-    if a < b {
-        return 0;
-    }
-    a - b
 }
 
 // The balances as they stand.
@@ -52,7 +43,7 @@ fn take_balances(registry: &[u64], amounts: &mut [u64])
         let d = c + 9;
         let balance = registry[10 * i + BALANCE];
         let kept = amounts[9 * i + 8];
-        let taken = less(kept, balance);
+        let taken = lowered_by(kept, balance);
         put_ninth(taken, &mut amounts[c..d]);
     }
 }

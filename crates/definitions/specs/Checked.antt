@@ -63,7 +63,7 @@ sum64 xs = cond (ltb (sum xs) (2 ^ 64)) (value (sum xs)) (refused overflow)
 
 -- Loops that stop at the first refusal
 
-unfoldable pub mapChecked : {A : Type 0} → (A → Checked A) → List A → Checked (List A)
+unfoldable pub mapChecked : {A B : Type 0} → (A → Checked B) → List A → Checked (List B)
 mapChecked f [] = value []
 mapChecked f (x ∷ xs) = bind (f x) (λ y. bind (mapChecked f xs) (λ ys. value (y ∷ ys)))
 

@@ -2,3 +2,5 @@
 pub mod AmountsFigures
 -- Figures of a store.
 pub mod StoreFigures
+-- A law of the list of orders.
+pub mod Orders

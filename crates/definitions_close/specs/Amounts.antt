@@ -8,17 +8,12 @@ use lib.ListN.{length, replicate}
 use Rattle.definitions.specs.declared.Settings.{Settings}
 use Rattle.definitions.specs.declared.Deltas.{Deltas}
 use Rattle.definitions.specs.Record.{Validator, BeaconState, «GENESIS_EPOCH»}
-use Rattle.definitions.specs.Checked.{Checked, value, bind, mul64, sum64}
+use Rattle.definitions.specs.Checked.{Checked, value, bind, mul64, sum64, mapChecked}
 use Rattle.definitions.specs.Refusals.{lengthIs, closingBuffer}
 use Rattle.definitions.specs.Rust.Phase0.Helpers.{«get_current_epoch», «get_previous_epoch», «get_total_active_balance»}
 use Rattle.definitions.specs.Rust.Altair.Helpers.{«TIMELY_SOURCE_FLAG_INDEX», «TIMELY_TARGET_FLAG_INDEX», «TIMELY_HEAD_FLAG_INDEX», flagTotals}
 use Rattle.definitions.specs.Rust.Altair.EpochProcessing.{allDeltas, isSlashingDue, slashingPenalty}
 use Rattle.definitions.specs.Close.{finalizedEpochOf, closeUpTo, «process_epoch»}
-
--- `mapChecked` of definitions, Checked.antt, to another type
-unfoldable pub eachChecked : {A B : Type 0} → (A → Checked B) → List A → Checked (List B)
-eachChecked f [] = value []
-eachChecked f (x ∷ xs) = bind (f x) (λ y. bind (eachChecked f xs) (λ ys. value (y ∷ ys)))
 
 -- Rewards and penalties
 
@@ -40,7 +35,7 @@ bookedByRewards s quotient stateSlot finalizedEpoch vs =
     (bind (totals «TIMELY_SOURCE_FLAG_INDEX») (λ source.
     bind (totals «TIMELY_TARGET_FLAG_INDEX») (λ target.
     bind (totals «TIMELY_HEAD_FLAG_INDEX») (λ head.
-    eachChecked (λ v. bind (of source target head v) (λ ds. value (booked (v .balance) ds))) vs))))
+    mapChecked (λ v. bind (of source target head v) (λ ds. value (booked (v .balance) ds))) vs))))
 
 -- Slashings
 
@@ -56,7 +51,7 @@ takenBySlashings s multiplier stateSlot slashings vs =
     bind («get_total_active_balance» s stateSlot vs) (λ totalBalance.
     bind (sum64 slashings) (λ slashed.
     bind (mul64 slashed multiplier) (λ product.
-    eachChecked (takenFrom s («get_current_epoch» s stateSlot) totalBalance (min product totalBalance)) vs)))
+    mapChecked (takenFrom s («get_current_epoch» s stateSlot) totalBalance (min product totalBalance)) vs)))
 
 -- The close
 

@@ -1,6 +1,6 @@
 -- The exit queue's pair, and when it answers as a rescan of the registry does.
 use mathlib.Core.Path.{_≡_}
-use mathlib.Core.Bool.{cond}
+use mathlib.Core.Bool.{Bool, cond, _&&_}
 use mathlib.Core.List.{List}
 use Prim.Native.Nat.{ℕ, _+_, max}
 use lib.Dec.{leb, ltb, eqb}
@@ -52,3 +52,7 @@ exitBy limit delay q v =
 -- the pair once v has become w: whoever had an exit epoch has kept it, and the pair stays
 unfoldable pub moved : ExitQueue → Validator → Validator → ExitQueue
 moved q v w = cond (eqb (v .«exit_epoch») «FAR_FUTURE_EPOCH») (joined q (w .«exit_epoch»)) q
+
+-- two pairs are the same
+abbrev pub sameQueue : ExitQueue → ExitQueue → Bool
+sameQueue a b = eqb (a .«last_epoch») (b .«last_epoch») && eqb (a .number) (b .number)

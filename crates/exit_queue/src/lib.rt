@@ -6,7 +6,7 @@ ghost use lib.ListN.{length};
 ghost use Rattle.definitions.specs.Record.{decode};
 ghost use Rattle.definitions.specs.ExitQueue.{queueOf};
 ghost use Rattle.definitions.specs.Answers.{Says};
-ghost use Rattle.exit_queue.specs.Queue.{lastAfter, numberAfter, joined, startPair, nextEpoch, exitBy};
+ghost use Rattle.exit_queue.specs.Queue.{lastAfter, numberAfter, joined, startPair, nextEpoch, exitBy, sameQueue};
 ghost use Rattle.exit_queue.specs.Turns.{Exits};
 
 pub mod exits;
@@ -17,6 +17,15 @@ use definitions::EXIT_EPOCH;
 use definitions::ExitQueue;
 use definitions::FAR_FUTURE_EPOCH;
 use definitions::Number;
+
+pub fn same_queue(a: ExitQueue, b: ExitQueue) -> bool
+    ensures { λ r. ⌜ r ≡ sameQueue a b ⌝ }
+{
+    if a.last_epoch != b.last_epoch {
+        return false;
+    }
+    a.number == b.number
+}
 
 pub fn last_after(last_epoch: u64, epoch: u64) -> u64
     ensures { λ r. ⌜ r ≡ lastAfter «last_epoch» epoch ⌝ }

@@ -19,7 +19,8 @@ use Rattle.laws.proofs.Tests.{and-true, in-order}
 use Rattle.laws.proofs.Queue.{is-its-own}
 use Rattle.refusals.proofs.Answers.{passed}
 use Rattle.round_trip.proofs.Passed.{good-header}
-use Rattle.file_refusals.specs.Tests.{otherTests, Answered, QueueAnswered, sameQueue}
+use Rattle.file_refusals.specs.Tests.{otherTests, Answered, QueueAnswered}
+use Rattle.exit_queue.specs.Queue.{sameQueue}
 
 -- 1, 2 and 3
 

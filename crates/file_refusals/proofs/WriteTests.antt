@@ -13,7 +13,7 @@ use Rattle.definitions_file.specs.File.{Contents, fileLength, writeTests}
 use Rattle.laws.proofs.Tests.{in-order}
 use Rattle.refusals.proofs.Answers.{passed, after-refused}
 use Rattle.refusals.proofs.Laws.{registry-shaped}
-use Rattle.file_refusals.specs.Tests.{sameQueue}
+use Rattle.exit_queue.specs.Queue.{sameQueue}
 
 abbrev pub others : Contents → List ℕ → Checked (Unit {0})
 others c file =

@@ -1,6 +1,6 @@
 -- The tests of reading and of writing, in the words of definitions_file, File.antt.
 use mathlib.Core.Path.{_≡_}
-use mathlib.Core.Bool.{Bool, cond, _&&_, not}
+use mathlib.Core.Bool.{Bool, cond, not}
 use mathlib.Core.List.{List, [], _∷_}
 use Prim.Native.Nat.{ℕ}
 use lib.Dec.{eqb}
@@ -37,7 +37,3 @@ pub record QueueAnswered (bytes : List ℕ) (refusal at : ℕ) (queue : ExitQueu
   pub number : refusal ≡ codeOf (queueTest (queueIn bytes) (decode (contentsOf bytes .registry)))
   pub place : at ≡ cond (not (isQueueOf (queueIn bytes) (decode (contentsOf bytes .registry)))) queueAt (length bytes)
   pub pair : queue ≡ settle (bind (queueTest (queueIn bytes) (decode (contentsOf bytes .registry))) (λ _. value (queueIn bytes))) noQueue
-
--- two pairs are the same
-abbrev pub sameQueue : ExitQueue → ExitQueue → Bool
-sameQueue a b = eqb (a .«last_epoch») (b .«last_epoch») && eqb (a .number) (b .number)

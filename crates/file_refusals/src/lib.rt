@@ -7,7 +7,7 @@ ghost use Rattle.definitions.specs.Record.{decode};
 ghost use Rattle.definitions.specs.Checked.{codeOf};
 ghost use Rattle.definitions.specs.ExitQueue.{queueOf};
 ghost use Rattle.definitions_file.specs.File.{numbersFromBytes, validatorsAt, versionOf, countOf, goodHeader, stoppedAt, writeTests, contentsWith};
-ghost use Rattle.file_refusals.specs.Tests.{limitAt, otherTests, nothingAt, Answered, QueueAnswered, sameQueue};
+ghost use Rattle.file_refusals.specs.Tests.{limitAt, otherTests, nothingAt, Answered, QueueAnswered};
 
 pub mod file_header;
 
@@ -25,6 +25,7 @@ use definitions_file::SETTINGS_AT;
 use epochs::roots::roots_shaped;
 use exit_queue::exited;
 use exit_queue::queue_of;
+use exit_queue::same_queue;
 use refusals::good_finality;
 use refusals::good_registry;
 use refusals::good_settings;
@@ -101,15 +102,6 @@ fn queue_at(bytes: &[u8], from: usize, validators: usize) -> ExitQueue
         queue = exited(queue, next.number);
     }
     queue
-}
-
-fn same_queue(a: ExitQueue, b: ExitQueue) -> bool
-    ensures { λ r. ⌜ r ≡ sameQueue a b ⌝ }
-{
-    if a.last_epoch != b.last_epoch {
-        return false;
-    }
-    a.number == b.number
 }
 
 // The refusal's number or 0, the position at which reading stopped, and the pair, which is zeros on refusal.

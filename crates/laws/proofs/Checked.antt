@@ -50,27 +50,33 @@ bind-bind (value a) k l = refl
 bind-bind (refused r) k l = refl
 
 -- a checked operation that gave a value gave the plain one
-checked-value : {n x : ℕ} (t : Bool) → cond t (value n) (refused overflow) ≡ value x → (t ≡ true) × (n ≡ x)
-checked-value true p = (refl, value-same p)
-checked-value false p = absurd (not-value p)
+pub checked-value : {A : Type 0} {n x : A} (r : Refusal) (t : Bool) → cond t (value n) (refused r) ≡ value x → (t ≡ true) × (n ≡ x)
+checked-value r true p = (refl, value-same p)
+checked-value r false p = absurd (not-value p)
 
 pub add64-value : (a b : ℕ) {x : ℕ} → add64 a b ≡ value x → a + b ≡ x
 unfolding add64
-add64-value a b p = checked-value (ltb (a + b) (2 ^ 64)) p .1
+add64-value a b p = checked-value overflow (ltb (a + b) (2 ^ 64)) p .1
 
 pub add64-below : (a b : ℕ) {x : ℕ} → add64 a b ≡ value x → a + b < 2 ^ 64
 unfolding add64
-add64-below a b p = ltb-true (a + b) (2 ^ 64) (checked-value (ltb (a + b) (2 ^ 64)) p .0)
+add64-below a b p = ltb-true (a + b) (2 ^ 64) (checked-value overflow (ltb (a + b) (2 ^ 64)) p .0)
 
 pub mul64-value : (a b : ℕ) {x : ℕ} → mul64 a b ≡ value x → a * b ≡ x
 unfolding mul64
-mul64-value a b p = checked-value (ltb (a * b) (2 ^ 64)) p .1
+mul64-value a b p = checked-value overflow (ltb (a * b) (2 ^ 64)) p .1
 
 pub sum64-value : (xs : List ℕ) {x : ℕ} → sum64 xs ≡ value x → sum xs ≡ x
 unfolding sum64
-sum64-value xs p = checked-value (ltb (sum xs) (2 ^ 64)) p .1
+sum64-value xs p = checked-value overflow (ltb (sum xs) (2 ^ 64)) p .1
 
--- loops: where each turn that gives a value gives g's, the loop gives g's
+-- loops whose turns are alike
+pub map-alike : {A B : Type 0} {f g : A → Checked B} → ((x : A) → f x ≡ g x) → (xs : List A) → mapChecked f xs ≡ mapChecked g xs
+unfolding mapChecked
+map-alike h [] = refl
+map-alike h (x ∷ xs) = rw (h x, map-alike h xs)
+
+-- where each turn that gives a value gives g's, the loop gives g's
 pub mapChecked-value : {A : Type 0} (f : A → Checked A) (g : A → A) → ((x y : A) → f x ≡ value y → g x ≡ y) → (xs : List A) {ys : List A} → mapChecked f xs ≡ value ys → map g xs ≡ ys
 unfolding mapChecked
 mapChecked-value f g h [] p = value-same p

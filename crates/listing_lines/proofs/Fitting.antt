@@ -18,16 +18,17 @@ pub record Fitting (opening closing : List ℕ) (n i : ℕ) : Type 0 where
   pub below : i ≤ n
   pub rest : changeTests (decode opening) (decode closing) ≡ changeTests (drop i (decode opening)) (drop i (decode closing))
 
-module _ (opening closing : List ℕ) (shaped : length opening ≡ 10 * (length opening / 10)) (alike : length closing ≡ length opening) where
-  many : (xs : List ℕ) → length xs ≡ length opening → length (decode xs) ≡ length opening / 10
-  many xs e = length-decode (length opening / 10) xs (e ∙ shaped)
+-- as many validators as the opening has
+pub many : (opening : List ℕ) → length opening ≡ 10 * (length opening / 10) → (xs : List ℕ) → length xs ≡ length opening → length (decode xs) ≡ length opening / 10
+many opening shaped xs e = length-decode (length opening / 10) xs (e ∙ shaped)
 
+module _ (opening closing : List ℕ) (shaped : length opening ≡ 10 * (length opening / 10)) (alike : length closing ≡ length opening) where
   -- the tests from the validator i on begin with its own, of the balances where they stand
   first : (i : ℕ) → i < length opening / 10 → changeTests (drop i (decode opening)) (drop i (decode closing)) ≡ bind (netChange (getD opening (10 * i + 6) 0) (getD closing (10 * i + 6) 0)) (λ _. changeTests (drop (suc i) (decode opening)) (drop (suc i) (decode closing)))
   unfolding changeTests
   first i l =
-      let a : i < length (decode opening) = omega (arith, many opening refl) in
-      let b : i < length (decode closing) = omega (arith, many closing alike) in
+      let a : i < length (decode opening) = omega (arith, many opening shaped opening refl) in
+      let b : i < length (decode closing) = omega (arith, many opening shaped closing alike) in
       rw (number-at (length opening / 10) opening i shaped l 6 (omega arith), number-at (length opening / 10) closing i (alike ∙ shaped) l 6 (omega arith), drop-cons (decode opening) i nobody a, drop-cons (decode closing) i nobody b)
 
   pub fitting-none : Fitting opening closing (length opening / 10) 0
@@ -49,6 +50,6 @@ module _ (opening closing : List ℕ) (shaped : length opening ≡ 10 * (length 
     pub fitting-all : n ≤ i → 0 ≡ codeOf (changeTests (decode opening) (decode closing))
     unfolding changeTests
     fitting-all h =
-        let e : length (decode opening) ≤ i = omega (arith, f .count, many opening refl) in
+        let e : length (decode opening) ≤ i = omega (arith, f .count, many opening shaped opening refl) in
         let none : changeTests (drop i (decode opening)) (drop i (decode closing)) ≡ value tt = rw (drop-of-length-le (decode opening) e) in
         rw (f .rest, none)

@@ -9,13 +9,13 @@ use lib.ListN.{length, getD, drop, drop-of-length-le}
 use lib.Seq.{drop-cons}
 use Rattle.definitions.specs.Record.{decode, nobody}
 use Rattle.definitions.specs.Refusals.{registryShaped}
-use Rattle.laws.proofs.Encode.{length-decode}
 use Rattle.refusals.proofs.Laws.{registry-shaped}
 use Rattle.fields.specs.Put.{Put}
 use Rattle.fields.proofs.decimals.Put.{put-more, put-length}
 use Rattle.laws.proofs.Loops.Entry.{number-at}
 use Rattle.definitions_file.specs.Lines.{validatorLine, lines}
 use Rattle.listing_lines.specs.Sizes.{longestLine}
+use Rattle.listing_lines.proofs.Fitting.{many}
 
 -- the line of the validator i, of its numbers where they stand
 abbrev pub lineAt : List ℕ → List ℕ → ℕ → List ℕ
@@ -34,22 +34,21 @@ pub record Lining (before : List ℕ) (at : ℕ) (opening closing : List ℕ) (n
   pub rest : (after : List ℕ) (last : ℕ) → Put text end (linesFrom opening closing i) after last → Put before at (linesFrom opening closing 0) after last
 
 module _ (opening closing : List ℕ) (shaped : registryShaped opening ≡ true) (alike : length closing ≡ length opening) where
-  many : (xs : List ℕ) → length xs ≡ length opening → length (decode xs) ≡ length opening / 10
-  many xs e = length-decode (length opening / 10) xs (e ∙ registry-shaped opening shaped .long)
+  tens : length opening ≡ 10 * (length opening / 10)
+  tens = registry-shaped opening shaped .long
 
   next : (i : ℕ) → i < length opening / 10 → linesFrom opening closing i ≡ lineAt opening closing i ++ linesFrom opening closing (suc i)
   unfolding lines
   next i l =
       let n = length opening / 10 in
-      let o = registry-shaped opening shaped .long in
-      let a : i < length (decode opening) = omega (arith, many opening refl) in
-      let b : i < length (decode closing) = omega (arith, many closing alike) in
+      let a : i < length (decode opening) = omega (arith, many opening tens opening refl) in
+      let b : i < length (decode closing) = omega (arith, many opening tens closing alike) in
       let first : 10 * i ≡ 10 * i + 0 = omega arith in
-      rw (drop-cons (decode opening) i nobody a, drop-cons (decode closing) i nobody b, number-at n opening i o l 6 (omega arith), number-at n closing i (alike ∙ o) l 6 (omega arith), number-at n closing i (alike ∙ o) l 9 (omega arith), first, number-at n closing i (alike ∙ o) l 0 (omega arith))
+      rw (drop-cons (decode opening) i nobody a, drop-cons (decode closing) i nobody b, number-at n opening i tens l 6 (omega arith), number-at n closing i (alike ∙ tens) l 6 (omega arith), number-at n closing i (alike ∙ tens) l 9 (omega arith), first, number-at n closing i (alike ∙ tens) l 0 (omega arith))
 
   none : (i : ℕ) → length opening / 10 ≤ i → linesFrom opening closing i ≡ []
   unfolding lines
-  none i l = let a : length (decode opening) ≤ i = omega (arith, many opening refl) in rw (drop-of-length-le (decode opening) a)
+  none i l = let a : length (decode opening) ≤ i = omega (arith, many opening tens opening refl) in rw (drop-of-length-le (decode opening) a)
 
   pub lining-none : (before : List ℕ) (at : ℕ) → at + longestLine * (length opening / 10) ≤ length before → Lining before at opening closing (length opening / 10) before at 0
   lining-none before at r = record { count = refl; below = omega arith; room = omega arith; long = refl; rest = λ after last p. p }

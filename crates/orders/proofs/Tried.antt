@@ -15,6 +15,7 @@ use Rattle.definitions.specs.Record.{Validator, nobody, decodeOne, encode, deco
 use Rattle.definitions.specs.Checked.{Refusal, Checked, value, refused, noExit, tooEarly, codeOf, settle}
 use Rattle.definitions.specs.ExitQueue.{queueOf}
 use Rattle.definitions.specs.Rust.Phase0.Helpers.{«is_active_validator», «get_current_epoch», «get_validator_churn_limit», «compute_activation_exit_epoch», «initiate_validator_exit»}
+use Rattle.definitions_close.proofs.Orders.{orders-long}
 use Rattle.definitions_close.specs.Orders.{Order, ordersIn, room, mayExit, isDue, «process_voluntary_exit», carriedOut, answersTo}
 use Rattle.laws.proofs.Encode.{length-decode, encode-decode, decode-encode}
 use Rattle.laws.proofs.Checked.{not-value}
@@ -135,11 +136,6 @@ module _ (f : List Validator → Order → Checked (List Validator)) where
   unfolding answersBy
   answers-long vs [] = refl
   answers-long vs (o ∷ os) = ap suc (answers-long (settle (f vs o) vs) os)
-
-orders-long : (i : ℕ) (xs : List ℕ) → length (ordersIn i xs) ≡ i
-unfolding ordersIn
-orders-long zero xs = refl
-orders-long (suc i) xs = ap suc (orders-long i (drop 2 xs))
 
 set-behind : (xs ys : List ℕ) (i y : ℕ) → length xs ≡ i → i < length xs + length ys → set (xs ++ ys) i y ≡ (xs ++ (y ∷ [])) ++ drop 1 ys
 set-behind [] [] i y e l = absurd (omega (arith, l))

@@ -1,4 +1,4 @@
 -- Laws of the two steps' tests, of the adjusted balance, and of a slashing on one validator.
 mod Passed
-mod Slash
+pub mod Slash
 pub mod Adjusted

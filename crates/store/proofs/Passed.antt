@@ -1,18 +1,18 @@
 -- What the tests of a store say once passed, and how they are made.
-use mathlib.Core.Bool.{Bool, true, false, cond}
+use mathlib.Core.Bool.{Bool, true, false}
 use mathlib.Core.List.{List, [], _∷_}
-use mathlib.Core.Path.{_≡_, refl, sym, _∙_}
+use mathlib.Core.Path.{_≡_, sym, _∙_}
 use Prim.Native.Nat.{ℕ, _+_, _*_, _%_, _≤_, _<_}
 use native.Mathlib.Omega.{arith}
 use borrow.Author.Tests.{eqb-true, leb-true, ltb-true, le-leb, lt-leb}
 use lib.Dec.{ltb, eqb}
 use lib.ListN.{length}
 use Rattle.definitions.specs.Lists.{all, every}
-use Rattle.definitions.specs.Checked.{Checked, value, refused, lateStart, codeOf}
+use Rattle.definitions.specs.Checked.{codeOf, lateStart}
 use Rattle.definitions.specs.Refusals.{inOrder, afterTests}
 use Rattle.definitions.specs.Rules.{rulesShaped, goodRules}
 use Rattle.definitions_close.specs.Store.{Entry, Store, entries, room, lastOf, ofLast, keeps, inSequence, storeShaped, goodEntries, storeTests, additionShaped, startTest, additionTests}
-use Rattle.laws.proofs.Checked.{not-value, bound}
+use Rattle.laws.proofs.Checked.{bound, checked-value}
 use Rattle.laws.proofs.Tests.{test, in-order, in-order-value, and-true, and-false}
 use Rattle.refusals.proofs.Answers.{passed}
 
@@ -75,13 +75,9 @@ pub record AdditionPassed (s : Store) (new : Entry) : Type 0 where
   pub rules-good : goodRules (new .rules) ≡ true
   pub later : ofLast (λ e. ltb (e .start) (new .start)) (lastOf (entries s)) ≡ true
 
-late-start : (t : Bool) → _≡_ {A = Checked (Unit {0})} (cond t (value tt) (refused lateStart)) (value tt) → t ≡ true
-late-start true h = refl
-late-start false h = absurd (not-value h)
-
 pub addition-passed : (s : Store) (new : Entry) {x : ℕ} → x ≡ codeOf (additionTests s new) → x ≡ 0 → AdditionPassed s new
 unfolding additionTests startTest afterTests
 addition-passed s new e z =
     let b = bound _ (λ _. startTest s new) (passed (additionTests s new) e z) in
     let q = in-order-value _ _ _ (b .gave) in
-    record { shape = addition-shaped s new (q .shaped 0); entries-good = q .settings 0; rules-good = q .settings 1; later = late-start _ (b .then) }
+    record { shape = addition-shaped s new (q .shaped 0); entries-good = q .settings 0; rules-good = q .settings 1; later = checked-value lateStart _ (b .then) .0 }

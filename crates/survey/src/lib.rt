@@ -2,7 +2,7 @@
 ghost use mathlib.Core.Path.{_≡_};
 ghost use mathlib.Core.Bool.{cond};
 ghost use mathlib.Core.List.{[], _∷_};
-ghost use Prim.Native.Nat.{_+_, _*_, _/_, _<_};
+ghost use Prim.Native.Nat.{_*_, _/_, _<_};
 ghost use lib.Dec.{leb};
 ghost use lib.ListN.{length};
 ghost use Rattle.definitions.specs.Lists.{every};
@@ -27,6 +27,7 @@ use refusals::all_pass;
 use selection::keep;
 use selection::waiting_since;
 use std::num::wrapping_add_u64;
+use totals::count_if;
 use totals::raised;
 
 // Sums over those active at the current epoch, over those that participate by the previous epoch's source, target and head flag, and over
@@ -162,16 +163,6 @@ fn test_after(refusal: u64, slashed: u64, previous: u64, current: u64) -> u64
     refusal
 }
 
-fn count_after(count: u64, on: bool) -> u64
-    requires { ⌜ count < 18446744073709551615 ⌝ }
-    ensures { λ r. ⌜ r ≡ count + cond on 1 0 ⌝ }
-{
-    if on {
-        return count + 1;
-    }
-    count
-}
-
 fn survey_entry(current_epoch: u64, previous_epoch: u64, entry: &[u64], found: Findings) -> Findings
     requires { ⌜ (length (now entry) ≡ 10) × (found .active < 18446744073709551615) × (found .queue .number < 18446744073709551615) ⌝ }
     ensures { λ r. ⌜ r ≡ foundAfter «current_epoch» «previous_epoch» found (decodeOne (now (entry .entry))) ⌝ }
@@ -191,7 +182,7 @@ fn survey_entry(current_epoch: u64, previous_epoch: u64, entry: &[u64], found: F
         ),
         sums: sums_after(sums, own),
         over: overs_after(over, sums, own),
-        active: count_after(found.active, active),
+        active: count_if(found.active, active),
         queue: ExitQueue {
             last_epoch: last_after(queue.last_epoch, exit),
             number: number_after(queue.last_epoch, queue.number, exit),

@@ -3,7 +3,7 @@
 ghost use mathlib.Core.Path.{_≡_};
 ghost use mathlib.Core.Bool.{cond};
 ghost use mathlib.Core.List.{map};
-ghost use Prim.Native.Nat.{_*_, _/_, _≤_, _<_, max};
+ghost use Prim.Native.Nat.{_+_, _*_, _/_, _≤_, _<_, max};
 ghost use lib.Dec.{ltb};
 ghost use lib.ListN.{length};
 ghost use Rattle.definitions.specs.Lists.{filter};
@@ -34,6 +34,16 @@ use epochs::current_epoch;
 use epochs::previous_epoch;
 use leaf_refusals::registry_refusals::participation_tests;
 use leaf_refusals::registry_refusals::slot_registry_tests;
+
+pub fn count_if(count: u64, on: bool) -> u64
+    requires { ⌜ count < 18446744073709551615 ⌝ }
+    ensures { λ r. ⌜ r ≡ count + cond on 1 0 ⌝ }
+{
+    if on {
+        return count + 1;
+    }
+    count
+}
 
 // Whom a total or a count is over. At `Participating` the flag's index is at most 7.
 enum Members {

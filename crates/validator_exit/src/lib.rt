@@ -1,9 +1,8 @@
 // initiate_validator_exit by the exit queue's pair, which is lent with the registry (R-8): phase0/helpers.rs 1035 without its rescans. One
 // pass makes test 3, counts the active and finds the pair for test 8; the pair is then moved by one exit. And the pair of a registry.
 ghost use mathlib.Core.Path.{_≡_};
-ghost use mathlib.Core.Bool.{cond};
 ghost use mathlib.Core.List.{[], _∷_};
-ghost use Prim.Native.Nat.{_+_, _*_, _/_, _<_};
+ghost use Prim.Native.Nat.{_*_, _/_, _<_};
 ghost use lib.ListN.{length};
 ghost use Rattle.definitions.specs.Record.{decode};
 ghost use Rattle.definitions.specs.Checked.{codeOf};
@@ -35,22 +34,13 @@ use refusals::is_small;
 use refusals::registry_shaped;
 use refusals::settings_shaped;
 use totals::churn_by;
+use totals::count_if;
 
 // What one pass over the registry finds: 3 where an entry fails test 3; else how many are active, and the exit queue's pair.
 pub struct Seen {
     pub refusal: u64,
     pub active: u64,
     pub queue: ExitQueue,
-}
-
-fn count_if(count: u64, on: bool) -> u64
-    requires { ⌜ count < 18446744073709551615 ⌝ }
-    ensures { λ r. ⌜ r ≡ count + cond on 1 0 ⌝ }
-{
-    if on {
-        return count + 1;
-    }
-    count
 }
 
 pub fn see_registry(registry: &[u64], epoch: u64) -> Seen

@@ -1,22 +1,14 @@
 // Test 8 as code: the pair that is lent, and the one that a pass over the registry found (R-8).
 ghost use mathlib.Core.Path.{_≡_};
-ghost use mathlib.Core.Bool.{cond, _&&_};
-ghost use lib.Dec.{eqb};
+ghost use mathlib.Core.Bool.{cond};
+ghost use Rattle.exit_queue.specs.Queue.{sameQueue};
 ghost use Rattle.validator_exit.specs.Found.{foundTests};
 use definitions::ExitQueue;
-
-pub fn same_queue(queue: ExitQueue, found: ExitQueue) -> bool
-    ensures { λ r. ⌜ r ≡ (eqb (queue .«last_epoch») (found .«last_epoch») && eqb (queue .number) (found .number)) ⌝ }
-{
-    if queue.last_epoch != found.last_epoch {
-        return false;
-    }
-    queue.number == found.number
-}
+use exit_queue::same_queue;
 
 // 0 or 8.
 pub fn queue_refusal(queue: ExitQueue, found: ExitQueue) -> u64
-    ensures { λ r. ⌜ r ≡ cond (eqb (queue .«last_epoch») (found .«last_epoch») && eqb (queue .number) (found .number)) 0 8 ⌝ }
+    ensures { λ r. ⌜ r ≡ cond (sameQueue queue found) 0 8 ⌝ }
 {
     if !same_queue(queue, found) {
         return 8;

@@ -9,10 +9,10 @@ use Rattle.votes.specs.declared.vote_outcome.Epochs.{Epochs}
 unfoldable pub epochsFor : List ℕ → Epochs
 epochsFor xs = record { count = length xs; first = getD xs 0 0; second = getD xs 1 0; third = getD xs 2 0 }
 
--- e put in its place among at most three, on the numbers themselves
-abbrev four : ℕ → ℕ → ℕ → ℕ → Epochs
+abbrev pub four : ℕ → ℕ → ℕ → ℕ → Epochs
 four count first second third = record { count = count; first = first; second = second; third = third }
 
+-- e put in its place among at most three, on the numbers themselves
 unfoldable pub insertInto : ℕ → Epochs → Epochs
 insertInto e l =
     cond (eqb (l .count) 0) (four 1 e 0 0)

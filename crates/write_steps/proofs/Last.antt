@@ -9,14 +9,14 @@ use Rattle.definitions.specs.Rust.Phase0.Helpers.{«get_current_epoch», «get_
 use Rattle.definitions.specs.Document.Altair.EpochProcessing.{rotateParticipation}
 use Rattle.definitions.specs.Rust.Phase0.EpochProcessing.{updateEffectiveBalance, «process_effective_balance_updates»}
 use Rattle.definitions.specs.Rust.Altair.EpochProcessing.{slash, «process_participation_flag_updates»}
-use Rattle.arithmetic.proofs.Operations.{OnlyOverflow, only-value, only-bind}
+use Rattle.arithmetic.proofs.Operations.{OnlyOverflow, only-value, only-bind, refused-after}
 use Rattle.slashings.specs.Adjusted.{adjustedBalance}
 use Rattle.slashings.proofs.Adjusted.{slashings-by}
 use Rattle.balances.specs.declared.effective_balances.Thresholds.{Thresholds}
 use Rattle.balances.specs.Thresholds.{thresholdsOf}
 use Rattle.balances.proofs.effective_balances.Step.{only-thresholds, updates-by}
 use Rattle.write_turn.specs.Runs.{both}
-use Rattle.write_turn.proofs.Sweeps.Pure.{only-map, map-value, refused-after, fused}
+use Rattle.write_turn.proofs.Sweeps.Pure.{only-map, map-value, fused}
 use Rattle.write_turn.specs.Planned.{lastOf}
 use Rattle.write_steps.specs.RegistrySteps.{lastSteps}
 use Rattle.write_steps.proofs.Only.{only-slash, only-update}

@@ -10,8 +10,8 @@ use Rattle.definitions.specs.Document.Phase0.EpochProcessing.{queueEligible, is
 use Rattle.definitions.specs.Rust.Phase0.EpochProcessing.{isEligible, updateEffectiveBalance}
 use Rattle.definitions.specs.Rust.Phase0.Helpers.{«get_current_epoch»}
 use Rattle.definitions.specs.Rust.Altair.Helpers.{FlagTotals}
-use Rattle.definitions.specs.Rust.Altair.EpochProcessing.{updateInactivityScore, rewardAndPenalize, isSlashingDue, slashingPenalty, slash}
-use Rattle.arithmetic.proofs.Operations.{OnlyOverflow, only-value, only-add64, only-mul64, only-bind}
+use Rattle.definitions.specs.Rust.Altair.EpochProcessing.{updateInactivityScore, rewardAndPenalize, isSlashingDue, slash}
+use Rattle.arithmetic.proofs.Operations.{OnlyOverflow, only-value, only-add64, only-bind}
 use Rattle.finality.proofs.Passed as finality
 use Rattle.participation.proofs.inactivity.Scores.{only-moved}
 use Rattle.rates.specs.Balances.{rewardedBalance}
@@ -20,6 +20,7 @@ use Rattle.rates.proofs.reward_balances.Rewarded.{rewarded, not-rewarded}
 use Rattle.definitions.specs.declared.ExitQueue.{ExitQueue}
 use Rattle.exit_queue.specs.Queue.{exitBy}
 use Rattle.exit_queue.proofs.Exiting.{only-nextEpoch}
+use Rattle.slashings.proofs.Slash.{only-penalty}
 use Rattle.registry.specs.Updates.{turnBy}
 use Rattle.write_turn.specs.declared.Plan.{Plan}
 use Rattle.write_turn.specs.Planned.{lastBy}
@@ -54,10 +55,6 @@ only-turn s epoch limit q v =
 only-due : (s : Settings) (epoch : ℕ) (v : Validator) → OnlyOverflow (isSlashingDue s epoch v)
 unfolding isSlashingDue
 only-due s epoch v = only-either (isSlashed v) (only-bind (only-add64 _ _) (λ due. only-value _)) (only-value _)
-
-only-penalty : (s : Settings) (total adjusted : ℕ) (v : Validator) → OnlyOverflow (slashingPenalty s total adjusted v)
-unfolding slashingPenalty
-only-penalty s total adjusted v = only-bind (only-mul64 _ _) (λ x. only-mul64 _ _)
 
 pub only-slash : (s : Settings) (epoch total adjusted : ℕ) (v : Validator) → OnlyOverflow (slash s epoch total adjusted v)
 unfolding slash

@@ -44,12 +44,7 @@ use Rattle.write_steps.proofs.Last.{as-one}
 use Rattle.write_steps.proofs.Tracked.{pay-bare}
 use Rattle.write_steps.proofs.Opening.{closing-is}
 use Rattle.laws.proofs.Frame.Entries.{kept-map}
-use Rattle.laws.proofs.Checked.{bind-bind}
-
-map-same : (f g : Validator → Checked Validator) → ((v : Validator) → f v ≡ g v) → (vs : List Validator) → mapChecked f vs ≡ mapChecked g vs
-unfolding mapChecked
-map-same f g h [] = refl
-map-same f g h (v ∷ vs) = rw (h v, map-same f g h vs)
+use Rattle.laws.proofs.Checked.{bind-bind, map-alike}
 
 map-none : (f : Validator → Checked Validator) → ((v : Validator) → f v ≡ value v) → (vs : List Validator) → mapChecked f vs ≡ value vs
 unfolding mapChecked bind
@@ -86,7 +81,7 @@ module _ (s : Settings) (slot fin : ℕ) (ep : Epochs s slot) (totals : Totals) 
           rw (no-scores s quotient slot fin refl vs z) (no-rewards s quotient slot fin refl vs z ∙ sym (map-none (payOf s plan) (λ v. rw e) vs))
       go false e =
           let n : current ≡ 0 → ⊥ = λ z. mathlib.Core.Bool.true≢false (sym (eq-eqb current 0 z) ∙ e) in
-          one-pass s quotient slot fin refl n refl (leak n) totals h ∙ sym (map-same (payOf s plan) (paidBy s plan) (λ v. rw e) vs)
+          one-pass s quotient slot fin refl n refl (leak n) totals h ∙ sym (map-alike {f = payOf s plan} {g = paidBy s plan} (λ v. rw e) vs)
 
   churn-paid : (vs paid : List Validator) → mapChecked (payOf s plan) vs ≡ value paid → «get_validator_churn_limit» s slot paid ≡ «get_validator_churn_limit» s slot vs
   unfolding «get_validator_churn_limit» «get_active_validator_indices» «is_active_validator»

@@ -19,8 +19,9 @@ use Rattle.definitions_close.specs.declared.RunningAnswer.{RunningAnswer}
 use Rattle.definitions_close.specs.CloseBySteps.{StepOutcome, stepAfter, amountsBy}
 use Rattle.laws.proofs.Checked.{number-not-zero}
 use Rattle.laws.proofs.Encode.{decode-encode}
-use Rattle.close_by_steps.specs.Later.{soFarState, LaterRan}
+use Rattle.close_by_steps.specs.Later.{LaterRan}
 use Rattle.close_by_steps.specs.Called.{endedAnswer, firstBy, laterBy, laterOf}
+use Rattle.registry_close.specs.Worked.{stateNow}
 use Rattle.definitions_close.specs.Calls.{stepOutcome}
 
 module _ (s : Settings) (f : Finality) (q : ExitQueue) (registry slashings lent : List ℕ) (tests : Checked (Unit {0})) (m : Checked Finality) (passed : tests ≡ value tt) {j : CloseAnswer}
@@ -54,9 +55,9 @@ module _ (s : Settings) (f : Finality) (q : ExitQueue) (registry slashings lent 
 
 -- a later one
 module _ (done : ℕ) (s : Settings) (soFar : FullAnswer) (orders : ℕ) (f : Finality) (q : ExitQueue) (registry slashings roots before beforeSlashings lent : List ℕ) {closing closingSlashings amounts : List ℕ} {x : ℕ}
-    (h : LaterRan done s (soFarState (soFar .finality) before beforeSlashings roots) lent closing closingSlashings amounts x) where
+    (h : LaterRan done s (stateNow (soFar .finality) before beforeSlashings roots) lent closing closingSlashings amounts x) where
   abbrev st : BeaconState
-  st = soFarState (soFar .finality) before beforeSlashings roots
+  st = stateNow (soFar .finality) before beforeSlashings roots
 
   pub later-refused : (x ≡ 0 → ⊥) → {a b c : List ℕ} → a ≡ registry → b ≡ slashings → c ≡ replicate (length amounts) 0 → length amounts ≡ length lent → {answer : RunningAnswer} → answer ≡ endedAnswer x f q orders → stepOutcome answer a b c ≡ laterOf done s soFar orders f q registry slashings roots before beforeSlashings lent
   unfolding laterBy

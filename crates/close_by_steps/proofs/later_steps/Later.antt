@@ -21,7 +21,8 @@ use Rattle.theorems.proofs.Amounts.Rewarded.{rewarded}
 use Rattle.theorems.proofs.Amounts.Slashed.{slashed}
 use Rattle.close_by_steps.specs.Booked.{RewardsBooked}
 use Rattle.close_by_steps.specs.Taken.{SlashingsBooked}
-use Rattle.close_by_steps.specs.Later.{plainBy, soFarState, LaterRan}
+use Rattle.registry_close.specs.Worked.{stateNow}
+use Rattle.close_by_steps.specs.Later.{plainBy, LaterRan}
 
 -- the registry step has its stop behind the last validator
 pub ran-whole : (s : Settings) (stateSlot finalizedEpoch : ℕ) (xs : List ℕ) → length xs ≡ 10 * (length xs / 10) → {ys : List ℕ} {r : ℕ} → Ran (registryUpdatesTo (length xs / 10) s stateSlot finalizedEpoch (decode xs)) ys r → Ran («process_registry_updates» s stateSlot finalizedEpoch (decode xs)) ys r
@@ -49,7 +50,7 @@ module _ (s : Settings) (st : BeaconState) (lent : List ℕ) where
 -- each step
 module _ (s : Settings) (f : Finality) (registry slashings roots lent : List ℕ) where
   abbrev st : BeaconState
-  st = soFarState f registry slashings roots
+  st = stateNow f registry slashings roots
 
   pub by-rewards : {done : ℕ} → done ≡ 2 → {ys amounts : List ℕ} {r : ℕ} → RewardsBooked s (s .«inactivity_penalty_quotient_altair») (f .slot) (f .«finalized_checkpoint» .epoch) registry ys amounts r → LaterRan done s st lent ys slashings amounts r
   unfolding step amountsBy bind

@@ -1,9 +1,12 @@
 -- The ninth number of each nine put from the front, and what the slashings step books by it.
 use mathlib.Core.Path.{_≡_, refl, sym, ap, ap₂, _∙_}
+use mathlib.Core.Bool.{Bool, true, false, cond}
 use mathlib.Core.List.{List, [], _∷_, _++_, append-assoc}
 use Prim.Native.Nat.{ℕ, zero, suc, _+_, _-_, _*_, _/_, _≤_, _<_}
 use native.Mathlib.Omega.{arith}
 use borrow.Author.Count.{below-more}
+use borrow.Author.Tests.{ltb-true}
+use lib.Dec.{ltb}
 use lib.ListN.{length, getD, take, drop, set, length-append, length-take, length-drop}
 use lib.Seq.{getD-take, getD-drop}
 use Rattle.definitions.specs.declared.Settings.{Settings}
@@ -22,6 +25,14 @@ use Rattle.theorems.proofs.Amounts.Nines.{Eights, nine-at, nines-long, nine-ext
 use Rattle.theorems.proofs.Amounts.Slashed.{Slashed, slashed}
 use Rattle.close_by_steps.specs.Taken.{SlashingsBooked, balanceIn, NinthsPut, NinthsTaken}
 use Rattle.theorems.proofs.CloseBySteps.Amounts.{long-eights}
+
+-- a difference that stops at 0
+pub lowered-is : (a b : ℕ) → cond (ltb a b) 0 (a - b) ≡ a - b
+lowered-is a b = go (ltb a b) refl
+  where
+    go : (t : Bool) → ltb a b ≡ t → cond t 0 (a - b) ≡ a - b
+    go true e = let l = ltb-true a b e in omega (arith, l)
+    go false e = refl
 
 -- the ninth of nine is put
 pub ninth-put : (xs : List ℕ) (x : ℕ) → length xs ≡ 9 → set xs 8 x ≡ take 8 xs ++ (x ∷ [])

@@ -9,11 +9,11 @@ use lib.ListN.{length, getD, set, replicate, length-map, length-append, length-t
 use Rattle.definitions.specs.declared.Settings.{Settings}
 use Rattle.definitions.specs.declared.Deltas.{Deltas}
 use Rattle.definitions.specs.Record.{Validator, decodeOne, decode, nobody}
-use Rattle.definitions.specs.Checked.{overflow, Checked, value, refused, foldChecked}
+use Rattle.definitions.specs.Checked.{overflow, Checked, value, refused, mapChecked, foldChecked}
 use Rattle.definitions.specs.Rust.Phase0.Helpers.{«get_current_epoch», «get_previous_epoch»}
 use Rattle.definitions.specs.Rust.Altair.Helpers.{FlagTotals, flagIndexDeltas, inactivityPenaltyDeltas}
 use Rattle.definitions.specs.Rust.Altair.EpochProcessing.{allDeltas, rewardAndPenalize}
-use Rattle.definitions_close.specs.Amounts.{eachChecked, booked, bookedByRewards, nines}
+use Rattle.definitions_close.specs.Amounts.{booked, bookedByRewards, nines}
 use Rattle.laws.proofs.Checked.{value-same, bound}
 use Rattle.laws.proofs.Encode.{length-decode, encode-decode}
 use Rattle.arithmetic.proofs.Laws.{bind-value}
@@ -176,9 +176,9 @@ module _ (s : Settings) (quotient stateSlot finalizedEpoch : ℕ) (xs : List ℕ
       abbrev by : Validator → Checked (List ℕ)
       by = eightOf s quotient current previous (sourceTotals s t) (targetTotals s t) (headTotals s t)
 
-      booked-from : bookedByRewards s quotient stateSlot finalizedEpoch vs ≡ eachChecked by vs
+      booked-from : bookedByRewards s quotient stateSlot finalizedEpoch vs ≡ mapChecked by vs
       unfolding bookedByRewards eightOf
-      booked-from = rw (← e, ← p, ne-eqb current 0 n) (by-totals s stateSlot finalizedEpoch vs e p (λ source target head. eachChecked (eightOf s quotient current previous source target head) vs) ∙ bind-value _ h)
+      booked-from = rw (← e, ← p, ne-eqb current 0 n) (by-totals s stateSlot finalizedEpoch vs e p (λ source target head. mapChecked (eightOf s quotient current previous source target head) vs) ∙ bind-value _ h)
 
       pub step-booked : {after amounts : List ℕ} {r : ℕ} → BooksAll (rewardAndPenalize s quotient current previous (sourceTotals s t) (targetTotals s t) (headTotals s t)) by xs after amounts r → RewardsBooked s quotient stateSlot finalizedEpoch xs after amounts r
       step-booked {after} {amounts} {r} k = record { ran = rewards-by s stateSlot finalizedEpoch vs e p quotient n h (k .ran); books = books }

@@ -18,9 +18,9 @@ use Rattle.definitions.specs.Rust.Altair.EpochProcessing.{allDeltas}
 use Rattle.laws.proofs.Checked.{value-same}
 use Rattle.laws.proofs.Encode.{length-decode}
 use Rattle.arithmetic.proofs.Laws.{bind-value}
-use Rattle.definitions_close.specs.Amounts.{eachChecked, booked, bookedByRewards, nines}
+use Rattle.definitions_close.specs.Amounts.{booked, bookedByRewards, nines}
 use Rattle.theorems.specs.Amounts.Laws.{nineOf}
-use Rattle.theorems.proofs.Amounts.Lists.{each-length, each-at, each-map, at-map}
+use Rattle.theorems.proofs.Amounts.Lists.{each-length, each-at, at-map}
 use Rattle.theorems.proofs.Amounts.Nines.{Eights, nine-at, nines-long, nine-ext}
 use Rattle.theorems.proofs.Amounts.Accounted.{Way, by-rewards, by-slashings, filled-ninth}
 use Rattle.rewards.specs.Shared.{totalsOf}
@@ -70,8 +70,8 @@ module _ {s : Settings} {slot fin : ℕ} {ys : List ℕ} {vs ws : List Validator
     leaks : (current ≡ 0 → ⊥) → «is_in_inactivity_leak» s slot fin ≡ value leaking
     leaks n = sym (leak-some s slot fin n) ∙ leak
 
-    paid-all : eachChecked (payOf s plan) vs ≡ value (w .paid)
-    paid-all = sym (each-map (payOf s plan) vs) ∙ sym (pays s slot fin ep t leaking a b c adjusted thresholds vs totals leaks) ∙ bind-value _ (w .scores) ∙ w .pays
+    paid-all : mapChecked (payOf s plan) vs ≡ value (w .paid)
+    paid-all = sym (pays s slot fin ep t leaking a b c adjusted thresholds vs totals leaks) ∙ bind-value _ (w .scores) ∙ w .pays
 
     paid-long : length (w .paid) ≡ length vs
     paid-long = each-length (payOf s plan) vs paid-all
@@ -102,7 +102,7 @@ module _ {s : Settings} {slot fin : ℕ} {ys : List ℕ} {vs ws : List Validator
         eightOf u = bind (allDeltas s (plan .quotient) current previous (totalsOf (plan .shared) (plan .source)) (totalsOf (plan .shared) (plan .target)) (totalsOf (plan .shared) (plan .head)) u) (λ ds. value (booked (u .balance) ds))
 
         -- the rewards read the totals of the registry that the scores left, which are the opening's
-        booked-all : bookedByRewards s (s .«inactivity_penalty_quotient_altair») slot fin (w .scored) ≡ eachChecked eightOf (w .scored)
+        booked-all : bookedByRewards s (s .«inactivity_penalty_quotient_altair») slot fin (w .scored) ≡ mapChecked eightOf (w .scored)
         unfolding bookedByRewards flagTotals «get_unslashed_participating_indices» «get_total_active_balance» bind eightOf
         booked-all =
             let h = totals-kept (scoredBy s plan) vs scored-all (score-keeps s current previous leaking) s current previous totals in
@@ -111,7 +111,7 @@ module _ {s : Settings} {slot fin : ℕ} {ys : List ℕ} {vs ws : List Validator
         eight-later : eightBy s plan v ≡ value (getD (by-rewards w .eights) i [])
         unfolding eightBy bind eightOf
         eight-later =
-            let scored-at = each-at (scoredBy s plan) nobody nobody vs (sym (each-map (scoredBy s plan) vs) ∙ scored-all) i l in
+            let scored-at = each-at (scoredBy s plan) nobody nobody vs scored-all i l in
             let booked-at = each-at eightOf nobody [] (w .scored) (sym booked-all ∙ by-rewards w .are) i (omega (arith, l, scored-long)) in
             rw (ne-eqb current 0 n, scored-at) booked-at
 

@@ -16,7 +16,7 @@ use Rattle.definitions.specs.Rust.Altair.EpochProcessing.{allDeltas, rewardAndP
 use Rattle.arithmetic.proofs.Answers.{Tells, tells-deltas, answers-overflow}
 use Rattle.arithmetic.proofs.Laws.{bind-value, bind-refused}
 use Rattle.laws.proofs.Checked.{bind-bind}
-use Rattle.arithmetic.proofs.Operations.{OnlyOverflow, only-value, only-bind}
+use Rattle.arithmetic.proofs.Operations.{OnlyOverflow, only-value, only-bind, refused-after}
 use Rattle.rates.specs.declared.reward_balances.Pairs.{Pairs}
 use Rattle.rates.specs.declared.reward_balances.PairsAnswer.{PairsAnswer}
 use Rattle.rates.specs.declared.reward_balances.PairsAnswer.the-variants.{Value, Refused}
@@ -44,12 +44,6 @@ by-answers (value a) (value b) (value c) (refused r) K L M N = rw (N .why r refl
 by-answers (value a) (value b) (refused r) n K L M N = rw (M .why r refl)
 by-answers (value a) (refused r) m n K L M N = rw (L .why r refl)
 by-answers (refused r) l m n K L M N = rw (K .why r refl)
-
--- whichever is refused, what the answers before it were does not matter
-over-later : {A B : Type 0} (k : Checked A) (f : A → Checked B) → OnlyOverflow k → ((x : A) → f x ≡ refused overflow) → bind k f ≡ refused overflow
-unfolding bind
-over-later (value x) f o h = h x
-over-later (refused p) f o h = ap refused (o .why p refl)
 
 module _ (s : Settings) (quotient current previous : ℕ) (source target head : FlagTotals) (v : Validator) where
   abbrev pairs : Checked Pairs
@@ -85,15 +79,15 @@ module _ (s : Settings) (quotient current previous : ℕ) (source target head : 
 
     pub target-stops : SaysDeltas (flag 1 target) a → a ≡ DeltasRefused q → SaysPairs pairs (Refused 5)
     unfolding fourOf
-    target-stops h e = stops (only-flag s current previous 1 target v) h e (λ z. over-later _ _ (only-flag s current previous 0 source v) (λ x. bind-refused _ z))
+    target-stops h e = stops (only-flag s current previous 1 target v) h e (λ z. refused-after (only-flag s current previous 0 source v) (λ x. bind-refused _ z))
 
     pub head-stops : SaysDeltas (flag 2 head) a → a ≡ DeltasRefused q → SaysPairs pairs (Refused 5)
     unfolding fourOf
-    head-stops h e = stops (only-flag s current previous 2 head v) h e (λ z. over-later _ _ (only-flag s current previous 0 source v) (λ x. over-later _ _ (only-flag s current previous 1 target v) (λ y. bind-refused _ z)))
+    head-stops h e = stops (only-flag s current previous 2 head v) h e (λ z. refused-after (only-flag s current previous 0 source v) (λ x. refused-after (only-flag s current previous 1 target v) (λ y. bind-refused _ z)))
 
     pub inactivity-stops : SaysDeltas penalty a → a ≡ DeltasRefused q → SaysPairs pairs (Refused 5)
     unfolding fourOf
-    inactivity-stops h e = stops (only-penalty s quotient current previous v) h e (λ z. over-later _ _ (only-flag s current previous 0 source v) (λ x. over-later _ _ (only-flag s current previous 1 target v) (λ y. over-later _ _ (only-flag s current previous 2 head v) (λ w. bind-refused _ z))))
+    inactivity-stops h e = stops (only-penalty s quotient current previous v) h e (λ z. refused-after (only-flag s current previous 0 source v) (λ x. refused-after (only-flag s current previous 1 target v) (λ y. refused-after (only-flag s current previous 2 head v) (λ w. bind-refused _ z))))
 
   pub deltas-four : allDeltas s quotient current previous source target head v ≡ bind pairs (λ p. value (four p))
   unfolding allDeltas fourOf

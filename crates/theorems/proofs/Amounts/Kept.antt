@@ -20,7 +20,7 @@ use Rattle.definitions.specs.Rust.Altair.Helpers.{isUnslashedParticipating}
 use Rattle.definitions.specs.Rust.Altair.EpochProcessing.{movedScore, recoveredScore, updateInactivityScore, «process_inactivity_updates», «process_participation_flag_updates»}
 use Rattle.laws.proofs.Checked.{value-same, bound}
 use Rattle.theorems.specs.Amounts.Laws.{balanceAt}
-use Rattle.theorems.proofs.Amounts.Lists.{each-length, each-at, each-map, at-map}
+use Rattle.theorems.proofs.Amounts.Lists.{each-length, each-at, at-map}
 
 pub record Kept (vs ws : List Validator) : Type 0 where
   pub long : length ws ≡ length vs
@@ -35,8 +35,7 @@ kept-then a b = record { long = b .long ∙ a .long; balance = λ i l. b .balanc
 -- a loop whose turns leave the balance
 kept-each : (f : Validator → Checked Validator) → ((v w : Validator) → f v ≡ value w → w .balance ≡ v .balance) → (vs : List Validator) {ws : List Validator} → mapChecked f vs ≡ value ws → Kept vs ws
 kept-each f h vs e =
-    let k = sym (each-map f vs) ∙ e in
-    record { long = each-length f vs k; balance = λ i l. h _ _ (each-at f nobody nobody vs k i l) }
+    record { long = each-length f vs e; balance = λ i l. h _ _ (each-at f nobody nobody vs e i l) }
 
 -- a validator put in the place of one with its balance
 set-at : (vs : List Validator) (j : ℕ) (w : Validator) → w .balance ≡ balanceAt vs j → (i : ℕ) → balanceAt (set vs j w) i ≡ balanceAt vs i

@@ -17,9 +17,9 @@ use Rattle.definitions.specs.Rust.Altair.Helpers.{FlagTotals, flagTotals, flagI
 use Rattle.definitions.specs.Rust.Altair.EpochProcessing.{applyDelta, allDeltas, rewardAndPenalize, «process_rewards_and_penalties»}
 use Rattle.laws.proofs.Checked.{value-same, bound, add64-value}
 use Rattle.arithmetic.proofs.Laws.{bind-value}
-use Rattle.definitions_close.specs.Amounts.{eachChecked, booked, bookedByRewards}
+use Rattle.definitions_close.specs.Amounts.{booked, bookedByRewards}
 use Rattle.theorems.specs.Amounts.Laws.{balanceAt}
-use Rattle.theorems.proofs.Amounts.Lists.{Gave, each-length, each-at, each-gave, each-map, at-map}
+use Rattle.theorems.proofs.Amounts.Lists.{Gave, each-length, each-at, each-gave, at-map}
 use Rattle.laws.proofs.Tests.{lowered}
 
 -- Of one validator
@@ -157,12 +157,12 @@ module _ (s : Settings) (quotient slot fin : ℕ) (vs : List Validator) where
 
     module _ {ws : List Validator} (e : mapChecked f vs ≡ value ws) where
       paid-at : (i : ℕ) → i < length vs → Paid s quotient current previous source target head (getD vs i nobody) (getD ws i nobody)
-      paid-at i l = paid s quotient current previous source target head (getD vs i nobody) (each-at f nobody nobody vs (sym (each-map f vs) ∙ e) i l)
+      paid-at i l = paid s quotient current previous source target head (getD vs i nobody) (each-at f nobody nobody vs e i l)
 
       given-at : (i : ℕ) → i < length vs → Gave (g (getD vs i nobody))
       given-at i l = record { gift = _; gave = eight s quotient current previous source target head (getD vs i nobody) (paid-at i l) }
 
-      all : Gave (eachChecked g vs)
+      all : Gave (mapChecked g vs)
       all = each-gave g nobody vs given-at
 
       at : (i : ℕ) (l : i < length vs) → let p = paid-at i l in getD (all .gift) i [] ≡ booked (balanceAt vs i) (p .a ∷ p .b ∷ p .c ∷ p .d ∷ [])
@@ -200,7 +200,7 @@ module _ (s : Settings) (quotient slot fin : ℕ) (vs : List Validator) where
               eights = all .gift;
               are = rw q (bind-value _ source-is ∙ bind-value _ target-is ∙ bind-value _ head-is ∙ all .gave);
               long = each-length g vs (all .gave);
-              same = each-length f vs (sym (each-map f vs) ∙ e);
+              same = each-length f vs e;
               eight = eight-at;
               equal = equal-at;
               leaves = λ n. leaves-at;

@@ -16,7 +16,7 @@ use Rattle.laws.proofs.Checked.{value-same, bound}
 use Rattle.arithmetic.proofs.Laws.{bind-value}
 use Rattle.definitions_close.specs.Amounts.{takenFrom, takenBySlashings}
 use Rattle.theorems.specs.Amounts.Laws.{balanceAt}
-use Rattle.theorems.proofs.Amounts.Lists.{each-length, each-at, each-gave, each-map}
+use Rattle.theorems.proofs.Amounts.Lists.{each-length, each-at, each-gave}
 use Rattle.laws.proofs.Tests.{lowered}
 
 record Took (s : Settings) (epoch total adjusted : ℕ) (v w : Validator) : Type 0 where
@@ -58,7 +58,7 @@ slashed s multiplier slot slashings vs {ws} e =
     let c = bound (mul64 (b .first) multiplier) _ (b .then) in
     let f = slash s («get_current_epoch» s slot) (a .first) (min (c .first) (a .first)) in
     let g = takenFrom s («get_current_epoch» s slot) (a .first) (min (c .first) (a .first)) in
-    let k = sym (each-map f vs) ∙ c .then in
+    let k = c .then in
     let at : (i : ℕ) → i < length vs → Took s («get_current_epoch» s slot) (a .first) (min (c .first) (a .first)) (getD vs i nobody) (getD ws i nobody) = λ i l. took s _ _ _ (getD vs i nobody) (each-at f nobody nobody vs k i l) in
     let all = each-gave g nobody vs (λ i l. record { gift = at i l .taken; gave = at i l .is }) in
     record {

@@ -11,7 +11,7 @@ use Rattle.definitions.specs.Record.{«FAR_FUTURE_EPOCH»}
 use Rattle.definitions.specs.Rules.{altairRules}
 use Rattle.definitions.specs.Raised.{noneRaised}
 use Rattle.definitions.specs.ExitQueue.{queueOf, isQueueOf, queueTest}
-use Rattle.definitions_close.specs.Amounts.{eachChecked, booked, bookedByRewards, takenFrom, takenBySlashings, nines}
+use Rattle.definitions_close.specs.Amounts.{booked, bookedByRewards, takenFrom, takenBySlashings, nines}
 use Rattle.definitions_close.specs.FinalizingTest.{lastTest, finalizingTest}
 use Rattle.definitions_close.specs.FullClose.{FullCall, fullTests}
 use Rattle.definitions_close.specs.CloseBySteps.{found, stepTests, stepped, eights, amountsBy, steppedAmounts, endedBy, goesOn, runningAfter, unwritten, stepInTurn, closeStep}
@@ -113,7 +113,7 @@ record Figures : Type 0 where
   ended : ninth .answer .running .done ≡ 9
 
 figures : Figures
-unfolding computing queueOf isQueueOf queueTest eachChecked booked bookedByRewards takenFrom takenBySlashings nines lastTest finalizingTest fullTests found stepTests stepped eights amountsBy steppedAmounts endedBy goesOn runningAfter unwritten stepInTurn closeStep ordersIn appended takeOrder mayExit isDue «process_voluntary_exit» carriedOut answersTo ninthTests carriesOut ninthInTurn carryOut act acts
+unfolding computing queueOf isQueueOf queueTest booked bookedByRewards takenFrom takenBySlashings nines lastTest finalizingTest fullTests found stepTests stepped eights amountsBy steppedAmounts endedBy goesOn runningAfter unwritten stepInTurn closeStep ordersIn appended takeOrder mayExit isDue «process_voluntary_exit» carriedOut answersTo ninthTests carriesOut ninthInTurn carryOut act acts
 figures = record { count = refl; amounts = refl; done = refl; register = refl; answers = refl; queue = refl; ended = refl }
 
 pub example : BySteps

@@ -1,10 +1,10 @@
 -- The ninth call carries the orders out, in order of arrival, on what the whole close leaves.
 use mathlib.Core.Path.{_≡_, refl, sym, ap, _∙_, subst}
 use mathlib.Core.List.{List}
-use Prim.Native.Nat.{ℕ, zero, suc, _/_, _%_, _^_, _≤_, _<_}
+use Prim.Native.Nat.{ℕ, _/_, _%_, _^_, _≤_, _<_}
 use native.Mathlib.Omega.{arith}
 use borrow.Author.Tests.{lt-ltb, le-leb, eq-eqb}
-use lib.ListN.{length, drop}
+use lib.ListN.{length}
 use Rattle.definitions.specs.declared.FullAnswer.{FullAnswer}
 use Rattle.definitions.specs.Lists.{every}
 use Rattle.definitions.specs.Record.{BeaconState, encode, decode}
@@ -13,17 +13,13 @@ use Rattle.definitions.specs.Refusals.{inOrder, goodRegistry}
 use Rattle.definitions.specs.ExitQueue.{queueOf, isQueueOf, queueTest}
 use Rattle.definitions_close.specs.FullClose.{FullCall, fullClose}
 use Rattle.definitions_close.specs.CloseBySteps.{saysEnded}
+use Rattle.definitions_close.proofs.Orders.{orders-long}
 use Rattle.definitions_close.specs.Orders.{Order, ordersIn, room, NinthCall, ninthTests, untried, carriesOut, ninthInTurn, carryOut}
 use Rattle.laws.proofs.Encode.{decode-encode}
 use Rattle.theorems.specs.CloseBySteps.Desk.{Desk, acts, arrived, ninthCall, Carries, NineCalls}
 use Rattle.theorems.proofs.CloseBySteps.Tests.{full-passed, shaped-as, long-as}
 use Rattle.theorems.proofs.CloseBySteps.Turns.{UnderWay, deskAt, On, waiting, onward, ended}
 use Rattle.theorems.proofs.CloseBySteps.Eight.{stopped-done, onward-gives, eight-on}
-
-many : (count : ℕ) (list : List ℕ) → length (ordersIn count list) ≡ count
-unfolding ordersIn
-many zero list = refl
-many (suc count) list = ap suc (many count (drop 2 list))
 
 module _ (c : FullCall) (st : BeaconState) (count : ℕ) (orders : List ℕ) (u : UnderWay c 8 st) (period : ℕ) (answers : List ℕ) where
   abbrev here : Desk
@@ -57,7 +53,7 @@ module _ (c : FullCall) (st : BeaconState) (count : ℕ) (orders : List ℕ) (u 
         refusal = refl;
         done = refl;
         orders = refl;
-        answer = rw (f, r, ← raised, ← test, decode-encode (st .validators), e, ← e, many count orders) (refl, refl, refl);
+        answer = rw (f, r, ← raised, ← test, decode-encode (st .validators), e, ← e, orders-long count orders) (refl, refl, refl);
       })
 
 nine-on : (c : FullCall) (d : Desk) (os : List Order) (size : ℕ) → On c 8 d os size → (period : ℕ) (answers : List ℕ) → size % 2 ≡ 0 → length answers ≡ size / 2 → period < 2 ^ 48 → fullClose c .refusal ≡ 0 → Carries c os period answers (carryOut (ninthCall c d period answers))

@@ -30,7 +30,7 @@ use Rattle.agreement.proofs.Registry.{registry-at}
 use Rattle.agreement.proofs.EffectiveBalances.{effective-balance}
 use Rattle.agreement.proofs.Justification.{justification}
 use Rattle.agreement.proofs.Bellatrix.{under}
-use Rattle.theorems.proofs.Completeness.Laws.{traverse-agrees, zip-agrees}
+use Rattle.theorems.proofs.Completeness.Laws.{zip-agrees}
 use Rattle.agreement.proofs.Slashings.{slashings}
 use Rattle.agreement.proofs.Close.{slashings-reset, participation-flags}
 
@@ -85,7 +85,7 @@ delta-agrees s stateSlot finalizedEpoch vs flagIndex v =
 pub flag-list : (s : Settings) (stateSlot finalizedEpoch : ℕ) (vs : List Validator) (flagIndex : ℕ) → Agrees Overflow (in64.«get_flag_index_deltas» s stateSlot finalizedEpoch vs flagIndex) («get_flag_index_deltas» s stateSlot finalizedEpoch vs flagIndex)
 unfolding in64.«get_flag_index_deltas» «get_flag_index_deltas»
 flag-list s stateSlot finalizedEpoch vs flagIndex =
-    bind-agrees _ (flag-totals s _ _ _) (traverse-agrees (delta-of-one s stateSlot finalizedEpoch vs flagIndex) vs)
+    bind-agrees _ (flag-totals s _ _ _) (map-agrees (delta-of-one s stateSlot finalizedEpoch vs flagIndex) vs)
 
 rewards : (s : Settings) (st : BeaconState) → Agrees Overflow (in64.step s st rewardsStep) (document.«process_rewards_and_penalties» s (s .«inactivity_penalty_quotient_altair») st)
 unfolding in64.step in64.«process_rewards_and_penalties» byLists.«get_inactivity_penalty_deltas» rustHelpers.«get_inactivity_penalty_deltas» document.«process_rewards_and_penalties» «get_inactivity_penalty_deltas» document.applyDeltas
@@ -96,7 +96,7 @@ rewards s st =
     (bind-agrees _ (flag-list s _ _ _ _)
     (bind-agrees _ (flag-list s _ _ _ _)
     (bind-agrees _ (flag-list s _ _ _ _)
-    (bind-agrees _ (traverse-agrees (inactivity-deltas s _ _) _) (fold-agrees (zip-agrees apply-delta) _ _))))))
+    (bind-agrees _ (map-agrees (inactivity-deltas s _ _) _) (fold-agrees (zip-agrees apply-delta) _ _))))))
     (equal-agrees (kept-validators genesis _ st))
 
 -- Registry

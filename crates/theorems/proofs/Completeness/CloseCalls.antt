@@ -1,16 +1,16 @@
 -- Demand 2 of a call of the close.
 use mathlib.Core.Path.{_≡_, refl, sym, ap, _∙_}
 use mathlib.Core.Logic.{_⊎_, inl, inr, ⊎-elim}
-use Rattle.definitions.specs.Record.{BeaconState, decode}
-use Rattle.definitions.specs.Checked.{Refusal, Checked, value, refused, bind, codeOf, settle}
+use Rattle.definitions.specs.Record.{BeaconState}
+use Rattle.definitions.specs.Checked.{Refusal, Checked, value, refused, bind}
 use Rattle.definitions.specs.Refusals.{afterTests, closingBuffer}
-use Rattle.definitions.specs.Raised.{raisedTotals, raisedUnlessRefused}
+use Rattle.definitions.specs.Raised.{raisedUnlessRefused}
 use Rattle.definitions.specs.Rules.{settingsUnder}
 use Rattle.definitions.specs.Document.ByFork.{documentUnder}
-use Rattle.definitions.specs.Close.{Call, stateOf, closeTests, closed, close, Outcome}
+use Rattle.definitions.specs.Close.{Call, stateOf, closeTests, closed, close}
 use Rattle.theorems.specs.Completeness.DocumentIn64Bits as in64
 use Rattle.theorems.specs.Completeness.Complete.{CloseParts}
-use Rattle.theorems.specs.Completeness.Calls.{registryOf, slashingsOf, outcomeOf, DocumentClosed, CloseCall}
+use Rattle.theorems.specs.Completeness.Calls.{registryOf, slashingsOf, outcomeBy, DocumentClosed, CloseCall}
 use Rattle.laws.proofs.Checked.{bound}
 use Rattle.agreement.proofs.Bounds.{close-passed}
 use Rattle.agreement.proofs.Registry.{registry}
@@ -30,25 +30,15 @@ document-closed c z =
     record { finality = a .finality ∙ ap (λ st. st .finality) e; registry = a .registry ∙ ap registryOf e; slashings = a .slashings ∙ ap slashingsOf e }
 
 -- the work shows only where the tests passed
-abbrev outcomeBy : Checked (Unit {0}) → Call → Checked BeaconState → Outcome
-outcomeBy tests c work =
-    record {
-      refusal = codeOf (afterTests tests work);
-      finality = settle (afterTests tests work) (stateOf c) .finality;
-      raised = raisedUnlessRefused (afterTests tests work) (raisedTotals (c .rules .settings) (c .finality .slot) (decode (c .registry)));
-      closingRegistry = closingBuffer registryOf tests work (c .registry) (c .closingRegistry);
-      closingSlashings = closingBuffer slashingsOf tests work (c .slashings) (c .closingSlashings);
-    }
-
 pub after-refusal : (r : Refusal) (c : Call) (m n : Checked BeaconState) → outcomeBy (refused r) c m ≡ outcomeBy (refused r) c n
 unfolding afterTests bind closingBuffer raisedUnlessRefused
 after-refusal r c m n = refl
 
-close-complete : (c : Call) (t : Checked (Unit {0})) → closeTests c ≡ t → (close c ≡ outcomeOf c (in64.«process_epoch» (settingsUnder (c .rules)) (stateOf c))) ⊎ ((closeTests c ≡ value tt) × CloseParts (settingsUnder (c .rules)) (stateOf c))
+close-complete : (c : Call) (t : Checked (Unit {0})) → closeTests c ≡ t → (close c ≡ outcomeBy (closeTests c) c (in64.«process_epoch» (settingsUnder (c .rules)) (stateOf c))) ⊎ ((closeTests c ≡ value tt) × CloseParts (settingsUnder (c .rules)) (stateOf c))
 unfolding close closed
 close-complete c (refused r) t = inl (rw t (after-refusal r c _ _))
 close-complete c (value u) t =
-    ⊎-elim (λ e. inl (ap (outcomeOf c) e)) (λ p. inr (t, p)) (complete-close (settingsUnder (c .rules)) (stateOf c) (close-passed c t .passed))
+    ⊎-elim (λ e. inl (ap (outcomeBy (closeTests c) c) e)) (λ p. inr (t, p)) (complete-close (settingsUnder (c .rules)) (stateOf c) (close-passed c t .passed))
 
 pub close-call : (c : Call) → CloseCall c (close c)
 close-call c = record { accepted = document-closed c; complete = close-complete c (closeTests c) refl }

@@ -23,9 +23,9 @@ use Rattle.theorems.specs.Completeness.DocumentIn64Bits.{FlagTotals as T
 use Rattle.theorems.specs.Completeness.Rows.{hits}
 use Rattle.theorems.specs.Completeness.Complete.{LeafParts, CompleteLeaf}
 use Rattle.agreement.proofs.Deltas.{flag-totals}
-use Rattle.theorems.proofs.Completeness.Laws.{bind-value, bind-through, traverse-alike, Never, never-refused, never-first, never-then, refuses, refused-or-parted}
+use Rattle.theorems.proofs.Completeness.Laws.{bind-value, bind-through, Never, never-refused, never-first, never-then, refuses, refused-or-parted}
 use Rattle.theorems.proofs.Completeness.Agrees.{delta-agrees}
-use Rattle.laws.proofs.Checked.{bind-bind}
+use Rattle.laws.proofs.Checked.{bind-bind, map-alike}
 
 -- it answers, or the delay is below 0
 pub data Delay (s : Settings) (stateSlot finalizedEpoch : ℕ) : Type 0 where
@@ -70,7 +70,7 @@ module _ (s : Settings) (stateSlot finalizedEpoch : ℕ) (l : «is_in_inactivity
   pub list-same : (vs : List Validator) (flagIndex : ℕ) → byLists.«get_flag_index_deltas» s stateSlot finalizedEpoch vs flagIndex ≡ in64.«get_flag_index_deltas» s stateSlot finalizedEpoch vs flagIndex
   unfolding byLists.«get_flag_index_deltas» in64.«get_flag_index_deltas»
   list-same vs flagIndex =
-      rw (totals-same vs flagIndex) (bind-through _ _ _ (λ t. traverse-alike (deltas-same flagIndex t) vs))
+      rw (totals-same vs flagIndex) (bind-through _ _ _ (λ t. map-alike (deltas-same flagIndex t) vs))
 
   delta-same : (vs : List Validator) (flagIndex : ℕ) (v : Validator) → «get_flag_index_deltas» s stateSlot finalizedEpoch vs flagIndex v ≡ in64.deltasOfOne s stateSlot finalizedEpoch vs flagIndex v
   unfolding «get_flag_index_deltas» in64.deltasOfOne

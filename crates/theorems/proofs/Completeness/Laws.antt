@@ -1,7 +1,7 @@
 -- Laws of checked evaluation that the proofs of completeness share.
 use mathlib.Core.Path.{_≡_, refl, sym, ap, _∙_}
 use mathlib.Core.Bool.{Bool, true, false, cond}
-use mathlib.Core.List.{List, [], _∷_, map, foldl, zipWith}
+use mathlib.Core.List.{List, [], _∷_, foldl, zipWith}
 use mathlib.Core.Logic.{_⊎_, inl, inr}
 use Prim.Native.Nat.{ℕ}
 use native.Mathlib.Omega.{arith}
@@ -9,7 +9,7 @@ use Rattle.definitions.specs.Lists.{filter}
 use Rattle.definitions.specs.Checked.{Refusal, overflow, Checked, value, refused, bind, mapChecked, foldChecked}
 use Rattle.laws.proofs.Checked.{not-value, bound}
 use Rattle.agreement.proofs.Agrees.{Agrees, Overflow, value-agrees, bind-agrees}
-use Rattle.theorems.specs.Completeness.ListByList.{traverse, zipChecked}
+use Rattle.theorems.specs.Completeness.ListByList.{zipChecked}
 
 -- Two checked evaluations
 
@@ -28,28 +28,13 @@ unfolding bind
 bind-through (value a) g k h = h a
 bind-through (refused r) g k h = refl
 
-pub map-alike : {A : Type 0} {f g : A → Checked A} → ((x : A) → f x ≡ g x) → (xs : List A) → mapChecked f xs ≡ mapChecked g xs
-unfolding mapChecked
-map-alike h [] = refl
-map-alike h (x ∷ xs) = rw (h x, map-alike h xs)
-
-pub traverse-alike : {A B : Type 0} {f g : A → Checked B} → ((x : A) → f x ≡ g x) → (xs : List A) → traverse f xs ≡ traverse g xs
-unfolding traverse
-traverse-alike h [] = refl
-traverse-alike h (x ∷ xs) = rw (h x, traverse-alike h xs)
-
 -- a loop whose turns all give values
 pub fold-gives : {A B : Type 0} {f : B → A → Checked B} {g : B → A → B} → ((b : B) (x : A) → f b x ≡ value (g b x)) → (b : B) (xs : List A) → foldChecked f b xs ≡ value (foldl g b xs)
 unfolding foldChecked bind
 fold-gives h b [] = refl
 fold-gives h b (x ∷ xs) = rw (h b x) (fold-gives h _ xs)
 
--- Loops over lists agree with the plain ones
-
-pub traverse-agrees : {A B : Type 0} {P : Refusal → Type 0} {f : A → Checked B} {g : A → B} → ((x : A) → Agrees P (f x) (g x)) → (xs : List A) → Agrees P (traverse f xs) (map g xs)
-unfolding traverse
-traverse-agrees h [] = value-agrees
-traverse-agrees h (x ∷ xs) = bind-agrees _ (h x) (bind-agrees _ (traverse-agrees h xs) value-agrees)
+-- A loop over two lists agrees with the plain one
 
 pub zip-agrees : {A B : Type 0} {P : Refusal → Type 0} {f : A → B → Checked A} {g : A → B → A} → ((x : A) (y : B) → Agrees P (f x y) (g x y)) → (xs : List A) (ys : List B) → Agrees P (zipChecked f xs ys) (zipWith g xs ys)
 unfolding zipChecked zipWith
@@ -75,18 +60,13 @@ pub refuses : {A : Type 0} {m : Checked A} {x : A} → Agrees Overflow m x → N
 refuses {m = value a} h n = absurd (n .never a refl)
 refuses {m = refused r} h n = ap refused (h .only r refl)
 
-pub map-traverse : {A : Type 0} (f : A → Checked A) (xs : List A) → mapChecked f xs ≡ traverse f xs
-unfolding mapChecked traverse
-map-traverse f [] = refl
-map-traverse f (x ∷ xs) = rw (map-traverse f xs)
-
 -- a loop that gave a value met nobody at whom it never does
-pub met-nobody : {A B : Type 0} {f : A → Checked B} (p : A → Bool) → ((x : A) → p x ≡ true → Never (f x)) → (xs : List A) {ys : List B} → traverse f xs ≡ value ys → filter p xs ≡ []
-unfolding traverse filter
+pub met-nobody : {A B : Type 0} {f : A → Checked B} (p : A → Bool) → ((x : A) → p x ≡ true → Never (f x)) → (xs : List A) {ys : List B} → mapChecked f xs ≡ value ys → filter p xs ≡ []
+unfolding mapChecked filter
 met-nobody p h [] e = refl
 met-nobody {A} {B} {f} p h (x ∷ xs) e =
-    let a = bound (f x) (λ y. bind (traverse f xs) (λ ys. value (y ∷ ys))) e in
-    let b = bound (traverse f xs) (λ ys. value (a .first ∷ ys)) (a .then) in
+    let a = bound (f x) (λ y. bind (mapChecked f xs) (λ ys. value (y ∷ ys))) e in
+    let b = bound (mapChecked f xs) (λ ys. value (a .first ∷ ys)) (a .then) in
     go (p x) refl (a .gave) (met-nobody p h xs (b .gave))
   where
     go : (t : Bool) → p x ≡ t → {y : B} → f x ≡ value y → filter p xs ≡ [] → cond t (x ∷ filter p xs) (filter p xs) ≡ []

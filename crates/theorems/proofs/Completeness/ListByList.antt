@@ -3,8 +3,7 @@
 use mathlib.Core.Path.{_≡_, refl, sym, ap, ap₂, _∙_, subst}
 use mathlib.Core.Bool.{Bool, true, false, cond, _&&_}
 use mathlib.Core.List.{List, [], _∷_, map, foldl}
-use Prim.Native.Nat.{ℕ, zero, suc, _<_}
-use native.Mathlib.Omega.{arith}
+use Prim.Native.Nat.{ℕ, _<_}
 use lib.Dec.{eqb}
 use lib.ListN.{length, getD}
 use Rattle.definitions.specs.declared.Settings.{Settings}
@@ -19,13 +18,13 @@ use Rattle.definitions.specs.Rust.Altair.Helpers as ofOne
 use Rattle.definitions.specs.Rust.Altair.Helpers.{FlagTotals}
 use Rattle.definitions.specs.Rust.Altair.EpochProcessing as byValidator
 use Rattle.theorems.specs.Completeness.ListByList as byLists
-use Rattle.theorems.specs.Completeness.ListByList.{traverse, zipChecked, SameByLists, LeavesOfOne}
-use Rattle.laws.proofs.Checked.{bound, value-same}
+use Rattle.theorems.specs.Completeness.ListByList.{zipChecked, SameByLists, LeavesOfOne}
+use Rattle.laws.proofs.Checked.{bound}
 use Rattle.agreement.proofs.Agrees.{Agrees, Overflow, value-agrees, bind-agrees, map-agrees, fold-agrees}
 use Rattle.agreement.proofs.Deltas.{totalsOf, flag-totals, flag-deltas, inactivity-deltas}
 use Rattle.agreement.proofs.Rewards.{map-same, apply-delta}
-use Rattle.theorems.proofs.Completeness.Laws.{traverse-agrees}
-use Rattle.theorems.proofs.Completeness.Order.{gives, same-value, gives-bind, gives-map, gives-traverse, all-alike, all-and, fold-zip-agrees, gives-fold-zip}
+use Rattle.theorems.proofs.Amounts.Lists.{each-at}
+use Rattle.theorems.proofs.Completeness.Order.{gives, same-value, gives-bind, gives-map, all-alike, all-and, fold-zip-agrees, gives-fold-zip}
 
 -- a flag's totals, then its list, three times; or the totals of all three before the lists
 totals-first : (t a u b v c r : Bool) → ((t && a) && ((u && b) && ((v && c) && r))) ≡ (t && (u && (v && (a && (b && (c && r))))))
@@ -90,20 +89,20 @@ module _ (s : Settings) (quotient stateSlot finalizedEpoch : ℕ) (vs : List Val
   flag-list : (flagIndex : ℕ) → Agrees Overflow (byLists.«get_flag_index_deltas» s stateSlot finalizedEpoch vs flagIndex) (map (document.flagIndexDeltas s stateSlot finalizedEpoch vs flagIndex) vs)
   unfolding byLists.«get_flag_index_deltas»
   flag-list flagIndex =
-      bind-agrees _ (flag-totals s stateSlot finalizedEpoch vs flagIndex) (traverse-agrees (flag-deltas s stateSlot finalizedEpoch vs flagIndex) vs)
+      bind-agrees _ (flag-totals s stateSlot finalizedEpoch vs flagIndex) (map-agrees (flag-deltas s stateSlot finalizedEpoch vs flagIndex) vs)
 
   flag-gives : (flagIndex : ℕ) → gives (byLists.«get_flag_index_deltas» s stateSlot finalizedEpoch vs flagIndex) ≡ (totals flagIndex && flags flagIndex)
   unfolding byLists.«get_flag_index_deltas»
   flag-gives flagIndex =
-      gives-bind _ (flag-totals s stateSlot finalizedEpoch vs flagIndex) ∙ ap (λ t. totals flagIndex && t) (gives-traverse _ vs)
+      gives-bind _ (flag-totals s stateSlot finalizedEpoch vs flagIndex) ∙ ap (λ t. totals flagIndex && t) (gives-map _ vs)
 
   penalty-list : Agrees Overflow (byLists.«get_inactivity_penalty_deltas» s quotient stateSlot vs) (map (document.inactivityPenaltyDeltas s quotient stateSlot) vs)
   unfolding byLists.«get_inactivity_penalty_deltas» ofOne.«get_inactivity_penalty_deltas»
-  penalty-list = traverse-agrees (inactivity-deltas s quotient stateSlot) vs
+  penalty-list = map-agrees (inactivity-deltas s quotient stateSlot) vs
 
   penalty-gives : gives (byLists.«get_inactivity_penalty_deltas» s quotient stateSlot vs) ≡ all (λ v. gives (penalty v)) vs
   unfolding byLists.«get_inactivity_penalty_deltas» ofOne.«get_inactivity_penalty_deltas»
-  penalty-gives = gives-traverse _ vs
+  penalty-gives = gives-map _ vs
 
   abbrev allApplied : List Validator → Checked (List Validator)
   allApplied ws = foldChecked (zipChecked byValidator.applyDelta) ws (map (λ g. map g vs) plain)
@@ -190,29 +189,17 @@ same-by-lists s quotient stateSlot finalizedEpoch vs =
 
 -- The leaves: an entry of the list
 
-entry-given : {B : Type 0} (f : Validator → Checked B) (d : B) (vs : List Validator) {ys : List B} → traverse f vs ≡ value ys → (i : ℕ) → i < length vs → f (getD vs i nobody) ≡ value (getD ys i d)
-unfolding traverse
-entry-given f d [] e i l = absurd (omega arith)
-entry-given f d (v ∷ vs) e zero l =
-    let a = bound (f v) (λ y. bind (traverse f vs) (λ ys. value (y ∷ ys))) e in
-    let b = bound (traverse f vs) (λ ys. value (a .first ∷ ys)) (a .then) in
-    rw (← value-same (b .then)) (a .gave)
-entry-given f d (v ∷ vs) e (suc i) l =
-    let a = bound (f v) (λ y. bind (traverse f vs) (λ ys. value (y ∷ ys))) e in
-    let b = bound (traverse f vs) (λ ys. value (a .first ∷ ys)) (a .then) in
-    rw (← value-same (b .then)) (entry-given f d vs (b .gave) i (omega arith))
-
 flag-of-one : (s : Settings) (vs : List Validator) (stateSlot finalizedEpoch flagIndex : ℕ) (ds : List Deltas) → byLists.«get_flag_index_deltas» s stateSlot finalizedEpoch vs flagIndex ≡ value ds → (i : ℕ) → i < length vs → ofOne.«get_flag_index_deltas» s stateSlot finalizedEpoch vs flagIndex (getD vs i nobody) ≡ value (getD ds i document.noDeltas)
 unfolding byLists.«get_flag_index_deltas» ofOne.«get_flag_index_deltas» bind
 flag-of-one s vs stateSlot finalizedEpoch flagIndex ds e i l =
     let delta : FlagTotals → Validator → Checked Deltas = ofOne.flagIndexDeltas s («get_current_epoch» s stateSlot) («get_previous_epoch» s stateSlot) flagIndex in
-    let t = bound (ofOne.flagTotals s stateSlot finalizedEpoch vs flagIndex) (λ t. traverse (delta t) vs) e in
-    rw (t .gave) (entry-given (delta (t .first)) document.noDeltas vs (t .then) i l)
+    let t = bound (ofOne.flagTotals s stateSlot finalizedEpoch vs flagIndex) (λ t. mapChecked (delta t) vs) e in
+    rw (t .gave) (each-at (delta (t .first)) nobody document.noDeltas vs (t .then) i l)
 
 pub leaves-of-one : (s : Settings) (vs : List Validator) → LeavesOfOne s vs
 unfolding byLists.«get_inactivity_penalty_deltas»
 leaves-of-one s vs =
     record {
       flag = flag-of-one s vs;
-      inactivity = λ quotient stateSlot ds e i l. entry-given (ofOne.«get_inactivity_penalty_deltas» s quotient stateSlot) document.noDeltas vs e i l;
+      inactivity = λ quotient stateSlot ds e i l. each-at (ofOne.«get_inactivity_penalty_deltas» s quotient stateSlot) nobody document.noDeltas vs e i l;
     }

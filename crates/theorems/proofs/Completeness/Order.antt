@@ -4,7 +4,7 @@ use mathlib.Core.Bool.{Bool, true, false, _&&_, false≢true}
 use mathlib.Core.List.{List, [], _∷_, map, foldl}
 use Rattle.definitions.specs.Lists.{all}
 use Rattle.definitions.specs.Checked.{Refusal, Checked, value, refused, bind, mapChecked, foldChecked}
-use Rattle.theorems.specs.Completeness.ListByList.{traverse, zipChecked}
+use Rattle.theorems.specs.Completeness.ListByList.{zipChecked}
 use Rattle.agreement.proofs.Agrees.{Agrees, Overflow, value-agrees, bind-agrees}
 
 -- whether it gives a value
@@ -33,15 +33,10 @@ gives-both (refused r) n f = refl
 
 -- Loops
 
-pub gives-map : {A : Type 0} (f : A → Checked A) (xs : List A) → gives (mapChecked f xs) ≡ all (λ x. gives (f x)) xs
+pub gives-map : {A B : Type 0} (f : A → Checked B) (xs : List A) → gives (mapChecked f xs) ≡ all (λ x. gives (f x)) xs
 unfolding mapChecked all
 gives-map f [] = refl
 gives-map f (x ∷ xs) = gives-both (f x) (mapChecked f xs) _ ∙ ap (λ t. gives (f x) && t) (gives-map f xs)
-
-pub gives-traverse : {A B : Type 0} (f : A → Checked B) (xs : List A) → gives (traverse f xs) ≡ all (λ x. gives (f x)) xs
-unfolding traverse all
-gives-traverse f [] = refl
-gives-traverse f (x ∷ xs) = gives-both (f x) (traverse f xs) _ ∙ ap (λ t. gives (f x) && t) (gives-traverse f xs)
 
 gives-zip : {A B C : Type 0} (f : B → C → Checked B) (h : A → B) (g : A → C) (xs : List A) → gives (zipChecked f (map h xs) (map g xs)) ≡ all (λ x. gives (f (h x) (g x))) xs
 unfolding zipChecked all

@@ -28,12 +28,12 @@ use Rattle.theorems.specs.Completeness.ListByList as byLists
 use Rattle.theorems.specs.Completeness.DocumentIn64Bits as in64
 use Rattle.theorems.specs.Completeness.Rows.{hits, hitters, FinalizedAhead, downward, upward, Row, nobodyEligible, nobodyHits, noValidators}
 use Rattle.theorems.specs.Completeness.Complete.{StepParts, CompleteStep, EveryRow}
-use Rattle.laws.proofs.Checked.{bound}
+use Rattle.laws.proofs.Checked.{bound, map-alike}
 use Rattle.agreement.proofs.Agrees.{Agrees, Overflow, not-refused}
 use Rattle.agreement.proofs.Fits.{mul64-fits}
 use Rattle.agreement.proofs.Bounds.{given}
 use Rattle.agreement.proofs.EffectiveBalances.{effective-balances}
-use Rattle.theorems.proofs.Completeness.Laws.{bind-same, map-alike, fold-gives, map-traverse, Never, never-refused, never-first, never-then, met-nobody, passes-all, refuses, refused-or-parted}
+use Rattle.theorems.proofs.Completeness.Laws.{bind-same, fold-gives, Never, never-refused, never-first, never-then, met-nobody, passes-all, refuses, refused-or-parted}
 use Rattle.theorems.proofs.Completeness.Agrees.{each-step}
 use Rattle.theorems.proofs.Completeness.ListByList.{same-by-lists}
 use Rattle.theorems.proofs.Completeness.Delay.{Delay, answered, below, delay, score-same, list-same, leak-refused, score-refused, totals-refused, deltas-refused}
@@ -82,7 +82,7 @@ module _ (s : Settings) (st : BeaconState) (a : FinalizedAhead s st) where
   nobody-eligible st′ e =
       nobodyEligible a
       (met-nobody (isEligible («get_previous_epoch» s (st .finality .slot))) (score-refused s _ _ (a .ahead)) (st .validators)
-      (sym (map-traverse _ (st .validators)) ∙ bound _ _ (rw started at e) .gave))
+      (bound _ _ (rw started at e) .gave))
 
   no-hitters : (flagIndex : ℕ) {ds : List Deltas} → in64.«get_flag_index_deltas» s (st .finality .slot) (finalizedEpochOf st) (st .validators) flagIndex ≡ value ds → hitters s st flagIndex ≡ []
   unfolding in64.«get_flag_index_deltas» «get_unslashed_participating_indices»

@@ -25,7 +25,7 @@ use Rattle.agreement.proofs.Restored.{one-left, one-right, tests-number, work-n
 use Rattle.theorems.specs.Amounts.Laws.{Accounted}
 use Rattle.theorems.proofs.Amounts.Accounted.{accounted}
 use Rattle.theorems.specs.FullClose.ByNumber.{plainOutcome, Lent, FullAccepted, FullUntouched, FullOpening, FullByNumber}
-use Rattle.theorems.specs.FullClose.Demand2.{outcomeBy}
+use Rattle.theorems.specs.Completeness.Calls.{outcomeBy}
 use Rattle.laws.proofs.Queue.{is-queue}
 
 -- The tests

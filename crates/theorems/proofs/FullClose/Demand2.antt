@@ -6,10 +6,10 @@ use Rattle.definitions.specs.Close.{Outcome, stateOf, «process_epoch»}
 use Rattle.definitions_close.specs.FullClose.{FullCall, settingsOf, fullTests, fullClose}
 use Rattle.theorems.specs.Completeness.DocumentIn64Bits as in64
 use Rattle.theorems.specs.Completeness.Complete.{CloseParts}
-use Rattle.theorems.specs.Completeness.Calls.{DocumentClosed}
+use Rattle.theorems.specs.Completeness.Calls.{outcomeBy, DocumentClosed}
 use Rattle.theorems.proofs.Completeness.CloseCalls.{close-call, after-refusal}
 use Rattle.theorems.specs.FullClose.ByNumber.{plainOutcome, FullAccepted}
-use Rattle.theorems.specs.FullClose.Demand2.{outcomeBy, FullCloseCall}
+use Rattle.theorems.specs.FullClose.Demand2.{FullCloseCall}
 use Rattle.theorems.proofs.FullClose.ByNumber.{Tests, passed, turned, tests, lent-tests, plain-by, lent-same, full-by-number}
 
 -- the work shows only where the tests passed

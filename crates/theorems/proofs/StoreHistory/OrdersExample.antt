@@ -9,7 +9,7 @@ use Rattle.definitions.specs.Lists.{maximum, every}
 use Rattle.definitions.specs.Record.{Validator, BeaconState, encode}
 use Rattle.definitions.specs.Raised.{noneRaised}
 use Rattle.definitions.specs.ExitQueue.{queueOf, isQueueOf, queueTest}
-use Rattle.definitions_close.specs.Amounts.{eachChecked, booked, bookedByRewards, takenFrom, takenBySlashings, nines}
+use Rattle.definitions_close.specs.Amounts.{booked, bookedByRewards, takenFrom, takenBySlashings, nines}
 use Rattle.definitions_close.specs.FinalizingTest.{lastTest, finalizingTest}
 use Rattle.definitions_close.specs.FullClose.{fullTests}
 use Rattle.definitions_close.specs.CloseBySteps.{found, stepTests, stepped, eights, amountsBy, steppedAmounts, endedBy, goesOn, runningAfter, unwritten, stepInTurn, closeStep}
@@ -95,7 +95,7 @@ abbrev events : List Event
 events = map (λ c. event (c .0)) run
 
 unfoldable carrying : Unit {0}
-unfolding computing queueOf isQueueOf queueTest eachChecked booked bookedByRewards takenFrom takenBySlashings nines lastTest finalizingTest fullTests found stepTests stepped eights amountsBy steppedAmounts endedBy goesOn runningAfter unwritten stepInTurn closeStep ordersIn appended takeOrder mayExit isDue «process_voluntary_exit» carriedOut answersTo ninthTests carriesOut ninthInTurn carryOut entriesFrom lastOf keeps follows inSequence storeShaped goodEntries entryFor rulesAt ofLast storeCallShaped rulesAtSlot rulesFor storeFound storeStepBy storeStep ninthRules carryBy storeCarryOut act acts triedBy ordersMeet every
+unfolding computing queueOf isQueueOf queueTest booked bookedByRewards takenFrom takenBySlashings nines lastTest finalizingTest fullTests found stepTests stepped eights amountsBy steppedAmounts endedBy goesOn runningAfter unwritten stepInTurn closeStep ordersIn appended takeOrder mayExit isDue «process_voluntary_exit» carriedOut answersTo ninthTests carriesOut ninthInTurn carryOut entriesFrom lastOf keeps follows inSequence storeShaped goodEntries entryFor rulesAt ofLast storeCallShaped rulesAtSlot rulesFor storeFound storeStepBy storeStep ninthRules carryBy storeCarryOut act acts triedBy ordersMeet every
 carrying = tt
 
 handed : All (λ r e. Others r (e .opening)) after (opening .validators) events

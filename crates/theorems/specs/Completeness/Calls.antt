@@ -35,15 +35,15 @@ slashingsOf st = st .slashings
 
 -- The close. Its table by number is agreement, Restored.antt.
 
--- what a close answers whose eight steps are `work`
-abbrev pub outcomeOf : Call → Checked BeaconState → Outcome
-outcomeOf c work =
+-- what a close answers whose tests are `tests` and whose eight steps are `work`
+abbrev pub outcomeBy : Checked (Unit {0}) → Call → Checked BeaconState → Outcome
+outcomeBy tests c work =
     record {
-      refusal = codeOf (afterTests (closeTests c) work);
-      finality = settle (afterTests (closeTests c) work) (stateOf c) .finality;
-      raised = raisedUnlessRefused (afterTests (closeTests c) work) (raisedTotals (c .rules .settings) (c .finality .slot) (decode (c .registry)));
-      closingRegistry = closingBuffer registryOf (closeTests c) work (c .registry) (c .closingRegistry);
-      closingSlashings = closingBuffer slashingsOf (closeTests c) work (c .slashings) (c .closingSlashings);
+      refusal = codeOf (afterTests tests work);
+      finality = settle (afterTests tests work) (stateOf c) .finality;
+      raised = raisedUnlessRefused (afterTests tests work) (raisedTotals (c .rules .settings) (c .finality .slot) (decode (c .registry)));
+      closingRegistry = closingBuffer registryOf tests work (c .registry) (c .closingRegistry);
+      closingSlashings = closingBuffer slashingsOf tests work (c .slashings) (c .closingSlashings);
     }
 
 -- the outcome o is the process_epoch of the fork's document, of the record handed in
@@ -56,7 +56,7 @@ pub record DocumentClosed (c : Call) (o : Outcome) : Type 0 where
 pub record CloseCall (c : Call) (o : Outcome) : Type 0 where
   pub accepted : o .refusal ≡ 0 → DocumentClosed c o
   -- it answers as the document in 64 bits would, or a row parts the two
-  pub complete : (o ≡ outcomeOf c (In64Bits.«process_epoch» (settingsUnder (c .rules)) (stateOf c))) ⊎ ((closeTests c ≡ value tt) × CloseParts (settingsUnder (c .rules)) (stateOf c))
+  pub complete : (o ≡ outcomeBy (closeTests c) c (In64Bits.«process_epoch» (settingsUnder (c .rules)) (stateOf c))) ⊎ ((closeTests c ≡ value tt) × CloseParts (settingsUnder (c .rules)) (stateOf c))
 
 -- The steps
 

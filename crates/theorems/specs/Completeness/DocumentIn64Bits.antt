@@ -4,7 +4,7 @@
 -- thresholds (effective balances). A plain `+` cannot leave 64 bits once the tests have passed: agreement, Bounds.antt.
 use mathlib.Core.Bool.{cond}
 use mathlib.Core.List.{List, [], _∷_}
-use Prim.Native.Nat.{ℕ, _*_, _/_}
+use Prim.Native.Nat.{ℕ, _/_}
 use lib.Dec.{eqb}
 use lib.ListN.{length, getD, take}
 use Rattle.definitions.specs.declared.Settings.{Settings}
@@ -22,7 +22,7 @@ use Rattle.definitions.specs.Rust.Altair.Helpers.{«TIMELY_SOURCE_FLAG_INDEX»,
 use Rattle.definitions.specs.Rust.Altair.EpochProcessing.{movedScore, recoveredScore, applyDelta}
 use Rattle.definitions.specs.Close as Rust
 use Rattle.definitions.specs.Close.{onValidators, finalizedEpochOf, Step, justificationStep, inactivityStep, rewardsStep, registryStep, slashingsStep, effectiveBalancesStep, slashingsResetStep, participationFlagsStep, steps}
-use Rattle.theorems.specs.Completeness.ListByList.{traverse, zipChecked, «get_inactivity_penalty_deltas»}
+use Rattle.theorems.specs.Completeness.ListByList.{zipChecked, «get_inactivity_penalty_deltas»}
 
 -- Inactivity scores: the leak is asked for each eligible validator, after its score has moved
 
@@ -67,7 +67,7 @@ flagIndexDeltas s stateSlot finalizedEpoch flagIndex t v =
 
 unfoldable pub «get_flag_index_deltas» : Settings → ℕ → ℕ → List Validator → ℕ → Checked (List Deltas)
 «get_flag_index_deltas» s stateSlot finalizedEpoch vs flagIndex =
-    bind (flagTotals s stateSlot vs flagIndex) (λ t. traverse (flagIndexDeltas s stateSlot finalizedEpoch flagIndex t) vs)
+    bind (flagTotals s stateSlot vs flagIndex) (λ t. mapChecked (flagIndexDeltas s stateSlot finalizedEpoch flagIndex t) vs)
 
 -- of one validator, without the others: the leaf
 unfoldable pub deltasOfOne : Settings → ℕ → ℕ → List Validator → ℕ → Validator → Checked Deltas

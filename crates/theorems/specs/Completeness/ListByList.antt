@@ -9,18 +9,14 @@ use lib.ListN.{length, getD}
 use Rattle.definitions.specs.declared.Settings.{Settings}
 use Rattle.definitions.specs.declared.Deltas.{Deltas}
 use Rattle.definitions.specs.Record.{Validator, «GENESIS_EPOCH», nobody}
-use Rattle.definitions.specs.Checked.{Checked, value, bind, foldChecked}
+use Rattle.definitions.specs.Checked.{Checked, value, bind, mapChecked, foldChecked}
 use Rattle.definitions.specs.Rust.Phase0.Helpers.{«get_current_epoch», «get_previous_epoch»}
 use Rattle.definitions.specs.Rust.Altair.Helpers as OfOne
 use Rattle.definitions.specs.Rust.Altair.Helpers.{«TIMELY_SOURCE_FLAG_INDEX», «TIMELY_TARGET_FLAG_INDEX», «TIMELY_HEAD_FLAG_INDEX», noDeltas, flagTotals, flagIndexDeltas}
 use Rattle.definitions.specs.Rust.Altair.EpochProcessing as ByValidator
 use Rattle.definitions.specs.Rust.Altair.EpochProcessing.{applyDelta}
 
--- Loops that stop at the first refusal: over a list, and over two together
-
-unfoldable pub traverse : {A B : Type 0} → (A → Checked B) → List A → Checked (List B)
-traverse f [] = value []
-traverse f (x ∷ xs) = bind (f x) (λ y. bind (traverse f xs) (λ ys. value (y ∷ ys)))
+-- A loop over two lists together that stops at the first refusal
 
 unfoldable pub zipChecked : {A B : Type 0} → (A → B → Checked A) → List A → List B → Checked (List A)
 zipChecked f [] ys = value []
@@ -31,11 +27,11 @@ zipChecked f (x ∷ xs) (y ∷ ys) = bind (f x y) (λ z. bind (zipChecked f xs y
 unfoldable pub «get_flag_index_deltas» : Settings → ℕ → ℕ → List Validator → ℕ → Checked (List Deltas)
 «get_flag_index_deltas» s stateSlot finalizedEpoch vs flagIndex =
     bind (flagTotals s stateSlot finalizedEpoch vs flagIndex) (λ t.
-    traverse (flagIndexDeltas s («get_current_epoch» s stateSlot) («get_previous_epoch» s stateSlot) flagIndex t) vs)
+    mapChecked (flagIndexDeltas s («get_current_epoch» s stateSlot) («get_previous_epoch» s stateSlot) flagIndex t) vs)
 
 -- altair/helpers.rs 316
 unfoldable pub «get_inactivity_penalty_deltas» : Settings → ℕ → ℕ → List Validator → Checked (List Deltas)
-«get_inactivity_penalty_deltas» s quotient stateSlot vs = traverse (OfOne.«get_inactivity_penalty_deltas» s quotient stateSlot) vs
+«get_inactivity_penalty_deltas» s quotient stateSlot vs = mapChecked (OfOne.«get_inactivity_penalty_deltas» s quotient stateSlot) vs
 
 -- altair/epoch_processing.rs 157
 unfoldable pub «process_rewards_and_penalties» : Settings → ℕ → ℕ → ℕ → List Validator → Checked (List Validator)

@@ -10,7 +10,7 @@ use Rattle.definitions_votes.specs.Votes.{insertRising, sortedOnce}
 use Rattle.votes.specs.declared.vote_outcome.Epochs.{Epochs}
 use Rattle.definitions_votes.specs.declared.VotesAnswer.{VotesAnswer}
 use Rattle.definitions_votes.specs.Answers.{firstThree}
-use Rattle.votes.specs.Epochs.{epochsFor, insertInto}
+use Rattle.votes.specs.Epochs.{four, epochsFor, insertInto}
 
 length-insert : (e : ℕ) (xs : List ℕ) → length (insertRising e xs) ≤ length xs + 1
 unfolding insertRising
@@ -23,21 +23,18 @@ length-insert e (x ∷ xs) = go (ltb e x) (eqb e x) (length-insert e xs)
     go false false h = omega arith
 
 -- three places show the whole of a list of at most three
-abbrev shown : ℕ → ℕ → ℕ → ℕ → Epochs
-shown count first second third = record { count = count; first = first; second = second; third = third }
-
 insert-into : (e : ℕ) (xs : List ℕ) → length xs ≤ 3 → insertInto e (epochsFor xs) ≡ epochsFor (insertRising e xs)
 unfolding insertInto epochsFor insertRising
 insert-into e [] h = refl
 insert-into e (x ∷ []) h = go (ltb e x) (eqb e x)
   where
-    go : (t u : Bool) → cond t (shown 2 e x 0) (cond u (shown 1 x 0 0) (shown 2 x e 0)) ≡ epochsFor (cond t (e ∷ x ∷ []) (cond u (x ∷ []) (x ∷ e ∷ [])))
+    go : (t u : Bool) → cond t (four 2 e x 0) (cond u (four 1 x 0 0) (four 2 x e 0)) ≡ epochsFor (cond t (e ∷ x ∷ []) (cond u (x ∷ []) (x ∷ e ∷ [])))
     go true u = refl
     go false true = refl
     go false false = refl
 insert-into e (x ∷ y ∷ []) h = go (ltb e x) (eqb e x) (ltb e y) (eqb e y)
   where
-    go : (t u t' u' : Bool) → cond t (shown 3 e x y) (cond u (shown 2 x y 0) (cond t' (shown 3 x e y) (cond u' (shown 2 x y 0) (shown 3 x y e)))) ≡ epochsFor (cond t (e ∷ x ∷ y ∷ []) (cond u (x ∷ y ∷ []) (x ∷ cond t' (e ∷ y ∷ []) (cond u' (y ∷ []) (y ∷ e ∷ [])))))
+    go : (t u t' u' : Bool) → cond t (four 3 e x y) (cond u (four 2 x y 0) (cond t' (four 3 x e y) (cond u' (four 2 x y 0) (four 3 x y e)))) ≡ epochsFor (cond t (e ∷ x ∷ y ∷ []) (cond u (x ∷ y ∷ []) (x ∷ cond t' (e ∷ y ∷ []) (cond u' (y ∷ []) (y ∷ e ∷ [])))))
     go true u t' u' = refl
     go false true t' u' = refl
     go false false true u' = refl
@@ -45,7 +42,7 @@ insert-into e (x ∷ y ∷ []) h = go (ltb e x) (eqb e x) (ltb e y) (eqb e y)
     go false false false false = refl
 insert-into e (x ∷ y ∷ z ∷ []) h = go (ltb e x) (eqb e x) (ltb e y) (eqb e y) (ltb e z) (eqb e z)
   where
-    go : (t u t' u' t'' u'' : Bool) → cond t (shown 4 e x y) (cond u (shown 3 x y z) (cond t' (shown 4 x e y) (cond u' (shown 3 x y z) (cond t'' (shown 4 x y e) (cond u'' (shown 3 x y z) (shown 4 x y z)))))) ≡ epochsFor (cond t (e ∷ x ∷ y ∷ z ∷ []) (cond u (x ∷ y ∷ z ∷ []) (x ∷ cond t' (e ∷ y ∷ z ∷ []) (cond u' (y ∷ z ∷ []) (y ∷ cond t'' (e ∷ z ∷ []) (cond u'' (z ∷ []) (z ∷ e ∷ [])))))))
+    go : (t u t' u' t'' u'' : Bool) → cond t (four 4 e x y) (cond u (four 3 x y z) (cond t' (four 4 x e y) (cond u' (four 3 x y z) (cond t'' (four 4 x y e) (cond u'' (four 3 x y z) (four 4 x y z)))))) ≡ epochsFor (cond t (e ∷ x ∷ y ∷ z ∷ []) (cond u (x ∷ y ∷ z ∷ []) (x ∷ cond t' (e ∷ y ∷ z ∷ []) (cond u' (y ∷ z ∷ []) (y ∷ cond t'' (e ∷ z ∷ []) (cond u'' (z ∷ []) (z ∷ e ∷ [])))))))
     go true u t' u' t'' u'' = refl
     go false true t' u' t'' u'' = refl
     go false false true u' t'' u'' = refl
@@ -55,12 +52,12 @@ insert-into e (x ∷ y ∷ z ∷ []) h = go (ltb e x) (eqb e x) (ltb e y) (eqb e
     go false false false false false false = refl
 insert-into e (x ∷ y ∷ z ∷ w ∷ r) h = absurd (omega arith)
 
-no-epochs : shown 0 0 0 0 ≡ epochsFor []
+no-epochs : four 0 0 0 0 ≡ epochsFor []
 unfolding epochsFor
 no-epochs = refl
 
 -- four insertions, the last number first
-pub four-inserted : (a b c d : ℕ) {n o p q : Epochs} → n ≡ insertInto d (shown 0 0 0 0) → o ≡ insertInto c n → p ≡ insertInto b o → q ≡ insertInto a p → q ≡ epochsFor (sortedOnce (a ∷ b ∷ c ∷ d ∷ []))
+pub four-inserted : (a b c d : ℕ) {n o p q : Epochs} → n ≡ insertInto d (four 0 0 0 0) → o ≡ insertInto c n → p ≡ insertInto b o → q ≡ insertInto a p → q ≡ epochsFor (sortedOnce (a ∷ b ∷ c ∷ d ∷ []))
 unfolding sortedOnce
 four-inserted a b c d {n} {o} {p} {q} e f g h =
     let xs = insertRising d [] in
@@ -74,7 +71,7 @@ four-inserted a b c d {n} {o} {p} {q} e f g h =
     let p' : p ≡ epochsFor zs = g ∙ ap (insertInto b) o' ∙ insert-into b ys (omega arith) in
     h ∙ ap (insertInto a) p' ∙ insert-into a zs lz
   where
-    first : insertInto d (shown 0 0 0 0) ≡ epochsFor (insertRising d [])
+    first : insertInto d (four 0 0 0 0) ≡ epochsFor (insertRising d [])
     first = ap (insertInto d) no-epochs ∙ insert-into d [] (omega arith)
 
 -- the answer from the list's numbers

@@ -1,9 +1,9 @@
 -- One pass with two functions gives what two passes give, where both refuse only by 5.
-use mathlib.Core.Path.{_≡_, refl, ap}
+use mathlib.Core.Path.{_≡_, refl}
 use mathlib.Core.List.{List, [], _∷_, map}
-use Rattle.definitions.specs.Checked.{overflow, Checked, value, refused, bind, mapChecked}
+use Rattle.definitions.specs.Checked.{Checked, value, refused, bind, mapChecked}
 use Rattle.definitions.specs.Record.{Validator}
-use Rattle.arithmetic.proofs.Operations.{OnlyOverflow, only-value, only-bind}
+use Rattle.arithmetic.proofs.Operations.{OnlyOverflow, only-value, only-bind, refused-after}
 use Rattle.write_turn.specs.Runs.{both}
 
 pub only-map : {A : Type 0} {f : A → Checked A} → ((x : A) → OnlyOverflow (f x)) → (xs : List A) → OnlyOverflow (mapChecked f xs)
@@ -16,15 +16,6 @@ pub map-value : {A : Type 0} (g : A → A) (xs : List A) → mapChecked (λ x. v
 unfolding mapChecked bind
 map-value g [] = refl
 map-value g (x ∷ xs) = rw (map-value g xs)
-
--- what comes after is refused by 5, so that the whole is
-pub refused-after : {A B : Type 0} {m : Checked A} {k : A → Checked B} → OnlyOverflow m → ((x : A) → k x ≡ refused overflow) → bind m k ≡ refused overflow
-unfolding bind
-refused-after {A} {B} {m} {k} o h = go m o
-  where
-    go : (m : Checked A) → OnlyOverflow m → bind m k ≡ refused overflow
-    go (value x) o = h x
-    go (refused p) o = ap refused (o .why p refl)
 
 module _ {f g : Validator → Checked Validator} (of : (v : Validator) → OnlyOverflow (f v)) (og : (v : Validator) → OnlyOverflow (g v)) where
   pub fused : (vs : List Validator) → mapChecked (both f g) vs ≡ bind (mapChecked f vs) (mapChecked g)

@@ -3,7 +3,7 @@ use mathlib.Core.Path.{refl, _∙_, ap₂}
 use lib.ListN.{getD}
 use Rattle.write_pass.specs.Filled.{nineAt}
 use Rattle.close_by_steps.specs.Taken.{balanceIn}
-use Rattle.close_by_steps.proofs.slashings_amounts.Taken.{Putting, putting-none, putting-nine, putting-ninth, putting-more, taken-all, balance-is}
+use Rattle.close_by_steps.proofs.slashings_amounts.Taken.{Putting, putting-none, putting-nine, putting-ninth, putting-more, taken-all, balance-is, lowered-is}
 use native.Mathlib.Omega.{arith}
 use Rattle.close_by_steps.proofs.slashings_amounts.take_balances.Statement.{statement}
 use Rattle.close_by_steps.proofs.slashings_amounts.take_balances.Tie as tie
@@ -32,13 +32,13 @@ put-ninth-requires c κs =
 loop-again : tie.Need-loop-again Inv-loop μ-loop
 loop-again c =
     let at-put-ninth = c .before .before in
-    let at-less = at-put-ninth .before .before in
-    let at-in-loop = at-less .before .before .before in
+    let at-lowered-by = at-put-ninth .before .before in
+    let at-in-loop = at-lowered-by .before .before .before in
     let at-loop = at-in-loop .before in
     let g = at-loop .loop .inv in
     let l = at-in-loop .loop-test .taken in
     let e = at-put-ninth .put-ninth in
-    putting-more g l (e .kept .1 .0 ∙ putting-nine g l) (e .ensures) (at-less .less .ensures ∙ ap₂ _-_ (putting-ninth g l) (balance-is _ _ _ (start at-loop .pre .0) l))
+    putting-more g l (e .kept .1 .0 ∙ putting-nine g l) (e .ensures) (at-lowered-by .lowered-by .ensures ∙ lowered-is _ _ ∙ ap₂ _-_ (putting-ninth g l) (balance-is _ _ _ (start at-loop .pre .0) l))
 
 returns : tie.Need-returns Inv-loop μ-loop
 returns c =

@@ -1,7 +1,7 @@
 use native.Mathlib.Omega.{arith}
 use borrow.Author.Needs.{needs}
-use Rattle.validator_exit.proofs.count_if.Statement.{statement}
-use Rattle.validator_exit.proofs.count_if.Tie as tie
+use Rattle.totals.proofs.count_if.Statement.{statement}
+use Rattle.totals.proofs.count_if.Tie as tie
 
 returns : tie.Need-returns
 returns c = rw (c .if1 .taken)

@@ -1,6 +1,6 @@
 use borrow.Author.Tests.{eq-eqb, ne-eqb}
-use Rattle.file_refusals.proofs.same_queue.Statement.{statement}
-use Rattle.file_refusals.proofs.same_queue.Tie as tie
+use Rattle.exit_queue.proofs.same_queue.Statement.{statement}
+use Rattle.exit_queue.proofs.same_queue.Tie as tie
 
 returns : tie.Need-returns
 returns c = rw (ne-eqb _ _ (c .if1 .taken))
