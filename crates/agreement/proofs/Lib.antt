@@ -15,8 +15,4 @@ pub mod Refused
 -- What comes back
 pub mod Restored
 -- Arithmetic
-pub mod SquareRoot
-pub mod Fits
 pub mod Sums
-pub mod Bounds
-pub mod ActivationQueue

@@ -7,7 +7,7 @@ use native.Mathlib.Decide.{decLt}
 use native.Mathlib.Omega.{arith}
 use Rattle.definitions.specs.Lists.{sum}
 use Rattle.definitions.specs.Checked.{bind, add64, sum64, foldChecked}
-use Rattle.agreement.proofs.Fits.{add64-fits, add64-leaves}
+use Rattle.laws.proofs.Fits.{add64-fits, add64-leaves}
 
 regroup : (a b c : ℕ) → add64 (a + b) c ≡ add64 a (b + c)
 unfolding add64

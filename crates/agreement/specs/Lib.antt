@@ -2,9 +2,3 @@
 pub mod Agreement
 pub mod Refused
 pub mod Restored
-pub mod SquareRoot
-pub mod Bounds
--- The activation queue without a sorted list.
-pub mod Queue
-pub mod Cut
-pub mod Stopped

@@ -8,7 +8,7 @@ use native.Mathlib.Numerals.{one-add}
 use lib.Dec.{lit<}
 use lib.Pow.{pow-mono, pow-pos, pow-add, shl-exact}
 use lib.Count.{leadingZeros, leading-length}
-use Rattle.agreement.specs.SquareRoot.{Root}
+use Rattle.laws.specs.SquareRoot.{Root}
 
 -- A product is at most the square of the mean of its factors
 

@@ -1,7 +1,7 @@
 // The difference of two 64-bit numbers as a signed one.
 ghost use mathlib.Core.Path.{_≡_};
-ghost use Rattle.definitions_file.specs.NetChange.{netChange, changeFor};
-use definitions_file::Change;
+ghost use Rattle.definitions.specs.NetChange.{netChange, changeFor};
+use definitions::Change;
 
 // Closing minus opening, by cases: neither difference wraps, and -1 - loss reaches the least number.
 pub fn net_change(opening: u64, closing: u64) -> Change

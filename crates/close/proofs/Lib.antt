@@ -2,5 +2,3 @@
 pub mod Lent
 mod Worked
 pub mod Outcome
-pub mod Contract
-pub mod Demand3

@@ -32,13 +32,13 @@ use Rattle.laws.proofs.Rules.{by-fork}
 use Rattle.refusals.proofs.Answers.{passed}
 use Rattle.close.specs.Worked.{recordTests}
 use Rattle.close.proofs.Lent.{lent}
-use Rattle.theorems.proofs.CloseBySteps.Tests.{full-passed}
+use Rattle.laws_close.proofs.Passed.{full-passed}
 use Rattle.definitions_close.specs.declared.RunningAnswer.{RunningAnswer}
 use Rattle.close_by_steps.specs.Called.{stepCalled, endedAnswer, firstBy, laterBy, laterOf}
 use Rattle.definitions_close.specs.Calls.{stepOutcome}
 use Rattle.close_by_steps.specs.Ready.{Ready}
 use Rattle.close_by_steps.specs.Stepped.{FirstCalled, LaterCalled}
-use Rattle.theorems.proofs.CloseBySteps.Turns.{settled-buffer}
+use Rattle.laws.proofs.Checked.{settled-buffer}
 use Rattle.registry_close.specs.Worked.{stateNow}
 use Rattle.laws.proofs.Queue.{is-queue}
 

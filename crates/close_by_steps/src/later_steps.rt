@@ -6,7 +6,7 @@ ghost use lib.ListN.{length};
 ghost use Rattle.definitions.specs.Record.{decode};
 ghost use Rattle.definitions.specs.Refusals.{goodSettings};
 ghost use Rattle.definitions.specs.Rust.Phase0.EpochProcessing.{«process_registry_updates»};
-ghost use Rattle.agreement.specs.Bounds.{Passed};
+ghost use Rattle.laws.specs.Bounds.{Passed};
 ghost use Rattle.laws.specs.Ran.{Ran};
 ghost use Rattle.selection.specs.Keep.{Blank};
 ghost use Rattle.registry_close.specs.Worked.{stateNow};

@@ -20,4 +20,5 @@ pub mod LeafRefusals
 pub mod Rules
 pub mod Close
 pub mod Closes
+pub mod NetChange
 pub mod Plain

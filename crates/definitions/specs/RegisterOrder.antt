@@ -1,5 +1,5 @@
 -- 02, R-6: "Activation shall go through the register from validator 0 up and decide each by counting those ahead of it before the first
--- activation. Who is activated is the same": as the sorted queue's `dequeued`, in agreement, ActivationQueue/Dequeued.antt.
+-- activation. Who is activated is the same": as the sorted queue's `dequeued`, in laws, ActivationQueue/Dequeued.antt.
 use mathlib.Core.Bool.{cond, _&&_}
 use mathlib.Core.List.{List, [], _∷_}
 use Prim.Native.Nat.{ℕ, zero, suc, _/_}

@@ -210,3 +210,16 @@ pub struct PlainRoot {
     pub refusal: u64,
     pub root: [u8; 32],
 }
+
+// A balance's net change, or a refusal's number.
+pub enum Change {
+    Value(i64),
+    Refused(u64),
+}
+
+// The same as plain numbers, for C. `value` is from -2^63 to 2^63 - 1; the call that answers it makes it
+#[repr(C)]
+pub struct PlainChange {
+    pub refusal: u64,
+    pub value: i64,
+}

@@ -2,7 +2,7 @@
 use mathlib.Core.Path.{_≡_, refl}
 use lib.IntN.{pos, negsuc}
 use Rattle.definitions.specs.Checked.{value, refused, signedOverflow}
-use Rattle.definitions_file.specs.NetChange.{fitsSigned, netChange}
+use Rattle.definitions.specs.NetChange.{fitsSigned, netChange}
 
 pub record Figures : Type 0 where
   -- "Validator 4 in the listing shows -3200000."

@@ -12,7 +12,7 @@ use Rattle.definitions_file.specs.File.{Contents, noFinality, fromLittle
 use Rattle.definitions.specs.RegisterOrder.{mapBelow}
 use Rattle.definitions.specs.Document.Phase0.Helpers.{«compute_epoch_at_slot», «get_current_epoch», «compute_start_slot_at_epoch»}
 use Rattle.definitions_file.specs.Decimal.{digits, decimal, signedDecimal}
-use Rattle.definitions_file.specs.NetChange.{fitsSigned, netChange, changeTests}
+use Rattle.definitions.specs.NetChange.{fitsSigned, netChange, changeTests}
 use Rattle.definitions_file.specs.Lines.{ascii, lines}
 use Rattle.definitions_file.specs.OutageInput.{Plan, planOf, goodTail}
 use Rattle.definitions_file.specs.OutagePreparation.{lastSlotOfNext, putRoots, flagsAt, withFlags, withSlot, prepared}

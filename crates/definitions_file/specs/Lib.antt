@@ -3,9 +3,8 @@ pub mod File
 -- What a reader must believe of a shelf of records: one file's close, and the shelf's.
 pub mod ClosedFile
 pub mod Shelf
--- What a reader must believe of the listing: decimals, the net change, the lines as numbers and as text, and a file's listing.
+-- What a reader must believe of the listing: decimals, the lines as numbers and as text, and a file's listing.
 pub mod Decimal
-pub mod NetChange
 pub mod ListingAnswers
 pub mod Lines
 pub mod Listing

@@ -12,7 +12,7 @@ use Rattle.definitions.specs.Document.Phase0.Helpers.{«get_current_epoch»}
 use Rattle.definitions.specs.Checked.{codeOf}
 use Rattle.definitions.specs.Close.{Call, Outcome, charged}
 use Rattle.definitions_file.specs.Decimal.{decimal, signedDecimal}
-use Rattle.definitions_file.specs.NetChange.{changeTests}
+use Rattle.definitions.specs.NetChange.{changeTests}
 
 -- the bytes of a text of ASCII characters
 abbrev pub ascii : String → List ℕ

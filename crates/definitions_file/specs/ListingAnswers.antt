@@ -14,7 +14,7 @@ use Rattle.definitions.specs.Raised.{noneRaised, raisedTotals}
 use Rattle.definitions.specs.Close.{charged}
 use Rattle.definitions_file.specs.declared.Head.{Head}
 use Rattle.definitions_file.specs.declared.Line.{Line}
-use Rattle.definitions_file.specs.NetChange.{netChange}
+use Rattle.definitions.specs.NetChange.{netChange}
 
 -- The head line, of the opening's slot and registry and of the closing's finality
 

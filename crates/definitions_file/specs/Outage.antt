@@ -7,7 +7,7 @@ use lib.ListN.{length}
 use Rattle.definitions.specs.Record.{decode}
 use Rattle.definitions.specs.Checked.{codeOf, numberOf, badShape, badFile}
 use Rattle.definitions_file.specs.File.{Contents, countOf}
-use Rattle.definitions_file.specs.NetChange.{changeTests}
+use Rattle.definitions.specs.NetChange.{changeTests}
 use Rattle.definitions_file.specs.Lines.{lines, refusedLine, orRefused}
 use Rattle.definitions_file.specs.Listing.{opened}
 use Rattle.definitions_file.specs.OutageInput.{fileIn, tailIn, epochsIn, planFrom, goodTail}

@@ -1,4 +1,5 @@
 -- Laws of exits.
 pub mod Counts
 pub mod Exits
+pub mod Limit
 pub mod Passed

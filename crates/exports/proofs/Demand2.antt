@@ -20,8 +20,8 @@ use Rattle.theorems.specs.FullClose.QueueCalls.{QueueCall, ExitCall}
 use Rattle.theorems.specs.StoreHistory.Demand2.{StoreCloseCall}
 use Rattle.theorems.proofs.StoreHistory.Demand2.{store-close-call}
 use Rattle.theorems.proofs.FullClose.QueueCalls.{queue-calls, exit-call}
-use Rattle.justification.specs.Told.{JustificationTold}
-use Rattle.justification.proofs.justification_step.Told.{justification-tells}
+use Rattle.theorems.specs.Completeness.Told.{JustificationTold}
+use Rattle.theorems.proofs.Completeness.Told.{justification-tells}
 use Rattle.exports.proofs.Closes.{Came, called, cameBack}
 use Rattle.exports.proofs.ExitEpochs.{ExitCame}
 use Rattle.exports.proofs.steps.altair_process_justification_and_finalization.Kinds as justificationKinds

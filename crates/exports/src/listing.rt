@@ -1,13 +1,13 @@
 // What the lines of a listing tell, as numbers.
 ghost use mathlib.Core.Path.{_≡_};
 ghost use Rattle.definitions_file.specs.ListingAnswers.{headOf, lineOf};
-ghost use Rattle.definitions_file.specs.NetChange.{netChange, changeFor, plainChange};
+ghost use Rattle.definitions.specs.NetChange.{netChange, changeFor, plainChange};
+use definitions::Change;
 use definitions::Finality;
+use definitions::PlainChange;
 use definitions::Settings;
-use definitions_file::Change;
 use definitions_file::Head;
 use definitions_file::Line;
-use definitions_file::PlainChange;
 
 // Of the opening's slot and registry, and of the finality that the close gave.
 #[no_mangle]

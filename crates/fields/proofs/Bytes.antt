@@ -10,7 +10,7 @@ use Rattle.definitions.specs.declared.Checkpoint.{Checkpoint}
 use Rattle.definitions.specs.declared.Finality.{Finality}
 use Rattle.definitions.specs.declared.ExitQueue.{ExitQueue}
 use Rattle.definitions_file.specs.File.{littleEndian, numbersToBytes, numbersFromBytes, numberAt, checkpointToBytes, finalityToBytes, queueToBytes}
-use Rattle.round_trip.proofs.Numbers.{length-little}
+use Rattle.laws_file.proofs.Numbers.{length-little}
 
 -- the bytes of a number, its last one first
 pub little-none : (k n : ℕ) → k ≡ 0 → littleEndian k n ≡ []

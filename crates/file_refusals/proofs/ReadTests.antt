@@ -18,7 +18,7 @@ use Rattle.definitions_file.specs.File.{versionOf, validatorsAt, queueFrom, que
 use Rattle.laws.proofs.Tests.{and-true, in-order}
 use Rattle.laws.proofs.Queue.{is-its-own}
 use Rattle.refusals.proofs.Answers.{passed}
-use Rattle.round_trip.proofs.Passed.{good-header}
+use Rattle.laws_file.proofs.Passed.{good-header}
 use Rattle.file_refusals.specs.Tests.{otherTests, Answered, QueueAnswered}
 use Rattle.exit_queue.specs.Queue.{sameQueue}
 

@@ -14,8 +14,8 @@ use Rattle.definitions.specs.Refusals.{goodValidator, goodRegistry}
 use Rattle.definitions_file.specs.File.{numbersFromBytes, numberAt, badPlace, stoppedAt}
 use Rattle.laws.proofs.Encode.{length-decode}
 use Rattle.laws.proofs.Tests.{both}
-use Rattle.round_trip.proofs.Numbers.{number-at, length-from-bytes}
-use Rattle.round_trip.proofs.Stopped.{stopped-at, small-place}
+use Rattle.laws_file.proofs.Numbers.{number-at, length-from-bytes}
+use Rattle.laws_file.proofs.Stopped.{stopped-at, small-place}
 use Rattle.file_refusals.specs.Tests.{limitAt}
 
 from-drop : (k n j : ℕ) (bytes : List ℕ) → j ≡ k + n → drop k (numbersFromBytes j bytes) ≡ numbersFromBytes n (drop (8 * k) bytes)

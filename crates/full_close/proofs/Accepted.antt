@@ -7,7 +7,7 @@ use Rattle.definitions.specs.Checked.{Checked, value, refused, numberOf}
 use Rattle.definitions.specs.Rust.Altair.EpochProcessing.{«process_justification_and_finalization»}
 use Rattle.definitions.specs.Close.{«process_epoch»}
 use Rattle.laws.proofs.Checked.{not-value, value-same, bound}
-use Rattle.history.proofs.Justification.{justification-moves}
+use Rattle.laws.proofs.Checkpoints.{justification-moves}
 use Rattle.write_steps.specs.RegistrySteps.{registrySteps}
 use Rattle.registry_close.proofs.Steps.{justification-refused, eight-steps}
 

@@ -9,20 +9,9 @@ use native.Mathlib.Omega.{arith}
 use lib.Dec.{T, not-T, ltb, nltb→le}
 use lib.ListN.{length}
 use Rattle.definitions.specs.Lists.{filter, range}
-use Rattle.agreement.proofs.ActivationQueue.Filter.{flag, count-more}
-use Rattle.agreement.proofs.ActivationQueue.Rank.{StrictTotal}
-
-pub and-T : (a b : Bool) → T a → T b → T (a && b)
-and-T true b p q = q
-and-T false b p q = p
-
-pub T-left : (a b : Bool) → T (a && b) → T a
-T-left true b p = tt
-T-left false b p = p
-
-pub T-right : (a b : Bool) → T (a && b) → T b
-T-right true b p = p
-T-right false b p = absurd p
+use Rattle.laws.proofs.ActivationQueue.Filter.{flag, count-more}
+use Rattle.laws.proofs.ActivationQueue.Rank.{StrictTotal}
+use Rattle.laws.proofs.Tests.{and-T, T-left, T-right}
 
 pub T-dec : (b : Bool) → Dec (T b)
 T-dec true = yes tt

@@ -15,9 +15,10 @@ use Rattle.laws.specs.Frames.{each}
 use Rattle.laws.proofs.Frame.Entries.{told}
 use Rattle.laws.proofs.Frame.Frames.{frames}
 use Rattle.history.proofs.Waiting.{finalized}
-use Rattle.history.proofs.Shape.{Moved, Registered}
+use Rattle.laws.proofs.Moved.{Moved}
+use Rattle.history.proofs.Shape.{Registered}
 use Rattle.history.proofs.Steps.{bare, Still, still-both, still-spared}
-use Rattle.history.proofs.Justification.{CheckpointsMoved, justification-moves}
+use Rattle.laws.proofs.Checkpoints.{CheckpointsMoved, justification-moves}
 use Rattle.history.proofs.Registry.{Updated, registry-updates, registered}
 
 -- a step that leaves finality, and of the registry what the claim reads

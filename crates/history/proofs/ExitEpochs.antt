@@ -1,6 +1,5 @@
 -- R-14 and what it rests on.
 pub mod Shape
-pub mod Limit
 pub mod OneExit
 pub mod OneClose
 pub mod EveryRun

@@ -9,7 +9,6 @@ pub mod Premises
 pub mod EveryList
 pub mod Queue
 pub mod Steps
-pub mod Justification
 pub mod Registry
 pub mod EightSteps
 pub mod WholeClose

@@ -8,9 +8,9 @@ use lib.Dec.{T, leb, ltb, eqb, ltb→lt, lt→ltb, leb→le, le→leb, eqb→eq,
 use lib.ListN.{length}
 use Rattle.definitions.specs.Record.{Validator, «FAR_FUTURE_EPOCH»}
 use Rattle.history.proofs.Waiting.{eligibilityAt, activationAt, waits, earlier}
-use Rattle.agreement.proofs.ActivationQueue.Rank.{StrictTotal}
-use Rattle.agreement.proofs.ActivationQueue.Dequeued.{queue-order}
-use Rattle.history.proofs.Counting.{and-T, T-left, T-right}
+use Rattle.laws.proofs.ActivationQueue.Rank.{StrictTotal}
+use Rattle.laws.proofs.ActivationQueue.Dequeued.{queue-order}
+use Rattle.laws.proofs.Tests.{and-T, T-left, T-right}
 
 -- what waiting says
 pub record Waits (f : ℕ) (vs : List Validator) (i : ℕ) : Type 0 where

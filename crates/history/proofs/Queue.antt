@@ -10,8 +10,8 @@ use Rattle.definitions.specs.Record.{Validator, nobody}
 use Rattle.definitions.specs.Updates.{withActivation}
 use Rattle.definitions.specs.Document.Phase0.Helpers.{«is_eligible_for_activation»}
 use Rattle.definitions.specs.Document.Phase0.EpochProcessing.{dequeued}
-use Rattle.agreement.specs.Queue as queue
-use Rattle.agreement.proofs.ActivationQueue.Dequeued as Dequeued
+use Rattle.laws.specs.Queue as queue
+use Rattle.laws.proofs.ActivationQueue.Dequeued as Dequeued
 use Rattle.history.proofs.Waiting.{eligibilityAt, activationAt, waits, ahead}
 use Rattle.history.proofs.Counting.{howMany, count-same}
 use Rattle.history.proofs.Order.{before}

@@ -22,9 +22,9 @@ use Rattle.laws.proofs.Checked.{value-same, bound, add64-value}
 use Rattle.laws.proofs.Frame.Registry.{exit-writes}
 use Rattle.history.proofs.Waiting.{eligibilityAt, activationAt}
 use Rattle.history.proofs.Shape.{Marked, Registered}
-use Rattle.history.proofs.Counting.{T-left}
+use Rattle.laws.proofs.Tests.{T-left}
 use Rattle.history.proofs.Steps.{epochs, Spared, spared-given, spared-number, spared-eligibility, spared-activation}
-use Rattle.agreement.proofs.ActivationQueue.Dequeued.{length-dequeued}
+use Rattle.laws.proofs.ActivationQueue.Dequeued.{length-dequeued}
 use Rattle.history.proofs.Queue.{dequeued-eligibility, dequeued-activation}
 use Rattle.laws.proofs.Tests.{either}
 

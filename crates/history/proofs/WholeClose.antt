@@ -19,7 +19,7 @@ use Rattle.definitions.specs.Close.{«process_epoch», Call, stateOf, closeTest
 use Rattle.laws.proofs.Checked.{number-not-zero, bound}
 use Rattle.laws.proofs.Encode.{decode-encode}
 use Rattle.laws.proofs.Rules.{shared}
-use Rattle.agreement.proofs.Bounds.{setting-small, close-passed}
+use Rattle.laws.proofs.Bounds.{setting-small, close-passed}
 use Rattle.history.specs.Events.{Event, accepts, accepted, Least, Premises, Claim}
 use Rattle.history.specs.Demand3.{Close, returnedBy, event, closeOf, Demand3}
 use Rattle.history.proofs.Shape.{EventShape, Shaped, EachShaped}

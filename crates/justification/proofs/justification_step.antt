@@ -1,3 +1,2 @@
 -- The answer with the test's number.
 mod Answered
-pub mod Told

@@ -7,7 +7,8 @@ use native.Mathlib.Omega.{arith}
 use borrow.Author.Tests.{ltb-true}
 use lib.Dec.{ltb}
 use Rattle.definitions.specs.Lists.{sum}
-use Rattle.definitions.specs.Checked.{Refusal, badShape, badSettings, badRecord, noRoot, overflow, badFile, signedOverflow, wrongQueue, noExit, tooEarly, fullList, lateStart, noEntry, beforeGenesis, noSeconds, numberOf, Checked, value, refused, bind, add64, mul64, sum64, mapChecked, foldChecked}
+use Rattle.definitions.specs.Checked.{Refusal, badShape, badSettings, badRecord, noRoot, overflow, badFile, signedOverflow, wrongQueue, noExit, tooEarly, fullList, lateStart, noEntry, beforeGenesis, noSeconds, numberOf, Checked, value, refused, bind, add64, mul64, sum64, mapChecked, foldChecked, settle}
+use Rattle.definitions.specs.Refusals.{closingBuffer}
 
 -- 0 is no refusal's number: the one law that goes through them all
 pub number-not-zero : (r : Refusal) → numberOf r ≡ 0 → ⊥
@@ -91,3 +92,9 @@ foldChecked-value f g h b [] p = value-same p
 foldChecked-value f g h b (x ∷ xs) p =
     let a = bound (f b x) (λ c. foldChecked f c xs) p in
     rw (h b x (a .first) (a .gave)) (foldChecked-value f g h (a .first) xs (a .then))
+
+-- the closing buffer of a call whose tests passed
+pub settled-buffer : (xs : Checked (List ℕ)) (zeros lent : List ℕ) → closingBuffer (λ filled. filled) (value tt) xs zeros lent ≡ settle xs zeros
+unfolding closingBuffer
+settled-buffer (value ys) zeros lent = refl
+settled-buffer (refused r) zeros lent = refl

@@ -2,3 +2,4 @@
 pub mod Entries
 pub mod Registry
 pub mod Frames
+pub mod Slot

@@ -6,3 +6,11 @@ pub mod Tests
 pub mod Queue
 pub mod Loops
 pub mod Frame
+-- Arithmetic
+pub mod Fits
+pub mod SquareRoot
+pub mod Bounds
+-- The definitions' queue and checkpoints
+pub mod ActivationQueue
+pub mod Moved
+pub mod Checkpoints

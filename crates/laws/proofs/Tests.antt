@@ -5,7 +5,7 @@ use mathlib.Core.List.{List, [], _∷_, _++_}
 use Prim.Native.Nat.{ℕ, zero, suc, _-_, _<_, min}
 use native.Mathlib.Omega.{arith}
 use borrow.Author.Tests.{ltb-true, ltb-false}
-use lib.Dec.{ltb}
+use lib.Dec.{T, ltb}
 use lib.ListN.{length, getD}
 use Rattle.definitions.specs.Lists.{all, every}
 use Rattle.definitions.specs.Checked.{Checked, value, refused, badShape, badSettings, badRecord, codeOf}
@@ -151,3 +151,17 @@ failed (false ∷ ts) (suc i) e = refl
 pub shape-failed : (shaped settings recorded : List Bool) (i : ℕ) → getD shaped i true ≡ false → 1 ≡ codeOf (inOrder shaped settings recorded)
 unfolding inOrder
 shape-failed shaped settings recorded i e = rw (failed shaped i e)
+
+-- a test that passed, as a fact
+
+pub and-T : (a b : Bool) → T a → T b → T (a && b)
+and-T true b p q = q
+and-T false b p q = p
+
+pub T-left : (a b : Bool) → T (a && b) → T a
+T-left true b p = tt
+T-left false b p = p
+
+pub T-right : (a b : Bool) → T (a && b) → T b
+T-right true b p = p
+T-right false b p = absurd p

@@ -11,7 +11,7 @@ use Rattle.definitions_file.specs.declared.Header.{Header}
 use Rattle.definitions_file.specs.File.{goodHeader, headerRead}
 use Rattle.definitions_file.specs.Listing.{listing}
 use Rattle.fields.specs.Put.{Put}
-use Rattle.round_trip.proofs.Passed.{good-header}
+use Rattle.laws_file.proofs.Passed.{good-header}
 use Rattle.listing.specs.Printed.{Exact, longest, printedText, printedLength}
 
 pub record Few (h : Header) : Type 0 where

@@ -7,7 +7,7 @@ use lib.ListN.{length, length-replicate, replicate}
 use Rattle.definitions_file.specs.File.{countOf, slashingCountOf, contentsOf, goodHeader, fileShaped, readTests, readFile, read, headerRead}
 use Rattle.definitions_file.specs.Listing.{opened}
 use Rattle.laws.proofs.Loops.Ran.{code-value}
-use Rattle.round_trip.proofs.Passed.{read-passed, Accepted, accepted}
+use Rattle.laws_file.proofs.Passed.{read-passed, Accepted, accepted}
 use Rattle.record_file.proofs.Reading as reading
 
 module _ (bytes registry slashings : List ℕ) (z : read bytes registry slashings .refusal ≡ 0) where

@@ -13,7 +13,7 @@ use Rattle.definitions_file.specs.File.{Contents, contentsOf, contentsWith, rea
 use Rattle.definitions_file.specs.Lines.{refusedLine, orRefused, closeText, acceptedText, closePrinted}
 use Rattle.definitions_file.specs.Listing.{opened, callOf, closing, printed, listing}
 use Rattle.fields.specs.Put.{Put}
-use Rattle.round_trip.proofs.Passed.{length-registry, length-slashings}
+use Rattle.laws_file.proofs.Passed.{length-registry, length-slashings}
 use Rattle.listing.specs.Listed.{ListedClose}
 use Rattle.listing.specs.Printed.{Exact}
 use Rattle.listing.proofs.Opened.{read-accepted, read-lengths, opened-contents, header-same}

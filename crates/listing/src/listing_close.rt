@@ -13,7 +13,7 @@ ghost use Rattle.definitions.specs.Rules.{altairRules};
 ghost use Rattle.definitions.specs.Close.{charged};
 ghost use Rattle.close.specs.Called.{called};
 ghost use Rattle.fields.specs.Put.{Put};
-ghost use Rattle.definitions_file.specs.NetChange.{changeTests};
+ghost use Rattle.definitions.specs.NetChange.{changeTests};
 ghost use Rattle.definitions_file.specs.Lines.{headLine, lines, orRefused};
 ghost use Rattle.listing_lines.specs.Sizes.{longestHead, longestLine};
 ghost use Rattle.listing.specs.Listed.{ListedClose};

@@ -11,7 +11,7 @@ use Rattle.definitions.specs.Record.{decode, nobody}
 use Rattle.definitions.specs.Checked.{value, refused, signedOverflow, codeOf, bind}
 use Rattle.laws.proofs.Encode.{length-decode}
 use Rattle.laws.proofs.Loops.Entry.{number-at}
-use Rattle.definitions_file.specs.NetChange.{netChange, changeTests}
+use Rattle.definitions.specs.NetChange.{netChange, changeTests}
 
 pub record Fitting (opening closing : List ℕ) (n i : ℕ) : Type 0 where
   pub count : n ≡ length opening / 10

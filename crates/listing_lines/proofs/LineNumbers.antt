@@ -14,7 +14,7 @@ use Rattle.laws.proofs.Loops.Entry.{number-at}
 use Rattle.laws.proofs.Tests.{in-order}
 use Rattle.refusals.proofs.Answers.{after-passed, after-refused}
 use Rattle.refusals.proofs.Laws.{registry-shaped}
-use Rattle.definitions_file.specs.NetChange.{netChange}
+use Rattle.definitions.specs.NetChange.{netChange}
 use Rattle.definitions_file.specs.ListingAnswers.{lineTests, noLine, lineFor, lineOf}
 use Rattle.listing_lines.specs.Told.{lineTold}
 use Rattle.arithmetic.proofs.signed.Change.{signed}

@@ -5,7 +5,7 @@ use lib.ListN.{getD}
 use Rattle.definitions.specs.Record.{decode, nobody}
 use Rattle.definitions.specs.Checked.{Checked, value, bind}
 use Rattle.definitions_file.specs.declared.Line.{Line}
-use Rattle.definitions_file.specs.NetChange.{netChange}
+use Rattle.definitions.specs.NetChange.{netChange}
 use Rattle.definitions_file.specs.ListingAnswers.{lineNumbers}
 
 abbrev pub lineTold : List ℕ → List ℕ → ℕ → Checked Line

@@ -4,7 +4,7 @@ ghost use Prim.Native.Nat.{_*_, _/_, _<_};
 ghost use lib.ListN.{length};
 ghost use Rattle.definitions.specs.Record.{decode};
 ghost use Rattle.definitions.specs.Checked.{codeOf};
-ghost use Rattle.definitions_file.specs.NetChange.{changeTests};
+ghost use Rattle.definitions.specs.NetChange.{changeTests};
 ghost use Rattle.definitions_file.specs.ListingAnswers.{headTests, headNumbers, headOf, lineTests, lineFor, lineOf};
 ghost use Rattle.listing_lines.specs.Told.{lineTold};
 
@@ -12,9 +12,9 @@ pub mod numbers;
 pub mod text;
 
 use arithmetic::signed::net_change;
+use definitions::Change;
 use definitions::Finality;
 use definitions::Settings;
-use definitions_file::Change;
 use definitions_file::Head;
 use definitions_file::Line;
 use epochs::current_epoch;

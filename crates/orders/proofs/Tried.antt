@@ -24,7 +24,7 @@ use Rattle.laws.proofs.Tests.{both}
 use Rattle.exit_queue.specs.Exits.{exitAt, Leaves}
 use Rattle.exit_queue.proofs.exits.Exits.{exit-by-numbers}
 use Rattle.exit_queue.specs.declared.Turn.{Turn}
-use Rattle.history.proofs.ExitEpochs.Limit.{limit-exit}
+use Rattle.exit_queue.proofs.exits.Limit.{limit-exit}
 use Rattle.validator_exit.specs.Exits.{ExitsAt}
 use Rattle.definitions_close.specs.Calls.{order}
 use Rattle.orders.specs.Tried.{entryMayExit, orderBy, Tries, carriedBy, answersBy, AllTried}

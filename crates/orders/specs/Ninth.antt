@@ -11,7 +11,7 @@ use Rattle.definitions.specs.Checked.{Checked}
 use Rattle.definitions.specs.ExitQueue.{queueOf}
 use Rattle.definitions.specs.Refusals.{inOrder, lengthIs, isSmall, registryShaped, goodFinality}
 use Rattle.definitions.specs.Rules.{rulesShaped, goodRules}
-use Rattle.agreement.specs.Bounds.{Passed}
+use Rattle.laws.specs.Bounds.{Passed}
 use Rattle.definitions_close.specs.declared.Running.{Running}
 use Rattle.definitions_close.specs.Orders.{room, ordersIn, ordersShaped, carriedOut, answersTo, NinthOutcome, endedWith}
 

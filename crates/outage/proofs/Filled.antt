@@ -16,7 +16,7 @@ use Rattle.definitions_file.specs.Listing.{opened}
 use Rattle.fields.proofs.Stores.{sets-whole}
 use Rattle.laws.proofs.Tests.{both}
 use Rattle.refusals.proofs.Laws.{good-settings, good-finality}
-use Rattle.round_trip.proofs.Passed.{Accepted}
+use Rattle.laws_file.proofs.Passed.{Accepted}
 use Rattle.listing.proofs.Opened.{opened-same, read-accepted, read-record}
 use Rattle.definitions_file.specs.OutageInput.{epochsIn, planOf, planFrom, goodTail}
 use Rattle.outage.specs.Ready.{Ready}

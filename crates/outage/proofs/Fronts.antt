@@ -7,7 +7,7 @@ use native.Mathlib.Omega.{arith}
 use lib.ListN.{length, take}
 use lib.Seq.{length-take-le}
 use Rattle.definitions_file.specs.File.{goodHeader, countOf, rootCountOf, slashingCountOf, headerRead}
-use Rattle.round_trip.proofs.Passed.{good-header}
+use Rattle.laws_file.proofs.Passed.{good-header}
 use Rattle.definitions_file.specs.declared.Header.{Header}
 use Rattle.outage.specs.Lent.{Exact, Enough}
 

@@ -11,7 +11,7 @@ use Rattle.definitions.specs.Checked.{Checked, value, refused, overflow, bind, 
 use Rattle.definitions.specs.Rust.Altair.Helpers.{noDeltas}
 use Rattle.arithmetic.proofs.Operations.{OnlyOverflow, only-value, only-bind, only-mul64, mul64-refused, product-fits, product-over}
 use Rattle.rates.specs.Rated.{penaltyOf, Most, byScore}
-use Rattle.agreement.proofs.Fits.{mul64-fits}
+use Rattle.laws.proofs.Fits.{mul64-fits}
 
 pub most-none : {balance : ℕ} → balance ≡ 0 → Most balance 18446744073709551615
 most-none z =

@@ -10,7 +10,7 @@ use Rattle.definitions.specs.Checked.{Checked, value, refused, bind, codeOf, se
 use Rattle.definitions_file.specs.File.{Contents, versionOf, validatorsAt, numbersFromBytes, slashingsAt, countOf, rootCountOf, slashingCountOf, fileLength, contentsOf, goodHeader, fileShaped, readTests, readFile, nothing, read, noHeader, headerRead}
 use Rattle.refusals.proofs.Answers.{passed}
 use Rattle.laws.proofs.Tests.{test}
-use Rattle.round_trip.proofs.Passed.{Passed, read-passed, good-header}
+use Rattle.laws_file.proofs.Passed.{Passed, read-passed, good-header}
 use Rattle.definitions_file.specs.declared.Header.{Header}
 
 -- The header

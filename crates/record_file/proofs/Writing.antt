@@ -10,7 +10,7 @@ use Rattle.definitions.specs.declared.ExitQueue.{ExitQueue}
 use Rattle.definitions.specs.Checked.{Checked, value, refused, bind, codeOf, settle}
 use Rattle.definitions.specs.Refusals.{settingsNumbers}
 use Rattle.definitions_file.specs.File.{Contents, header, numbersToBytes, finalityToBytes, queueToBytes, fileOf, writeTests, written}
-use Rattle.round_trip.proofs.Numbers.{length-to-bytes}
+use Rattle.laws_file.proofs.Numbers.{length-to-bytes}
 use Rattle.fields.proofs.Bytes.{length-finality, length-queue}
 use Rattle.record_file.specs.Sized.{headOf}
 

@@ -1,4 +1,2 @@
 -- The lengths by which a record is put into a file.
 pub mod Sized
--- Both round trips.
-pub mod RoundTrips

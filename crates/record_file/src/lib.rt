@@ -8,9 +8,6 @@ ghost use Rattle.definitions.specs.Checked.{codeOf};
 ghost use Rattle.definitions.specs.Refusals.{settingsFrom};
 ghost use Rattle.definitions_file.specs.File.{validatorsAt, fileLength, versionOf, noFinality, goodHeader, contentsOf, read, fileOf, writeTests, written, noHeader, headerRead, contentsWith};
 ghost use Rattle.record_file.specs.Sized.{Sized, headOf};
-
-pub mod file_round_trips;
-
 use definitions::Checkpoint;
 use definitions::ExitQueue;
 use definitions::Finality;

@@ -9,8 +9,8 @@ use Rattle.definitions.specs.Checked.{value, bind}
 use Rattle.definitions.specs.Refusals.{goodSettings}
 use Rattle.definitions.specs.Rust.Phase0.Helpers.{«get_current_epoch», «compute_activation_exit_epoch»}
 use Rattle.refusals.proofs.Laws.{good-settings}
-use Rattle.agreement.proofs.Bounds.{current-epoch}
-use Rattle.agreement.proofs.Fits.{add64-fits}
+use Rattle.laws.proofs.Bounds.{current-epoch}
+use Rattle.laws.proofs.Fits.{add64-fits}
 
 pub record Epochs (s : Settings) (stateSlot : ℕ) : Type 0 where
   pub small : «get_current_epoch» s stateSlot < 2 ^ 48

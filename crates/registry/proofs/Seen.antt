@@ -16,13 +16,13 @@ use Rattle.definitions.specs.Checked.{value, foldChecked}
 use Rattle.definitions.specs.Document.Phase0.Helpers.{«is_eligible_for_activation»}
 use Rattle.definitions.specs.Document.Phase0.EpochProcessing.{queueEligible, isEjected}
 use Rattle.laws.proofs.Checked.{bound, value-same}
-use Rattle.agreement.specs.Cut.{count, queuedBefore, CutAt, eligibleNow}
-use Rattle.agreement.proofs.ActivationQueue.Filter.{count-none, count-more}
+use Rattle.laws.specs.Cut.{count, queuedBefore, CutAt, eligibleNow}
+use Rattle.laws.proofs.ActivationQueue.Filter.{count-none, count-more}
 use Rattle.exit_queue.specs.Exits.{exitAt}
 use Rattle.exit_queue.proofs.exits.Counts.{Exited, exit-gave}
-use Rattle.agreement.proofs.ActivationQueue.Cuts.{cut-cuts}
-use Rattle.agreement.specs.Queue.{activated}
-use Rattle.agreement.specs.Cut.{admitted}
+use Rattle.laws.proofs.ActivationQueue.Cuts.{cut-cuts}
+use Rattle.laws.specs.Queue.{activated}
+use Rattle.laws.specs.Cut.{admitted}
 use Rattle.laws.specs.Ran.{Ran}
 use Rattle.laws.proofs.Loops.Ran.{ran-value, ran-gave, ran-next, ran-stop}
 use Rattle.registry.specs.Updates.{leastExit, updateAt, updatesBy}

@@ -18,8 +18,8 @@ use Rattle.definitions.specs.Rust.Phase0.Helpers.{«get_current_epoch», «get_
 use Rattle.definitions.specs.Rust.Phase0.EpochProcessing.{updateRegistryAt, «process_registry_updates»}
 use Rattle.laws.proofs.Checked.{bound, value-same}
 use Rattle.laws.proofs.Tests.{both}
-use Rattle.agreement.specs.Queue.{ahead, mapBelow, activatedAt, activated}
-use Rattle.agreement.proofs.ActivationQueue.Dequeued.{dequeued-is}
+use Rattle.laws.specs.Queue.{ahead, mapBelow, activatedAt, activated}
+use Rattle.laws.proofs.ActivationQueue.Dequeued.{dequeued-is}
 use Rattle.registry.specs.Updates.{leastExit, updateAt}
 use Rattle.registry.proofs.Epochs.{Epochs}
 use Rattle.registry.proofs.Churn.{activeOf, updates-by-numbers, active-kept}

@@ -4,7 +4,7 @@ ghost use mathlib.Core.Bool.{cond};
 ghost use Prim.Native.Nat.{_-_, _*_, _≤_};
 ghost use lib.ListN.{length};
 ghost use Rattle.definitions.specs.Record.{decodeOne, encodeOne, decode, encode};
-ghost use Rattle.agreement.specs.Cut.{queuedAt, admitOne, admitted};
+ghost use Rattle.laws.specs.Cut.{queuedAt, admitOne, admitted};
 use definitions::ACTIVATION_ELIGIBILITY_EPOCH;
 use definitions::ACTIVATION_EPOCH;
 use entries::entry_is_eligible_for_activation;

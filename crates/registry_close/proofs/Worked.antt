@@ -21,8 +21,8 @@ use Rattle.laws.specs.Ran.{Ran}
 use Rattle.laws.proofs.Loops.Ran.{ran-gave}
 use Rattle.refusals.proofs.Answers.{Refused}
 use Rattle.refusals.proofs.Laws.{GoodFinality, good-finality}
-use Rattle.history.proofs.Shape.{FinalizedMoved, Moved}
-use Rattle.history.proofs.Justification.{justification-moves}
+use Rattle.laws.proofs.Moved.{FinalizedMoved, Moved}
+use Rattle.laws.proofs.Checkpoints.{justification-moves}
 use Rattle.write_steps.specs.RegistrySteps.{registrySteps}
 use Rattle.totals.specs.Flags.{answerWith}
 use Rattle.registry_close.specs.Worked.{stateNow, Worked}

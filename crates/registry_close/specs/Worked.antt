@@ -16,7 +16,7 @@ use Rattle.definitions.specs.Raised.{raisedTotals, raisedUnlessRefused}
 use Rattle.definitions.specs.Refusals.{goodFinality}
 use Rattle.definitions.specs.LeafRefusals.{weighTests}
 use Rattle.definitions.specs.Close.{«process_epoch»}
-use Rattle.agreement.specs.Bounds.{Passed}
+use Rattle.laws.specs.Bounds.{Passed}
 use Rattle.totals.specs.Totals.{totalFrom}
 
 abbrev pub stateNow : Finality → List ℕ → List ℕ → List ℕ → BeaconState

@@ -15,7 +15,7 @@ use Rattle.definitions.specs.Rust.Phase0.EpochProcessing.{«process_registry_up
 use Rattle.definitions_close.specs.QueueCalls.{registryToQueueTests, registryQueueTests, QueueCloses}
 use Rattle.laws.proofs.Encode.{length-decode}
 use Rattle.leaf_refusals.proofs.registry_refusals.Passed.{within, registry-passed}
-use Rattle.agreement.proofs.ActivationQueue.Stopped.{stopped}
+use Rattle.laws.proofs.ActivationQueue.Stopped.{stopped}
 use Rattle.validator_exit.proofs.queue_tests.Queue.{queue-passed}
 
 -- the work shows only where the tests passed

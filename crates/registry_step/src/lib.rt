@@ -16,7 +16,7 @@ ghost use Rattle.definitions.specs.Rust.Phase0.Helpers.{«get_current_epoch», 
 ghost use Rattle.definitions.specs.Rust.Phase0.EpochProcessing.{«process_registry_updates»};
 ghost use Rattle.definitions_close.specs.QueueCalls.{registryToQueueTests, registryQueueTests, QueueCloses};
 ghost use Rattle.laws.specs.Ran.{Ran};
-ghost use Rattle.agreement.specs.Cut.{CutAt, eligibleNow};
+ghost use Rattle.laws.specs.Cut.{CutAt, eligibleNow};
 ghost use Rattle.selection.specs.Keep.{Blank};
 ghost use Rattle.exit_queue.specs.Queue.{Tracks};
 ghost use Rattle.registry.specs.Updates.{leastExit, updateAt, updatesBy};

@@ -13,9 +13,9 @@ use Rattle.laws.proofs.Checked.{bound, value-same}
 use Rattle.round_trip.specs.RoundTrip.{Below, TypedCheckpoint, Typed, TypedQueue, SameBytes, ReadWritten}
 use Rattle.round_trip.proofs.Numbers.{below-take, below-drop, number-below, from-bytes-below, eight-written, numbers-written}
 use Rattle.round_trip.proofs.Parts.{join}
-use Rattle.round_trip.proofs.Tests.{countIn, rootCountIn, slashingCountIn, good-write}
-use Rattle.round_trip.proofs.Passed.{Accepted, read-passed, accepted}
-use Rattle.round_trip.proofs.Written.{is-file}
+use Rattle.laws_file.proofs.Tests.{countIn, rootCountIn, slashingCountIn, good-write}
+use Rattle.laws_file.proofs.Passed.{Accepted, read-passed, accepted}
+use Rattle.laws_file.proofs.Tests.{is-file}
 
 module _ (bytes : List ℕ) (b : Below 256 bytes) where
   number-written : (o : ℕ) → o + 8 ≤ length bytes → littleEndian 8 (numberAt o bytes) ≡ take 8 (drop o bytes)

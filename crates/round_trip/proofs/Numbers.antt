@@ -4,9 +4,10 @@ use mathlib.Core.List.{List, [], _∷_, _++_, append-assoc}
 use Prim.Native.Nat.{ℕ, zero, suc, _+_, _*_, _/_, _%_, _^_, _≤_, _<_}
 use native.Mathlib.Nat.{pow-succ', mod-add-div}
 use native.Mathlib.Omega.{arith}
-use lib.ListN.{length, getD, take, drop, length-append, length-take, length-drop}
-use lib.Seq.{take-at, drop-at, take-add, drop-drop, getD-take, getD-drop, length-take-le}
+use lib.ListN.{length, getD, take, drop, length-take, length-drop}
+use lib.Seq.{take-at, drop-at, take-add, getD-take, getD-drop, length-take-le}
 use Rattle.definitions_file.specs.File.{littleEndian, fromLittleEndian, numbersToBytes, numbersFromBytes, numberAt}
+use Rattle.laws_file.proofs.Numbers.{length-little}
 use Rattle.round_trip.specs.RoundTrip.{Below}
 
 -- Numbers below a bound, in parts
@@ -39,11 +40,6 @@ below-append {xs = []} b d = d
 below-append {xs = x ∷ xs} b d = below-cons (below-head b) (below-append (below-tail b) d)
 
 -- One number
-
-pub length-little : (k n : ℕ) → length (littleEndian k n) ≡ k
-unfolding littleEndian
-length-little zero n = refl
-length-little (suc k) n = ap suc (length-little k (n / 256))
 
 pub little-read : (k n : ℕ) → n < 256 ^ k → fromLittleEndian (littleEndian k n) ≡ n
 unfolding littleEndian fromLittleEndian
@@ -83,16 +79,6 @@ eight-written bytes b e = rw (← e) (little-written bytes b)
 
 -- Many
 
-pub length-to-bytes : (xs : List ℕ) → length (numbersToBytes xs) ≡ 8 * length xs
-unfolding numbersToBytes
-length-to-bytes [] = refl
-length-to-bytes (x ∷ xs) = rw length-append (omega (arith, length-little 8 x, length-to-bytes xs))
-
-pub length-from-bytes : (n : ℕ) (bytes : List ℕ) → length (numbersFromBytes n bytes) ≡ n
-unfolding numbersFromBytes
-length-from-bytes zero bytes = refl
-length-from-bytes (suc n) bytes = ap suc (length-from-bytes n (drop 8 bytes))
-
 -- with whatever stands behind them
 pub numbers-read : (xs rest : List ℕ) → Below (2 ^ 64) xs → numbersFromBytes (length xs) (numbersToBytes xs ++ rest) ≡ xs
 unfolding numbersToBytes numbersFromBytes
@@ -108,15 +94,6 @@ numbers-written (suc n) bytes b h =
     let e : 8 * suc n ≡ 8 + 8 * n = omega arith in
     let l : 8 ≤ length bytes = omega arith in
     rw (e, take-add) (ap₂ _++_ (eight-written (take 8 bytes) (below-take 8 b) (length-take-le 8 bytes l)) (numbers-written n (drop 8 bytes) (below-drop 8 b) (omega (arith, length-drop 8 bytes))))
-
--- the number at i of many, in its place
-pub number-at : (n i : ℕ) (bytes : List ℕ) → i < n → getD (numbersFromBytes n bytes) i 0 ≡ numberAt (8 * i) bytes
-unfolding numbersFromBytes
-number-at zero i bytes h = absurd (omega arith)
-number-at (suc n) zero bytes h = refl
-number-at (suc n) (suc i) bytes h =
-    let e : 8 * suc i ≡ 8 + 8 * i = omega arith in
-    rw (e, ← drop-drop) (number-at n i (drop 8 bytes) (omega arith))
 
 pub to-bytes-below : (xs : List ℕ) → Below 256 (numbersToBytes xs)
 unfolding numbersToBytes

@@ -7,7 +7,8 @@ use lib.Seq.{take-at, drop-at, take-add, drop-drop}
 use Rattle.definitions.specs.declared.Checkpoint.{Checkpoint}
 use Rattle.definitions_file.specs.File.{littleEndian, numbersToBytes, numbersFromBytes, numberAt, checkpointToBytes, checkpointAt}
 use Rattle.round_trip.specs.RoundTrip.{Below, TypedCheckpoint}
-use Rattle.round_trip.proofs.Numbers.{length-little, eight-read, numbers-read}
+use Rattle.laws_file.proofs.Numbers.{length-little}
+use Rattle.round_trip.proofs.Numbers.{eight-read, numbers-read}
 
 -- from o on, xs holds p and then q
 pub record At (o : ℕ) (xs p q : List ℕ) : Type 0 where

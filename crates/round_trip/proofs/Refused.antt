@@ -4,7 +4,7 @@ use lib.ListN.{length}
 use Rattle.definitions.specs.Checked.{bind}
 use Rattle.definitions_file.specs.File.{littleEndian, readFile, position, read, written}
 use Rattle.round_trip.specs.Refused.{ReadRefused, WriteRefused, ReadToEnd}
-use Rattle.round_trip.proofs.Passed.{read-passed, good-header}
+use Rattle.laws_file.proofs.Passed.{read-passed, good-header}
 
 pub read-refused : ReadRefused
 unfolding read readFile bind littleEndian

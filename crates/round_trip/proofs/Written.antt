@@ -14,12 +14,13 @@ use Rattle.definitions.specs.Record.{decode}
 use Rattle.definitions.specs.Checked.{value, bind}
 use Rattle.definitions.specs.Refusals.{inOrder, settingsNumbers, settingsFrom}
 use Rattle.definitions.specs.ExitQueue.{isQueueOf, queueTest}
-use Rattle.definitions_file.specs.File.{Contents, littleEndian, versionOf, queueIn, numbersToBytes, numbersFromBytes, numberAt, countOf, rootCountOf, slashingCountOf, rootsAt, slashingsAt, header, checkpointToBytes, finalityToBytes, fileOf, contentsOf, sameNumbers, goodHeader, fileShaped, readTests, readFile, position, read, writeTests, written}
+use Rattle.definitions_file.specs.File.{Contents, littleEndian, versionOf, queueIn, numbersToBytes, numbersFromBytes, numberAt, countOf, rootCountOf, slashingCountOf, rootsAt, slashingsAt, header, checkpointToBytes, finalityToBytes, fileOf, contentsOf, sameNumbers, goodHeader, fileShaped, readTests, readFile, position, read, written}
 use Rattle.laws.proofs.Checked.{bound}
 use Rattle.round_trip.specs.RoundTrip.{Below, Typed, TypedCheckpoint, TypedQueue, WrittenRead}
-use Rattle.round_trip.proofs.Numbers.{below-nil, below-cons, below-append, little-below, to-bytes-below, length-little, length-to-bytes, number-at}
+use Rattle.round_trip.proofs.Numbers.{below-nil, below-cons, below-append, little-below, to-bytes-below}
+use Rattle.laws_file.proofs.Numbers.{length-little, length-to-bytes, number-at}
 use Rattle.round_trip.proofs.Parts.{At, length-checkpoint, at-part, at-next, read-number, read-numbers, read-checkpoint}
-use Rattle.round_trip.proofs.Tests.{Good, countIn, rootCountIn, slashingCountIn, fileLengthOf, write-good}
+use Rattle.laws_file.proofs.Tests.{Good, countIn, rootCountIn, slashingCountIn, fileLengthOf, write-good, is-file}
 use Rattle.round_trip.proofs.Refused.{read-to-end}
 
 -- The file from each part on
@@ -203,10 +204,6 @@ module _ (c : Contents) (q : ExitQueue) (t : Typed c) (u : TypedQueue q) (g : Go
   file-read : isQueueOf q (decode (c .registry)) ≡ true → (registry slashings : List ℕ) → length registry ≡ length (c .registry) → length slashings ≡ length (c .slashings) → readFile (fileOf c q) registry slashings ≡ value c
   unfolding readFile readTests inOrder bind queueTest every
   file-read p registry slashings r s = rw (contents-read, queue-read, header-good, shape-good registry slashings r s, g .settings, g .finality, g .registry, p)
-
-pub is-file : (c : Contents) (q : ExitQueue) (file : List ℕ) → writeTests c q file ≡ value tt → written c q file ≡ fileOf c q
-unfolding written bind
-is-file c q file e = rw e
 
 tests-passed : (bytes registry slashings : List ℕ) {c : Contents} → readFile bytes registry slashings ≡ value c → readTests bytes registry slashings ≡ value tt
 unfolding readFile

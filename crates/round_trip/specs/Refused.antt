@@ -2,15 +2,15 @@
 use mathlib.Core.Path.{_≡_}
 use mathlib.Core.Bool.{true, false}
 use mathlib.Core.List.{List, []}
-use Prim.Native.Nat.{ℕ, _+_, _*_, _≤_, _<_}
+use Prim.Native.Nat.{ℕ}
 use lib.ListN.{length, getD, replicate}
 use Rattle.definitions.specs.declared.ExitQueue.{ExitQueue}
-use Rattle.definitions.specs.Lists.{all}
-use Rattle.definitions.specs.Record.{Validator, encodeOne, decode, nobody}
+use Rattle.definitions.specs.Record.{encodeOne, decode, nobody}
 use Rattle.definitions.specs.Checked.{value, refused, Refusal, badRecord, wrongQueue, numberOf}
-use Rattle.definitions.specs.Refusals.{settingsNumbers, goodSettings, goodFinality, goodValidator, goodRegistry}
+use Rattle.definitions.specs.Refusals.{settingsNumbers, goodSettings, goodFinality, goodRegistry}
 use Rattle.definitions.specs.ExitQueue.{isQueueOf}
-use Rattle.definitions_file.specs.File.{Contents, validatorsAt, versionOf, queueIn, noQueue, finalityToBytes, writeTests, written, contentsOf, numberAt, goodHeader, fileShaped, readTests, readFile, stoppedAt, position, ReadOutcome, read}
+use Rattle.definitions_file.specs.File.{Contents, validatorsAt, versionOf, queueIn, noQueue, finalityToBytes, writeTests, written, contentsOf, numberAt, goodHeader, fileShaped, readTests, readFile, position, ReadOutcome, read}
+use Rattle.laws_file.specs.Stopped.{Stopped}
 
 -- Refused calls
 
@@ -38,24 +38,6 @@ ReadToEnd =
     (bytes registry slashings : List ℕ) (c : Contents) → readFile bytes registry slashings ≡ value c → position bytes registry slashings ≡ length bytes
 
 -- "Reading stops at the first bad number of the first bad entry"
-
--- the place of an entry's first bad number: slashed over 1, or flags over 255
-pub data FirstBad (v : Validator) : ℕ → Type 0 where
-  bad-slashed : 1 < v .slashed → FirstBad v 1
-  bad-previous : v .slashed ≤ 1 → 255 < v .«previous_epoch_participation» → FirstBad v 7
-  bad-current : v .slashed ≤ 1 → v .«previous_epoch_participation» ≤ 255 → 255 < v .«current_epoch_participation» → FirstBad v 8
-
--- 80 bytes an entry, 8 a number
-pub record Stopped (offset : ℕ) (vs : List Validator) (at : ℕ) : Type 0 where
-  pub entry : ℕ
-  pub place : ℕ
-  pub inside : entry < length vs
-  pub before : (j : ℕ) → j < entry → goodValidator (getD vs j nobody) ≡ true
-  pub first : FirstBad (getD vs entry nobody) place
-  pub there : at ≡ offset + 80 * entry + 8 * place
-
-abbrev pub StoppedAt : Type 0
-StoppedAt = (offset : ℕ) (vs : List Validator) → all goodValidator vs ≡ false → Stopped offset vs (stoppedAt offset vs)
 
 -- every other test passes: the answer is 3, and the file has the bad number at the position
 pub record StoppedInRegistry (bytes registry slashings : List ℕ) : Type 0 where

@@ -1,1 +1,2 @@
-// Theorems alone: a record written and then read, a file read and then written. See specs/RoundTrip.antt.
+// Theorems alone: record files written and read. See specs/ for the statements; the module has them of the functions.
+pub mod file_round_trips;

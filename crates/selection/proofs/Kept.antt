@@ -9,9 +9,9 @@ use borrow.Author.Count.{below-more}
 use lib.Dec.{ltb}
 use lib.ListN.{length, getD, take, set, length-set}
 use lib.Seq.{take-all}
-use Rattle.agreement.specs.Cut.{count}
+use Rattle.laws.specs.Cut.{count}
 use Rattle.laws.proofs.Loops.Filtered.{filter-le}
-use Rattle.agreement.proofs.ActivationQueue.Filter.{flag, flag-one, count-none, count-more, first-more}
+use Rattle.laws.proofs.ActivationQueue.Filter.{flag, flag-one, count-none, count-more, first-more}
 use Rattle.selection.specs.Keep.{under, Highest, Kept}
 
 -- all are under the bound; none is; one is not

@@ -6,8 +6,8 @@ use native.Mathlib.Omega.{arith}
 use lib.ListN.{length, getD, take, replicate, length-take, length-replicate, getD-replicate}
 use lib.Seq.{take-all, getD-take}
 use Rattle.definitions.specs.Record.{«FAR_FUTURE_EPOCH»}
-use Rattle.agreement.specs.Cut.{count}
-use Rattle.agreement.proofs.ActivationQueue.Filter.{flag, count-none, first-more}
+use Rattle.laws.specs.Cut.{count}
+use Rattle.laws.proofs.ActivationQueue.Filter.{flag, count-none, first-more}
 use Rattle.selection.specs.Keep.{under, Highest, Kept, Blank, CutOf}
 use Rattle.selection.proofs.Kept.{under-all, under-none, under-less}
 

@@ -12,8 +12,8 @@ use Rattle.definitions.specs.Record.{Validator, «FAR_FUTURE_EPOCH»}
 use Rattle.definitions.specs.Updates.{withEligibility}
 use Rattle.definitions.specs.Document.Phase0.Helpers.{«is_eligible_for_activation_queue», «is_eligible_for_activation»}
 use Rattle.definitions.specs.Document.Phase0.EpochProcessing.{queueEligible}
-use Rattle.agreement.specs.Cut.{count, queuedBefore, CutAt, eligibleNow}
-use Rattle.agreement.proofs.ActivationQueue.Filter.{flag, count-none, count-more}
+use Rattle.laws.specs.Cut.{count, queuedBefore, CutAt, eligibleNow}
+use Rattle.laws.proofs.ActivationQueue.Filter.{flag, count-none, count-more}
 use Rattle.selection.specs.Keep.{under, waitingSince, waitingBefore, Smallest, CutOf}
 use Rattle.selection.proofs.Picking.{Picking, picking-all}
 

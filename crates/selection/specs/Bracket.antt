@@ -3,7 +3,7 @@ use mathlib.Core.Path.{_≡_}
 use mathlib.Core.List.{List}
 use Prim.Native.Nat.{ℕ, _+_, _≤_}
 use Rattle.definitions.specs.Record.{Validator}
-use Rattle.agreement.specs.Cut.{count}
+use Rattle.laws.specs.Cut.{count}
 use Rattle.selection.specs.Keep.{waitingBefore}
 
 -- `before` wait since before `low`, which the limit allows, and it allows no more than wait since `high` or before

@@ -6,7 +6,7 @@ use Prim.Native.Nat.{ℕ, _+_, _≤_, _<_, min}
 use lib.Dec.{ltb, eqb}
 use lib.ListN.{length, getD}
 use Rattle.definitions.specs.Record.{Validator, «FAR_FUTURE_EPOCH»}
-use Rattle.agreement.specs.Cut.{count}
+use Rattle.laws.specs.Cut.{count}
 
 abbrev pub under : ℕ → ℕ → Bool
 under bound x = ltb x bound

@@ -3,7 +3,7 @@ ghost use mathlib.Core.Path.{_≡_};
 ghost use Prim.Native.Nat.{_+_, _<_, _≤_, min};
 ghost use lib.ListN.{length};
 ghost use Rattle.definitions.specs.Record.{decodeOne};
-ghost use Rattle.agreement.specs.Cut.{count};
+ghost use Rattle.laws.specs.Cut.{count};
 ghost use Rattle.selection.specs.Keep.{under, Highest, Kept, Blank, waitingSince, CutOf};
 
 pub mod queue_cut;

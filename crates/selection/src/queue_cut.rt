@@ -5,7 +5,7 @@ ghost use mathlib.Core.Path.{_≡_};
 ghost use Prim.Native.Nat.{_*_, _/_, _<_};
 ghost use lib.ListN.{length};
 ghost use Rattle.definitions.specs.Record.{decode};
-ghost use Rattle.agreement.specs.Cut.{count, CutAt, eligibleNow};
+ghost use Rattle.laws.specs.Cut.{count, CutAt, eligibleNow};
 ghost use Rattle.selection.specs.Keep.{under, waitingSince, Smallest};
 ghost use Rattle.selection.specs.Bracket.{Bracket};
 use crate::Cut;

@@ -1,4 +1,3 @@
 -- Laws of one file's close on a shelf.
 pub mod Tests
 pub mod Parts
-pub mod ReadAgain

@@ -6,8 +6,8 @@ use native.Mathlib.Omega.{arith}
 use lib.ListN.{length, take, drop, length-take, length-drop}
 use lib.Seq.{take-at, drop-at, length-take-le}
 use Rattle.definitions_file.specs.File.{countOf, rootCountOf, slashingCountOf, numbersFromBytes, contentsOf}
-use Rattle.round_trip.proofs.Numbers.{length-from-bytes}
-use Rattle.round_trip.proofs.Passed.{good-header}
+use Rattle.laws_file.proofs.Numbers.{length-from-bytes}
+use Rattle.laws_file.proofs.Passed.{good-header}
 use Rattle.shelf_file.specs.Parts.{Counts, Counted, numbersBehind, Opened}
 
 module _ {file : List ℕ} {a b : ℕ} (p : Counts file a b) where

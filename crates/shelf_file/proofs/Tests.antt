@@ -26,8 +26,8 @@ use Rattle.laws.proofs.Checked.{not-value, bound}
 use Rattle.laws.proofs.Tests as laws
 use Rattle.laws.proofs.Tests.{both}
 use Rattle.refusals.specs.Refusal.{rulesRefusal}
-use Rattle.round_trip.proofs.Tests.{queue-passed}
-use Rattle.round_trip.proofs.Passed.{Passed, Accepted, accepted, length-registry, length-slashings}
+use Rattle.laws_file.proofs.Tests.{queue-passed}
+use Rattle.laws_file.proofs.Passed.{Passed, Accepted, accepted, length-registry, length-slashings}
 use Rattle.close.specs.Called.{called}
 use Rattle.registry_close.specs.Worked.{stateNow, Tested, Worked}
 use Rattle.close.specs.Worked.{recordTests}

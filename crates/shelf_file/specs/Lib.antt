@@ -1,3 +1,2 @@
--- What contracts of one file's close cite, and what is claimed of a closed part.
+-- What contracts of one file's close cite.
 pub mod Parts
-pub mod ReadAgain

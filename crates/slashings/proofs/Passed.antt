@@ -11,7 +11,7 @@ use Rattle.definitions.specs.Checked.{codeOf}
 use Rattle.definitions.specs.Refusals.{goodSettings, slashingsResetTests}
 use Rattle.definitions.specs.Rules.{settingsUnder, slashingsTests}
 use Rattle.laws.proofs.Rules.{good-under}
-use Rattle.agreement.specs.Bounds.{Passed}
+use Rattle.laws.specs.Bounds.{Passed}
 use Rattle.laws.proofs.Tests.{in-order}
 use Rattle.refusals.proofs.Laws.{RegistryShape, registry-shaped}
 

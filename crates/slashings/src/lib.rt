@@ -11,7 +11,7 @@ ghost use Rattle.definitions.specs.Refusals.{goodSettings, slashingsResetTests}
 ghost use Rattle.definitions.specs.Rules.{settingsUnder, slashingsTests};
 ghost use Rattle.definitions.specs.Rust.Phase0.EpochProcessing.{resetSlashings};
 ghost use Rattle.definitions.specs.Rust.Altair.EpochProcessing.{slashingPenalty, slash, «process_slashings»};
-ghost use Rattle.agreement.specs.Bounds.{Passed};
+ghost use Rattle.laws.specs.Bounds.{Passed};
 ghost use Rattle.laws.specs.Ran.{Settles, Ran};
 ghost use Rattle.definitions.specs.Closes.{Closes};
 ghost use Rattle.slashings.specs.Adjusted.{adjustedBalance};

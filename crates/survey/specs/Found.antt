@@ -11,7 +11,7 @@ use Rattle.definitions.specs.Record.{Validator, decode}
 use Rattle.definitions.specs.Refusals.{goodValidator, goodRegistry}
 use Rattle.definitions.specs.Rust.Phase0.Helpers.{«get_active_validator_indices»}
 use Rattle.definitions.specs.Rust.Altair.Helpers.{«TIMELY_SOURCE_FLAG_INDEX», «TIMELY_TARGET_FLAG_INDEX», «TIMELY_HEAD_FLAG_INDEX», isUnslashedParticipating}
-use Rattle.agreement.specs.Cut.{eligibleNow}
+use Rattle.laws.specs.Cut.{eligibleNow}
 use Rattle.selection.specs.Keep.{Smallest}
 use Rattle.exit_queue.specs.Queue.{Tracks, joined}
 use Rattle.survey.specs.declared.Sums.{Sums}

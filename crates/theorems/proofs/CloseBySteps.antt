@@ -1,5 +1,4 @@
 -- A record that passed the tests passes them after each step
-pub mod Kept
 pub mod Tests
 -- What eight calls leave
 pub mod Folded

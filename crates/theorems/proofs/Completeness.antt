@@ -18,3 +18,4 @@ pub mod StepCalls
 pub mod OtherCalls
 -- Shut out
 mod Wrong
+pub mod Told

@@ -5,3 +5,4 @@ pub mod Rows
 pub mod Complete
 pub mod Records
 pub mod Calls
+pub mod Told

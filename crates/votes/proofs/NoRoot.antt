@@ -14,8 +14,8 @@ use Rattle.epochs.proofs.roots.Lookups as lookups
 use Rattle.definitions_votes.specs.Exact.{isFound}
 use Rattle.votes.specs.Laws.{FourIsNoRoot}
 use Rattle.votes.proofs.Passed.{votes-passed}
-use Rattle.agreement.proofs.Bounds.{previous-epoch, current-start}
-use Rattle.agreement.proofs.Fits.{add64-fits, mul64-fits}
+use Rattle.laws.proofs.Bounds.{previous-epoch, current-start}
+use Rattle.laws.proofs.Fits.{add64-fits, mul64-fits}
 
 module _ (s : Settings) (roots : List ℕ) (stateSlot epoch : ℕ) (l : epoch * s .«slots_per_epoch» ≤ stateSlot) (a : stateSlot < 2 ^ 48) (b : s .«slots_per_historical_root» < 2 ^ 48) where
   at-start : «get_block_root» s roots stateSlot epoch ≡ «get_block_root_at_slot» s roots stateSlot (epoch * s .«slots_per_epoch»)

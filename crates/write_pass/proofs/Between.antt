@@ -17,7 +17,7 @@ use Rattle.definitions.specs.Rust.Altair.EpochProcessing.{isSlashingDue, slashi
 use Rattle.laws.proofs.Checked.{value-same, bound}
 use Rattle.definitions.specs.declared.ExitQueue.{ExitQueue}
 use Rattle.exit_queue.specs.Queue.{nextEpoch, exitBy}
-use Rattle.agreement.specs.Cut.{queuedBefore, queuedAt, admitOne}
+use Rattle.laws.specs.Cut.{queuedBefore, queuedAt, admitOne}
 use Rattle.registry.specs.Updates.{turnBy}
 use Rattle.write_turn.specs.Sweep.{Moved}
 use Rattle.write_turn.specs.declared.Plan.{Plan}

@@ -7,25 +7,15 @@ use Prim.Native.Nat.{ℕ, _^_, _≤_, _<_, min}
 use native.Mathlib.Omega.{arith}
 use borrow.Author.Tests.{lt-ltb, eq-eqb, ne-eqb, eqb-true, ltb-true}
 use lib.Dec.{ltb, eqb}
-use lib.ListN.{replicate}
 use Rattle.definitions.specs.declared.Settings.{Settings}
-use Rattle.definitions.specs.declared.Checkpoint.{Checkpoint}
 use Rattle.definitions.specs.Lists.{sum, filter}
-use Rattle.definitions.specs.Record.{Validator, BeaconState, «GENESIS_EPOCH»}
+use Rattle.definitions.specs.Record.{Validator, «GENESIS_EPOCH»}
 use Rattle.definitions.specs.Checked.{overflow, Checked, value, refused, bind, mul64, sum64, mapChecked}
 use Rattle.definitions.specs.Rust.Phase0.Helpers.{«is_active_validator», «get_current_epoch», «get_previous_epoch», «get_active_validator_indices», «get_total_balance», «get_total_active_balance»}
 use Rattle.definitions.specs.Rust.Phase0.EpochProcessing.{«is_in_inactivity_leak», «process_registry_updates», «process_effective_balance_updates»}
 use Rattle.definitions.specs.Rust.Altair.Helpers.{«TIMELY_SOURCE_FLAG_INDEX», «TIMELY_TARGET_FLAG_INDEX», «TIMELY_HEAD_FLAG_INDEX», FlagTotals, flagTotals, isUnslashedParticipating, «get_unslashed_participating_indices»}
 use Rattle.definitions.specs.Rust.Altair.EpochProcessing.{updateInactivityScore, rewardAndPenalize, «process_inactivity_updates», «process_rewards_and_penalties», «process_slashings»}
-use Rattle.definitions.specs.Close.{step}
 use Rattle.laws.proofs.Checked.{not-value, value-same, bound}
-use Rattle.agreement.proofs.Agrees.{Agrees, Overflow}
-use Rattle.agreement.proofs.Inactivity.{inactivity}
-use Rattle.agreement.proofs.Rewards.{rewards}
-use Rattle.agreement.proofs.Registry.{registry}
-use Rattle.agreement.proofs.Slashings.{slashings}
-use Rattle.agreement.proofs.EffectiveBalances.{effective-balances}
-use Rattle.arithmetic.proofs.Operations.{OnlyOverflow, only-value, only-bind}
 use Rattle.arithmetic.proofs.Laws.{bind-value}
 use Rattle.laws.proofs.Tests.{both}
 use Rattle.laws.proofs.Loops.Filtered.{sum-filter, sum64-filter}
@@ -40,36 +30,10 @@ use Rattle.survey.specs.declared.Totals.{Totals}
 use Rattle.survey.specs.Sums.{weight, activeAt, balanceOf, PlainSums}
 use Rattle.write_steps.specs.RegistrySteps.{registrySteps}
 use Rattle.write_steps.specs.Numbers.{leakOf, Lacks, noLeak, noAdjusted, noThresholds}
+use Rattle.write_steps.proofs.Only.{only-steps}
 use Rattle.write_steps.proofs.Leak.{leak-none, leak-some}
 use Rattle.write_steps.proofs.Kept.{bare, score-keeps, reward-keeps}
 use Rattle.laws.proofs.Frame.Entries.{kept-map, Keeps}
-
--- Every refusal is 5
-
-only-of : {A B : Type 0} {m : Checked A} (k : A → Checked B) {x : B} → Agrees Overflow (bind m k) x → OnlyOverflow m
-unfolding bind
-only-of k h = record { why = λ p e. h .only p (rw e) }
-
-module _ (s : Settings) (slot fin : ℕ) (ys : List ℕ) where
-  -- a state with these numbers
-  abbrev at : List Validator → BeaconState
-  at vs =
-      let point : ℕ → Checkpoint = λ epoch. record { epoch = epoch; root = replicate 32 0 } in
-      record {
-        finality = record { slot = slot; «justification_bits» = 0; «previous_justified_checkpoint» = point 0; «current_justified_checkpoint» = point 0; «finalized_checkpoint» = point fin };
-        validators = vs;
-        slashings = ys;
-        «block_roots» = [];
-      }
-
-  pub only-steps : (vs : List Validator) → OnlyOverflow (registrySteps s slot fin ys vs)
-  unfolding registrySteps step
-  only-steps vs =
-      only-bind (only-of _ (inactivity s (at vs))) (λ scored.
-      only-bind (only-of _ (rewards s (at scored))) (λ paid.
-      only-bind (only-of _ (registry s (at paid))) (λ updated.
-      only-bind (only-of _ (slashings s (at updated))) (λ slashed.
-      only-bind (only-of _ (effective-balances s (at slashed))) (λ balanced. only-value _)))))
 
 -- What was worked out on the way
 

@@ -14,7 +14,7 @@ use Rattle.definitions.specs.Checked.{value}
 use Rattle.definitions.specs.Rust.Phase0.Helpers.{«get_current_epoch», «get_previous_epoch», «get_validator_churn_limit»}
 use Rattle.laws.proofs.Checked.{bound, not-value}
 use Rattle.laws.proofs.Encode.{length-decode}
-use Rattle.agreement.specs.Cut.{CutAt, eligibleNow}
+use Rattle.laws.specs.Cut.{CutAt, eligibleNow}
 use Rattle.definitions.specs.declared.ExitQueue.{ExitQueue}
 use Rattle.exit_queue.specs.Queue.{Tracks, startPair}
 use Rattle.exit_queue.proofs.Tracks.{tracks-few, tracks-start}

@@ -1,17 +1,22 @@
 -- Every refusal of what the pass does to one validator is 5.
 use mathlib.Core.Path.{_≡_, refl}
 use mathlib.Core.Bool.{Bool}
+use mathlib.Core.List.{List, [], _∷_}
 use Prim.Native.Nat.{ℕ}
-use lib.Dec.{ltb, eqb}
+use lib.Dec.{leb, ltb, eqb}
+use lib.ListN.{length, getD, set}
 use Rattle.definitions.specs.declared.Settings.{Settings}
-use Rattle.definitions.specs.Record.{Validator, «FAR_FUTURE_EPOCH», isSlashed}
-use Rattle.definitions.specs.Checked.{Checked, value, refused}
+use Rattle.definitions.specs.Lists.{maximum, range}
+use Rattle.definitions.specs.Record.{Validator, «FAR_FUTURE_EPOCH», «GENESIS_EPOCH», nobody, isSlashed}
+use Rattle.definitions.specs.Checked.{Checked, value, refused, foldChecked}
+use Rattle.definitions.specs.Document.Phase0.Helpers.{exitEpochs, exitQueueChurn}
 use Rattle.definitions.specs.Document.Phase0.EpochProcessing.{queueEligible, isEjected}
-use Rattle.definitions.specs.Rust.Phase0.EpochProcessing.{isEligible, updateEffectiveBalance}
-use Rattle.definitions.specs.Rust.Phase0.Helpers.{«get_current_epoch»}
-use Rattle.definitions.specs.Rust.Altair.Helpers.{FlagTotals}
-use Rattle.definitions.specs.Rust.Altair.EpochProcessing.{updateInactivityScore, rewardAndPenalize, isSlashingDue, slash}
-use Rattle.arithmetic.proofs.Operations.{OnlyOverflow, only-value, only-add64, only-bind}
+use Rattle.definitions.specs.Rust.Phase0.EpochProcessing.{isEligible, updateRegistryAt, «process_registry_updates», updateEffectiveBalance, «process_effective_balance_updates»}
+use Rattle.definitions.specs.Rust.Phase0.Helpers.{«get_current_epoch», «get_total_active_balance», «get_validator_churn_limit», «compute_activation_exit_epoch», exitQueueEpoch, «initiate_validator_exit»}
+use Rattle.definitions.specs.Rust.Altair.Helpers.{FlagTotals, flagTotals}
+use Rattle.definitions.specs.Rust.Altair.EpochProcessing.{updateInactivityScore, rewardAndPenalize, isSlashingDue, slash, «process_inactivity_updates», «process_rewards_and_penalties», «process_slashings»}
+use Rattle.arithmetic.proofs.Operations.{OnlyOverflow, only-value, only-add64, only-mul64, only-sum64, only-bind}
+use Rattle.totals.proofs.Sums.{only-total}
 use Rattle.finality.proofs.Passed as finality
 use Rattle.participation.proofs.inactivity.Scores.{only-moved}
 use Rattle.rates.specs.Balances.{rewardedBalance}
@@ -22,9 +27,11 @@ use Rattle.exit_queue.specs.Queue.{exitBy}
 use Rattle.exit_queue.proofs.Exiting.{only-nextEpoch}
 use Rattle.slashings.proofs.Slash.{only-penalty}
 use Rattle.registry.specs.Updates.{turnBy}
+use Rattle.write_turn.proofs.Sweeps.Pure.{only-map}
 use Rattle.write_turn.specs.declared.Plan.{Plan}
 use Rattle.write_turn.specs.Planned.{lastBy}
 use Rattle.write_turn.specs.Written.{payOf, turnWith}
+use Rattle.write_steps.specs.RegistrySteps.{registrySteps}
 use Rattle.write_steps.specs.Numbers.{leakOf}
 
 -- scores and rewards
@@ -74,3 +81,81 @@ only-last s p v = only-bind (only-slash _ _ _ _ v) (λ w. only-bind (only-update
 pub only-leak : (s : Settings) (slot fin : ℕ) → OnlyOverflow (leakOf s slot fin)
 unfolding leakOf
 only-leak s slot fin = only-either (eqb («get_current_epoch» s slot) 0) (only-value _) (finality.only-leak s slot fin)
+
+-- the steps over the registry
+
+only-fold : {A B : Type 0} {f : B → A → Checked B} → ((b : B) (x : A) → OnlyOverflow (f b x)) → (b : B) (xs : List A) → OnlyOverflow (foldChecked f b xs)
+unfolding foldChecked
+only-fold h b [] = only-value b
+only-fold h b (x ∷ xs) = only-bind (h b x) (λ c. only-fold h c xs)
+
+module _ (s : Settings) (slot : ℕ) where
+  abbrev now : ℕ
+  now = «get_current_epoch» s slot
+
+  abbrev limit : List Validator → ℕ
+  limit vs = «get_validator_churn_limit» s slot vs
+
+  only-activation : (epoch : ℕ) → OnlyOverflow («compute_activation_exit_epoch» s epoch)
+  unfolding «compute_activation_exit_epoch»
+  only-activation epoch = only-bind (only-add64 _ _) (λ next. only-add64 _ _)
+
+  only-exit : (vs : List Validator) (i : ℕ) → OnlyOverflow («initiate_validator_exit» s slot vs i)
+  unfolding «initiate_validator_exit» exitQueueEpoch
+  only-exit vs i =
+      only-either (eqb (getD vs i nobody .«exit_epoch») «FAR_FUTURE_EPOCH»)
+      (only-bind
+      (only-bind (only-activation now) (λ least. only-either (leb (limit vs) (exitQueueChurn (maximum least (exitEpochs vs)) vs)) (only-add64 _ _) (only-value _)))
+      (λ exit. only-bind (only-add64 _ _) (λ w. only-value _)))
+      (only-value vs)
+
+  only-at : (vs : List Validator) (i : ℕ) → OnlyOverflow (updateRegistryAt s slot vs i)
+  unfolding updateRegistryAt
+  only-at vs i =
+      let queued = set vs i (queueEligible s now (getD vs i nobody)) in
+      only-either (isEjected s now (getD queued i nobody)) (only-exit queued i) (only-value queued)
+
+  only-active : (vs : List Validator) → OnlyOverflow («get_total_active_balance» s slot vs)
+  unfolding «get_total_active_balance»
+  only-active vs = only-total s _
+
+  only-registry : (fin : ℕ) (vs : List Validator) → OnlyOverflow («process_registry_updates» s slot fin vs)
+  unfolding «process_registry_updates»
+  only-registry fin vs =
+      only-bind (only-fold only-at vs (range 0 (length vs))) (λ queued. only-bind (only-activation now) (λ epoch. only-value _))
+
+  only-totals : (fin : ℕ) (vs : List Validator) (index : ℕ) → OnlyOverflow (flagTotals s slot fin vs index)
+  unfolding flagTotals
+  only-totals fin vs index =
+      only-bind (only-total s _) (λ participating. only-bind (only-active vs) (λ active. only-bind (finality.only-leak s slot fin) (λ leaking. only-value _)))
+
+  only-inactivity : (fin : ℕ) (vs : List Validator) → OnlyOverflow («process_inactivity_updates» s slot fin vs)
+  unfolding «process_inactivity_updates»
+  only-inactivity fin vs =
+      only-either (eqb now «GENESIS_EPOCH») (only-value vs) (only-bind (finality.only-leak s slot fin) (λ leaking. only-map (only-score s _ _ leaking) vs))
+
+  only-rewards : (quotient fin : ℕ) (vs : List Validator) → OnlyOverflow («process_rewards_and_penalties» s quotient slot fin vs)
+  unfolding «process_rewards_and_penalties»
+  only-rewards quotient fin vs =
+      only-either (eqb now «GENESIS_EPOCH») (only-value vs)
+      (only-bind (only-totals fin vs _) (λ source.
+      only-bind (only-totals fin vs _) (λ target.
+      only-bind (only-totals fin vs _) (λ head. only-map (only-reward s quotient _ _ source target head) vs))))
+
+  only-slashings : (multiplier : ℕ) (ys : List ℕ) (vs : List Validator) → OnlyOverflow («process_slashings» s multiplier slot ys vs)
+  unfolding «process_slashings»
+  only-slashings multiplier ys vs =
+      only-bind (only-active vs) (λ total. only-bind (only-sum64 ys) (λ slashed. only-bind (only-mul64 _ _) (λ product. only-map (only-slash s _ _ _) vs)))
+
+  only-balances : (vs : List Validator) → OnlyOverflow («process_effective_balance_updates» s vs)
+  unfolding «process_effective_balance_updates»
+  only-balances vs = only-bind (only-mul64 _ _) (λ downward. only-bind (only-mul64 _ _) (λ upward. only-map (only-update s downward upward) vs))
+
+  pub only-steps : (fin : ℕ) (ys : List ℕ) (vs : List Validator) → OnlyOverflow (registrySteps s slot fin ys vs)
+  unfolding registrySteps
+  only-steps fin ys vs =
+      only-bind (only-inactivity fin vs) (λ scored.
+      only-bind (only-rewards _ fin scored) (λ paid.
+      only-bind (only-registry fin paid) (λ updated.
+      only-bind (only-slashings _ ys updated) (λ slashed.
+      only-bind (only-balances slashed) (λ balanced. only-value _)))))

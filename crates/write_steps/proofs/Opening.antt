@@ -8,8 +8,8 @@ use Rattle.definitions.specs.Lists.{range}
 use Rattle.definitions.specs.Record.{Validator}
 use Rattle.definitions.specs.Checked.{Checked, value, refused, bind, mapChecked, foldChecked}
 use Rattle.definitions.specs.Document.Phase0.EpochProcessing.{dequeued}
-use Rattle.agreement.specs.Cut.{CutAt, eligibleNow}
-use Rattle.agreement.proofs.ActivationQueue.Dequeued.{dequeued-is}
+use Rattle.laws.specs.Cut.{CutAt, eligibleNow}
+use Rattle.laws.proofs.ActivationQueue.Dequeued.{dequeued-is}
 use Rattle.definitions.specs.declared.ExitQueue.{ExitQueue}
 use Rattle.exit_queue.specs.Queue.{Tracks}
 use Rattle.registry.specs.Updates.{updateAt}

@@ -12,8 +12,8 @@ use Rattle.definitions.specs.Record.{Validator, nobody}
 use Rattle.definitions.specs.Checked.{Checked, value, refused, bind, mapChecked}
 use Rattle.laws.proofs.Checked.{Bound, bound, value-same}
 use Rattle.arithmetic.proofs.Operations.{OnlyOverflow, only-value, only-bind}
-use Rattle.agreement.specs.Queue.{mapBelow}
-use Rattle.agreement.specs.Cut.{count, queuedAt, admitOne, admittedAt, admitted}
+use Rattle.laws.specs.Queue.{mapBelow}
+use Rattle.laws.specs.Cut.{count, queuedAt, admitOne, admittedAt, admitted}
 use Rattle.definitions.specs.declared.ExitQueue.{ExitQueue}
 use Rattle.exit_queue.specs.Queue.{Tracks, moved}
 use Rattle.exit_queue.proofs.Tracks.{tracks-set}

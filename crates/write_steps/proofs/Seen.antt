@@ -14,9 +14,9 @@ use Rattle.definitions.specs.Checked.{value, bind, add64}
 use Rattle.definitions.specs.Document.Phase0.Helpers.{«is_eligible_for_activation», «is_eligible_for_activation_queue»}
 use Rattle.definitions.specs.Document.Phase0.EpochProcessing.{queueEligible, isEjected}
 use Rattle.laws.proofs.Checked.{bound, value-same}
-use Rattle.agreement.specs.Cut.{count, queuedBefore, Cuts, CutAt, eligibleNow}
-use Rattle.agreement.proofs.ActivationQueue.Filter.{flag, count-more}
-use Rattle.agreement.proofs.ActivationQueue.Cuts.{cut-cuts}
+use Rattle.laws.specs.Cut.{count, queuedBefore, Cuts, CutAt, eligibleNow}
+use Rattle.laws.proofs.ActivationQueue.Filter.{flag, count-more}
+use Rattle.laws.proofs.ActivationQueue.Cuts.{cut-cuts}
 use Rattle.definitions.specs.declared.ExitQueue.{ExitQueue}
 use Rattle.exit_queue.specs.Queue.{exitBy, nextEpoch}
 use Rattle.registry.specs.Updates.{turnBy}

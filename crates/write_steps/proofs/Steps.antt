@@ -22,7 +22,7 @@ use Rattle.registry.specs.Updates.{leastExit, updateAt}
 use Rattle.registry.proofs.Epochs.{Epochs}
 use Rattle.registry.proofs.Churn.{updates-by-numbers, limit-kept}
 use Rattle.registry.proofs.Total.{total-kept}
-use Rattle.agreement.specs.Cut.{CutAt, eligibleNow}
+use Rattle.laws.specs.Cut.{CutAt, eligibleNow}
 use Rattle.definitions.specs.declared.ExitQueue.{ExitQueue}
 use Rattle.exit_queue.specs.Queue.{Tracks}
 use Rattle.slashings.specs.Adjusted.{adjustedBalance}

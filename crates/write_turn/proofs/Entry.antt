@@ -18,7 +18,7 @@ use Rattle.laws.proofs.Checked.{value-same}
 use Rattle.laws.proofs.Encode.{ten}
 use Rattle.laws.specs.Ran.{Settles}
 use Rattle.laws.proofs.Loops.Ran.{code-value}
-use Rattle.agreement.specs.Cut.{queuedAt, admitOne}
+use Rattle.laws.specs.Cut.{queuedAt, admitOne}
 use Rattle.definitions.specs.declared.ExitQueue.{ExitQueue}
 use Rattle.exit_queue.specs.declared.Turn.{Turn}
 use Rattle.exit_queue.specs.Queue.{moved, lastAfter, numberAfter}

@@ -8,7 +8,7 @@ use lib.ListN.{getD}
 use Rattle.definitions.specs.declared.Settings.{Settings}
 use Rattle.definitions.specs.Record.{Validator}
 use Rattle.definitions.specs.Checked.{Checked, value, bind}
-use Rattle.agreement.specs.Cut.{queuedAt, admitOne}
+use Rattle.laws.specs.Cut.{queuedAt, admitOne}
 use Rattle.definitions.specs.declared.ExitQueue.{ExitQueue}
 use Rattle.exit_queue.specs.Queue.{moved}
 use Rattle.registry.specs.Updates.{turnBy}

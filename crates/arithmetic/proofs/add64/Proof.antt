@@ -3,7 +3,7 @@ use borrow.Author.Needs.{needs}
 use Rattle.arithmetic.proofs.Laws.{said-value, said-overflow}
 use Rattle.arithmetic.proofs.add64.Statement.{statement}
 use Rattle.arithmetic.proofs.add64.Tie as tie
-use Rattle.agreement.proofs.Fits.{add64-leaves, add64-fits}
+use Rattle.laws.proofs.Fits.{add64-leaves, add64-fits}
 
 returns : tie.Need-returns
 returns c = said-overflow (add64-leaves _ _ (omega arith))

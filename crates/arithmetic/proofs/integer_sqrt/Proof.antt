@@ -3,7 +3,7 @@ use native.Mathlib.Omega.{arith}
 use lib.Count.{leading-le}
 use Rattle.definitions.specs.Document.Phase0.Helpers.{rootWithin, «integer_squareroot»}
 use Rattle.arithmetic.proofs.Newton.{Near, first, exponent, turn, falls, root}
-use Rattle.agreement.proofs.SquareRoot.{root-only}
+use Rattle.laws.proofs.SquareRoot.{root-only}
 use Rattle.arithmetic.proofs.integer_sqrt.Statement.{statement}
 use Rattle.arithmetic.proofs.integer_sqrt.Tie as tie
 

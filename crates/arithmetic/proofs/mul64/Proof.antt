@@ -5,7 +5,7 @@ use Rattle.definitions.specs.Checked.{mul64}
 use Rattle.arithmetic.proofs.Operations.{mul64-refused, product-fits, product-over, small-fits}
 use Rattle.arithmetic.proofs.mul64.Statement.{statement}
 use Rattle.arithmetic.proofs.mul64.Tie as tie
-use Rattle.agreement.proofs.Fits.{mul64-fits}
+use Rattle.laws.proofs.Fits.{mul64-fits}
 
 mul-t4 : tie.Need-mul-t4
 mul-t4 c = record { fits = small-fits _ _ (c .before .both-small .ensures) (c .if1 .taken) }

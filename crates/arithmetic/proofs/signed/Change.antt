@@ -9,9 +9,9 @@ use mir.Syntax.{w64}
 use mir.Val.{SFits, toZ, ofZ}
 use mir.Facts.{toZ-pos, toZ-ofZ}
 use Rattle.definitions.specs.Checked.{signedOverflow, Checked, value, refused}
-use Rattle.definitions_file.specs.declared.Change.{Change}
-use Rattle.definitions_file.specs.declared.Change.the-variants.{Value, Refused}
-use Rattle.definitions_file.specs.NetChange.{fitsSigned, netChange, changeFor}
+use Rattle.definitions.specs.declared.Change.{Change}
+use Rattle.definitions.specs.declared.Change.the-variants.{Value, Refused}
+use Rattle.definitions.specs.NetChange.{fitsSigned, netChange, changeFor}
 use Rattle.laws.proofs.Checked.{not-value, value-same}
 
 -- -1 - n, as the machine works it out

@@ -16,9 +16,9 @@ use Rattle.definitions_close.specs.CloseBySteps.{stepAfter, eights, amountsBy}
 use Rattle.laws.proofs.Checked.{value-same, bound}
 use Rattle.laws.proofs.Encode.{length-decode, encode-decode}
 use Rattle.laws.specs.Ran.{Ran}
-use Rattle.agreement.proofs.ActivationQueue.Stopped.{stopped}
-use Rattle.theorems.proofs.Amounts.Rewarded.{rewarded}
-use Rattle.theorems.proofs.Amounts.Slashed.{slashed}
+use Rattle.laws.proofs.ActivationQueue.Stopped.{stopped}
+use Rattle.laws_close.proofs.Amounts.Rewarded.{rewarded}
+use Rattle.laws_close.proofs.Amounts.Slashed.{slashed}
 use Rattle.close_by_steps.specs.Booked.{RewardsBooked}
 use Rattle.close_by_steps.specs.Taken.{SlashingsBooked}
 use Rattle.registry_close.specs.Worked.{stateNow}

@@ -21,10 +21,10 @@ use Rattle.laws.specs.Ran.{Ran}
 use Rattle.laws.proofs.Loops.Entry.{number-at}
 use Rattle.write_pass.specs.Filled.{nineAt, putNine}
 use Rattle.write_pass.proofs.Nine.{nine-nine, nine-same, nine-other}
-use Rattle.theorems.proofs.Amounts.Nines.{Eights, nine-at, nines-long, nine-ext, first-eight, last}
-use Rattle.theorems.proofs.Amounts.Slashed.{Slashed, slashed}
+use Rattle.laws_close.proofs.Amounts.Nines.{Eights, nine-at, nines-long, nine-ext, first-eight, last}
+use Rattle.laws_close.proofs.Amounts.Slashed.{Slashed, slashed}
 use Rattle.close_by_steps.specs.Taken.{SlashingsBooked, balanceIn, NinthsPut, NinthsTaken}
-use Rattle.theorems.proofs.CloseBySteps.Amounts.{long-eights}
+use Rattle.laws_close.proofs.Amounts.Eights.{long-eights}
 
 -- a difference that stops at 0
 pub lowered-is : (a b : ℕ) → cond (ltb a b) 0 (a - b) ≡ a - b

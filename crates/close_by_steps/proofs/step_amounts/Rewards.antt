@@ -31,8 +31,8 @@ use Rattle.rewards_step.proofs.Step.{by-totals, rewards-genesis, rewards-refuse
 use Rattle.write_pass.specs.Filled.{left, Fits, nineAt, putNine}
 use Rattle.write_pass.proofs.Booked.{applied}
 use Rattle.write_pass.proofs.Nine.{nine-nine, nine-same, nine-other}
-use Rattle.theorems.proofs.Amounts.Lists.{each-length, each-at, at-map}
-use Rattle.theorems.proofs.Amounts.Nines.{Eights, nine-at, nines-long, nine-ext}
+use Rattle.laws_close.proofs.Amounts.Lists.{each-length, each-at, at-map}
+use Rattle.laws_close.proofs.Amounts.Nines.{Eights, nine-at, nines-long, nine-ext}
 use Rattle.close_by_steps.specs.Booked.{eightOf, BooksEntry, BooksAll, RewardsBooked}
 
 -- One validator

@@ -11,7 +11,7 @@ use Rattle.definitions.specs.Document.Phase0.Helpers as document
 use Rattle.definitions.specs.Rust.Phase0.Helpers.{«compute_activation_exit_epoch», «get_current_epoch»}
 use Rattle.laws.proofs.Tests.{in-order}
 use Rattle.leaf_refusals.proofs.registry_refusals.Passed.{SlotRegistry, slot-registry}
-use Rattle.agreement.proofs.Bounds.{bounds, given}
+use Rattle.laws.proofs.Bounds.{bounds, given}
 
 pub record ExitPassed (s : Settings) (stateSlot index : ℕ) (registry : List ℕ) : Type 0 where
   pub others : SlotRegistry s stateSlot registry

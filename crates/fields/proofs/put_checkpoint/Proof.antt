@@ -3,7 +3,7 @@ use native.Mathlib.Omega.{arith}
 use borrow.Author.Needs.{needs}
 use lib.ListN.{length}
 use Rattle.definitions_file.specs.File.{littleEndian}
-use Rattle.round_trip.proofs.Numbers.{length-little}
+use Rattle.laws_file.proofs.Numbers.{length-little}
 use Rattle.fields.proofs.Stores.{stored-first, stored-more}
 use Rattle.fields.proofs.put_checkpoint.Statement.{statement}
 use Rattle.fields.proofs.put_checkpoint.Tie as tie

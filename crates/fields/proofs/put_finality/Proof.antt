@@ -2,7 +2,7 @@ use mathlib.Core.Path.{_≡_, refl}
 use borrow.Author.Needs.{needs}
 use lib.ListN.{length}
 use Rattle.definitions_file.specs.File.{littleEndian, checkpointToBytes}
-use Rattle.round_trip.proofs.Numbers.{length-little}
+use Rattle.laws_file.proofs.Numbers.{length-little}
 use Rattle.fields.proofs.Bytes.{length-checkpoint}
 use Rattle.fields.proofs.Stores.{stored-first, stored-more}
 use Rattle.fields.proofs.put_finality.Statement.{statement}

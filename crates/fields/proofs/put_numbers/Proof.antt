@@ -2,7 +2,7 @@ use Prim.Native.Nat.{_≤_, _+_, _*_, _-_}
 use native.Mathlib.Omega.{arith}
 use lib.ListN.{length, getD, drop}
 use Rattle.definitions_file.specs.File.{littleEndian, numbersToBytes}
-use Rattle.round_trip.proofs.Numbers.{length-little}
+use Rattle.laws_file.proofs.Numbers.{length-little}
 use Rattle.fields.proofs.Bytes.{to-bytes-more, to-bytes-none}
 use Rattle.fields.proofs.Stores.{Storing, storing-none, storing-part, storing-all}
 use Rattle.fields.proofs.put_numbers.Statement.{statement}

@@ -1,7 +1,7 @@
 use mathlib.Core.Path.{refl}
 use borrow.Author.Needs.{needs}
 use Rattle.definitions_file.specs.File.{littleEndian}
-use Rattle.round_trip.proofs.Numbers.{length-little}
+use Rattle.laws_file.proofs.Numbers.{length-little}
 use Rattle.fields.proofs.Stores.{stored-first, stored-more}
 use Rattle.fields.proofs.put_queue.Statement.{statement}
 use Rattle.fields.proofs.put_queue.Tie as tie

@@ -3,7 +3,7 @@ use Prim.Native.Nat.{_≤_, _+_, _*_, _-_}
 use native.Mathlib.Omega.{arith}
 use lib.ListN.{length, drop}
 use Rattle.definitions_file.specs.File.{numbersFromBytes}
-use Rattle.round_trip.proofs.Numbers.{length-from-bytes}
+use Rattle.laws_file.proofs.Numbers.{length-from-bytes}
 use Rattle.fields.proofs.Bytes.{from-bytes-more, from-bytes-none}
 use Rattle.fields.proofs.Stores.{Storing, storing-none, storing-one, storing-all, sets-whole}
 use Rattle.fields.proofs.read_numbers.Statement.{statement}

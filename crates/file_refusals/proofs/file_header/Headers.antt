@@ -9,7 +9,7 @@ use lib.ListN.{length, getD, drop, drop-of-length-le}
 use lib.Seq.{drop-cons}
 use Rattle.definitions.specs.Lists.{every}
 use Rattle.definitions_file.specs.File.{numbersFromBytes, header, fileLength, sameNumbers, goodHeader}
-use Rattle.round_trip.proofs.Numbers.{number-at}
+use Rattle.laws_file.proofs.Numbers.{number-at}
 
 pub same-none : (xs ys : List ℕ) (i : ℕ) → length xs ≤ i → length ys ≤ i → sameNumbers (drop i xs) (drop i ys) ≡ true
 unfolding sameNumbers

@@ -3,7 +3,7 @@ use native.Mathlib.Omega.{arith}
 use borrow.Author.Needs.{needs}
 use Rattle.definitions.specs.Checked.{codeOf}
 use Rattle.definitions_file.specs.File.{contentsOf}
-use Rattle.round_trip.proofs.Passed.{Header, good-header}
+use Rattle.laws_file.proofs.Passed.{Header, good-header}
 use Rattle.file_refusals.proofs.ReadTests.{shape-tested}
 use Rattle.file_refusals.proofs.other_tests.Statement.{statement}
 use Rattle.file_refusals.proofs.other_tests.Tie as tie

@@ -7,7 +7,7 @@ use borrow.Author.Needs.{needs}
 use Rattle.definitions.specs.Refusals.{goodFinality}
 use Rattle.definitions_file.specs.File.{versionOf, validatorsAt, countOf, contentsOf, goodHeader, stoppedAt}
 use Rattle.refusals.proofs.All.{fails, passes}
-use Rattle.round_trip.proofs.Passed.{Header, good-header}
+use Rattle.laws_file.proofs.Passed.{Header, good-header}
 use Rattle.file_refusals.proofs.Registry.{registryIn, registry-tested}
 use Rattle.file_refusals.proofs.ReadTests.{Others, answered-short, answered-header, answered-sooner, answered-finality, answered-registry, answered-queue}
 use Rattle.file_refusals.proofs.read_tests.Statement.{statement}

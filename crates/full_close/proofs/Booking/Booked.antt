@@ -19,10 +19,10 @@ use Rattle.laws.proofs.Checked.{value-same}
 use Rattle.laws.proofs.Encode.{length-decode}
 use Rattle.arithmetic.proofs.Laws.{bind-value}
 use Rattle.definitions_close.specs.Amounts.{booked, bookedByRewards, nines}
-use Rattle.theorems.specs.Amounts.Laws.{nineOf}
-use Rattle.theorems.proofs.Amounts.Lists.{each-length, each-at, at-map}
-use Rattle.theorems.proofs.Amounts.Nines.{Eights, nine-at, nines-long, nine-ext}
-use Rattle.theorems.proofs.Amounts.Accounted.{Way, by-rewards, by-slashings, filled-ninth}
+use Rattle.laws_close.specs.Nine.{nineOf}
+use Rattle.laws_close.proofs.Amounts.Lists.{each-length, each-at, at-map}
+use Rattle.laws_close.proofs.Amounts.Nines.{Eights, nine-at, nines-long, nine-ext}
+use Rattle.laws_close.proofs.Amounts.Way.{Way, by-rewards, by-slashings, filled-ninth}
 use Rattle.rewards.specs.Shared.{totalsOf}
 use Rattle.balances.specs.declared.effective_balances.Thresholds.{Thresholds}
 use Rattle.registry.proofs.Epochs.{Epochs}

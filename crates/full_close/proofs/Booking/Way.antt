@@ -12,7 +12,7 @@ use Rattle.laws.proofs.Checked.{value-same, bound}
 use Rattle.laws.specs.Frames.{withoutEpochs}
 use Rattle.laws.proofs.Frame.Entries.{told}
 use Rattle.laws.proofs.Frame.Registry.{registry-writes}
-use Rattle.theorems.proofs.Amounts.Accounted.{Way}
+use Rattle.laws_close.proofs.Amounts.Way.{Way}
 use Rattle.write_steps.specs.RegistrySteps.{registrySteps}
 
 pub way : (s : Settings) (slot fin : ℕ) (ys : List ℕ) (vs : List Validator) {ws : List Validator} → registrySteps s slot fin ys vs ≡ value ws → Way s slot fin ys vs ws

@@ -24,7 +24,7 @@ use Rattle.history.proofs.EightSteps.{Parts, parts, same-slot, handed-s
 use Rattle.history.proofs.WholeClose.{Accepted, accepted-close}
 use Rattle.history.specs.ExitEpochs.{exitEpoch, settingsOf, closing, exiting, event, Called, Defined}
 use Rattle.history.proofs.ExitEpochs.Shape.{exitOf, Exits, kept, exit, then, Shaped}
-use Rattle.history.proofs.ExitEpochs.Limit.{limitOf, active, limit-by, limit-exit}
+use Rattle.exit_queue.proofs.exits.Limit.{limitOf, active, limit-by, limit-exit}
 use Rattle.laws.proofs.Tests.{either}
 
 -- The registry step

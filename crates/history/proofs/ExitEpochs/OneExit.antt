@@ -12,10 +12,10 @@ use Rattle.definitions.specs.Record.{Validator, «FAR_FUTURE_EPOCH»}
 use Rattle.definitions.specs.Checked.{value}
 use Rattle.definitions.specs.Rust.Phase0.Helpers.{«initiate_validator_exit»}
 use Rattle.exit_queue.proofs.exits.Counts.{exit-counts}
-use Rattle.history.proofs.Counting.{T-left, T-right}
+use Rattle.laws.proofs.Tests.{T-left, T-right}
 use Rattle.history.specs.ExitEpochs.{holding}
 use Rattle.history.proofs.ExitEpochs.Shape.{exitOf, OneOf, Exits, kept, exit, then}
-use Rattle.history.proofs.ExitEpochs.Limit.{count-by, by-numbers, limitOf}
+use Rattle.exit_queue.proofs.exits.Limit.{count-by, by-numbers, limitOf}
 
 exit-fills : (s : Settings) (slot : ℕ) (vs : List Validator) (i : ℕ) {ws : List Validator} → «initiate_validator_exit» s slot vs i ≡ value ws → 1 ≤ limitOf s slot vs → (x : ℕ) → x < «FAR_FUTURE_EPOCH» → holding x ws ≤ max (holding x vs) (limitOf s slot vs)
 exit-fills s slot vs i {ws} p k x l =

@@ -11,7 +11,7 @@ use Rattle.definitions.specs.Checked.{codeOf}
 use Rattle.definitions.specs.LeafRefusals.{slotRegistryTests, participationTests}
 use Rattle.definitions.specs.Refusals.{inOrder, settingsShaped, registryShaped, isSmall, goodSettings, goodRegistry, registryTests}
 use Rattle.definitions.specs.RegisterOrder.{registryToTests}
-use Rattle.agreement.specs.Bounds.{Passed}
+use Rattle.laws.specs.Bounds.{Passed}
 use Rattle.laws.proofs.Tests.{InOrder, in-order}
 use Rattle.refusals.proofs.Laws.{PositiveDivisors, good-settings, RegistryShape, registry-shaped, small}
 

@@ -17,8 +17,8 @@ use Rattle.definitions.specs.Document.Phase0.Helpers as document
 use Rattle.definitions_close.specs.declared.Running.{Running}
 use Rattle.definitions_close.specs.Orders.{ordersIn, NinthCall, ninthTests, carriesOut, ninthInTurn, carryOut}
 use Rattle.laws.proofs.Encode.{decode-encode}
-use Rattle.agreement.specs.Bounds.{Passed}
-use Rattle.agreement.proofs.Bounds.{given}
+use Rattle.laws.specs.Bounds.{Passed}
+use Rattle.laws.proofs.Bounds.{given}
 use Rattle.refusals.proofs.Laws.{small, good-settings}
 use Rattle.refusals.proofs.Answers.{passed}
 use Rattle.definitions_close.specs.Calls.{ninthOutcome}

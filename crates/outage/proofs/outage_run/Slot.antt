@@ -15,7 +15,7 @@ use Rattle.definitions.specs.Close.{Step, Call, stateOf, step, closeUpTo, «pro
 use Rattle.laws.proofs.Checked.{bound, number-not-zero, value-same}
 use Rattle.laws.proofs.Tests.{in-order}
 use Rattle.refusals.proofs.Laws.{good-finality}
-use Rattle.theorems.proofs.Completeness.Kept.{kept-step}
+use Rattle.laws.proofs.Frame.Slot.{slot-step}
 use Rattle.definitions_file.specs.Listing.{closing}
 use Rattle.definitions_file.specs.OutageRun.{closeOnce}
 use Rattle.outage.specs.Went.{Went}
@@ -26,7 +26,7 @@ unfolding foldChecked
 slot-steps s [] st after e = ap (λ (t : BeaconState). t .finality .slot) (sym (value-same e))
 slot-steps s (k ∷ ks) st after e =
     let b = bound (step s st k) (λ next. foldChecked (step s) next ks) e in
-    slot-steps s ks _ after (b .then) ∙ kept-step s st _ k (b .gave) .slot
+    slot-steps s ks _ after (b .then) ∙ slot-step s k st _ (b .gave)
 
 slot-kept : (c : Call) (after : BeaconState) → closed c ≡ value after → after .finality .slot ≡ c .finality .slot
 unfolding closed afterTests «process_epoch» closeUpTo

@@ -6,7 +6,7 @@ use native.Mathlib.Omega.{arith}
 use borrow.Author.Needs.{needs}
 use lib.ListN.{length, take, drop}
 use Rattle.definitions_file.specs.File.{versionOf, validatorsAt, countOf, rootCountOf, slashingCountOf, rootsAt, contentsOf, goodHeader}
-use Rattle.round_trip.proofs.Passed.{good-header}
+use Rattle.laws_file.proofs.Passed.{good-header}
 use Rattle.record_file.proofs.file_roots.Statement.{statement}
 use Rattle.record_file.proofs.file_roots.Tie as tie
 

@@ -4,7 +4,7 @@ use Prim.Native.Nat.{ℕ}
 use borrow.Author.Needs.{needs}
 use Rattle.definitions.specs.Refusals.{settingsNumbers}
 use Rattle.definitions_file.specs.File.{header, numbersToBytes, finalityToBytes, queueToBytes}
-use Rattle.round_trip.proofs.Numbers.{length-to-bytes}
+use Rattle.laws_file.proofs.Numbers.{length-to-bytes}
 use Rattle.fields.proofs.Bytes.{length-queue}
 use Rattle.fields.proofs.Stores.{stored-first, stored-more}
 use Rattle.record_file.specs.Sized.{headOf}

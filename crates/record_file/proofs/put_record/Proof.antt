@@ -2,8 +2,8 @@ use mathlib.Core.Path.{refl, _∙_}
 use native.Mathlib.Omega.{arith}
 use borrow.Author.Needs.{needs}
 use Rattle.definitions_file.specs.File.{numbersToBytes, fileOf, contentsWith}
-use Rattle.round_trip.proofs.Numbers.{length-to-bytes}
-use Rattle.round_trip.proofs.Tests.{countIn}
+use Rattle.laws_file.proofs.Numbers.{length-to-bytes}
+use Rattle.laws_file.proofs.Tests.{countIn}
 use Rattle.fields.proofs.Stores.{stored-first, stored-more, sets-whole}
 use Rattle.record_file.specs.Sized.{headOf}
 use Rattle.record_file.proofs.Writing.{Rooted, head-long}

@@ -3,7 +3,7 @@ use mathlib.Core.Bool.{true}
 use borrow.Author.Needs.{needs}
 use Rattle.definitions_file.specs.File.{goodHeader}
 use Rattle.refusals.proofs.All.{fails, passes}
-use Rattle.round_trip.proofs.Passed.{good-header}
+use Rattle.laws_file.proofs.Passed.{good-header}
 use Rattle.record_file.proofs.Reading.{header-refused, header-accepted}
 use Rattle.record_file.proofs.read_header.Statement.{statement}
 use Rattle.record_file.proofs.read_header.Tie as tie

@@ -1,7 +1,7 @@
 use mathlib.Core.Path.{ap, _∙_}
 use native.Mathlib.Omega.{arith}
 use Rattle.definitions_file.specs.File.{validatorsAt}
-use Rattle.round_trip.proofs.Passed.{good-header}
+use Rattle.laws_file.proofs.Passed.{good-header}
 use Rattle.record_file.proofs.registry_at.Statement.{statement}
 use Rattle.record_file.proofs.registry_at.Tie as tie
 

@@ -1,8 +1,8 @@
 use mathlib.Core.Path.{sym, _∙_}
 use borrow.Author.Needs.{needs}
 use Rattle.refusals.proofs.Answers.{passed}
-use Rattle.round_trip.proofs.Tests.{write-good}
-use Rattle.round_trip.proofs.Written.{is-file}
+use Rattle.laws_file.proofs.Tests.{write-good}
+use Rattle.laws_file.proofs.Tests.{is-file}
 use Rattle.record_file.proofs.Writing.{write-refused}
 use Rattle.record_file.proofs.write_file.Statement.{statement}
 use Rattle.record_file.proofs.write_file.Tie as tie

@@ -7,8 +7,8 @@ use lib.ListN.{length, take}
 use Rattle.definitions.specs.Record.{Validator, decodeOne, encodeOne, decode, encode, nobody}
 use Rattle.laws.proofs.Encode.{length-decode}
 use Rattle.laws.proofs.Loops.Entry.{entryAt, putAt, entry-ten}
-use Rattle.agreement.specs.Cut.{queuedAt, count, admitOne, admittedAt, admitted}
-use Rattle.agreement.proofs.ActivationQueue.Filter.{flag, count-none, first-more}
+use Rattle.laws.specs.Cut.{queuedAt, count, admitOne, admittedAt, admitted}
+use Rattle.laws.proofs.ActivationQueue.Filter.{flag, count-none, first-more}
 use Rattle.registry.proofs.activation.Places.{Placed, placed-none, placed-is, placed-more}
 
 -- after i turns `left` is left of the quota

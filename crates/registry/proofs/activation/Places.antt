@@ -7,8 +7,8 @@ use native.Mathlib.Numerals.{add-one}
 use lib.ListN.{length, getD, set}
 use Rattle.definitions.specs.Record.{Validator, decodeOne, encodeOne, encode, decode, nobody}
 use Rattle.laws.proofs.Encode.{length-encode, length-decode, encode-decode, decode-encode}
-use Rattle.agreement.specs.Queue.{mapBelow}
-use Rattle.agreement.proofs.ActivationQueue.Dequeued.{length-below}
+use Rattle.laws.specs.Queue.{mapBelow}
+use Rattle.laws.proofs.ActivationQueue.Dequeued.{length-below}
 use Rattle.laws.proofs.Loops.Entry.{entryAt, putAt, entry-is, entry-back}
 
 below-later : (f : ℕ → Validator → Validator) (i : ℕ) (vs : List Validator) → getD (mapBelow i f vs) i nobody ≡ getD vs i nobody

@@ -5,7 +5,7 @@ use Rattle.definitions.specs.declared.Settings.{Settings}
 use Rattle.definitions.specs.Record.{Validator}
 use Rattle.definitions.specs.Document.Phase0.Helpers.{«integer_squareroot»}
 use Rattle.definitions.specs.Rust.Altair.Helpers.{«get_base_reward_per_increment», «get_base_reward»}
-use Rattle.agreement.proofs.SquareRoot.{square-root, root-largest}
+use Rattle.laws.proofs.SquareRoot.{square-root, root-largest}
 use Rattle.arithmetic.proofs.Operations.{OnlyOverflow, only-value, only-mul64, only-bind}
 
 pub only-per-increment : (s : Settings) (total : ℕ) → OnlyOverflow («get_base_reward_per_increment» s total)

@@ -8,8 +8,8 @@ use borrow.Author.Tests.{lt-ltb, le-ltb, ltb-true}
 use lib.Dec.{ltb, eqb}
 use lib.ListN.{getD}
 use Rattle.definitions.specs.Record.{Validator, «FAR_FUTURE_EPOCH»}
-use Rattle.agreement.specs.Cut.{count, CutAt}
-use Rattle.agreement.proofs.ActivationQueue.Filter.{flag, count-none, count-more, count-mono}
+use Rattle.laws.specs.Cut.{count, CutAt}
+use Rattle.laws.proofs.ActivationQueue.Filter.{flag, count-none, count-more, count-mono}
 use Rattle.selection.specs.Keep.{under, Highest, waitingBefore, Smallest}
 use Rattle.selection.proofs.Kept.{under-less}
 use Rattle.selection.proofs.Waiting.{count-queued}

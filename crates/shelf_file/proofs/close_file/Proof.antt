@@ -11,7 +11,7 @@ use Rattle.definitions_file.specs.File.{versionOf, contentsOf, goodHeader}
 use Rattle.laws.proofs.Tests.{both}
 use Rattle.refusals.proofs.All.{fails, passes}
 use Rattle.refusals.proofs.Answers.{passed}
-use Rattle.round_trip.proofs.Passed.{good-header}
+use Rattle.laws_file.proofs.Passed.{good-header}
 use Rattle.shelf_file.specs.Parts.{Counts, Counted}
 use Rattle.shelf_file.proofs.Parts.{counts-long}
 use Rattle.shelf_file.proofs.Tests.{off-shelf, refused-tests}

@@ -3,7 +3,7 @@ use Prim.Native.Nat.{ℕ, zero, suc, _≤_}
 use native.Mathlib.Omega.{arith}
 use borrow.Author.Needs.{needs}
 use Rattle.refusals.proofs.All.{fails, passes}
-use Rattle.round_trip.proofs.Passed.{good-header}
+use Rattle.laws_file.proofs.Passed.{good-header}
 use Rattle.shelf_file.proofs.on_shelf.Statement.{statement}
 use Rattle.shelf_file.proofs.on_shelf.Tie as tie
 

@@ -2,7 +2,7 @@ use native.Mathlib.Omega.{arith}
 use native.Mathlib.Nat.{mod-lt}
 use borrow.Author.Needs.{needs, scaled-fits}
 use Rattle.definitions.specs.Document.Phase0.EpochProcessing.{resetSlashings}
-use Rattle.agreement.proofs.Bounds.{bounds}
+use Rattle.laws.proofs.Bounds.{bounds}
 use Rattle.refusals.proofs.Laws.{settings-shaped, good-settings}
 use Rattle.slashings.proofs.slashings_reset_core.Statement.{statement}
 use Rattle.slashings.proofs.slashings_reset_core.Tie as tie

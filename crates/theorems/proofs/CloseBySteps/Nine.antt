@@ -17,7 +17,8 @@ use Rattle.definitions_close.proofs.Orders.{orders-long}
 use Rattle.definitions_close.specs.Orders.{Order, ordersIn, room, NinthCall, ninthTests, untried, carriesOut, ninthInTurn, carryOut}
 use Rattle.laws.proofs.Encode.{decode-encode}
 use Rattle.theorems.specs.CloseBySteps.Desk.{Desk, acts, arrived, ninthCall, Carries, NineCalls}
-use Rattle.theorems.proofs.CloseBySteps.Tests.{full-passed, shaped-as, long-as}
+use Rattle.laws_close.proofs.Passed.{full-passed}
+use Rattle.theorems.proofs.CloseBySteps.Tests.{shaped-as, long-as}
 use Rattle.theorems.proofs.CloseBySteps.Turns.{UnderWay, deskAt, On, waiting, onward, ended}
 use Rattle.theorems.proofs.CloseBySteps.Eight.{stopped-done, onward-gives, eight-on}
 

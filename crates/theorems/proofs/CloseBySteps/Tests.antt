@@ -1,27 +1,24 @@
 -- A record that passed the tests of the whole close passes them after each step, so that no later call is turned away.
 use mathlib.Core.Path.{_≡_, refl, sym, ap, _∙_}
-use mathlib.Core.Bool.{Bool, true, false, cond, _&&_}
+use mathlib.Core.Bool.{true, _&&_}
 use mathlib.Core.List.{List}
 use Prim.Native.Nat.{ℕ, _*_, _/_, _%_, _^_}
 use native.Mathlib.Omega.{arith}
-use borrow.Author.Tests.{eqb-true, eq-eqb}
+use borrow.Author.Tests.{eq-eqb}
 use lib.Dec.{leb, eqb}
 use lib.ListN.{length}
 use Rattle.definitions.specs.declared.Settings.{Settings}
 use Rattle.definitions.specs.Lists.{all, every}
-use Rattle.definitions.specs.Record.{BeaconState, encode, decode}
-use Rattle.definitions.specs.Checked.{Checked, value, refused, badShape, bind}
-use Rattle.definitions.specs.Refusals.{inOrder, rootsShaped, slashingsShaped, registryShaped, goodFinality, goodValidator, goodRegistry}
-use Rattle.definitions.specs.Rules.{rulesShaped, goodRules}
+use Rattle.definitions.specs.Record.{BeaconState, encode}
+use Rattle.definitions.specs.Checked.{value, bind}
+use Rattle.definitions.specs.Refusals.{inOrder, registryShaped, goodFinality, goodValidator, goodRegistry}
+use Rattle.definitions.specs.Rules.{goodRules}
 use Rattle.definitions.specs.ExitQueue.{queueOf, isQueueOf, queueTest}
 use Rattle.definitions.specs.Close.{Step, step, stateOf, closeTests}
-use Rattle.definitions_close.specs.Amounts.{amountsShaped}
 use Rattle.definitions_close.specs.FullClose.{FullCall, fullTests}
-use Rattle.laws.proofs.Checked.{not-value, bound}
 use Rattle.laws.proofs.Encode.{length-encode, decode-encode, length-decode}
-use Rattle.refusals.proofs.Laws.{RegistryShape, registry-shaped}
-use Rattle.laws.proofs.Tests.{in-order-value}
-use Rattle.theorems.proofs.CloseBySteps.Kept.{kept-step}
+use Rattle.laws_close.proofs.Kept.{kept-step}
+use Rattle.laws_close.proofs.Passed.{Passed}
 
 -- the record of a state as a later call tests it: the opening stands in the place of the closing buffers
 abbrev pub recordAt : FullCall → BeaconState → List ℕ → FullCall
@@ -39,46 +36,6 @@ recordAt c st amounts =
       queue = queueOf (st .validators);
       amounts = amounts;
     }
-
--- What the tests tell once passed
-
-pub record Passed (c : FullCall) : Type 0 where
-  pub rules : rulesShaped (c .call .rules) ≡ true
-  pub registry : RegistryShape (c .call .registry)
-  pub registryShape : registryShaped (c .call .registry) ≡ true
-  pub roots : rootsShaped (c .call .rules .settings) (c .call .roots) ≡ true
-  pub slashings : slashingsShaped (c .call .rules .settings) (c .call .slashings) ≡ true
-  pub goodRules : goodRules (c .call .rules) ≡ true
-  pub finality : goodFinality (c .call .finality) ≡ true
-  pub validators : all goodValidator (decode (c .call .registry)) ≡ true
-  pub amounts : length (c .amounts) ≡ 9 * (length (c .call .registry) / 10)
-
-close-passed : (c : FullCall) → length (c .amounts) ≡ 9 * (length (c .call .registry) / 10) → closeTests (c .call) ≡ value tt → Passed c
-unfolding closeTests goodRegistry
-close-passed c l p =
-    let t = in-order-value _ _ _ p in
-    record {
-      rules = t .shaped 0;
-      registry = registry-shaped (c .call .registry) (t .shaped 1);
-      registryShape = t .shaped 1;
-      roots = t .shaped 2;
-      slashings = t .shaped 3;
-      goodRules = t .settings 0;
-      finality = t .recorded 0;
-      validators = t .recorded 1;
-      amounts = l;
-    }
-
-where-shaped : (t : Bool) {m : Checked (Unit {0})} → cond t m (refused badShape) ≡ value tt → (t ≡ true) × (m ≡ value tt)
-where-shaped true p = (refl, p)
-where-shaped false p = absurd (not-value p)
-
-pub full-passed : (c : FullCall) → fullTests c ≡ value tt → Passed c
-unfolding fullTests
-full-passed c p =
-    let a = where-shaped (amountsShaped (c .call .registry) (c .amounts)) p in
-    let b = bound (closeTests (c .call)) _ (a .1) in
-    close-passed c (eqb-true (length (c .amounts)) (9 * (length (c .call .registry) / 10)) (a .0)) (b .gave)
 
 -- A state on the way
 

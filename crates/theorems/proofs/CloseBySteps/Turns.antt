@@ -23,8 +23,10 @@ use Rattle.definitions_close.specs.CloseBySteps.{StepCall, StepOutcome, isFirst
 use Rattle.definitions_close.specs.Orders.{Order, ordersIn}
 use Rattle.laws.proofs.Checked.{number-not-zero}
 use Rattle.laws.proofs.Encode.{decode-encode}
+use Rattle.laws.proofs.Checked.{settled-buffer}
 use Rattle.theorems.specs.CloseBySteps.Desk.{Desk, stepping, stepCall, afterStep, act, NotBegun, Gives}
-use Rattle.theorems.proofs.CloseBySteps.Tests.{recordAt, Passed, full-passed, Sound, sound-opening, sound-step, tested-again}
+use Rattle.theorems.proofs.CloseBySteps.Tests.{recordAt, Sound, sound-opening, sound-step, tested-again}
+use Rattle.laws_close.proofs.Passed.{Passed, full-passed}
 use Rattle.theorems.proofs.CloseBySteps.Folded.{one-more, stopped, later-finality}
 use Rattle.theorems.proofs.CloseBySteps.Amounts.{amountsAt, amounts-turn, amounts-long}
 
@@ -37,11 +39,6 @@ in-turn x p q = rw (p, q)
 -- the amounts of an accepted step
 abbrev amountsOn : StepCall → List ℕ
 amountsOn x = settle (amountsBy (stepAfter (x .running .done)) (settingsOf (x .whole)) (stateOf (found x .call)) (x .whole .amounts)) (replicate (length (x .whole .amounts)) 0)
-
-pub settled-buffer : (xs : Checked (List ℕ)) (zeros lent : List ℕ) → closingBuffer (λ filled. filled) (value tt) xs zeros lent ≡ settle xs zeros
-unfolding closingBuffer
-settled-buffer (value ys) zeros lent = refl
-settled-buffer (refused r) zeros lent = refl
 
 went-on : (x : StepCall) {after : BeaconState} → stepTests x ≡ value tt → stepped x ≡ value after → stepInTurn x ≡ record { answer = record { refusal = 0; ended = 0; running = goesOn after x }; closingRegistry = encode (after .validators); closingSlashings = after .slashings; amounts = amountsOn x }
 unfolding stepInTurn steppedAmounts runningAfter afterTests closingBuffer bind

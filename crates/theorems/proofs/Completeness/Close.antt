@@ -15,7 +15,7 @@ use Rattle.definitions.specs.Document.Altair.EpochProcessing as document
 use Rattle.definitions.specs.Close as Rust
 use Rattle.definitions.specs.Close.{Step, justificationStep, inactivityStep, rewardsStep, registryStep, slashingsStep, effectiveBalancesStep, slashingsResetStep, participationFlagsStep, steps}
 use Rattle.agreement.specs.Agreement.{documentStep}
-use Rattle.agreement.specs.Bounds.{Passed}
+use Rattle.laws.specs.Bounds.{Passed}
 use Rattle.theorems.specs.Completeness.DocumentIn64Bits as in64
 use Rattle.theorems.specs.Completeness.Rows.{FinalizedAhead, Row, nobodyEligible, nobodyHits, noValidators, CloseRow, atInactivity, atEffectiveBalances}
 use Rattle.theorems.specs.Completeness.Complete.{StepParts, NoRewardsRow, CloseParts, CompleteClose}

@@ -12,7 +12,7 @@ use Rattle.theorems.specs.Completeness.DocumentIn64Bits as in64
 use Rattle.theorems.specs.Completeness.Complete.{CloseParts}
 use Rattle.theorems.specs.Completeness.Calls.{registryOf, slashingsOf, outcomeBy, DocumentClosed, CloseCall}
 use Rattle.laws.proofs.Checked.{bound}
-use Rattle.agreement.proofs.Bounds.{close-passed}
+use Rattle.laws.proofs.Bounds.{close-passed}
 use Rattle.agreement.proofs.Registry.{registry}
 use Rattle.agreement.proofs.Slashings.{slashings}
 use Rattle.agreement.proofs.Close.{close-agrees}

@@ -23,7 +23,7 @@ use Rattle.laws.proofs.Checked.{bound}
 use Rattle.agreement.proofs.Agrees.{Agrees, Overflow, value-agrees, bind-agrees, map-agrees, fold-agrees}
 use Rattle.agreement.proofs.Deltas.{totalsOf, flag-totals, flag-deltas, inactivity-deltas}
 use Rattle.agreement.proofs.Rewards.{map-same, apply-delta}
-use Rattle.theorems.proofs.Amounts.Lists.{each-at}
+use Rattle.laws_close.proofs.Amounts.Lists.{each-at}
 use Rattle.theorems.proofs.Completeness.Order.{gives, same-value, gives-bind, gives-map, all-alike, all-and, fold-zip-agrees, gives-fold-zip}
 
 -- a flag's totals, then its list, three times; or the totals of all three before the lists

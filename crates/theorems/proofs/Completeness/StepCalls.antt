@@ -18,17 +18,17 @@ use Rattle.definitions.specs.Rust.Phase0.EpochProcessing.{«process_registry_up
 use Rattle.definitions.specs.Rust.Altair.EpochProcessing as rust
 use Rattle.definitions.specs.Close.{onValidators, finalizedEpochOf, Step, inactivityStep, rewardsStep, registryStep, slashingsStep, effectiveBalancesStep, slashingsResetStep, participationFlagsStep, step}
 use Rattle.agreement.specs.Agreement.{documentStep}
-use Rattle.agreement.specs.Bounds.{Passed}
+use Rattle.laws.specs.Bounds.{Passed}
 use Rattle.agreement.specs.Restored.{OneOf}
 use Rattle.definitions.specs.Closes.{Closes}
 use Rattle.theorems.specs.Completeness.DocumentIn64Bits as in64
 use Rattle.theorems.specs.Completeness.Calls.{registryOf, slashingsOf, ByNumber, StepCall, StepCalls, RulesCalls, stoppedOf, StoppedCalls}
 use Rattle.laws.proofs.Tests.{tested, in-order-value}
-use Rattle.agreement.specs.Stopped.{keptFrom}
-use Rattle.agreement.proofs.ActivationQueue.Stopped.{stopped}
+use Rattle.laws.specs.Stopped.{keptFrom}
+use Rattle.laws.proofs.ActivationQueue.Stopped.{stopped}
 use Rattle.agreement.proofs.Agrees.{Agrees, Overflow, not-refused}
 use Rattle.agreement.proofs.Bellatrix.{under}
-use Rattle.agreement.proofs.Bounds.{tests-passed, rules-passed}
+use Rattle.laws.proofs.Bounds.{tests-passed, rules-passed}
 use Rattle.agreement.proofs.Inactivity.{inactivity}
 use Rattle.agreement.proofs.Rewards.{rewards}
 use Rattle.agreement.proofs.Registry.{registry}

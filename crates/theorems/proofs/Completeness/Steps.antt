@@ -23,15 +23,15 @@ use Rattle.definitions.specs.Rust.Altair.EpochProcessing as rust
 use Rattle.definitions.specs.Close as Rust
 use Rattle.definitions.specs.Close.{finalizedEpochOf, Step, justificationStep, inactivityStep, rewardsStep, registryStep, slashingsStep, effectiveBalancesStep, slashingsResetStep, participationFlagsStep}
 use Rattle.agreement.specs.Agreement.{documentStep}
-use Rattle.agreement.specs.Bounds.{Passed}
+use Rattle.laws.specs.Bounds.{Passed}
 use Rattle.theorems.specs.Completeness.ListByList as byLists
 use Rattle.theorems.specs.Completeness.DocumentIn64Bits as in64
 use Rattle.theorems.specs.Completeness.Rows.{hits, hitters, FinalizedAhead, downward, upward, Row, nobodyEligible, nobodyHits, noValidators}
 use Rattle.theorems.specs.Completeness.Complete.{StepParts, CompleteStep, EveryRow}
 use Rattle.laws.proofs.Checked.{bound, map-alike}
 use Rattle.agreement.proofs.Agrees.{Agrees, Overflow, not-refused}
-use Rattle.agreement.proofs.Fits.{mul64-fits}
-use Rattle.agreement.proofs.Bounds.{given}
+use Rattle.laws.proofs.Fits.{mul64-fits}
+use Rattle.laws.proofs.Bounds.{given}
 use Rattle.agreement.proofs.EffectiveBalances.{effective-balances}
 use Rattle.theorems.proofs.Completeness.Laws.{bind-same, fold-gives, Never, never-refused, never-first, never-then, met-nobody, passes-all, refuses, refused-or-parted}
 use Rattle.theorems.proofs.Completeness.Agrees.{each-step}

@@ -17,7 +17,7 @@ use Rattle.definitions_close.specs.CloseBySteps.{saysEnded, hasEnded, turnedAwa
 use Rattle.laws.proofs.Tests.{both}
 use Rattle.definitions_close.specs.Orders.{Order, mayExit, isDue, «process_voluntary_exit», carriedOut, answersTo, ordersIn, NinthCall, closingValidators, untried, ninthTests, carriesOut, ninthInTurn, carryOut}
 use Rattle.history.proofs.ExitEpochs.Shape.{exitOf, Exits, kept, exit, then}
-use Rattle.history.proofs.ExitEpochs.Limit.{limitOf, limit-exit}
+use Rattle.exit_queue.proofs.exits.Limit.{limitOf, limit-exit}
 use Rattle.theorems.specs.ExitCalls.ExitCalls.{triedBy, ordersMeet}
 
 module _ (s : Settings) (slot period : ℕ) where

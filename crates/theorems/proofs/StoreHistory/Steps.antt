@@ -28,7 +28,8 @@ use Rattle.laws.proofs.Frame.Frames.{frames}
 use Rattle.laws.proofs.Tests.{in-order-value}
 use Rattle.theorems.specs.CloseBySteps.Desk as desk
 use Rattle.theorems.specs.CloseBySteps.Desk.{Desk, Act, stepping, ordering, afterStep, stepsOf, oneToEight, Gives}
-use Rattle.theorems.proofs.CloseBySteps.Tests.{full-passed, shaped-as, long-as}
+use Rattle.laws_close.proofs.Passed.{full-passed}
+use Rattle.theorems.proofs.CloseBySteps.Tests.{shaped-as, long-as}
 use Rattle.theorems.proofs.CloseBySteps.Turns.{UnderWay, deskAt, On, waiting, onward, ended}
 use Rattle.theorems.proofs.CloseBySteps.Eight.{stopped-done, next, step-on, order-on, eight-on, eight-calls}
 use Rattle.theorems.proofs.CloseBySteps.Nine.{nine-calls}

@@ -2,7 +2,7 @@
 use mathlib.Core.Path.{_≡_}
 use mathlib.Core.List.{List, [], _∷_}
 use Prim.Native.Nat.{ℕ, zero, suc, _+_, _*_, _<_}
-use lib.ListN.{length, getD, take, drop}
+use lib.ListN.{length, getD, take}
 use Rattle.definitions.specs.declared.Settings.{Settings}
 use Rattle.definitions.specs.declared.Deltas.{Deltas}
 use Rattle.definitions.specs.declared.Checkpoint.{Checkpoint}
@@ -13,19 +13,7 @@ use Rattle.definitions.specs.Rust.Phase0.Helpers.{«get_current_epoch»}
 use Rattle.definitions.specs.Rust.Altair.Helpers.{«TIMELY_SOURCE_FLAG_INDEX», «TIMELY_TARGET_FLAG_INDEX», «TIMELY_HEAD_FLAG_INDEX», «get_flag_index_deltas», «get_inactivity_penalty_deltas»}
 use Rattle.definitions.specs.Close.{finalizedEpochOf, closeUpTo}
 use Rattle.definitions_close.specs.Amounts.{booked, amounts}
-
--- the nine numbers of the validator at i
-abbrev pub nineOf : List ℕ → ℕ → List ℕ
-nineOf xs i = take 9 (drop (9 * i) xs)
-
-abbrev pub rewardsIn : List ℕ → ℕ
-rewardsIn nine = getD nine 0 0 + getD nine 2 0 + getD nine 4 0 + getD nine 6 0
-
-abbrev pub takenIn : List ℕ → ℕ
-takenIn nine = getD nine 1 0 + getD nine 3 0 + getD nine 5 0 + getD nine 7 0 + getD nine 8 0
-
-abbrev pub balanceAt : List Validator → ℕ → ℕ
-balanceAt vs i = getD vs i nobody .balance
+use Rattle.laws_close.specs.Nine.{nineOf, rewardsIn, takenIn, balanceAt}
 
 -- what the delta leaves answer of the validator v of the state that the rewards step finds, cut where the balance ends
 pub record ByLeaves (s : Settings) (found : BeaconState) (v : Validator) (nine : List ℕ) : Type 0 where

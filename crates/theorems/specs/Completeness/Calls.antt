@@ -23,7 +23,7 @@ use Rattle.definitions_file.specs.File.{Contents, writeTests, read}
 use Rattle.agreement.specs.Agreement.{documentStep, documentStepUnder}
 use Rattle.agreement.specs.Restored.{OneOf}
 use Rattle.definitions.specs.Closes.{Closes}
-use Rattle.agreement.specs.Stopped.{keptFrom}
+use Rattle.laws.specs.Stopped.{keptFrom}
 use Rattle.theorems.specs.Completeness.DocumentIn64Bits as In64Bits
 use Rattle.theorems.specs.Completeness.Complete.{StepParts, CloseParts}
 

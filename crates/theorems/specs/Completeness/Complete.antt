@@ -16,7 +16,7 @@ use Rattle.definitions.specs.Rust.Altair.Helpers as RustHelpers
 use Rattle.definitions.specs.Close as Rust
 use Rattle.definitions.specs.Close.{Step, inactivityStep, rewardsStep, registryStep, effectiveBalancesStep}
 use Rattle.agreement.specs.Agreement.{documentStep, documentStepUnder}
-use Rattle.agreement.specs.Bounds.{Passed}
+use Rattle.laws.specs.Bounds.{Passed}
 use Rattle.theorems.specs.Completeness.DocumentIn64Bits as In64Bits
 use Rattle.theorems.specs.Completeness.Rows.{Row, LeafRow, CloseRow}
 

@@ -11,7 +11,7 @@ use Rattle.definitions.specs.Close.{stateOf, Outcome, closed, close}
 use Rattle.agreement.specs.Restored.{OneOf}
 use Rattle.definitions_close.specs.Amounts.{amounts}
 use Rattle.definitions_close.specs.FinalizingTest.{finalizingTest}
-use Rattle.theorems.specs.Amounts.Laws.{nineOf, rewardsIn, takenIn, balanceAt}
+use Rattle.laws_close.specs.Nine.{nineOf, rewardsIn, takenIn, balanceAt}
 use Rattle.definitions_close.specs.FullClose.{FullCall, settingsOf, FullOutcome, fullClose}
 
 -- the outcome less the pair, the test and the amounts

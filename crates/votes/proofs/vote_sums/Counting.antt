@@ -21,7 +21,7 @@ use Rattle.definitions_votes.proofs.Filled.{length-filled, filled-at}
 use Rattle.votes.specs.declared.vote_sums.VoteSums.{VoteSums}
 use Rattle.votes.specs.declared.vote_sums.VoteSumsAnswer.the-variants.{Value, Refused}
 use Rattle.votes.specs.Sums.{weight, activeAt, hitsTarget, voteSumsOf, addedTo, sumsFor, sumIn, PlainSums, Counted}
-use Rattle.agreement.proofs.Fits.{add64-fits}
+use Rattle.laws.proofs.Fits.{add64-fits}
 
 pub tells-sums : Tells sumsFor Value Refused
 tells-sums = record { of-value = λ x. refl; of-refused = λ p. refl; one-value = λ x y e. cc; one-number = λ p q e. cc; apart = λ x q e. (let z : _≡_ {A = ℕ} 0 1 = cc in omega arith) }

@@ -3,7 +3,7 @@ use native.Mathlib.Omega.{arith}
 use borrow.Author.Needs.{needs}
 use mir.Syntax.{w64}
 use mir.Facts.{toZ-pos}
-use Rattle.definitions_file.specs.declared.Change.the-variants.{Value}
+use Rattle.definitions.specs.declared.Change.the-variants.{Value}
 use Rattle.arithmetic.proofs.signed.Change.{lost-fits, lost-told, gain, gain-wide, loses, loses-wide}
 use Rattle.arithmetic.proofs.signed.net_change.Statement.{statement}
 use Rattle.arithmetic.proofs.signed.net_change.Tie as tie

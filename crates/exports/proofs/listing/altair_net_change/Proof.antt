@@ -5,7 +5,7 @@ use mir.Syntax.{w64}
 use mir.Val.{toZ, ofZ}
 use borrow.Author.Needs.{needs}
 use Rattle.definitions.specs.Checked.{value}
-use Rattle.definitions_file.specs.NetChange.{netChange, changeFor, plainChange}
+use Rattle.definitions.specs.NetChange.{netChange, changeFor, plainChange}
 use Rattle.arithmetic.proofs.signed.Change.{given, signed}
 use Rattle.exports.proofs.listing.altair_net_change.Statement.{statement}
 use Rattle.exports.proofs.listing.altair_net_change.Tie as tie

@@ -1,5 +1,5 @@
 use Rattle.refusals.proofs.Laws.{good-settings}
-use Rattle.agreement.proofs.Bounds.{bounds}
+use Rattle.laws.proofs.Bounds.{bounds}
 use Rattle.orders.proofs.ninth_call.Carried.{carried, real}
 use native.Mathlib.Omega.{arith}
 use borrow.Author.Needs.{needs}

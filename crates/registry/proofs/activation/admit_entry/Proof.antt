@@ -2,7 +2,7 @@ use mathlib.Core.Path.{_≡_}
 use Prim.Native.Nat.{_<_}
 use native.Mathlib.Omega.{arith}
 use borrow.Author.Tests.{lt-ltb, le-ltb, eq-eqb, ne-eqb}
-use Rattle.agreement.specs.Cut.{admitOne, queuedBefore, queuedAt}
+use Rattle.laws.specs.Cut.{admitOne, queuedBefore, queuedAt}
 use Rattle.laws.proofs.Encode.{ten}
 use Rattle.refusals.proofs.All.{fails, passes}
 use Rattle.definitions.specs.Record.{decodeOne}

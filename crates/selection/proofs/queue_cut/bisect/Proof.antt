@@ -1,7 +1,7 @@
 use mathlib.Core.Path.{_∙_}
 use Prim.Native.Nat.{_-_}
 use Rattle.definitions.specs.Record.{decode}
-use Rattle.agreement.specs.Cut.{eligibleNow}
+use Rattle.laws.specs.Cut.{eligibleNow}
 use Rattle.selection.proofs.Waiting.{count-waiting}
 use Rattle.selection.specs.Bracket.{Bracket}
 use Rattle.selection.proofs.queue_cut.Bracket.{bracket-hit, bracket-low, bracket-high, bracket-done}

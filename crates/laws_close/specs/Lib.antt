@@ -1,0 +1,2 @@
+-- What the laws of the amounts speak of.
+pub mod Nine

@@ -1,0 +1,2 @@
+-- Where reading a file stops.
+pub mod Stopped
