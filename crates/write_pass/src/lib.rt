@@ -1,27 +1,26 @@
 // The closing registry and the amounts (R-4) in one pass over the opening one. A validator's nine numbers are booked after its turn, from its
-// opening and closing numbers and the rates that its turn found: no step before rewards writes what they read but the score, which is the
-// closing one, and what slashing took is what the balance after the four pairs is above the closing one.
+// opening and closing numbers and the pairs by which its turn paid it: no step before rewards writes what they read but the score, which is
+// the closing one, and what slashing took is what the balance after the four pairs is above the closing one.
 ghost use mathlib.Core.Path.{_≡_};
 ghost use mathlib.Core.List.{[], _∷_, _++_};
 ghost use Prim.Native.Nat.{_+_, _-_, _*_, _/_, _^_, _≤_, _<_};
-ghost use lib.ListN.{length, getD};
+ghost use lib.ListN.{length};
 ghost use Rattle.definitions.specs.Record.{decodeOne, decode};
 ghost use Rattle.definitions_close.specs.Amounts.{booked};
 ghost use Rattle.laws.specs.Ran.{Ran};
 ghost use Rattle.rates.specs.Balances.{four};
-ghost use Rattle.rates.specs.Rated.{Fits as FitsRates};
 ghost use Rattle.write_turn.specs.Sweep.{sweep, dropped};
 ghost use Rattle.write_turn.specs.Planned.{Planned};
-ghost use Rattle.write_turn.specs.Written.{RatesFor, writtenWith};
-ghost use Rattle.write_pass.specs.Filled.{Gives, BooksPair, left, Fits, nineBy, Between, PutAt, Fills};
+ghost use Rattle.write_turn.specs.Written.{AnswerFor, TableFor, writtenWith};
+ghost use Rattle.write_pass.specs.Filled.{Opens, BooksPair, left, Fits, nineBy, Between, PutAt, Fills, PairOf};
 use definitions::BALANCE;
 use definitions::Deltas;
+use definitions::EFFECTIVE_BALANCE;
+use definitions::EXIT_EPOCH;
 use definitions::ExitQueue;
-use definitions::INACTIVITY_SCORE;
 use definitions::Settings;
-use rates::Rates;
-use rates::no_memo;
-use rates::pairs_by;
+use exit_queue::exited;
+use rates::rates_in;
 use rates::reward_balances::Pairs;
 use rates::reward_balances::PairsAnswer;
 use write_turn::Course;
@@ -34,34 +33,11 @@ struct Booking {
     left: u64,
 }
 
-// By the closing score. Of an accepted close the answer is a value.
-fn pairs_of(s: Settings, p: Plan, rates: Rates, score: u64, entry: &[u64]) -> Pairs
-    requires { ⌜ Planned s p ⌝ }
-    requires { ⌜ length (now entry) ≡ 10 ⌝ }
-    requires { ⌜ FitsRates s (p .shared) (p .source) (p .target) (p .head) rates ⌝ }
-    requires { ⌜ rates .«effective_balance» ≡ getD (now entry) 0 0 ⌝ }
-    ensures { λ r. ⌜ Gives s p score (decodeOne (now (entry .entry))) r ⌝ }
+// Of an accepted close the answer is a value, but at the genesis epoch.
+fn pairs_of(answer: PairsAnswer) -> Pairs
+    ensures { λ r. ⌜ Opens answer r ⌝ }
 {
-    let product = p.product;
-    let PairsAnswer::Value(pairs) = pairs_by(
-        s,
-        p.shared,
-        p.source,
-        p.target,
-        p.head,
-        rates.source_reward,
-        rates.source_penalty,
-        rates.target_reward,
-        rates.target_penalty,
-        rates.head_reward,
-        rates.head_penalty,
-        rates.effective_balance,
-        rates.most_score,
-        p.quotient,
-        product,
-        score,
-        entry,
-    ) else {
+    let PairsAnswer::Value(pairs) = answer else {
         let none = Deltas {
             reward: 0,
             penalty: 0,
@@ -149,9 +125,9 @@ pub fn put_amounts(r: Pairs, balance: u64, closing_balance: u64, nine: &mut [u64
     )
 }
 
-fn fill_entry(s: Settings, p: Plan, rates: Rates, from: &[u64], to: &[u64], nine: &mut [u64])
+fn fill_entry(s: Settings, p: Plan, answer: PairsAnswer, from: &[u64], to: &[u64], nine: &mut [u64])
     requires { ⌜ Planned s p ⌝ }
-    requires { ⌜ RatesFor s p (getD (now from) 0 0) rates ⌝ }
+    requires { ⌜ AnswerFor s p (decodeOne (now from)) answer ⌝ }
     requires { ⌜ (length (now from) ≡ 10) × (length (now to) ≡ 10) × (length (now nine) ≡ 9) ⌝ }
     requires { ⌜ Between s p (decodeOne (now from)) (decodeOne (now to)) ⌝ }
     ensures { λ _. ⌜ now (nine .exit) ≡ nineBy s p (decodeOne (now (from .entry))) (decodeOne (now (to .entry))) ⌝ }
@@ -161,7 +137,7 @@ fn fill_entry(s: Settings, p: Plan, rates: Rates, from: &[u64], to: &[u64], nine
         put_nine(0, 0, 0, 0, 0, 0, 0, 0, from[BALANCE] - to[BALANCE], nine);
         return;
     }
-    let pairs = pairs_of(s, p, rates, to[INACTIVITY_SCORE], from);
+    let pairs = pairs_of(answer);
     put_amounts(pairs, from[BALANCE], to[BALANCE], nine)
 }
 
@@ -169,14 +145,14 @@ fn fill_entry(s: Settings, p: Plan, rates: Rates, from: &[u64], to: &[u64], nine
 fn book_entry(
     s: Settings,
     p: Plan,
-    rates: Rates,
+    answer: PairsAnswer,
     i: usize,
     from: &[u64],
     to: &[u64],
     amounts: &mut [u64],
 )
     requires { ⌜ Planned s p ⌝ }
-    requires { ⌜ RatesFor s p (getD (now from) 0 0) rates ⌝ }
+    requires { ⌜ AnswerFor s p (decodeOne (now from)) answer ⌝ }
     requires { ⌜ (length (now from) ≡ 10) × (length (now to) ≡ 10) × (10 * i < 1152921504606846976) ⌝ }
     requires { ⌜ Between s p (decodeOne (now from)) (decodeOne (now to)) ⌝ }
     ensures { λ _. ⌜ PutAt i (nineBy s p (decodeOne (now (from .entry))) (decodeOne (now (to .entry)))) (now (amounts .entry)) (now (amounts .exit)) ⌝ }
@@ -186,10 +162,69 @@ fn book_entry(
     if amounts.len() < b {
         return;
     }
-    fill_entry(s, p, rates, from, to, &mut amounts[a..b])
+    fill_entry(s, p, answer, from, to, &mut amounts[a..b])
+}
+
+// 0 or a refusal's number, and where it is 0 the exit queue's pair of the closing registry: every closing exit epoch joins it as it is written,
+// so that no pass over the closing registry follows.
+pub struct Wrote {
+    pub refusal: u64,
+    pub queue: ExitQueue,
 }
 
 // From the exit queue's pair and the cut's quota. It stops at the first refusal, and the caller puts the opening back.
+fn write_by(
+    s: Settings,
+    p: Plan,
+    t: Course,
+    first: ExitQueue,
+    quota: u64,
+    opening: &[u64],
+    closing: &mut [u64],
+    amounts: &mut [u64],
+    table: &mut [u64],
+) -> Wrote
+    requires { ⌜ Planned s p ⌝ }
+    requires { ⌜ TableFor s p (now table) ⌝ }
+    requires { ⌜ (length (now opening) ≡ 10 * (length (now opening) / 10)) × (length (now closing) ≡ length (now opening)) ⌝ }
+    requires { ⌜ (p .shared .«current_epoch» < 2 ^ 48) × (first .number ≤ length (now opening)) ⌝ }
+    ensures { λ r. ⌜ Ran (dropped (sweep (writtenWith s p t) (first, quota) (decode (now (opening .entry))))) (now (closing .exit)) (r .refusal) ⌝ }
+    ensures { λ r. ⌜ Fills s p (now (opening .entry)) (now (closing .exit)) (now (amounts .entry)) (now (amounts .exit)) (r .refusal) ⌝ }
+    ensures { λ r. ⌜ PairOf (now (closing .exit)) (r .refusal) (r .queue) ⌝ }
+{
+    let n = opening.len() / 10;
+    let mut queue = first;
+    let mut left = quota;
+    let mut pair = ExitQueue {
+        last_epoch: 0,
+        number: 0,
+    };
+    for i in 0..n {
+        let a = 10 * i;
+        let b = a + 10;
+        let balance = opening[10 * i + EFFECTIVE_BALANCE];
+        let rates = rates_in(s, p.shared, p.source, p.target, p.head, balance, table);
+        let from = &opening[a..b];
+        let written = write_entry(s, p, t, queue, left, rates, from, &mut closing[a..b]);
+        let refusal = written.refusal;
+        if refusal != 0 {
+            return Wrote {
+                refusal: refusal,
+                queue: pair,
+            };
+        }
+        queue = written.queue;
+        left = written.left;
+        let answer = written.answer;
+        book_entry(s, p, answer, i, from, &closing[a..b], amounts);
+        pair = exited(pair, closing[10 * i + EXIT_EPOCH]);
+    }
+    Wrote {
+        refusal: 0,
+        queue: pair,
+    }
+}
+
 pub fn write_all(
     s: Settings,
     p: Plan,
@@ -199,31 +234,24 @@ pub fn write_all(
     opening: &[u64],
     closing: &mut [u64],
     amounts: &mut [u64],
-) -> u64
+) -> Wrote
     requires { ⌜ Planned s p ⌝ }
     requires { ⌜ (length (now opening) ≡ 10 * (length (now opening) / 10)) × (length (now closing) ≡ length (now opening)) ⌝ }
     requires { ⌜ (p .shared .«current_epoch» < 2 ^ 48) × (first .number ≤ length (now opening)) ⌝ }
-    ensures { λ r. ⌜ Ran (dropped (sweep (writtenWith s p t) (first, quota) (decode (now (opening .entry))))) (now (closing .exit)) r ⌝ }
-    ensures { λ r. ⌜ Fills s p (now (opening .entry)) (now (closing .exit)) (now (amounts .entry)) (now (amounts .exit)) r ⌝ }
+    ensures { λ r. ⌜ Ran (dropped (sweep (writtenWith s p t) (first, quota) (decode (now (opening .entry))))) (now (closing .exit)) (r .refusal) ⌝ }
+    ensures { λ r. ⌜ Fills s p (now (opening .entry)) (now (closing .exit)) (now (amounts .entry)) (now (amounts .exit)) (r .refusal) ⌝ }
+    ensures { λ r. ⌜ PairOf (now (closing .exit)) (r .refusal) (r .queue) ⌝ }
 {
-    let n = opening.len() / 10;
-    let mut queue = first;
-    let mut left = quota;
-    let mut memo = no_memo(s, p.shared, p.source, p.target, p.head);
-    for i in 0..n {
-        let a = 10 * i;
-        let b = a + 10;
-        let from = &opening[a..b];
-        let written = write_entry(s, p, t, queue, left, memo, from, &mut closing[a..b]);
-        let refusal = written.refusal;
-        if refusal != 0 {
-            return refusal;
-        }
-        queue = written.queue;
-        left = written.left;
-        memo = written.memo;
-        let rates = memo.last;
-        book_entry(s, p, rates, i, from, &closing[a..b], amounts);
-    }
-    0
+    let mut table = [0u64; 960];
+    write_by(
+        s,
+        p,
+        t,
+        first,
+        quota,
+        opening,
+        closing,
+        amounts,
+        &mut table[0..960],
+    )
 }

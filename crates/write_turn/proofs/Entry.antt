@@ -1,5 +1,5 @@
 -- What the code's ways through one entry give.
-use mathlib.Core.Path.{_≡_, refl, sym, ap, _∙_}
+use mathlib.Core.Path.{_≡_, refl, sym, ap, subst, _∙_}
 use mathlib.Core.Bool.{Bool, true, false, cond}
 use mathlib.Core.List.{List}
 use Prim.Native.Nat.{ℕ, _+_, _-_, _≤_}
@@ -24,13 +24,15 @@ use Rattle.exit_queue.specs.declared.Turn.{Turn}
 use Rattle.exit_queue.specs.Queue.{moved, lastAfter, numberAfter}
 use Rattle.exit_queue.specs.Turns.{Turns}
 use Rattle.registry.specs.Updates.{turnBy}
-use Rattle.rates.specs.declared.Rates.{Rates}
+use Rattle.rates.specs.declared.reward_balances.PairsAnswer.{PairsAnswer}
+use Rattle.rates.specs.Balances.{SaysPairs, fourOf}
+use Rattle.rewards.specs.Shared.{totalsOf}
 use Rattle.write_turn.specs.Runs.{Runs}
 use Rattle.write_turn.specs.Steps.{Steps}
 use Rattle.write_turn.proofs.Sweeps.Steps.{steps-value, steps-refused}
 use Rattle.write_turn.specs.declared.Plan.{Plan}
-use Rattle.write_turn.specs.Planned.{paidBy}
-use Rattle.write_turn.specs.Written.{RatesFor, payOf, turnWith, admitWith}
+use Rattle.write_turn.specs.Planned.{scoredBy, paidBy}
+use Rattle.write_turn.specs.Written.{AnswerFor, payOf, turnWith, admitWith}
 
 -- at the genesis epoch, and later
 module _ (s : Settings) (p : Plan) {before : List ℕ} where
@@ -44,8 +46,9 @@ module _ (s : Settings) (p : Plan) {before : List ℕ} where
       let e : payOf s p (decodeOne before) ≡ paidBy s p (decodeOne before) = rw (ne-eqb _ _ n) in
       record { code = h .code ∙ ap codeOf (sym e); held = λ v q. h .held v (sym e ∙ q) }
 
-pub rates-none : (s : Settings) (p : Plan) {balance : ℕ} {rates : Rates} → p .shared .«current_epoch» ≡ 0 → RatesFor s p balance rates
-rates-none s p z = record { fits = λ n. absurd (n z); same = λ n. absurd (n z) }
+-- the pairs of what a score's turn left
+pub answer-scored : (s : Settings) (p : Plan) {before after : List ℕ} {r : ℕ} {answer : PairsAnswer} → Runs (scoredBy s p) before after r → SaysPairs (fourOf s (p .quotient) (p .shared .«current_epoch») (p .shared .«previous_epoch») (totalsOf (p .shared) (p .source)) (totalsOf (p .shared) (p .target)) (totalsOf (p .shared) (p .head)) (decodeOne after)) answer → AnswerFor s p (decodeOne before) answer
+answer-scored s p {answer = answer} h k = record { says = λ n x e. subst (λ (v : Validator). SaysPairs (fourOf s (p .quotient) (p .shared .«current_epoch») (p .shared .«previous_epoch») (totalsOf (p .shared) (p .source)) (totalsOf (p .shared) (p .target)) (totalsOf (p .shared) (p .head)) v) answer) (ap decodeOne (h .held x e)) k }
 
 -- a score's turn leaves the effective balance
 pub balance-scored : (s : Settings) (current previous : ℕ) (leaking : Bool) {before after : List ℕ} {r : ℕ} → Settles (updateInactivityScore s current previous leaking) before after r → getD after 0 0 ≡ getD before 0 0

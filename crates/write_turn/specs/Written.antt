@@ -4,34 +4,40 @@ use mathlib.Core.Bool.{cond}
 use mathlib.Core.List.{List}
 use Prim.Native.Nat.{ℕ, _+_, _-_, _≤_}
 use lib.Dec.{eqb}
-use lib.ListN.{getD}
 use Rattle.definitions.specs.declared.Settings.{Settings}
-use Rattle.definitions.specs.Record.{Validator}
+use Rattle.definitions.specs.Record.{Validator, decodeOne}
 use Rattle.definitions.specs.Checked.{Checked, value, bind}
 use Rattle.laws.specs.Cut.{queuedAt, admitOne}
 use Rattle.definitions.specs.declared.ExitQueue.{ExitQueue}
 use Rattle.exit_queue.specs.Queue.{moved}
 use Rattle.registry.specs.Updates.{turnBy}
-use Rattle.rates.specs.declared.Memo.{Memo}
 use Rattle.rates.specs.declared.Rates.{Rates}
-use Rattle.rates.specs.Rated.{MemoOf, Fits}
+use Rattle.rates.specs.declared.reward_balances.PairsAnswer.{PairsAnswer}
+use Rattle.rates.specs.Rated.{Fits}
+use Rattle.rates.specs.Table.{TableOf}
+use Rattle.rates.specs.Balances.{SaysPairs, fourOf}
+use Rattle.rewards.specs.Shared.{totalsOf}
 use Rattle.write_turn.specs.Runs.{Runs}
 use Rattle.write_turn.specs.Sweep.{Turning, after, first, last}
 use Rattle.write_turn.specs.Steps.{Steps}
 use Rattle.write_turn.specs.declared.Plan.{Plan}
-use Rattle.write_turn.specs.Planned.{paidBy, lastBy}
+use Rattle.write_turn.specs.Planned.{scoredBy, paidBy, lastBy}
 use Rattle.write_turn.specs.declared.Course.{Course}
 use Rattle.write_turn.specs.declared.Paid.{Paid}
 use Rattle.write_turn.specs.declared.Moved.{Moved}
 use Rattle.write_turn.specs.declared.Written.{Written}
 
-abbrev pub MemoFor : Settings → Plan → Memo → Type 0
-MemoFor s p m = MemoOf s (p .shared) (p .source) (p .target) (p .head) m
+abbrev pub TableFor : Settings → Plan → List ℕ → Type 0
+TableFor s p xs = TableOf s (p .shared) (p .source) (p .target) (p .head) xs
 
--- those of this effective balance, by which rewards are worked out but at the genesis epoch
+-- those of this effective balance
 pub record RatesFor (s : Settings) (p : Plan) (balance : ℕ) (rates : Rates) : Type 0 where
-  pub fits : (p .shared .«current_epoch» ≡ 0 → ⊥) → Fits s (p .shared) (p .source) (p .target) (p .head) rates
-  pub same : (p .shared .«current_epoch» ≡ 0 → ⊥) → rates .«effective_balance» ≡ balance
+  pub fits : Fits s (p .shared) (p .source) (p .target) (p .head) rates
+  pub same : rates .«effective_balance» ≡ balance
+
+-- the four pairs of the validator v once its score is moved, by which rewards are worked out but at the genesis epoch
+pub record AnswerFor (s : Settings) (p : Plan) (v : Validator) (r : PairsAnswer) : Type 0 where
+  pub says : (p .shared .«current_epoch» ≡ 0 → ⊥) → (scored : Validator) → scoredBy s p v ≡ value scored → SaysPairs (fourOf s (p .quotient) (p .shared .«current_epoch») (p .shared .«previous_epoch») (totalsOf (p .shared) (p .source)) (totalsOf (p .shared) (p .target)) (totalsOf (p .shared) (p .head)) scored) r
 
 -- scores and rewards, but at the genesis epoch
 abbrev pub payOf : Settings → Plan → Validator → Checked Validator
@@ -56,8 +62,7 @@ writtenWith s p t = first (payOf s p) (last (moveWith s (p .shared .«current_ep
 
 pub record Pays (s : Settings) (p : Plan) (before after : List ℕ) (r : Paid) : Type 0 where
   pub runs : Runs (payOf s p) before after (r .refusal)
-  pub memo : MemoFor s p (r .memo)
-  pub rates : r .refusal ≡ 0 → RatesFor s p (getD before 0 0) (r .memo .last)
+  pub answer : r .refusal ≡ 0 → AnswerFor s p (decodeOne before) (r .answer)
 
 pub record Moves (s : Settings) (epoch : ℕ) (t : Course) (q : ExitQueue) (left : ℕ) (before after : List ℕ) (r : Moved) : Type 0 where
   pub steps : Steps (moveWith s epoch t) (q, left) before after (r .refusal) (r .queue, r .left)
@@ -66,5 +71,4 @@ pub record Moves (s : Settings) (epoch : ℕ) (t : Course) (q : ExitQueue) (left
 pub record Writes (s : Settings) (p : Plan) (t : Course) (q : ExitQueue) (left : ℕ) (before after : List ℕ) (r : Written) : Type 0 where
   pub steps : Steps (writtenWith s p t) (q, left) before after (r .refusal) (r .queue, r .left)
   pub few : r .queue .number ≤ q .number + 1
-  pub memo : MemoFor s p (r .memo)
-  pub rates : r .refusal ≡ 0 → RatesFor s p (getD before 0 0) (r .memo .last)
+  pub answer : r .refusal ≡ 0 → AnswerFor s p (decodeOne before) (r .answer)
