@@ -1,5 +1,5 @@
 -- Bellatrix's text is Altair's with the pair in place of the Altair two: all else that either reads of the settings is the same.
-use mathlib.Core.Path.{_≡_, refl}
+use mathlib.Core.Path.{_≡_, refl, _∙_}
 use mathlib.Core.Bool.{Bool, true, false, cond}
 use mathlib.Core.List.{List}
 use Prim.Native.Nat.{ℕ}
@@ -51,11 +51,16 @@ module _ (s : Settings) (b : Bellatrix) where
   unfolding phase0.«process_slashings_reset» phase0.resetSlashings «get_current_epoch» «compute_epoch_at_slot»
   slashings-reset st = refl
 
+  -- Bellatrix's rewards step is Altair's with its quotient
+  own-rewards : (st : BeaconState) → bellatrix.«process_rewards_and_penalties» s b st ≡ altair.«process_rewards_and_penalties» s (b .«inactivity_penalty_quotient_bellatrix») st
+  unfolding bellatrix.«process_rewards_and_penalties» bellatrix.«get_inactivity_penalty_deltas» altair.«process_rewards_and_penalties»
+  own-rewards st = refl
+
   steps : (st : BeaconState) (k : Step) → bellatrixStep s b st k ≡ documentStep (inPlace b s) st k
-  unfolding bellatrix.«process_rewards_and_penalties» bellatrix.«process_slashings»
+  unfolding bellatrix.«process_slashings»
   steps st justificationStep = justification st
   steps st inactivityStep = inactivity st
-  steps st rewardsStep = rewards _ st
+  steps st rewardsStep = own-rewards st ∙ rewards _ st
   steps st registryStep = registry st
   steps st slashingsStep = slashings _ st
   steps st effectiveBalancesStep = effective-balances st
@@ -63,8 +68,8 @@ module _ (s : Settings) (b : Bellatrix) where
   steps st participationFlagsStep = refl
 
   epoch : (st : BeaconState) → bellatrix.«process_epoch» s b st ≡ altair.«process_epoch» (inPlace b s) st
-  unfolding bellatrix.«process_epoch» bellatrix.«process_rewards_and_penalties» bellatrix.«process_slashings» altair.«process_epoch»
-  epoch st = simp (justification, inactivity, rewards, registry, slashings, effective-balances, slashings-reset)
+  unfolding bellatrix.«process_epoch» bellatrix.«process_slashings» altair.«process_epoch»
+  epoch st = simp (own-rewards, justification, inactivity, rewards, registry, slashings, effective-balances, slashings-reset)
 
   pub in-place : InPlace s b
   unfolding bellatrix.«get_inactivity_penalty_deltas»

@@ -22,11 +22,18 @@ fn output() -> [u8; LONGEST_LISTING]
     [0; LONGEST_LISTING]
 }
 
+// A program has no exit status: what could not be printed whole is said on standard error.
+pub fn print(text: &[u8]) {
+    if !io::write_all(1, text) {
+        io::write_all(2, b"the text could not be written whole\n");
+    }
+}
+
 // Reads a record file from a descriptor. Nothing is printed before all of the input is read and listed.
 pub fn close_from(fd: i32) {
     let mut bytes = input();
     let n = io::read_full(fd, &mut bytes);
     let mut text = output();
     let end = list_file(&bytes[..n], &mut text);
-    io::write_all(1, &text[..end]);
+    print(&text[..end]);
 }

@@ -3,7 +3,7 @@ use definitions_file::LONGEST_OUTAGE;
 
 fn print_outage(bytes: &[u8], text: &mut [u8]) {
     let end = outage::file_outage::try_outage(bytes, text);
-    io::write_all(1, &text[..end]);
+    crate::print(&text[..end]);
 }
 
 // Lent as an array, so that nothing has to be shown of its length, which is that of the longest text.

@@ -4,3 +4,4 @@ pub mod AmountsFigures
 pub mod StoreFigures
 -- A law of the list of orders.
 pub mod Orders
+pub mod OrderFigures

@@ -2,3 +2,5 @@
 pub mod ChangeFigures
 -- The figures of a tried outage.
 pub mod OutageFigures
+-- What is printed, and where reading stops.
+pub mod FileFigures

@@ -1,5 +1,6 @@
 -- Figures of a tried outage, by computing: what comes before a close, and the text. A record of two validators, in epochs of 8 slots, with 16
 -- roots, at slot 31.
+use mathlib.Core.Bool.{true}
 use mathlib.Core.List.{List, [], _∷_, _++_, map}
 use mathlib.Core.Path.{_≡_, refl}
 use Prim.Native.Nat.{ℕ, _+_, _*_, _-_, _^_}
@@ -14,7 +15,7 @@ use Rattle.definitions.specs.Document.Phase0.Helpers.{«compute_epoch_at_slot»
 use Rattle.definitions_file.specs.Decimal.{digits, decimal, signedDecimal}
 use Rattle.definitions.specs.NetChange.{fitsSigned, netChange, changeTests}
 use Rattle.definitions_file.specs.Lines.{ascii, lines}
-use Rattle.definitions_file.specs.OutageInput.{Plan, planOf, goodTail}
+use Rattle.definitions_file.specs.OutageInput.{Plan, planOf, planFrom, epochsIn, goodTail}
 use Rattle.definitions_file.specs.OutagePreparation.{lastSlotOfNext, putRoots, flagsAt, withFlags, withSlot, prepared}
 use Rattle.definitions_file.specs.OutageRun.{runOf}
 use Rattle.definitions_file.specs.Outage.{linesText, runText, textOf, outage}
@@ -43,6 +44,10 @@ plan = planOf (replicate 32 9) (4 ∷ 4 ∷ 3 ∷ 3 ∷ [])
 abbrev currentFlags : Contents → List ℕ
 currentFlags c = map (λ (v : Validator). v .«current_epoch_participation») (decode (c .registry))
 
+-- what stands behind a file of one validator: 3 epochs, a root of the bytes 101 to 132, away from epoch 5 to 6
+abbrev tail : List ℕ
+tail = (3 ∷ replicate 7 0) ++ (range 101 32 ++ ((5 ∷ replicate 7 0) ++ (6 ∷ replicate 7 0)))
+
 -- the first byte of each root
 abbrev firstBytes : Contents → List ℕ
 firstBytes c = map (λ i. getD (c .roots) (32 * i) 0) (range 0 16)
@@ -56,6 +61,11 @@ pub record Figures : Type 0 where
   pub first-and-last : map (λ epoch. flagsAt epoch 5 6) (4 ∷ 5 ∷ 6 ∷ 7 ∷ []) ≡ 7 ∷ 0 ∷ 0 ∷ 7 ∷ []
   -- "first above last means never"
   pub never : flagsAt 5 6 5 ≡ 7
+  -- epochs, root and absences where they stand in the input; a root's bytes where they stand among the roots
+  pub epochs : epochsIn tail ≡ 3
+  pub root-and-absence : planFrom 1 tail ≡ planOf (range 101 32) (5 ∷ 6 ∷ [])
+  pub whole-tail : goodTail 1 tail ≡ true
+  pub root-at : putRoots 3 (range 101 32) (replicate 96 0) 4 1 ≡ replicate 32 0 ++ (range 101 32 ++ replicate 32 0)
   -- "with the file's balances as opening"
   pub opening : runText (withRegistry (holding 5)) (runOf 0 [] (withRegistry (holding 7))) ≡ ascii "0 5 7 1 0 2\n"
   -- head lines of earlier closes stand, then the refusal
@@ -75,6 +85,10 @@ figures =
       roots = refl;
       first-and-last = refl;
       never = refl;
+      epochs = refl;
+      root-and-absence = refl;
+      whole-tail = refl;
+      root-at = refl;
       opening = refl;
       half-way = refl;
       seven = refl;

@@ -7,7 +7,7 @@ use Rattle.definitions.specs.declared.Settings.{Settings}
 use Rattle.definitions.specs.declared.Finality.{Finality}
 use Rattle.definitions.specs.Record.{decode, nobody}
 use Rattle.definitions.specs.Checked.{Checked, value, refused, numberOf, bind}
-use Rattle.definitions.specs.Refusals.{inOrder, settingsShaped, registryShaped, sameLength, isSmall, goodSettings, goodFinality, goodRegistry, afterTests}
+use Rattle.definitions.specs.Refusals.{inOrder, settingsShaped, registryShaped, sameLength, isSmall, goodSettings, goodFinality, goodValidator, goodRegistry, afterTests}
 use Rattle.definitions.specs.LeafRefusals.{isIndex}
 use Rattle.definitions.specs.Document.Phase0.Helpers.{«get_current_epoch»}
 use Rattle.definitions.specs.Raised.{noneRaised, raisedTotals}
@@ -48,8 +48,12 @@ headOf s stateSlot closing opening =
 
 -- The line of one validator
 
+-- test 3 is asked of the validator that the line is of, in either registry: of all of them, a listing would take N passes
 unfoldable pub lineTests : List ℕ → List ℕ → ℕ → Checked (Unit {0})
-lineTests opening closing index = inOrder (registryShaped opening ∷ sameLength opening closing ∷ isIndex index opening ∷ []) [] []
+lineTests opening closing index =
+    let before = getD (decode opening) index nobody in
+    let after = getD (decode closing) index nobody in
+    inOrder (registryShaped opening ∷ sameLength opening closing ∷ isIndex index opening ∷ []) [] (goodValidator before ∷ goodValidator after ∷ [])
 
 abbrev pub lineNumbers : List ℕ → List ℕ → ℕ → ℤ → Line
 lineNumbers opening closing index change =
@@ -81,7 +85,7 @@ abbrev pub lineFor : Checked Line → Line
 lineFor (value l) = l
 lineFor (refused r) = noLine (numberOf r)
 
--- 1, then 7 where the validator's net change does not fit
+-- 1, 3, then 7 where the validator's net change does not fit
 abbrev pub lineOf : List ℕ → List ℕ → ℕ → Line
 lineOf opening closing index =
     let before = getD (decode opening) index nobody in

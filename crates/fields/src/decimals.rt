@@ -38,14 +38,15 @@ pub fn put_labelled(text: &mut [u8], at: usize, label: &[u8], n: u64) -> usize
     put_decimal(text, at + label.len(), n)
 }
 
-// A blank, and closing minus opening behind it.
-pub fn put_change(text: &mut [u8], at: usize, opening: u64, closing: u64) -> usize
+// A blank, and a signed number behind it: -1 - change is no loss of the least number, whose magnitude does not fit.
+pub fn put_change(text: &mut [u8], at: usize, change: i64) -> usize
     requires { ⌜ at + 22 ≤ length (now text) ⌝ }
-    ensures { λ r. ⌜ Put (now (text .entry)) at (32 ∷ signedDecimal (subℕ closing opening)) (now (text .exit)) r ⌝ }
+    ensures { λ r. ⌜ Put (now (text .entry)) at (32 ∷ signedDecimal change) (now (text .exit)) r ⌝ }
     ensures { λ r. ⌜ r ≤ at + 22 ⌝ }
 {
-    if opening <= closing {
-        return put_labelled(text, at, b" ", closing - opening);
+    if change < 0 {
+        let less = (-1 - change) as u64;
+        return put_labelled(text, at, b" -", less + 1);
     }
-    put_labelled(text, at, b" -", opening - closing)
+    put_labelled(text, at, b" ", change as u64)
 }

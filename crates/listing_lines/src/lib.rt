@@ -6,7 +6,7 @@ ghost use Rattle.definitions.specs.Record.{decode};
 ghost use Rattle.definitions.specs.Checked.{codeOf};
 ghost use Rattle.definitions.specs.NetChange.{changeTests};
 ghost use Rattle.definitions_file.specs.ListingAnswers.{headTests, headNumbers, headOf, lineTests, lineFor, lineOf};
-ghost use Rattle.listing_lines.specs.Told.{lineTold};
+ghost use Rattle.listing_lines.specs.Told.{lineShaped, lineTold};
 
 pub mod numbers;
 pub mod text;
@@ -20,6 +20,7 @@ use definitions_file::Line;
 use epochs::current_epoch;
 use numbers::no_head;
 use numbers::no_line;
+use refusals::good_entry;
 use refusals::good_finality;
 use refusals::good_registry;
 use refusals::good_settings;
@@ -102,8 +103,8 @@ fn line_core(opening: &[u64], closing: &[u64], index: u64) -> Line
     }
 }
 
-fn line_tests(opening: &[u64], closing: &[u64], index: u64) -> u64
-    ensures { λ r. ⌜ r ≡ codeOf (lineTests (now (opening .entry)) (now (closing .entry)) index) ⌝ }
+fn line_shaped(opening: &[u64], closing: &[u64], index: u64) -> u64
+    ensures { λ r. ⌜ r ≡ codeOf (lineShaped (now (opening .entry)) (now (closing .entry)) index) ⌝ }
 {
     in_order(
         &[
@@ -114,6 +115,25 @@ fn line_tests(opening: &[u64], closing: &[u64], index: u64) -> u64
         &[],
         &[],
     )
+}
+
+// Of the two registries nothing but the validator's own numbers is looked at.
+fn line_tests(opening: &[u64], closing: &[u64], index: u64) -> u64
+    ensures { λ r. ⌜ r ≡ codeOf (lineTests (now (opening .entry)) (now (closing .entry)) index) ⌝ }
+{
+    let shaped = line_shaped(opening, closing, index);
+    if shaped != 0 {
+        return shaped;
+    }
+    let a = 10 * (index as usize);
+    let b = a + 10;
+    if !good_entry(&opening[a..b]) {
+        return 3;
+    }
+    if !good_entry(&closing[a..b]) {
+        return 3;
+    }
+    0
 }
 
 // Of the validator's ten numbers in either registry.

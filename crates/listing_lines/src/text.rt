@@ -3,12 +3,17 @@ ghost use mathlib.Core.Path.{_≡_};
 ghost use mathlib.Core.Bool.{true};
 ghost use mathlib.Core.List.{[], _∷_};
 ghost use Prim.Native.Nat.{_+_, _*_, _/_, _≤_};
+ghost use lib.IntN.{subℕ};
 ghost use lib.ListN.{length};
 ghost use Rattle.definitions.specs.Record.{decode};
+ghost use Rattle.definitions.specs.Checked.{codeOf};
+ghost use Rattle.definitions.specs.NetChange.{changeTests};
 ghost use Rattle.definitions.specs.Refusals.{registryShaped};
 ghost use Rattle.fields.specs.Put.{Put};
 ghost use Rattle.definitions_file.specs.Lines.{row, raisedFigures, headLine, validatorLine, lines, refusedLine};
 ghost use Rattle.listing_lines.specs.Sizes.{longestHead, longestLine, longestRefused};
+use arithmetic::signed::net_change;
+use definitions::Change;
 use definitions::Raised;
 use definitions_file::Head;
 use fields::decimals::put_change;
@@ -87,7 +92,7 @@ pub fn put_head(text: &mut [u8], at: usize, h: Head) -> usize
     put_end(text, end)
 }
 
-// One validator's line, of its numbers in either registry.
+// One validator's line, of its numbers in either registry and its net change.
 fn put_line(
     text: &mut [u8],
     at: usize,
@@ -96,8 +101,9 @@ fn put_line(
     closing: u64,
     effective: u64,
     score: u64,
+    change: i64,
 ) -> usize
-    requires { ⌜ at + longestLine ≤ length (now text) ⌝ }
+    requires { ⌜ (at + longestLine ≤ length (now text)) × (change ≡ subℕ closing opening) ⌝ }
     ensures { λ r. ⌜ Put (now (text .entry)) at (validatorLine index opening closing effective score) (now (text .exit)) r ⌝ }
     ensures { λ r. ⌜ r ≤ at + longestLine ⌝ }
 {
@@ -115,14 +121,15 @@ fn put_line(
         b" ",
         score,
     );
-    let end = put_change(text, row, opening, closing);
+    let end = put_change(text, row, change);
     put_end(text, end)
 }
 
-// A line for each validator.
+// A line for each validator. Every net change fits, so that none is left out.
 pub fn put_lines(text: &mut [u8], at: usize, opening: &[u64], closing: &[u64]) -> usize
     requires { ⌜ (registryShaped (now opening) ≡ true) × (length (now closing) ≡ length (now opening)) ⌝ }
     requires { ⌜ at + longestLine * (length (now opening) / 10) ≤ length (now text) ⌝ }
+    requires { ⌜ codeOf (changeTests (decode (now opening)) (decode (now closing))) ≡ 0 ⌝ }
     ensures { λ r. ⌜ Put (now (text .entry)) at (lines 0 (decode (now (opening .entry))) (decode (now (closing .entry)))) (now (text .exit)) r ⌝ }
     ensures { λ r. ⌜ r ≤ length (now (text .entry)) ⌝ }
 {
@@ -132,14 +139,20 @@ pub fn put_lines(text: &mut [u8], at: usize, opening: &[u64], closing: &[u64]) -
         let a = 10 * i;
         let balance_at = a + 6;
         let score_at = a + 9;
+        let before = opening[balance_at];
+        let after = closing[balance_at];
+        let Change::Value(change) = net_change(before, after) else {
+            return end;
+        };
         end = put_line(
             text,
             end,
             i as u64,
-            opening[balance_at],
-            closing[balance_at],
+            before,
+            after,
             closing[a],
             closing[score_at],
+            change,
         );
     }
     end

@@ -3,7 +3,7 @@ use mathlib.Core.Path.{_≡_}
 use mathlib.Core.Bool.{Bool, cond}
 use mathlib.Core.List.{List, map}
 use Prim.Native.Nat.{ℕ}
-use Rattle.definitions.specs.Checked.{Checked, value, refused, numberOf, bind, add64, sum64}
+use Rattle.definitions.specs.Checked.{Checked, value, refused, numberOf, overflow, bind, add64, sum64}
 use Rattle.definitions.specs.Record.{Validator}
 use Rattle.definitions.specs.Rust.Phase0.Helpers.{«is_active_validator»}
 use Rattle.definitions.specs.Rust.Altair.Helpers.{isUnslashedParticipating}
@@ -63,4 +63,5 @@ pub record PlainSums (current previous : ℕ) (marks : List ℕ) (vs : List Vali
 -- the answer of the pass: the sums, or refused where there are none
 pub record Counted (current previous : ℕ) (marks : List ℕ) (vs : List Validator) (r : VoteSumsAnswer) : Type 0 where
   pub given : (t : VoteSums) → r ≡ Value t → PlainSums current previous marks vs t
+  pub number : (q : ℕ) → r ≡ Refused q → q ≡ numberOf overflow
   pub over : (q : ℕ) → r ≡ Refused q → (t : VoteSums) → PlainSums current previous marks vs t → ⊥

@@ -70,7 +70,7 @@ module _ {s : Settings} {slot fin : ℕ} {t : Totals} {ys : List ℕ} where
   pub plan-made : {leaking : Bool} → leakOf s slot fin ≡ value leaking → {adjusted : ℕ} → adjustedBalance (s .«proportional_slashing_multiplier_altair») (t .active) ys ≡ value adjusted → {thresholds : Thresholds} → thresholdsOf s ≡ value thresholds → {p : Plan} → Makes s («get_current_epoch» s slot) («get_previous_epoch» s slot) leaking t adjusted (thresholds .downward) (thresholds .upward) p → Plans s slot fin t ys (Value p)
   plan-made {leaking} l {adjusted} a {thresholds} h {p} m =
       let by : PlanFor s slot fin t ys p = record { leaking = leaking; adjusted = adjusted; thresholds = thresholds; leak = l; times = a; limits = h; makes = m } in
-      record { given = λ r e. subst (λ (k : Plan). PlanFor s slot fin t ys k) (cc) by; none = λ q e. absurd (let z : _≡_ {A = ℕ} 0 1 = cc in omega arith) }
+      record { given = λ r e. subst (λ (k : Plan). PlanFor s slot fin t ys k) (cc) by; number = λ q e. absurd (let z : _≡_ {A = ℕ} 0 1 = cc in omega arith); none = λ q e. absurd (let z : _≡_ {A = ℕ} 0 1 = cc in omega arith) }
 
-  pub plan-lacks : {q : ℕ} → Lacks s slot fin t ys → Plans s slot fin t ys (Refused q)
-  plan-lacks h = record { given = λ r e. absurd (let z : _≡_ {A = ℕ} 0 1 = cc in omega arith); none = λ q e. h }
+  pub plan-lacks : Lacks s slot fin t ys → Plans s slot fin t ys (Refused 5)
+  plan-lacks h = record { given = λ r e. absurd (let z : _≡_ {A = ℕ} 0 1 = cc in omega arith); number = λ q e. cc; none = λ q e. h }

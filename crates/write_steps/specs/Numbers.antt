@@ -8,7 +8,7 @@ use lib.ListN.{length}
 use Rattle.definitions.specs.declared.Settings.{Settings}
 use Rattle.definitions.specs.declared.Number.{Number}
 use Rattle.definitions.specs.Record.{Validator, decode}
-use Rattle.definitions.specs.Checked.{Checked, value, refused, overflow}
+use Rattle.definitions.specs.Checked.{Checked, value, refused, numberOf, overflow}
 use Rattle.definitions.specs.Rust.Phase0.Helpers.{«get_current_epoch», «get_previous_epoch», «get_validator_churn_limit»}
 use Rattle.definitions.specs.Rust.Phase0.EpochProcessing.{«is_in_inactivity_leak»}
 use Rattle.laws.specs.Cut.{CutAt, eligibleNow}
@@ -67,6 +67,7 @@ pub data Lacks (s : Settings) (slot finalizedEpoch : ℕ) (t : Totals) (slashing
 
 pub record Plans (s : Settings) (slot finalizedEpoch : ℕ) (t : Totals) (slashings : List ℕ) (r : PlanAnswer) : Type 0 where
   pub given : (p : Plan) → r ≡ Value p → PlanFor s slot finalizedEpoch t slashings p
+  pub number : (q : ℕ) → r ≡ Refused q → q ≡ numberOf overflow
   pub none : (q : ℕ) → r ≡ Refused q → Lacks s slot finalizedEpoch t slashings
 
 -- What the steps ask of the whole registry, found before them

@@ -83,3 +83,12 @@ unfolding netChange
 signed opening closing e =
     let d = subℕ closing opening in
     toZ-ofZ (fits-given (fitsSigned d) d (fits-machine d) e)
+
+-- and it is closing minus opening
+pub difference : (opening closing : ℕ) {z : ℤ} → netChange opening closing ≡ value z → z ≡ subℕ closing opening
+unfolding netChange
+difference opening closing {z} e = go (fitsSigned (subℕ closing opening)) e
+  where
+    go : (fits : Bool) → cond fits (value (subℕ closing opening)) (refused signedOverflow) ≡ value z → z ≡ subℕ closing opening
+    go true f = sym (value-same f)
+    go false f = absurd (not-value f)

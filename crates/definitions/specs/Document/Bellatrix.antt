@@ -1,5 +1,5 @@
--- bellatrix/beacon-chain.md, section Epoch processing: the functions that it changes, with its two numbers, and process_epoch with them. All else
--- is Altair's, as the document says.
+-- bellatrix/beacon-chain.md: the two functions that it changes of what an epoch's steps call, and process_epoch with them. All else is Altair's, as
+-- the document says.
 use mathlib.Core.List.{List}
 use Prim.Native.Nat.{ℕ}
 use Rattle.definitions.specs.declared.Settings.{Settings}
@@ -11,13 +11,19 @@ use Rattle.definitions.specs.Document.Altair.Helpers as altair
 use Rattle.definitions.specs.Document.Altair.EpochProcessing as altair′
 use Rattle.definitions.specs.Document.Altair.EpochProcessing.{«process_justification_and_finalization», «process_inactivity_updates», «process_participation_flag_updates»}
 
+-- Helpers, Beacon state accessors: modified get_inactivity_penalty_deltas
+
 -- penalty_denominator = config.INACTIVITY_SCORE_BIAS * INACTIVITY_PENALTY_QUOTIENT_BELLATRIX
 unfoldable pub «get_inactivity_penalty_deltas» : Settings → Bellatrix → ℕ → List Validator → List Deltas
 «get_inactivity_penalty_deltas» s b stateSlot vs = altair.«get_inactivity_penalty_deltas» s (b .«inactivity_penalty_quotient_bellatrix») stateSlot vs
 
--- Altair's, over these deltas
+-- Epoch processing
+
+-- Altair's text, in which the name get_inactivity_penalty_deltas now means the function above
 unfoldable pub «process_rewards_and_penalties» : Settings → Bellatrix → BeaconState → BeaconState
-«process_rewards_and_penalties» s b st = altair′.«process_rewards_and_penalties» s (b .«inactivity_penalty_quotient_bellatrix») st
+«process_rewards_and_penalties» s b st = altair′.rewardedBy s («get_inactivity_penalty_deltas» s b (st .finality .slot) (st .validators)) st
+
+-- Slashings: modified process_slashings
 
 -- adjusted_total_slashing_balance = min(sum(state.slashings) * PROPORTIONAL_SLASHING_MULTIPLIER_BELLATRIX, total_balance)
 unfoldable pub «process_slashings» : Settings → Bellatrix → BeaconState → BeaconState

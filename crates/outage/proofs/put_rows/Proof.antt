@@ -20,6 +20,12 @@ returns c =
     let p = at-put-refused .put-refused .ensures in
     (rw (or-refused _ (at-changes .changes .ensures) (at-then1 .if1 .taken)) (p .0), omega (arith, p .1, at-start .pre .1))
 
+put-lines-requires : tie.Need-put-lines-requires
+put-lines-requires c κs =
+    let at-else1 : tie.Else1 = search needs in
+    let fits = sym (at-else1 .before .changes .ensures) ∙ at-else1 .if1 .left in
+    (search needs, (search needs, fits))
+
 returns-2 : tie.Need-returns-2
 unfolding linesText
 returns-2 c =
@@ -37,6 +43,6 @@ put-rows-spec =
     (λ c κs. search needs)
     (λ c. search needs)
     returns
-    (λ c κs. search needs)
+    put-lines-requires
     (λ c. search needs)
     returns-2)

@@ -147,7 +147,7 @@ module _ {current previous n : ℕ} {xs marks : List ℕ} {i : ℕ} {t : VoteSum
 -- what the loop returns
 module _ {current previous : ℕ} {marks : List ℕ} {vs : List Validator} where
   pub counted-value : {t : VoteSums} → PlainSums current previous marks vs t → Counted current previous marks vs (Value t)
-  counted-value s = record { given = λ u e. rw (← tells-sums .one-value _ u e) s; over = λ q e u z. tells-sums .apart _ q e }
+  counted-value s = record { given = λ u e. rw (← tells-sums .one-value _ u e) s; number = λ q e. absurd (tells-sums .apart _ q e); over = λ q e u z. tells-sums .apart _ q e }
 
   pub counted-refused : ((t : VoteSums) → PlainSums current previous marks vs t → ⊥) → Counted current previous marks vs (Refused 5)
-  counted-refused n = record { given = λ u e. absurd (tells-sums .apart u 5 (sym e)); over = λ q e t s. n t s }
+  counted-refused n = record { given = λ u e. absurd (tells-sums .apart u 5 (sym e)); number = λ q e. cc; over = λ q e t s. n t s }

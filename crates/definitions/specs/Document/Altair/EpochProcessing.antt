@@ -53,17 +53,19 @@ applyDelta v d = «decrease_balance» («increase_balance» v (d .reward)) (d .p
 unfoldable pub applyDeltas : List Validator → List Deltas → List Validator
 applyDeltas vs ds = zipWith applyDelta vs ds
 
-unfoldable pub «process_rewards_and_penalties» : Settings → ℕ → BeaconState → BeaconState
-«process_rewards_and_penalties» s quotient st =
+-- by the inactivity deltas, which are all that a later fork changes of it
+abbrev pub rewardedBy : Settings → List Deltas → BeaconState → BeaconState
+rewardedBy s inactivity st =
     let stateSlot = st .finality .slot in
     let flagDeltas = «get_flag_index_deltas» s stateSlot (st .finality .«finalized_checkpoint» .epoch) (st .validators) in
-    let inactivity = «get_inactivity_penalty_deltas» s quotient stateSlot (st .validators) in
     let deltas = flagDeltas «TIMELY_SOURCE_FLAG_INDEX» ∷ flagDeltas «TIMELY_TARGET_FLAG_INDEX» ∷ flagDeltas «TIMELY_HEAD_FLAG_INDEX» ∷ inactivity ∷ [] in
     cond (eqb («get_current_epoch» s stateSlot) «GENESIS_EPOCH») st (withValidators (foldl applyDeltas (st .validators) deltas) st)
 
+unfoldable pub «process_rewards_and_penalties» : Settings → ℕ → BeaconState → BeaconState
+«process_rewards_and_penalties» s quotient st = rewardedBy s («get_inactivity_penalty_deltas» s quotient (st .finality .slot) (st .validators)) st
+
 -- Slashings
 
--- `multiplier` is proportional_slashing_multiplier_altair
 unfoldable pub slash : Settings → ℕ → ℕ → ℕ → Validator → Validator
 slash s epoch totalBalance adjustedTotalSlashingBalance v =
     let increment = s .«effective_balance_increment» in
@@ -71,6 +73,7 @@ slash s epoch totalBalance adjustedTotalSlashingBalance v =
     let penalty = penaltyNumerator / totalBalance * increment in
     cond (isSlashed v && eqb (epoch + s .«epochs_per_slashings_vector» / 2) (v .«withdrawable_epoch»)) («decrease_balance» v penalty) v
 
+-- `multiplier` is proportional_slashing_multiplier_altair
 unfoldable pub «process_slashings» : Settings → ℕ → BeaconState → BeaconState
 «process_slashings» s multiplier st =
     let stateSlot = st .finality .slot in

@@ -23,6 +23,12 @@ head-core-requires c κs =
     let at-start : tie.Start = search needs in
     (at-start .pre .0, registry-shaped _ (at-start .pre .1 .0 .0) .long)
 
+put-lines-requires : tie.Need-put-lines-requires
+put-lines-requires c κs =
+    let at-else1 : tie.Else1 = search needs in
+    let fits = sym (at-else1 .before .changes .ensures) ∙ at-else1 .if1 .left in
+    (search needs, (search needs, fits))
+
 returns-2 : tie.Need-returns-2
 returns-2 c =
     let at-put-lines = c .before .before in
@@ -45,6 +51,6 @@ put-close-spec =
     returns
     head-core-requires
     (λ c κs. search needs)
-    (λ c κs. search needs)
+    put-lines-requires
     (λ c. search needs)
     returns-2)
