@@ -8,6 +8,7 @@ pub mod Induction
 pub mod Premises
 pub mod EveryList
 pub mod Queue
+pub mod Wait
 pub mod Steps
 pub mod Registry
 pub mod EightSteps

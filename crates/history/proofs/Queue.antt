@@ -17,12 +17,12 @@ use Rattle.history.proofs.Counting.{howMany, count-same}
 use Rattle.history.proofs.Order.{before}
 
 -- who waits passes the queue's test
-waits-eligible : (f : ℕ) (vs : List Validator) (i : ℕ) → i < length vs → «is_eligible_for_activation» f (getD vs i nobody) ≡ waits f vs i
+pub waits-eligible : (f : ℕ) (vs : List Validator) (i : ℕ) → i < length vs → «is_eligible_for_activation» f (getD vs i nobody) ≡ waits f vs i
 unfolding waits «is_eligible_for_activation»
 waits-eligible f vs i l = rw (lt-ltb i (length vs) l)
 
 -- who is ahead in the step's queue is ahead in the statement's words
-same-ahead : (f : ℕ) (vs : List Validator) (i : ℕ) → queue.ahead f vs i ≡ ahead f vs i
+pub same-ahead : (f : ℕ) (vs : List Validator) (i : ℕ) → queue.ahead f vs i ≡ ahead f vs i
 unfolding queue.ahead ahead howMany
 same-ahead f vs i =
     count-same (λ j. «is_eligible_for_activation» f (getD vs j nobody) && before vs j i) (λ j. waits f vs j && before vs j i) (length vs) (λ j m. ap (λ (b : Bool). b && before vs j i) (waits-eligible f vs j m))

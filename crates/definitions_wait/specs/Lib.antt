@@ -1,0 +1,2 @@
+-- How long a validator waits for activation.
+pub mod Wait
