@@ -1,0 +1,2 @@
+pub mod Consolidating
+mod Closing

@@ -1,0 +1,4 @@
+-- What contracts of the pending deposits cite.
+pub mod Room
+pub mod Written
+pub mod Step

@@ -1,0 +1,19 @@
+use borrow.Author.Needs.{needs}
+use Rattle.definitions_electra.specs.Refusals.{effectiveBalanceTests}
+use Rattle.electra_refusals.proofs.step_tests.effective_balance_tests.Statement.{statement}
+use Rattle.electra_refusals.proofs.step_tests.effective_balance_tests.Tie as tie
+
+returns : tie.Need-returns
+unfolding effectiveBalanceTests
+returns c =
+    let at-settings-shaped : tie.After-settings-shaped = search needs in
+    let at-registry-shaped : tie.After-registry-shaped = search needs in
+    let at-good-electra : tie.After-good-electra = search needs in
+    let at-good-registry : tie.After-good-registry = search needs in
+    let at-good-compounding : tie.After-good-compounding = search needs in
+    rw (at-settings-shaped .settings-shaped .ensures, at-registry-shaped .registry-shaped .ensures, at-good-electra .good-electra .ensures, at-good-registry .good-registry .ensures, at-good-compounding .good-compounding .ensures) at (c .in-order .ensures)
+
+pub effective-balance-tests-spec : {M : Type 1} → statement M
+effective-balance-tests-spec =
+    tie.close
+    (tie.spec (λ c κs. search needs) (λ c κs. search needs) (λ c. search needs) (λ c κs. search needs) (λ c. search needs) (λ c κs. search needs) (λ c κs. search needs) (λ c. search needs) (λ c κs. search needs) returns)

@@ -1,0 +1,2 @@
+-- What contracts of several Electra crates cite.
+pub mod Consolidations

@@ -1,0 +1,1 @@
+// Laws of Electra's definitions that proofs cite: proofs/.

@@ -1,0 +1,3 @@
+-- What is shown of the Electra calls.
+pub mod Calls
+pub mod Leaves
