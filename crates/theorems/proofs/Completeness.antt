@@ -11,6 +11,7 @@ pub mod Delay
 pub mod Steps
 pub mod Kept
 pub mod Close
+pub mod EveryRow
 pub mod Records
 -- The exported calls
 pub mod CloseCalls

@@ -6,4 +6,5 @@ pub mod CloseBySteps
 pub mod ExitCalls
 pub mod Store
 pub mod StoreHistory
+pub mod Shelf
 pub mod Close

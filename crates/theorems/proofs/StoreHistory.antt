@@ -5,3 +5,6 @@ pub mod Demand3
 pub mod ExitEpochs
 pub mod Example
 pub mod OrdersExample
+pub mod Pairs
+pub mod Test
+pub mod Alone

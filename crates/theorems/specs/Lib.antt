@@ -6,3 +6,4 @@ pub mod CloseBySteps
 pub mod ExitCalls
 pub mod Store
 pub mod StoreHistory
+pub mod Shelf

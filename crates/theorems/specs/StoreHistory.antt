@@ -3,3 +3,6 @@ pub mod Steps
 pub mod Demand2
 pub mod Demand3
 pub mod ExitEpochs
+pub mod Pairs
+pub mod Test
+pub mod Alone

@@ -4,14 +4,13 @@ use mathlib.Core.Bool.{Bool}
 use mathlib.Core.List.{List, [], _∷_, map, map-map}
 use Prim.Native.Nat.{ℕ}
 use native.Mathlib.Omega.{arith}
-use lib.Dec.{T, eqb, eqb→eq}
+use lib.Dec.{eqb→eq}
 use Rattle.definitions.specs.declared.FullAnswer.{FullAnswer}
 use Rattle.definitions.specs.Record.{Validator, BeaconState, encode, decode}
 use Rattle.definitions.specs.Updates.{withValidators}
-use Rattle.definitions.specs.Checked.{Checked, value, refused}
 use Rattle.definitions.specs.Close.{Outcome}
 use Rattle.definitions_close.specs.FullClose.{FullCall, settingsOf, fullClose}
-use Rattle.definitions_close.specs.Orders.{Order, ordersIn, carriedOut, NinthCall, NinthOutcome, ninthTests, carriesOut, ninthInTurn, carryOut}
+use Rattle.definitions_close.specs.Orders.{Order, ordersIn, carriedOut, NinthCall, carriesOut}
 use Rattle.laws.proofs.Encode.{decode-encode}
 use Rattle.laws.proofs.Frame.Entries.{told}
 use Rattle.history.specs.Events.{Event}
@@ -21,11 +20,10 @@ use Rattle.history.proofs.Steps.{epochs, Spared, spared-number, spared-eligibil
 use Rattle.history.proofs.EveryList.{claim}
 use Rattle.theorems.specs.FullClose.ByNumber.{plainOutcome}
 use Rattle.theorems.proofs.FullClose.Demand3.{full-shaped}
-use Rattle.theorems.specs.CloseBySteps.Desk.{Desk, ninthCall}
-use Rattle.theorems.specs.CloseBySteps.Demand3.{eighth, AnyClose, wholly, bySteps, closeOf, Demand3BySteps}
-use Rattle.theorems.proofs.CloseBySteps.Turns.{UnderWay, answerSoFar, deskAt, On, waiting, onward, ended}
-use Rattle.theorems.proofs.CloseBySteps.Eight.{stopped-done, onward-gives, eight-on}
-use Rattle.theorems.proofs.CloseBySteps.Nine.{says}
+use Rattle.theorems.specs.CloseBySteps.Desk.{Desk, ninthCall, afterNinth, acts}
+use Rattle.theorems.specs.CloseBySteps.Demand3.{outcomeFrom, AnyClose, wholly, bySteps, closeOf, Demand3BySteps}
+use Rattle.theorems.proofs.CloseBySteps.Turns.{UnderWay, answerSoFar, deskAt, waiting, onward, ended}
+use Rattle.theorems.proofs.CloseBySteps.Eight.{onward-gives, Way, under, over, any-way}
 use Rattle.theorems.proofs.CloseBySteps.Orders.{withoutExit, exits-only}
 
 spared-orders : (vs ws : List Validator) → map withoutExit ws ≡ map withoutExit vs → Spared vs ws
@@ -63,20 +61,9 @@ reshaped m e ws k h =
           };
     }
 
--- what came of a close by steps, from the desk after eight calls and the ninth's outcome
-abbrev cameOf : Bool → FullCall → Desk → NinthOutcome → Close
-cameOf w c d out =
-    record {
-      call = c .call;
-      outcome = record {
-        refusal = out .answer .running .answer .refusal;
-        finality = out .answer .running .answer .finality;
-        raised = out .answer .running .answer .raised;
-        closingRegistry = out .closingRegistry;
-        closingSlashings = d .closingSlashings;
-      };
-      othersStay = w;
-    }
+-- a close by steps as demand 3 sees it
+abbrev cameOf : Bool → FullCall → Desk → Close
+cameOf w c d = record { call = c .call; outcome = outcomeFrom d; othersStay = w }
 
 module _ (w : Bool) (c : FullCall) (st : BeaconState) (count : ℕ) (orders : List ℕ) (u : UnderWay c 8 st) (period : ℕ) (answers : List ℕ) where
   abbrev here : Desk
@@ -99,33 +86,24 @@ module _ (w : Bool) (c : FullCall) (st : BeaconState) (count : ℕ) (orders : Li
   whole-shaped : Shaped (event (record { call = c .call; outcome = wholeOutcome; othersStay = w }))
   whole-shaped = subst (λ (o : Outcome). Shaped (event (record { call = c .call; outcome = o; othersStay = w }))) whole-is (full-shaped (w, c))
 
-  carried : Shaped (event (cameOf w c here (carriesOut last)))
+  carried : Shaped (event (cameOf w c (afterNinth here (carriesOut last))))
   unfolding carriesOut wholeOutcome
   carried t =
       let ws = carriedOut (settingsOf c) (st .finality .slot) period (decode (encode (st .validators))) (ordersIn count orders) in
       rw (decode-encode ws)
       (reshaped _ (event (record { call = c .call; outcome = wholeOutcome; othersStay = w })) ws (spared-orders (decode (encode (st .validators))) ws (exits-only (settingsOf c) (st .finality .slot) period (decode (encode (st .validators))) (ordersIn count orders))) (whole-shaped tt))
 
-  tried : (m : Checked (Unit {0})) → ninthInTurn last m .answer .running .done ≡ 9 → Shaped (event (cameOf w c here (ninthInTurn last m)))
-  unfolding ninthInTurn
-  tried (value tt) e = carried
-  tried (refused r) e = absurd (omega (arith, e))
-
-  onward-shaped : carryOut last .answer .running .done ≡ 9 → Shaped (event (cameOf w c here (carryOut last)))
-  unfolding carryOut
-  onward-shaped = tried (ninthTests last)
-
-shaped-on : (w : Bool) (c : FullCall) (d : Desk) (os : List Order) (size : ℕ) → On c 8 d os size → (period : ℕ) (answers : List ℕ) → carryOut (ninthCall c d period answers) .answer .running .done ≡ 9 → Shaped (event (cameOf w c d (carryOut (ninthCall c d period answers))))
-shaped-on w c d os size (waiting e h none long) period answers z = absurd (omega (arith, e))
-shaped-on w c d os size (onward st count orders u e h) period answers z =
-    subst (λ (x : Desk). carryOut (ninthCall c x period answers) .answer .running .done ≡ 9 → Shaped (event (cameOf w c x (carryOut (ninthCall c x period answers))))) (sym e)
-    (onward-shaped w c st count orders u period answers) z
-shaped-on w c d os size (ended s) period answers z = λ t.
-    absurd (s .refusal (sym (ap (λ (a : FullAnswer). a .refusal) (s .gives .answer)) ∙ eqb→eq _ 0 (subst (λ (out : NinthOutcome). T (eqb (out .answer .running .answer .refusal) 0)) (says (ninthCall c d period answers) (stopped-done c d s)) t)))
+shaped-way : (w : Bool) (c : FullCall) (d : Desk) (os : List Order) (size : ℕ) → Way c d os size → d .running .done ≡ 9 → Shaped (event (cameOf w c d))
+shaped-way w c d os size (under n l (waiting e h none long)) z = absurd (omega (arith, h .done, z))
+shaped-way w c d os size (under n l (onward st count orders u e h)) z = absurd (omega (arith, ap (λ (x : Desk). x .running .done) e, z, l))
+shaped-way w c d os size (under n l (ended s h)) z = λ t.
+    absurd (s .refusal (sym (ap (λ (a : FullAnswer). a .refusal) (s .gives .answer)) ∙ eqb→eq (d .running .answer .refusal) 0 t))
+shaped-way w c d os size (over v) z =
+    subst (λ (x : Desk). Shaped (event (cameOf w c x))) (sym (v .is)) (carried w c (v .state) (v .count) (v .list) (v .way) (v .period) (v .answers))
 
 pub each-shaped : (c : Bool × AnyClose) → Shaped (event (closeOf c))
 each-shaped (w, wholly c) = full-shaped (w, c)
-each-shaped (w, bySteps b) = shaped-on w (b .whole) (eighth b) _ _ (eight-on (b .whole) (b .desk) (b .begins) (b .list) (b .turns)) (b .period) (b .answers) (b .ended)
+each-shaped (w, bySteps b) = shaped-way w (b .whole) (acts (b .whole) (b .desk) (b .list)) _ _ (any-way (b .whole) (b .desk) (b .begins) (b .list)) (b .ended)
 
 all-shaped : (calls : List (Bool × AnyClose)) → EachShaped (map (λ c. event (closeOf c)) calls)
 all-shaped [] = tt

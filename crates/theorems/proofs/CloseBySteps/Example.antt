@@ -1,8 +1,8 @@
--- A close by steps, by computing: two validators at epoch 0, a churn limit of 1, and four orders that arrive between the calls. What the
--- theorems ask of a close by steps can be met.
+-- A close by steps, by computing: two validators at epoch 0, a churn limit of 1, and four orders that arrive between the calls; a step out of
+-- turn and a ninth call before its turn and with too long a period are turned away alone. What the theorems ask of a close by steps can be met.
 use mathlib.Core.Path.{_≡_, refl}
 use mathlib.Core.List.{List, [], _∷_, _++_}
-use Prim.Native.Nat.{ℕ}
+use Prim.Native.Nat.{ℕ, _^_}
 use lib.ListN.{replicate}
 use Rattle.definitions.specs.declared.Settings.{Settings}
 use Rattle.definitions.specs.declared.Checkpoint.{Checkpoint}
@@ -17,7 +17,7 @@ use Rattle.definitions_close.specs.FullClose.{FullCall, fullTests}
 use Rattle.definitions_close.specs.CloseBySteps.{found, stepTests, stepped, eights, amountsBy, steppedAmounts, endedBy, goesOn, runningAfter, unwritten, stepInTurn, closeStep}
 use Rattle.definitions_close.specs.Orders.{ordersIn, appended, takeOrder, mayExit, isDue, «process_voluntary_exit», carriedOut, answersTo, NinthOutcome, ninthTests, carriesOut, ninthInTurn, carryOut}
 use Rattle.history.proofs.Computing.{computing}
-use Rattle.theorems.specs.CloseBySteps.Desk.{Desk, Act, stepping, ordering, act, acts, stepsOf, ninthCall}
+use Rattle.theorems.specs.CloseBySteps.Desk.{Desk, Act, stepping, ordering, carrying, act, acts, ninthCall}
 use Rattle.theorems.specs.CloseBySteps.Demand3.{BySteps}
 
 abbrev settings : Settings
@@ -93,13 +93,16 @@ exit validator start = ordering (record { validator = validator; start = start }
 -- validator 0; an unknown one; validator 1; validator 0 again
 abbrev list : List Act
 list =
-    exit 1 0 ∷ stepping 1 ∷ exit 0 0 ∷ stepping 2 ∷ stepping 3 ∷ exit 7 0 ∷ stepping 4 ∷ stepping 5 ∷ exit 1 0 ∷ stepping 6 ∷ stepping 7 ∷ stepping 8 ∷ exit 0 0 ∷ []
+    exit 1 0 ∷ stepping 1 ∷ exit 0 0 ∷ stepping 3 ∷ stepping 2 ∷ stepping 3 ∷ carrying 0 (8 ∷ 8 ∷ 8 ∷ 8 ∷ []) ∷ exit 7 0 ∷ stepping 4 ∷ stepping 5 ∷ exit 1 0 ∷ stepping 6 ∷ stepping 7 ∷ stepping 8 ∷ exit 0 0 ∷ carrying (2 ^ 48) (8 ∷ 8 ∷ 8 ∷ 8 ∷ []) ∷ []
 
 abbrev eighth : Desk
 eighth = acts whole desk list
 
 abbrev ninth : NinthOutcome
 ninth = carryOut (ninthCall whole eighth 0 (8 ∷ 8 ∷ 8 ∷ 8 ∷ []))
+
+abbrev all : List Act
+all = list ++ (carrying 0 (8 ∷ 8 ∷ 8 ∷ 8 ∷ []) ∷ exit 1 0 ∷ stepping 8 ∷ [])
 
 record Figures : Type 0 where
   -- the order before the first call was turned away, and four are in the list
@@ -110,22 +113,19 @@ record Figures : Type 0 where
   register : ninth .closingRegistry ≡ validator 5 15 ++ validator 6 16
   answers : ninth .answers ≡ 0 ∷ 9 ∷ 0 ∷ 9 ∷ []
   queue : ninth .answer .running .answer .queue ≡ record { «last_epoch» = 6; number = 1 }
-  ended : ninth .answer .running .done ≡ 9
+  ended : acts whole desk all .running .done ≡ 9
+  same : acts whole desk all .closingRegistry ≡ ninth .closingRegistry
 
 figures : Figures
 unfolding computing queueOf isQueueOf queueTest booked bookedByRewards takenFrom takenBySlashings nines lastTest finalizingTest fullTests found stepTests stepped eights amountsBy steppedAmounts endedBy goesOn runningAfter unwritten stepInTurn closeStep ordersIn appended takeOrder mayExit isDue «process_voluntary_exit» carriedOut answersTo ninthTests carriesOut ninthInTurn carryOut act acts
-figures = record { count = refl; amounts = refl; done = refl; register = refl; answers = refl; queue = refl; ended = refl }
+figures = record { count = refl; amounts = refl; done = refl; register = refl; answers = refl; queue = refl; ended = refl; same = refl }
 
 pub example : BySteps
-unfolding stepsOf
 example =
     record {
       whole = whole;
       desk = desk;
       begins = record { done = refl; closingRegistry = refl; closingSlashings = refl; amounts = refl };
-      list = list;
-      turns = refl;
-      period = 0;
-      answers = 8 ∷ 8 ∷ 8 ∷ 8 ∷ [];
+      list = all;
       ended = figures .ended;
     }

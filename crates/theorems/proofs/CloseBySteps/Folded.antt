@@ -31,7 +31,7 @@ module _ (s : Settings) (st : BeaconState) (n : ℕ) (l : n < 8) {at : BeaconSta
 
 -- Only the first writes the finality
 
-abbrev isJustification : Step → Bool
+abbrev pub isJustification : Step → Bool
 isJustification justificationStep = true
 isJustification inactivityStep = false
 isJustification rewardsStep = false
@@ -51,7 +51,7 @@ not-first (suc (suc (suc (suc (suc zero))))) = refl
 not-first (suc (suc (suc (suc (suc (suc zero)))))) = refl
 not-first (suc (suc (suc (suc (suc (suc (suc n))))))) = refl
 
-same-finality : (s : Settings) (k : Step) (a b : BeaconState) → isJustification k ≡ false → step s a k ≡ value b → b .finality ≡ a .finality
+pub same-finality : (s : Settings) (k : Step) (a b : BeaconState) → isJustification k ≡ false → step s a k ≡ value b → b .finality ≡ a .finality
 same-finality s justificationStep a b n p = absurd (false≢true (sym n))
 same-finality s inactivityStep a b n p = ap (λ (st : BeaconState). st .finality) (frames s inactivityStep a b p)
 same-finality s rewardsStep a b n p = ap (λ (st : BeaconState). st .finality) (frames s rewardsStep a b p)

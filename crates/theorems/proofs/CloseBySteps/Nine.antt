@@ -11,16 +11,16 @@ use Rattle.definitions.specs.Record.{BeaconState, encode, decode}
 use Rattle.definitions.specs.Checked.{value, bind}
 use Rattle.definitions.specs.Refusals.{inOrder, goodRegistry}
 use Rattle.definitions.specs.ExitQueue.{queueOf, isQueueOf, queueTest}
-use Rattle.definitions_close.specs.FullClose.{FullCall, fullClose}
+use Rattle.definitions_close.specs.FullClose.{FullCall, settingsOf, fullClose}
 use Rattle.definitions_close.specs.CloseBySteps.{saysEnded}
 use Rattle.definitions_close.proofs.Orders.{orders-long}
 use Rattle.definitions_close.specs.Orders.{Order, ordersIn, room, NinthCall, ninthTests, untried, carriesOut, ninthInTurn, carryOut}
 use Rattle.laws.proofs.Encode.{decode-encode}
-use Rattle.theorems.specs.CloseBySteps.Desk.{Desk, acts, arrived, ninthCall, Carries, NineCalls}
+use Rattle.theorems.specs.CloseBySteps.Desk.{Desk, acts, arrived, ninthCall, Carries, NineCalls, CarriedOut, AfterNine}
 use Rattle.laws_close.proofs.Passed.{full-passed}
 use Rattle.theorems.proofs.CloseBySteps.Tests.{shaped-as, long-as}
 use Rattle.theorems.proofs.CloseBySteps.Turns.{UnderWay, deskAt, On, waiting, onward, ended}
-use Rattle.theorems.proofs.CloseBySteps.Eight.{stopped-done, onward-gives, eight-on}
+use Rattle.theorems.proofs.CloseBySteps.Eight.{stopped-done, onward-gives, Over, Way, under, over, any-way}
 
 module _ (c : FullCall) (st : BeaconState) (count : ℕ) (orders : List ℕ) (u : UnderWay c 8 st) (period : ℕ) (answers : List ℕ) where
   abbrev here : Desk
@@ -57,26 +57,54 @@ module _ (c : FullCall) (st : BeaconState) (count : ℕ) (orders : List ℕ) (u 
         answer = rw (f, r, ← raised, ← test, decode-encode (st .validators), e, ← e, orders-long count orders) (refl, refl, refl);
       })
 
-nine-on : (c : FullCall) (d : Desk) (os : List Order) (size : ℕ) → On c 8 d os size → (period : ℕ) (answers : List ℕ) → size % 2 ≡ 0 → length answers ≡ size / 2 → period < 2 ^ 48 → fullClose c .refusal ≡ 0 → Carries c os period answers (carryOut (ninthCall c d period answers))
-nine-on c d os size (waiting e h none long) period answers two l small z = absurd (omega (arith, e))
-nine-on c d os size (onward st count orders u e h) period answers two l small z =
-    subst (λ (x : Desk). Carries c os period answers (carryOut (ninthCall c x period answers))) (sym e)
-    (let n = h .long in
-    carries c st count orders u period answers os (h .are) (ninth-tested c st count orders u period answers (rw n two) (rw n (h .fits)) (rw n l) small))
-nine-on c d os size (ended s) period answers two l small z = absurd (s .refusal z)
-
-ended-on : (c : FullCall) (d : Desk) (os : List Order) (size : ℕ) → On c 8 d os size → (fullClose c .refusal ≡ 0 → ⊥) → d .running .done ≡ 9
-ended-on c d os size (waiting e h none long) z = absurd (omega (arith, e))
-ended-on c d os size (onward st count orders u e h) z = absurd (z (sym (ap (λ (a : FullAnswer). a .refusal) (onward-gives c st count orders u .answer))))
-ended-on c d os size (ended s) z = stopped-done c d s
+nine-way : (c : FullCall) (d : Desk) (os : List Order) (size : ℕ) → Way c d os size → d .running .done ≡ 8 → (period : ℕ) (answers : List ℕ) → size % 2 ≡ 0 → length answers ≡ size / 2 → period < 2 ^ 48 → Carries c os period answers (carryOut (ninthCall c d period answers))
+unfolding carriesOut
+nine-way c d os size (under n l (waiting e h none long)) z period answers two m small = absurd (omega (arith, h .done, z))
+nine-way c d os size (under n l (ended s h)) z period answers two m small = absurd (omega (arith, stopped-done c d s, z))
+nine-way c d os size (over v) z period answers two m small = absurd (omega (arith, ap (λ (x : Desk). x .running .done) (v .is), z))
+nine-way c d os size (under n l (onward st count orders u e h)) z period answers two m small =
+    let k : n ≡ 8 = sym (ap (λ (x : Desk). x .running .done) e) ∙ z in
+    let way = subst (λ (j : ℕ). UnderWay c j st) k u in
+    subst (λ (x : Desk). Carries c os period answers (carryOut (ninthCall c x period answers))) (sym (e ∙ ap (λ (j : ℕ). deskAt c j st count orders) k))
+    (let i = h .long in
+    carries c st count orders way period answers os (h .are) (ninth-tested c st count orders way period answers (rw i two) (rw i (h .fits)) (rw i m) small))
 
 pub says : (x : NinthCall) → x .running .done ≡ 9 → carryOut x ≡ untried (saysEnded (x .running)) x
 unfolding carryOut
 says x e = rw e
 
 pub nine-calls : NineCalls
-nine-calls c d h list e period answers =
-    let on = eight-on c d h list e in (
-      λ z lent. nine-on c (acts c d list) (arrived c d list) (length (d .orders)) on period answers (lent .pairs) (lent .answers) (lent .period) z,
-      λ z. says (ninthCall c (acts c d list) period answers) (ended-on c (acts c d list) (arrived c d list) (length (d .orders)) on z),
-    )
+nine-calls c d h list period answers = (
+  λ z lent. nine-way c (acts c d list) (arrived c d list) (length (d .orders)) (any-way c d h list) z period answers (lent .pairs) (lent .answers) (lent .period),
+  λ z. says (ninthCall c (acts c d list) period answers) z,
+)
+
+-- Where the orders have been carried out
+
+over-carried : (c : FullCall) (d : Desk) (os : List Order) (size : ℕ) → Over c d os size → CarriedOut (fullClose c) (settingsOf c) os d
+unfolding carriesOut
+over-carried c d os size v =
+    let st = v .state in
+    let g = onward-gives c st (v .count) (v .list) (v .way) in
+    let f : fullClose c .finality ≡ st .finality = sym (ap (λ (a : FullAnswer). a .finality) (g .answer)) in
+    let r : decode (fullClose c .closingRegistry) ≡ st .validators = ap decode (sym (g .closingRegistry)) ∙ decode-encode (st .validators) in
+    let raised = ap (λ (a : FullAnswer). a .raised) (g .answer) in
+    let test = ap (λ (a : FullAnswer). a .test) (g .answer) in
+    rw (v .is)
+    (record {
+      period = v .period;
+      accepted = sym (ap (λ (a : FullAnswer). a .refusal) (g .answer));
+      answer = rw (f, r, ← raised, ← test, decode-encode (st .validators), v .listed .are) (refl, refl);
+      closingSlashings = g .closingSlashings;
+      amounts = g .amounts;
+      orders = refl;
+    })
+
+way-nine : (c : FullCall) (d : Desk) (os : List Order) (size : ℕ) → Way c d os size → d .running .done ≡ 9 → d .running .answer .refusal ≡ 0 → CarriedOut (fullClose c) (settingsOf c) os d
+way-nine c d os size (under n l (waiting e h none long)) z r = absurd (omega (arith, h .done, z))
+way-nine c d os size (under n l (onward st count orders u e h)) z r = absurd (omega (arith, ap (λ (x : Desk). x .running .done) e, z, l))
+way-nine c d os size (under n l (ended s h)) z r = absurd (s .refusal (sym (ap (λ (a : FullAnswer). a .refusal) (s .gives .answer)) ∙ r))
+way-nine c d os size (over v) z r = over-carried c d os size v
+
+pub after-nine : AfterNine
+after-nine c d h list z r = way-nine c (acts c d list) (arrived c d list) (length (d .orders)) (any-way c d h list) z r

@@ -175,7 +175,11 @@ pub data On (c : FullCall) (n : ℕ) (d : Desk) (os : List Order) (size : ℕ) :
   waiting : n ≡ 0 → NotBegun c d → os ≡ [] → length (d .orders) ≡ size → On c n d os size
   onward : (st : BeaconState) (count : ℕ) (orders : List ℕ) → UnderWay c n st → d ≡ deskAt c n st count orders → Listed count orders os size
       → On c n d os size
-  ended : Stopped c d → On c n d os size
+  ended : Stopped c d → Listed (d .running .orders) (d .orders) os size → On c n d os size
+
+-- ended at a desk that is this one
+pub ended-at : {c : FullCall} {n : ℕ} {d x : Desk} {os : List Order} {size : ℕ} → d ≡ x → Stopped c x → Listed (x .running .orders) (x .orders) os size → On c n d os size
+ended-at {c} {n} {d} {x} {os} {size} e s l = subst (λ (y : Desk). On c n y os size) (sym e) (ended s l)
 
 -- A call
 
@@ -251,8 +255,8 @@ module _ (c : FullCall) (a : FullAnswer) (count : ℕ) (orders : List ℕ) where
             long = first-long passed q;
           })
           (first-onward st p q) no-orders
-      go (value tt) p (refused r) q = ended (subst (Stopped c) (sym (first-stopped p q)) (stopped-so c orders 0 p (stopped (settingsOf c) (stateOf (c .call)) 0 (omega arith) none-done q)))
-      go (refused r) p m q = ended (subst (Stopped c) (sym (first-refused p)) (stopped-first c orders p))
+      go (value tt) p (refused r) q = ended-at (first-stopped p q) (stopped-so c orders 0 p (stopped (settingsOf c) (stateOf (c .call)) 0 (omega arith) none-done q)) no-orders
+      go (refused r) p m q = ended-at (first-refused p) (stopped-first c orders p) no-orders
 
 -- A later call
 
@@ -366,4 +370,4 @@ module _ (c : FullCall) (m : ℕ) (st : BeaconState) (u : UnderWay c (suc m) st)
             long = later-long q;
           })
           (later-onward next q) listed
-      go (refused r) q = ended (subst (Stopped c) (sym (later-stopped q)) (stopped-so c orders count (u .tested) (stopped (settingsOf c) (stateOf (c .call)) n l (u .went) q)))
+      go (refused r) q = ended-at (later-stopped q) (stopped-so c orders count (u .tested) (stopped (settingsOf c) (stateOf (c .call)) n l (u .went) q)) listed

@@ -80,12 +80,12 @@ no-rewards-row s st scored e (nobodyHits a _ _ _) =
     let b : FinalizedAhead s st = record { started = rw f at (a .started); ahead = rw f at (a .ahead) } in
     not-refused (sym e ∙ inactivity-refused s st b)
 
+pub empty : (vs : List Validator) → length vs ≡ 0 → vs ≡ []
+empty [] h = refl
+empty (v ∷ vs) h = absurd (omega arith)
+
 none-before : (s : Settings) (st st′ : BeaconState) (k : Step) → Rust.step s st k ≡ value st′ → Row s st′ effectiveBalancesStep → Row s st effectiveBalancesStep
 none-before s st st′ k e (noValidators n p) = noValidators (empty (st .validators) (sym (kept-step s st st′ k e .validators .many) ∙ ap length n)) p
-  where
-    empty : (vs : List Validator) → length vs ≡ 0 → vs ≡ []
-    empty [] h = refl
-    empty (v ∷ vs) h = absurd (omega arith)
 
 met-listed : (s : Settings) (st : BeaconState) → Met s st steps → CloseRow s st
 unfolding HasRow

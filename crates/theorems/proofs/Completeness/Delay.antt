@@ -111,7 +111,7 @@ module _ (s : Settings) (stateSlot finalizedEpoch : ℕ) (a : «get_previous_epo
   deltas-refused flagIndex t v h =
       rw (hit-eligible s stateSlot flagIndex v h, h, leak-refused) (never-then _ (λ base. never-first _ never-refused))
 
-  delta-refused : (vs : List Validator) (flagIndex : ℕ) (v : Validator) → «get_flag_index_deltas» s stateSlot finalizedEpoch vs flagIndex v ≡ refused overflow
+  pub delta-refused : (vs : List Validator) (flagIndex : ℕ) (v : Validator) → «get_flag_index_deltas» s stateSlot finalizedEpoch vs flagIndex v ≡ refused overflow
   unfolding «get_flag_index_deltas» bind
   delta-refused vs flagIndex v = rw (totals-refused vs flagIndex)
 

@@ -1,5 +1,5 @@
 -- Justification, which has no buffer, and what the calls on a file answer.
-use mathlib.Core.Path.{_≡_, refl, sym, ap}
+use mathlib.Core.Path.{_≡_, refl, sym, ap, _∙_}
 use mathlib.Core.Bool.{Bool, true, false, cond}
 use mathlib.Core.List.{[], _∷_, List}
 use mathlib.Core.Logic.{inl, inr}
@@ -21,7 +21,8 @@ use Rattle.definitions_file.specs.File.{Contents, contentsOf, queueIn, goodHead
 use Rattle.laws.proofs.Tests.{tested}
 use Rattle.agreement.specs.Agreement.{documentStep}
 use Rattle.agreement.specs.Restored.{OneOf}
-use Rattle.theorems.specs.Completeness.Calls.{JustificationCall, JustificationCalls, FileCalls}
+use Rattle.theorems.specs.Completeness.Calls.{justificationIn64Bits, JustificationCall, JustificationCalls, FileCalls}
+use Rattle.theorems.specs.Completeness.DocumentIn64Bits as in64
 use Rattle.agreement.proofs.Justification.{justification}
 use Rattle.agreement.proofs.Registry.{registry}
 use Rattle.agreement.proofs.Slashings.{slashings}
@@ -35,42 +36,56 @@ not-zero n (inr (inr (inr (inl e)))) z = omega arith
 not-zero n (inr (inr (inr (inr (inl e))))) z = omega arith
 not-zero n (inr (inr (inr (inr (inr o))))) z = o
 
-module _ (s : Settings) (st : BeaconState) where
-  answered : (tests : Checked (Unit {0})) (work : Checked Finality) → ((q : Refusal) → tests ≡ refused q → OneOf (numberOf q) (1 ∷ 2 ∷ 3 ∷ [])) → ((q : Refusal) → work ≡ refused q → OneOf (numberOf q) (4 ∷ 5 ∷ [])) → ((f : Finality) → work ≡ value f → documentStep s st justificationStep .finality ≡ f) → (answer : CloseAnswer) → answer ≡ closeAnswerFor (afterTests tests work) (st .finality) (raisedTotals s (st .finality .slot) (st .validators)) → JustificationCall s st answer
-  unfolding afterTests bind raisedUnlessRefused
-  answered (refused q) work t w g answer e =
-      let n : OneOf (answer .refusal) (1 ∷ 2 ∷ 3 ∷ []) = rw e (t q refl) in
+module _ (s : Settings) (st : BeaconState) (registry : List ℕ) where
+  abbrev tests : Checked (Unit {0})
+  tests = justificationTests s (st .«block_roots») (st .finality) registry
+
+  abbrev work : Checked Finality
+  work = rust.«process_justification_and_finalization» s (st .«block_roots») (st .finality) (st .validators)
+
+  abbrev answerOf : Checked Finality → CloseAnswer
+  answerOf m = closeAnswerFor m (st .finality) (raisedTotals s (st .finality .slot) (st .validators))
+
+  -- the step of the document in 64 bits gives the same finality, and refuses alike
+  same-finality : (m : Checked Finality) → m ≡ bind (bind m (λ f. value (withFinality f st))) (λ (after : BeaconState). value (after .finality))
+  unfolding bind
+  same-finality (value f) = refl
+  same-finality (refused r) = refl
+
+  in-64-bits : answerOf (afterTests tests work) ≡ justificationIn64Bits s st registry
+  unfolding in64.step step
+  in-64-bits = ap (λ (m : Checked Finality). answerOf (afterTests tests m)) (same-finality work)
+
+  answered : (t : Checked (Unit {0})) (w : Checked Finality) → tests ≡ t → work ≡ w → (answer : CloseAnswer) → answer ≡ justificationIn64Bits s st registry → answer ≡ answerOf (afterTests t w) → JustificationCall s st registry answer
+  unfolding afterTests bind raisedUnlessRefused justificationTests step
+  answered (refused q) w t g answer k e =
+      let n : OneOf (answer .refusal) (1 ∷ 2 ∷ 3 ∷ []) = rw e (tests-number _ _ _ q t) in
       record {
         number = inr (one-left (answer .refusal) (1 ∷ 2 ∷ 3 ∷ []) (4 ∷ 5 ∷ []) n);
         accepted = λ z. absurd (omega (arith, low (answer .refusal) n));
         refused = λ _. (rw e, rw e);
+        complete = k;
       }
-  answered (value u) (refused q) t w g answer e =
-      let n : OneOf (answer .refusal) (4 ∷ 5 ∷ []) = rw e (w q refl) in
+  answered (value u) (refused q) t g answer k e =
+      let n : OneOf (answer .refusal) (4 ∷ 5 ∷ []) = rw e (work-number q (justification s st .only q (rw g))) in
       record {
         number = inr (one-right (answer .refusal) (1 ∷ 2 ∷ 3 ∷ []) (4 ∷ 5 ∷ []) n);
         accepted = λ z. absurd (omega (arith, high (answer .refusal) n));
         refused = λ _. (rw e, rw e);
+        complete = k;
       }
-  answered (value u) (value f) t w g answer e =
+  answered (value u) (value f) t g answer k e =
       record {
         number = inl (rw e);
-        accepted = λ _. (rw e (sym (g f refl)), rw e);
+        accepted = λ _. (rw e (sym (ap (λ (after : BeaconState). after .finality) (justification s st .same (withFinality f st) (rw g)))), rw e);
         refused = λ o. absurd (not-zero (answer .refusal) o (rw e));
+        complete = k;
       }
 
-  justification-refused : (q : Refusal) → rust.«process_justification_and_finalization» s (st .«block_roots») (st .finality) (st .validators) ≡ refused q → OneOf (numberOf q) (4 ∷ 5 ∷ [])
-  unfolding step bind
-  justification-refused q e = work-number q (justification s st .only q (rw e))
-
-  justification-gave : (f : Finality) → rust.«process_justification_and_finalization» s (st .«block_roots») (st .finality) (st .validators) ≡ value f → documentStep s st justificationStep .finality ≡ f
-  unfolding step bind
-  justification-gave f e = ap (λ t. t .finality) (justification s st .same (withFinality f st) (rw e))
-
 pub justification-calls : JustificationCalls
-unfolding justificationTests
 justification-calls s st registry answer e h =
-    answered s st (justificationTests s (st .«block_roots») (st .finality) registry) _ (tests-number _ _ _) (justification-refused s st) (justification-gave s st) answer (rw e at h)
+    let given = rw e at h in
+    answered s st registry _ _ refl refl answer (given ∙ in-64-bits s st registry) given
 
 -- Files
 

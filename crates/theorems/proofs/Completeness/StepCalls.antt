@@ -81,7 +81,7 @@ module _ {numbers : List ℕ} {P : Refusal → Type 0} {document : BeaconState} 
       }
 
 -- the work shows only where the tests passed
-step-complete : (contents : BeaconState → List ℕ) {L : Type 0} (tests : Checked (Unit {0})) (m n : Checked BeaconState) → (tests ≡ value tt → (m ≡ n) ⊎ L) → {opening closing after : List ℕ} {r : ℕ} → Closes contents tests m opening closing after r → Closes contents tests n opening closing after r ⊎ ((tests ≡ value tt) × L)
+pub step-complete : (contents : BeaconState → List ℕ) {L : Type 0} (tests : Checked (Unit {0})) (m n : Checked BeaconState) → (tests ≡ value tt → (m ≡ n) ⊎ L) → {opening closing after : List ℕ} {r : ℕ} → Closes contents tests m opening closing after r → Closes contents tests n opening closing after r ⊎ ((tests ≡ value tt) × L)
 unfolding bind afterTests closingBuffer
 step-complete contents (refused q) m n e h = inl (record { number = h .number; buffer = h .buffer })
 step-complete contents (value u) m n e h = ⊎-elim (λ p. inl (rw p at h)) (λ l. inr (refl, l)) (e refl)

@@ -1,5 +1,6 @@
--- Wrong statements, shut out: that on 3 the closing buffers hold the opening, as on 4 and 5; that the activation queue goes by the
--- validators' numbers alone; that with a stop those ahead are counted below it alone, or once others have been activated.
+-- Wrong statements and wrong calls, shut out: that on 3 the closing buffers hold the opening, as on 4 and 5; that the activation queue goes by
+-- the validators' numbers alone; that with a stop those ahead are counted below it alone, or once others have been activated; a justification
+-- that refuses every record.
 use mathlib.Core.Path.{_≡_, refl, ap}
 use mathlib.Core.Bool.{Bool, cond, _&&_}
 use mathlib.Core.List.{List, [], _∷_, map, foldl}
@@ -9,18 +10,25 @@ use native.Mathlib.Omega.{arith}
 use lib.Dec.{ltb}
 use lib.ListN.{length, getD, set, take, replicate}
 use Rattle.definitions.specs.declared.Checkpoint.{Checkpoint}
+use Rattle.definitions.specs.declared.CloseAnswer.{CloseAnswer}
+use Rattle.definitions.specs.declared.JustificationAnswer.{JustificationAnswer}
+use Rattle.definitions.specs.declared.Settings.{Settings}
 use Rattle.definitions.specs.Lists.{all, filter, range, insert, sorted, every}
-use Rattle.definitions.specs.Record.{Validator, «FAR_FUTURE_EPOCH», decodeOne, decode, decodeFirst, nobody}
+use Rattle.definitions.specs.Record.{Validator, BeaconState, «FAR_FUTURE_EPOCH», decodeOne, decode, decodeFirst, nobody}
 use Rattle.definitions.specs.Updates.{withActivation}
 use Rattle.definitions.specs.Checked.{bind}
-use Rattle.definitions.specs.Refusals.{inOrder, settingsShaped, registryShaped, goodSettings, goodFinality, goodRegistry, afterTests, closingBuffer}
+use Rattle.definitions.specs.Refusals.{inOrder, settingsShaped, registryShaped, goodSettings, goodFinality, goodRegistry, justificationTests, afterTests, closingBuffer}
+use Rattle.definitions.specs.Raised.{noneRaised}
+use Rattle.definitions.specs.Rust.Altair.EpochProcessing.{«process_justification_and_finalization»}
 use Rattle.definitions.specs.Rules.{settingsUnder, altairRules, rulesShaped, goodRules}
-use Rattle.definitions.specs.Document.Phase0.Helpers.{«is_eligible_for_activation»}
+use Rattle.definitions.specs.Document.Phase0.Helpers.{«is_eligible_for_activation», «get_current_epoch», «compute_epoch_at_slot»}
 use Rattle.definitions.specs.Document.Phase0.EpochProcessing.{activationQueue, dequeued}
 use Rattle.definitions.specs.RegisterOrder.{ahead, mapBelow, activatedAt, activated}
-use Rattle.definitions.specs.Close.{Call, closeTests, closed, close}
+use Rattle.definitions.specs.Close.{Call, stateOf, step, closeTests, closed, close}
 use Rattle.agreement.specs.Restored.{OneOf, Opening}
-use Rattle.theorems.specs.Completeness.Records.{least}
+use Rattle.theorems.specs.Completeness.Records.{least, callOf}
+use Rattle.theorems.specs.Completeness.DocumentIn64Bits as in64
+use Rattle.theorems.specs.Completeness.Told.{JustificationTold}
 
 -- 16 is no number of four bits, and the closing slashings hold 1 where the opening has 0
 abbrev badBits : Call
@@ -86,3 +94,15 @@ unfolding activated activatedAt ahead mapBelow «is_eligible_for_activation» fi
 not-counted-after h =
     let e : _≡_ {A = ℕ} 9 «FAR_FUTURE_EPOCH» = ap (λ vs. getD vs 1 nobody .«activation_epoch») (h 9 1 2 2 (waiting 1 ∷ waiting 1 ∷ [])) in
     omega arith
+
+-- Justification: the same refusal for every record, 4 or 5 among them. At epoch 0 nothing is asked for that could be refused.
+abbrev pub refusing : ℕ → BeaconState → JustificationAnswer
+refusing n st = record { refusal = n; finality = st .finality; raised = noneRaised; test = 0 }
+
+pub not-refusing-all :
+    (n : ℕ) → (n ≡ 0 → ⊥)
+    → ((s : Settings) (st : BeaconState) (registry : List ℕ) → decode registry ≡ st .validators → JustificationTold s st registry (refusing n st)) → ⊥
+unfolding decode decodeFirst bind afterTests step in64.step «process_justification_and_finalization» justificationTests settingsUnder rulesShaped goodRules inOrder settingsShaped registryShaped goodSettings goodFinality goodRegistry all every «get_current_epoch» «compute_epoch_at_slot»
+not-refusing-all n z h =
+    let c = callOf (least 1 0 0) [] 0 0 in
+    z (ap (λ (a : CloseAnswer). a .refusal) (h (least 1 0 0) (stateOf c) [] refl .call .complete))

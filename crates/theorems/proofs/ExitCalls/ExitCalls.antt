@@ -15,7 +15,7 @@ use Rattle.definitions.specs.Rust.Phase0.Helpers.{«initiate_validator_exit»}
 use Rattle.definitions.specs.Closes.{Closes}
 use Rattle.definitions_close.specs.FullClose.{FullCall, fullClose}
 use Rattle.theorems.specs.CloseBySteps.Desk.{Desk, Act, acts, Gives}
-use Rattle.theorems.proofs.CloseBySteps.Eight.{eight-calls}
+use Rattle.theorems.proofs.CloseBySteps.Eight.{any-calls}
 use Rattle.theorems.specs.FullClose.ByNumber.{plainOutcome}
 use Rattle.theorems.specs.FullClose.QueueCalls.{WrongPair}
 use Rattle.theorems.proofs.FullClose.Demand3.{accepted-same}
@@ -31,7 +31,7 @@ use Rattle.theorems.proofs.ExitCalls.Orders.{carries}
 close-shaped : (c : FullCall) → Shaped (closeEvent c (fullClose c .closingRegistry) (fullClose c .refusal))
 close-shaped c t = base-shaped.shaped (base.closing (c .call) (plainOutcome (fullClose c))) (accepted-same c t) t
 
--- eight calls leave what it leaves
+-- calls of steps leave what it leaves
 steps-shaped : (c : FullCall) (d : Desk) (list : List Act) → Gives (fullClose c) (acts c d list) → Shaped (closeEvent c (acts c d list .closingRegistry) (acts c d list .running .answer .refusal))
 steps-shaped c d list g = rw (g .closingRegistry, ap (λ (a : FullAnswer). a .refusal) (g .answer)) (close-shaped c)
 
@@ -42,7 +42,7 @@ exit-shaped s slot i queue registry r after (inr k) t = base-shaped.shaped (base
 
 pub shaped : (c : Called) → Defined c → Shaped (event c)
 shaped (closing c o) e = rw e (close-shaped c)
-shaped (stepping c d list) e = steps-shaped c d list (eight-calls c d (e .0) list (e .1))
+shaped (stepping c d list) e = steps-shaped c d list (any-calls c d (e .0) list (e .1) .gives)
 shaped (carrying c o) e = λ t. rw e (carries c)
 shaped (exiting s slot i queue registry r after) h = exit-shaped s slot i queue registry r after (exit-call s slot i queue registry after r h .rest)
 

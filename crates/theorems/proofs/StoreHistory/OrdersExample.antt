@@ -1,6 +1,6 @@
 -- A close by steps with a store and its ninth call, checked by computing: two orders are carried out and one is not, the premises of R-14 are met,
 -- and its bound is met exactly.
-use mathlib.Core.List.{List, [], _∷_, map}
+use mathlib.Core.List.{List, [], _∷_, _++_, map}
 use mathlib.Core.Path.{_≡_, refl}
 use Prim.Native.Nat.{ℕ, max}
 use lib.ListN.{replicate}
@@ -20,7 +20,7 @@ use Rattle.definitions_close.specs.StoreSteps.{storeFound, storeStepBy, storeSt
 use Rattle.history.proofs.Computing.{computing}
 use Rattle.history.proofs.Induction.{All, all-met}
 use Rattle.history.proofs.Small.{settingsWith, validator, record-of}
-use Rattle.theorems.specs.CloseBySteps.Desk.{Desk, Act, stepping, ordering, stepsOf}
+use Rattle.theorems.specs.CloseBySteps.Desk.{Desk, Act, stepping, ordering, carrying, eightDone}
 use Rattle.history.specs.ExitEpochs.{Event, Others, after, standing, met, holding, Premises, Claim}
 use Rattle.history.proofs.ExitEpochs.Runs.{follow}
 use Rattle.theorems.specs.ExitCalls.ExitCalls.{triedBy, ordersMeet}
@@ -84,29 +84,29 @@ eighth = acts whole desk list
 unfoldable pub ninth : NinthOutcome
 ninth = storeCarryOut (ninthCall whole eighth 3 (7 ∷ 7 ∷ 7 ∷ []))
 
+unfoldable carried : Unit {0}
+unfolding computing queueOf isQueueOf queueTest booked bookedByRewards takenFrom takenBySlashings nines lastTest finalizingTest fullTests found stepTests stepped eights amountsBy steppedAmounts endedBy goesOn runningAfter unwritten stepInTurn closeStep ordersIn appended takeOrder mayExit isDue «process_voluntary_exit» carriedOut answersTo ninthTests carriesOut ninthInTurn carryOut entriesFrom lastOf keeps follows inSequence storeShaped goodEntries entryFor rulesAt ofLast storeCallShaped rulesAtSlot rulesFor storeFound storeStepBy storeStep ninthRules carryBy storeCarryOut act acts triedBy ordersMeet every
+carried = tt
+
 unfoldable pub run : List ((c : Called) × Defined c)
-unfolding eighth ninth stepsOf
+unfolding eighth ninth carried
 run =
-    (called.stepping whole desk list eighth, (record { done = refl; closingRegistry = refl; closingSlashings = refl; amounts = refl }, refl, refl)) ∷
+    (called.stepping whole desk list eighth, (record { done = refl; closingRegistry = refl; closingSlashings = refl; amounts = refl }, refl, eightDone refl)) ∷
     (called.carrying (ninthCall whole eighth 3 (7 ∷ 7 ∷ 7 ∷ [])) ninth, refl) ∷
     []
 
 abbrev events : List Event
 events = map (λ c. event (c .0)) run
 
-unfoldable carrying : Unit {0}
-unfolding computing queueOf isQueueOf queueTest booked bookedByRewards takenFrom takenBySlashings nines lastTest finalizingTest fullTests found stepTests stepped eights amountsBy steppedAmounts endedBy goesOn runningAfter unwritten stepInTurn closeStep ordersIn appended takeOrder mayExit isDue «process_voluntary_exit» carriedOut answersTo ninthTests carriesOut ninthInTurn carryOut entriesFrom lastOf keeps follows inSequence storeShaped goodEntries entryFor rulesAt ofLast storeCallShaped rulesAtSlot rulesFor storeFound storeStepBy storeStep ninthRules carryBy storeCarryOut act acts triedBy ordersMeet every
-carrying = tt
-
 handed : All (λ r e. Others r (e .opening)) after (opening .validators) events
-unfolding run eighth ninth carrying
+unfolding run eighth ninth carried
 handed = (
   follow (opening .validators) (opening .validators) (refl, (refl, (refl, tt))),
   (follow (three (validator 0 0 7 0) (validator 0 0 7 0) (validator 0 0 7 0)) (three (validator 0 0 7 0) (validator 0 0 7 0) (validator 0 0 7 0)) (refl, (refl, (refl, tt))), tt),
 )
 
 pub premises : Premises (opening .validators) events
-unfolding run eighth ninth carrying
+unfolding run eighth ninth carried
 premises = record { handed = all-met (λ r e. Others r (e .opening)) after events (opening .validators) handed; churn = tt }
 
 -- one leaves at epoch 3 + 1 + 4, the other at the next; who leaves already is turned away by 9
@@ -118,25 +118,20 @@ pub record Exactly : Type 0 where
   pub nine : holding 9 (standing (opening .validators) events) ≡ 1
 
 pub exactly : Exactly
-unfolding run eighth ninth carrying
+unfolding run eighth ninth carried
 exactly = record { answers = refl; limits = refl; before = refl; eight = refl; nine = refl }
 
--- and what demand 3 asks of a close by steps
+-- and what demand 3 asks of a close by steps, and the ninth among its calls
 pub by-steps : StoreBySteps
-unfolding eighth ninth stepsOf carrying
+unfolding carried
 by-steps =
     record {
       whole = whole;
       desk = desk;
       begins = record { done = refl; closingRegistry = refl; closingSlashings = refl; amounts = refl };
-      list = list;
-      turns = refl;
-      eighth = eighth;
-      eight = refl;
-      period = 3;
-      answers = 7 ∷ 7 ∷ 7 ∷ [];
-      ninth = ninth;
-      nine = refl;
+      list = list ++ (carrying 3 (7 ∷ 7 ∷ 7 ∷ []) ∷ []);
+      last = acts whole desk (list ++ (carrying 3 (7 ∷ 7 ∷ 7 ∷ []) ∷ []));
+      came = refl;
       ended = refl;
     }
 

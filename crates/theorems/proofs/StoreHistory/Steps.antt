@@ -7,7 +7,7 @@ use Prim.Native.Nat.{ℕ, _+_, _≤_}
 use native.Mathlib.Omega.{arith}
 use borrow.Author.Tests.{eq-eqb, ne-eqb, eqb-true}
 use lib.Dec.{eqb}
-use lib.ListN.{length, take, drop}
+use lib.ListN.{length, take}
 use Rattle.definitions.specs.declared.Settings.{Settings}
 use Rattle.definitions.specs.declared.Rules.{Rules}
 use Rattle.definitions.specs.Lists.{every}
@@ -15,11 +15,11 @@ use Rattle.definitions.specs.Record.{BeaconState, encode}
 use Rattle.definitions.specs.Checked.{Refusal, numberOf, Checked, value, refused, bind, foldChecked}
 use Rattle.definitions.specs.Refusals.{inOrder, afterTests, lengthIs, isSmall, registryShaped}
 use Rattle.definitions.specs.Raised.{noneRaised}
-use Rattle.definitions.specs.Rules.{rulesShaped, goodRules}
+use Rattle.definitions.specs.Rules.{settingsUnder, rulesShaped, goodRules}
 use Rattle.definitions.specs.Close.{Step, justificationStep, inactivityStep, rewardsStep, registryStep, slashingsStep, effectiveBalancesStep, slashingsResetStep, participationFlagsStep, steps, step, closeUpTo}
-use Rattle.definitions_close.specs.FullClose.{FullCall, FullOutcome, fullClose}
+use Rattle.definitions_close.specs.FullClose.{FullCall, fullClose}
 use Rattle.definitions_close.specs.CloseBySteps.{StepOutcome, saysEnded, hasEnded, inTurn, endedBy, unwritten, closeStep}
-use Rattle.definitions_close.specs.Orders.{Order, room, ordersShaped, takeOrder, ninthTests, ninthInTurn, untried, carryOut}
+use Rattle.definitions_close.specs.Orders.{Order, ordersIn, room, ordersShaped, takeOrder, ninthTests, ninthInTurn, untried, carryOut}
 use Rattle.definitions_close.specs.Store.{entries, storeShaped, goodEntries}
 use Rattle.definitions_close.specs.StoreClose.{StoreCall, callBy, storeCallShaped, rulesAtSlot, rulesFor, turnedAway, closeBy, storeClose}
 use Rattle.definitions_close.specs.StoreSteps.{StoreStepCall, stepBy, stepOf, storeSoFar, storeFound, stepRefused, storeStepBy, storeStep, StoreNinthCall, ninthBy, ninthOf, ninthRules, carryBy, storeCarryOut}
@@ -27,14 +27,14 @@ use Rattle.laws.proofs.Checked.{value-same, bound, number-not-zero}
 use Rattle.laws.proofs.Frame.Frames.{frames}
 use Rattle.laws.proofs.Tests.{in-order-value}
 use Rattle.theorems.specs.CloseBySteps.Desk as desk
-use Rattle.theorems.specs.CloseBySteps.Desk.{Desk, Act, stepping, ordering, afterStep, stepsOf, oneToEight, Gives}
+use Rattle.theorems.specs.CloseBySteps.Desk.{Desk, Act, stepping, ordering, carrying, orderCall, afterStep, afterNinth, isTaken, arrivedBy, Closed, eightDone, wasRefused, Gives, GivesWhole, NinthLent, Carries, CarriedOut}
 use Rattle.laws_close.proofs.Passed.{full-passed}
 use Rattle.theorems.proofs.CloseBySteps.Tests.{shaped-as, long-as}
 use Rattle.theorems.proofs.CloseBySteps.Turns.{UnderWay, deskAt, On, waiting, onward, ended}
-use Rattle.theorems.proofs.CloseBySteps.Eight.{stopped-done, next, step-on, order-on, eight-on, eight-calls}
-use Rattle.theorems.proofs.CloseBySteps.Nine.{nine-calls}
+use Rattle.theorems.proofs.CloseBySteps.Eight.{ended-act as desk-ended, ended-order, stopped-done, Way, under, over, over-done, withTaken, way-act, not-begun, any-way, any-calls}
+use Rattle.theorems.proofs.CloseBySteps.Nine.{nine-calls, after-nine}
 use Rattle.theorems.proofs.Store.Stages.{Entered, entered}
-use Rattle.theorems.specs.StoreHistory.Steps.{lent, stepCall, act, acts, NotBegun, StoreEightCalls, ninthCall, StoreNineCalls}
+use Rattle.theorems.specs.StoreHistory.Steps.{lent, stepCall, act, acts, NotBegun, arrived, StoreAnyCalls, ninthCall, StoreNineCalls, StoreAfterNine}
 
 -- No step writes the slot
 
@@ -103,9 +103,28 @@ pub says : (x : StoreNinthCall) → x .running .done ≡ 9 → storeCarryOut x �
 unfolding storeCarryOut
 says x e = rw (eq-eqb (x .running .done) 9 e)
 
+early-ninth : (x : StoreNinthCall) (rules : Rules) → eqb (x .running .done) 9 ≡ false → eqb (x .running .done) 8 ≡ false → storeCarryOut x ≡ carryOut (ninthBy x rules)
+unfolding storeCarryOut carryOut
+early-ninth x rules p q = rw (p, q)
+
 ended-ninth : (x : StoreNinthCall) (rules : Rules) → x .running .done ≡ 9 → storeCarryOut x ≡ carryOut (ninthBy x rules)
 unfolding storeCarryOut carryOut
 ended-ninth x rules e = rw (eq-eqb (x .running .done) 9 e)
+
+-- After the end nothing changes
+
+ended-act : (c : StoreCall) (d : Desk) (a : Act) → d .running .done ≡ 9 → act c d a ≡ d
+unfolding act storeStep unwritten takeOrder storeCarryOut
+ended-act c d (stepping k) e = rw e
+ended-act c d (ordering o) e = rw e
+ended-act c d (carrying period answers) e = rw (eq-eqb (d .running .done) 9 e)
+
+-- an order is taken, or not, by the desk alone
+same-taken : (f g : Desk → Act → Desk) (d : Desk) (a : Act) (list : List Act) → arrivedBy f (f d a) list ≡ arrivedBy g (g d a) list → arrivedBy f d (a ∷ list) ≡ arrivedBy g d (a ∷ list)
+unfolding arrivedBy
+same-taken f g d (stepping k) list e = e
+same-taken f g d (ordering o) list e = ap (λ (later : List Order). cond (isTaken (takeOrder (orderCall d o))) (o ∷ later) later) e
+same-taken f g d (carrying period answers) list e = e
 
 -- Where the store has rules
 
@@ -152,7 +171,7 @@ module _ (c : StoreCall) (rules : Rules) (e : rulesFor c ≡ value rules) where
   rules-on : (n : ℕ) (d : Desk) (os : List Order) (size : ℕ) → On whole n d os size → (k : ℕ) → hasEnded (d .running) ≡ false → rulesFor (storeFound (stepCall c d k)) ≡ value rules
   rules-on n d os size (waiting z h none long) k p = first-rules d k h
   rules-on n d os size (onward st count orders u at h) k p = subst (λ (x : Desk). rulesFor (storeFound (stepCall c x k)) ≡ value rules) (sym at) (later-rules n st count orders k u)
-  rules-on n d os size (ended s) k p = absurd (false≢true (sym p ∙ eq-eqb (d .running .done) 9 (stopped-done whole d s)))
+  rules-on n d os size (ended s h) k p = absurd (false≢true (sym p ∙ eq-eqb (d .running .done) 9 (stopped-done whole d s)))
 
   same-step : (n : ℕ) (d : Desk) (os : List Order) (size : ℕ) → On whole n d os size → (k : ℕ) → act c d (stepping k) ≡ desk.act whole d (stepping k)
   unfolding act desk.act
@@ -163,43 +182,45 @@ module _ (c : StoreCall) (rules : Rules) (e : rulesFor c ≡ value rules) where
   unfolding act desk.act
   same-order d o = refl
 
-  same-on : (n : ℕ) (d : Desk) (list : List Act) (os : List Order) (size : ℕ) → n ≤ 8 → stepsOf list ≡ drop n oneToEight → On whole n d os size → acts c d list ≡ desk.acts whole d list
-  unfolding acts desk.acts stepsOf
-  same-on n d [] os size l p h = refl
-  same-on n d (stepping k ∷ list) os size l p h =
-      let t = next n k (stepsOf list) p in
-      let b = t .below in
-      ap (λ (x : Desk). acts c x list) (same-step n d os size h k)
-      ∙ same-on (n + 1) (desk.act whole d (stepping k)) list os size (omega arith) (t .then) (subst (λ (j : ℕ). On whole (n + 1) (desk.act whole d (stepping j)) os size) (sym (t .is)) (step-on whole n d os size b h))
-  same-on n d (ordering o ∷ list) os size l p h =
-      ap (λ (x : Desk). acts c x list) (same-order d o)
-      ∙ same-on n (desk.act whole d (ordering o)) list _ size l p (order-on whole n d o os size h)
+  ninth-at : (period : ℕ) (answers : List ℕ) (n : ℕ) (x : Desk) (os : List Order) (size : ℕ) → n ≤ 8 → On whole n x os size → storeCarryOut (ninthCall c x period answers) ≡ carryOut (desk.ninthCall whole x period answers)
+  ninth-at period answers n x os size l (waiting z h none long) =
+      early-ninth (ninthCall c x period answers) rules (ne-eqb (x .running .done) 9 (λ d. absurd (omega (arith, d, h .done)))) (ne-eqb (x .running .done) 8 (λ d. absurd (omega (arith, d, h .done))))
+  ninth-at period answers n x os size l (ended s h) = ended-ninth (ninthCall c x period answers) rules (stopped-done whole x s)
+  ninth-at period answers n x os size l (onward st count orders u at h) =
+      subst (λ (y : Desk). storeCarryOut (ninthCall c y period answers) ≡ carryOut (desk.ninthCall whole y period answers)) (sym at)
+      (let a = alike-at n st count orders u in
+      let r = read-so c rules e in
+      let t = r .entry in
+      carry-by (ninthCall c (deskAt whole n st count orders) period answers) rules (t .lent-by .store) (shaped-as (c .registry) (encode (st .validators)) (a .registry) ∙ t .lent-by .registry) (r .good) (t .shaped) (t .good) (rw (a .slot) (r .at)))
 
-  module _ (d : Desk) (h : NotBegun c d) (list : List Act) (p : stepsOf list ≡ oneToEight) where
-    -- the desk after the eighth call is the one by these rules
+  pub ninth-way : (period : ℕ) (answers : List ℕ) (x : Desk) (os : List Order) (size : ℕ) → Way whole x os size → storeCarryOut (ninthCall c x period answers) ≡ carryOut (desk.ninthCall whole x period answers)
+  ninth-way period answers x os size (under n l h) = ninth-at period answers n x os size l h
+  ninth-way period answers x os size (over v) = ended-ninth (ninthCall c x period answers) rules (over-done v)
+
+  same-act : (d : Desk) (a : Act) (os : List Order) (size : ℕ) → Way whole d os size → act c d a ≡ desk.act whole d a
+  unfolding act desk.act
+  same-act d (stepping k) os size (under n l h) = same-step n d os size h k
+  same-act d (ordering o) os size w = refl
+  same-act d (carrying period answers) os size w = ap (afterNinth d) (ninth-way period answers d os size w)
+  same-act d (stepping k) os size (over v) = ended-act c d (stepping k) (over-done v) ∙ sym (desk-ended whole d (stepping k) (over-done v))
+
+  -- the desk after any calls is the one by these rules, and the same orders are taken
+  same-on : (d : Desk) (list : List Act) (os : List Order) (size : ℕ) → Way whole d os size → (acts c d list ≡ desk.acts whole d list) × (arrivedBy (act c) d list ≡ arrivedBy (desk.act whole) d list)
+  unfolding acts desk.acts arrivedBy
+  same-on d [] os size w = (refl, refl)
+  same-on d (a ∷ list) os size w =
+      let s = same-act d a os size w in
+      let r = same-on (desk.act whole d a) list (withTaken d a os) size (way-act whole d a os size w) in
+      (ap (λ (x : Desk). acts c x list) s ∙ r .0, same-taken (act c) (desk.act whole) d a list (ap (λ (x : Desk). arrivedBy (act c) x list) s ∙ r .1))
+
+  module _ (d : Desk) (h : NotBegun c d) (list : List Act) where
     pub same-acts : acts c d list ≡ desk.acts whole d list
-    same-acts = same-on 0 d list [] (length (d .orders)) (omega arith) p (waiting refl (begun c rules d h) refl refl)
+    same-acts = same-on d list [] (length (d .orders)) (not-begun whole d (begun c rules d h)) .0
 
-    ninth-at : (period : ℕ) (answers : List ℕ) (x : Desk) (os : List Order) (size : ℕ) → On whole 8 x os size → storeCarryOut (ninthCall c x period answers) ≡ carryOut (desk.ninthCall whole x period answers)
-    ninth-at period answers x os size (waiting z h none long) = absurd (omega (arith, z))
-    ninth-at period answers x os size (ended s) = ended-ninth (ninthCall c x period answers) rules (stopped-done whole x s)
-    ninth-at period answers x os size (onward st count orders u at h) =
-        subst (λ (y : Desk). storeCarryOut (ninthCall c y period answers) ≡ carryOut (desk.ninthCall whole y period answers)) (sym at)
-        (let a = alike-at 8 st count orders u in
-        let r = read-so c rules e in
-        let t = r .entry in
-        carry-by (ninthCall c (deskAt whole 8 st count orders) period answers) rules (t .lent-by .store) (shaped-as (c .registry) (encode (st .validators)) (a .registry) ∙ t .lent-by .registry) (r .good) (t .shaped) (t .good) (rw (a .slot) (r .at)))
-
-    -- and so is the ninth
-    pub same-ninth : (period : ℕ) (answers : List ℕ) → storeCarryOut (ninthCall c (acts c d list) period answers) ≡ carryOut (desk.ninthCall whole (acts c d list) period answers)
-    same-ninth period answers = rw same-acts (ninth-at period answers (desk.acts whole d list) _ _ (eight-on whole d (begun c rules d h) list p))
+    pub same-arrived : arrived c d list ≡ desk.arrived whole d list
+    same-arrived = same-on d list [] (length (d .orders)) (not-begun whole d (begun c rules d h)) .1
 
 -- Where it has none
-
-ended-act : (c : StoreCall) (d : Desk) (a : Act) → d .running .done ≡ 9 → act c d a ≡ d
-unfolding act storeStep unwritten takeOrder
-ended-act c d (stepping k) e = rw e
-ended-act c d (ordering o) e = rw e
 
 ended-acts : (c : StoreCall) (d : Desk) (list : List Act) → d .running .done ≡ 9 → acts c d list ≡ d
 unfolding acts
@@ -229,14 +250,58 @@ module _ (c : StoreCall) {r : Refusal} (e : rulesFor c ≡ refused r) where
   unfolding act storeStep storeStepBy stepRefused storeFound unwritten endedBy
   first-turned d h = rw (h .done, h .closingRegistry, h .closingSlashings, h .amounts, e)
 
-  pub turned-acts : (d : Desk) → NotBegun c d → (list : List Act) → stepsOf list ≡ oneToEight → acts c d list ≡ turned (d .orders)
-  unfolding acts stepsOf
-  turned-acts d h [] p = absurd (omega (arith, ap length p))
-  turned-acts d h (ordering o ∷ list) p = ap (λ (x : Desk). acts c x list) (waiting-order c d o (h .done)) ∙ turned-acts d h list p
-  turned-acts d h (stepping k ∷ list) p =
-      ap (λ (j : ℕ). acts c (act c d (stepping j)) list) (next 0 k (stepsOf list) p .is)
-      ∙ ap (λ (x : Desk). acts c x list) (first-turned d h)
-      ∙ ended-acts c (turned (d .orders)) list refl
+  -- before the first call in its turn nothing changes
+  early-step : (d : Desk) (k : ℕ) → d .running .done ≡ 0 → eqb k 1 ≡ false → act c d (stepping k) ≡ d
+  unfolding act storeStep unwritten
+  early-step d k z f = rw (z, f)
+
+  early-carry : (d : Desk) (period : ℕ) (answers : List ℕ) → d .running .done ≡ 0 → act c d (carrying period answers) ≡ d
+  unfolding act storeCarryOut
+  early-carry d period answers z = rw z
+
+  early-untaken : (d : Desk) (o : Order) → d .running .done ≡ 0 → isTaken (takeOrder (orderCall d o)) ≡ false
+  unfolding takeOrder
+  early-untaken d o z = rw z
+
+  none-later : (orders : List ℕ) (list : List Act) → arrivedBy (act c) (turned orders) list ≡ []
+  unfolding arrivedBy
+  none-later orders [] = refl
+  none-later orders (stepping k ∷ list) = rw (ended-act c (turned orders) (stepping k) refl) (none-later orders list)
+  none-later orders (carrying period answers ∷ list) = rw (ended-act c (turned orders) (carrying period answers) refl) (none-later orders list)
+  none-later orders (ordering o ∷ list) = rw (ended-order (turned orders) o refl, ended-act c (turned orders) (ordering o) refl) (none-later orders list)
+
+  -- any calls: none was the first in its turn, or it ended the close
+  data Turned (d : Desk) (list : List Act) : Type 0 where
+    waits : acts c d list ≡ d → Turned d list
+    ends : acts c d list ≡ turned (d .orders) → arrivedBy (act c) d list ≡ [] → Turned d list
+
+  turned-again : (d : Desk) (a : Act) (list : List Act) → act c d a ≡ d → (arrivedBy (act c) (act c d a) list ≡ [] → arrivedBy (act c) d (a ∷ list) ≡ []) → Turned d list → Turned d (a ∷ list)
+  unfolding acts
+  turned-again d a list e f (waits g) = waits (ap (λ (x : Desk). acts c x list) e ∙ g)
+  turned-again d a list e f (ends g k) = ends (ap (λ (x : Desk). acts c x list) e ∙ g) (f (ap (λ (x : Desk). arrivedBy (act c) x list) e ∙ k))
+
+  turned-any : (d : Desk) → NotBegun c d → (list : List Act) → Turned d list
+  unfolding acts arrivedBy
+  turned-any d h [] = waits refl
+  turned-any d h (ordering o ∷ list) =
+      turned-again d (ordering o) list (waiting-order c d o (h .done)) (λ e. rw (early-untaken d o (h .done)) e) (turned-any d h list)
+  turned-any d h (carrying period answers ∷ list) =
+      turned-again d (carrying period answers) list (early-carry d period answers (h .done)) (λ e. e) (turned-any d h list)
+  turned-any d h (stepping k ∷ list) = go (eqb k 1) refl (turned-any d h list)
+    where
+      go : (b : Bool) → eqb k 1 ≡ b → Turned d list → Turned d (stepping k ∷ list)
+      go false f w = turned-again d (stepping k) list (early-step d k (h .done) f) (λ e. e) w
+      go true f w =
+          let first : act c d (stepping k) ≡ turned (d .orders) = ap (λ (j : ℕ). act c d (stepping j)) (eqb-true k 1 f) ∙ first-turned d h in
+          ends (ap (λ (x : Desk). acts c x list) first ∙ ended-acts c (turned (d .orders)) list refl) (ap (λ (x : Desk). arrivedBy (act c) x list) first ∙ none-later (d .orders) list)
+
+  -- and once steps are done, or it has ended
+  pub turned-closed : (d : Desk) → NotBegun c d → (list : List Act) → 8 ≤ acts c d list .running .done → (acts c d list ≡ turned (d .orders)) × (arrived c d list ≡ [])
+  turned-closed d h list l = go (turned-any d h list)
+    where
+      go : Turned d list → (acts c d list ≡ turned (d .orders)) × (arrived c d list ≡ [])
+      go (waits e) = absurd (omega (arith, ap (λ (x : Desk). x .running .done) e, h .done, l))
+      go (ends e f) = (e, f)
 
   turned-gives : (orders : List ℕ) → Gives (turnedAway c (numberOf r)) (turned orders)
   turned-gives orders =
@@ -248,26 +313,45 @@ module _ (c : StoreCall) {r : Refusal} (e : rulesFor c ≡ refused r) where
         done = rw (ne-eqb (numberOf r) 0 (number-not-zero r));
       }
 
--- Eight calls, and nine
+-- Any calls, and the ninth
 
-pub store-eight-calls : StoreEightCalls
-unfolding storeClose closeBy
-store-eight-calls c d h list p = go (rulesFor c) refl
+pub closed-done : {d : Desk} → Closed d → 8 ≤ d .running .done
+closed-done (eightDone e) = omega (arith, e)
+closed-done (wasRefused e f) = omega (arith, e)
+
+pub store-any-calls : StoreAnyCalls
+unfolding storeClose closeBy ordersIn
+store-any-calls c d h list f = go (rulesFor c) refl
   where
-    go : (m : Checked Rules) → rulesFor c ≡ m → Gives (closeBy c m) (acts c d list)
-    go (value rules) e = subst (Gives (fullClose (callBy c rules))) (sym (same-acts c rules e d h list p)) (eight-calls (callBy c rules) d (begun c rules d h) list p)
-    go (refused r) e = subst (Gives (turnedAway c (numberOf r))) (sym (turned-acts c e d h list p)) (turned-gives c e (d .orders))
+    go : (m : Checked Rules) → rulesFor c ≡ m → GivesWhole (closeBy c m) (arrived c d list) (acts c d list)
+    go (value rules) e =
+        let same = same-acts c rules e d h list in
+        rw (same, same-arrived c rules e d h list) (any-calls (callBy c rules) d (begun c rules d h) list (subst Closed same f))
+    go (refused r) e =
+        let t = turned-closed c e d h list (closed-done f) in
+        rw (t .0, t .1) (record { gives = turned-gives c e (d .orders); orders = refl })
 
 close-by : (c : StoreCall) (rules : Rules) → rulesFor c ≡ value rules → storeClose c ≡ fullClose (callBy c rules)
 unfolding storeClose closeBy
 close-by c rules e = rw e
 
 pub store-nine-calls : StoreNineCalls
-store-nine-calls c d h list p period answers = (
-  λ rules e z lent.
-      let whole = callBy c rules in
-      let same = same-ninth c rules e d h list p period answers ∙ ap (λ (x : Desk). carryOut (desk.ninthCall whole x period answers)) (same-acts c rules e d h list p) in
-      subst (desk.Carries whole (desk.arrived whole d list) period answers) (sym same)
-      (nine-calls whole d (begun c rules d h) list p period answers .0 (sym (ap (λ (o : FullOutcome). o .refusal) (close-by c rules e)) ∙ z) lent),
-  λ z. says (ninthCall c (acts c d list) period answers) (store-eight-calls c d h list p .done ∙ ap (λ (b : Bool). cond b 8 9) (ne-eqb (storeClose c .refusal) 0 z)),
-)
+store-nine-calls c d h list period answers = (λ z lent. go z lent (rulesFor c) refl, λ z. says (ninthCall c (acts c d list) period answers) z)
+  where
+    go : acts c d list .running .done ≡ 8 → NinthLent d period answers → (m : Checked Rules) → rulesFor c ≡ m → (rules : Rules) × (rulesFor c ≡ value rules) × Carries (callBy c rules) (arrived c d list) period answers (storeCarryOut (ninthCall c (acts c d list) period answers))
+    go z lent (value rules) e =
+        let whole = callBy c rules in
+        let same = same-acts c rules e d h list in
+        let n = any-way whole d (begun c rules d h) list in
+        let ninth = ap (λ (x : Desk). storeCarryOut (ninthCall c x period answers)) same ∙ ninth-way c rules e period answers (desk.acts whole d list) _ _ n in
+        (rules, e, rw (ninth, same-arrived c rules e d h list) (nine-calls whole d (begun c rules d h) list period answers .0 (sym (ap (λ (x : Desk). x .running .done) same) ∙ z) lent))
+    go z lent (refused r) e = absurd (omega (arith, z, ap (λ (x : Desk). x .running .done) (turned-closed c e d h list (omega (arith, z)) .0)))
+
+pub store-after-nine : StoreAfterNine
+store-after-nine c d h list z r = go (rulesFor c) refl
+  where
+    go : (m : Checked Rules) → rulesFor c ≡ m → (rules : Rules) × (rulesFor c ≡ value rules) × CarriedOut (storeClose c) (settingsUnder rules) (arrived c d list) (acts c d list)
+    go (value rules) e =
+        let same = same-acts c rules e d h list in
+        (rules, e, rw (same, same-arrived c rules e d h list, close-by c rules e) (after-nine (callBy c rules) d (begun c rules d h) list (sym (ap (λ (x : Desk). x .running .done) same) ∙ z) (sym (ap (λ (x : Desk). x .running .answer .refusal) same) ∙ r)))
+    go (refused q) e = absurd (number-not-zero q (sym (ap (λ (x : Desk). x .running .answer .refusal) (turned-closed c e d h list (omega (arith, z)) .0)) ∙ r))

@@ -7,39 +7,29 @@ use Prim.Native.Nat.{ℕ}
 use Rattle.definitions.specs.Record.{BeaconState}
 use Rattle.definitions.specs.Close.{Outcome}
 use Rattle.definitions_close.specs.FullClose.{FullCall}
-use Rattle.definitions_close.specs.Orders.{NinthOutcome, carryOut}
 use Rattle.history.specs.Events.{Least, Premises, Claim}
 use Rattle.history.specs.Demand3.{Close, event}
 use Rattle.theorems.specs.FullClose.Demand3.{fullCloseOf}
-use Rattle.theorems.specs.CloseBySteps.Desk.{Desk, Act, acts, stepsOf, oneToEight, NotBegun, ninthCall}
+use Rattle.theorems.specs.CloseBySteps.Desk.{Desk, Act, acts, NotBegun}
 
--- a close by steps: eight calls in turn with any orders, and a ninth; it has ended
+-- a close by steps: any calls, in turn or not, turned away or not, with any orders; it has ended, refused at any call or by the ninth
 pub record BySteps : Type 0 where
   pub whole : FullCall
   pub desk : Desk
   pub begins : NotBegun whole desk
   pub list : List Act
-  pub turns : stepsOf list ≡ oneToEight
-  pub period : ℕ
-  pub answers : List ℕ
-  pub ended : carryOut (ninthCall whole (acts whole desk list) period answers) .answer .running .done ≡ 9
+  pub ended : acts whole desk list .running .done ≡ 9
 
-abbrev pub eighth : BySteps → Desk
-eighth b = acts (b .whole) (b .desk) (b .list)
-
-abbrev pub ninth : BySteps → NinthOutcome
-ninth b = carryOut (ninthCall (b .whole) (eighth b) (b .period) (b .answers))
-
--- what came of it
-abbrev pub outcomeOf : BySteps → Outcome
-outcomeOf b =
-    let answer = ninth b .answer .running .answer in
+-- what came of it, from the desk after the last call
+abbrev pub outcomeFrom : Desk → Outcome
+outcomeFrom last =
+    let answer = last .running .answer in
     record {
       refusal = answer .refusal;
       finality = answer .finality;
       raised = answer .raised;
-      closingRegistry = ninth b .closingRegistry;
-      closingSlashings = eighth b .closingSlashings;
+      closingRegistry = last .closingRegistry;
+      closingSlashings = last .closingSlashings;
     }
 
 -- a whole close, or one by steps; the reading of what stands if it was refused beside it
@@ -49,7 +39,8 @@ pub data AnyClose : Type 0 where
 
 abbrev pub closeOf : Bool × AnyClose → Close
 closeOf (othersStay, wholly c) = fullCloseOf (othersStay, c)
-closeOf (othersStay, bySteps b) = record { call = b .whole .call; outcome = outcomeOf b; othersStay = othersStay }
+closeOf (othersStay, bySteps b) =
+    record { call = b .whole .call; outcome = outcomeFrom (acts (b .whole) (b .desk) (b .list)); othersStay = othersStay }
 
 -- m at most the smallest churn limit that the settings of an accepted close allow
 abbrev pub Demand3BySteps : Type 0

@@ -10,7 +10,7 @@ use Rattle.definitions.specs.declared.Rules.{Rules}
 use Rattle.definitions.specs.declared.CloseAnswer.{CloseAnswer}
 use Rattle.definitions.specs.declared.ExitQueue.{ExitQueue}
 use Rattle.definitions.specs.Record.{Validator, BeaconState, encode, decode}
-use Rattle.definitions.specs.Checked.{Checked, value, codeOf, settle}
+use Rattle.definitions.specs.Checked.{Checked, value, bind, codeOf, settle}
 use Rattle.definitions.specs.Raised.{noneRaised, raisedTotals, raisedUnlessRefused, closeAnswerFor}
 use Rattle.definitions.specs.Refusals.{afterTests, closingBuffer, justificationTests, registryTests, effectiveBalanceTests, slashingsResetTests, rotationTests}
 use Rattle.definitions.specs.Rules.{settingsUnder, rewardsTests, slashingsTests}
@@ -56,7 +56,9 @@ pub record DocumentClosed (c : Call) (o : Outcome) : Type 0 where
 pub record CloseCall (c : Call) (o : Outcome) : Type 0 where
   pub accepted : o .refusal ≡ 0 → DocumentClosed c o
   -- it answers as the document in 64 bits would, or a row parts the two
-  pub complete : (o ≡ outcomeBy (closeTests c) c (In64Bits.«process_epoch» (settingsUnder (c .rules)) (stateOf c))) ⊎ ((closeTests c ≡ value tt) × CloseParts (settingsUnder (c .rules)) (stateOf c))
+  pub complete : let s = settingsUnder (c .rules) in let st = stateOf c in
+      (o ≡ outcomeBy (closeTests c) c (In64Bits.«process_epoch» s st))
+      ⊎ ((closeTests c ≡ value tt) × CloseParts s st)
 
 -- The steps
 
@@ -68,39 +70,86 @@ pub record ByNumber (numbers document opening closing after : List ℕ) (r : ℕ
   pub restored : OneOf r (4 ∷ 5 ∷ []) → after ≡ opening
 
 -- by the settings s; `document` is what the document's step makes of st
-pub record StepCall (s : Settings) (document st : BeaconState) (k : Step) (contents : BeaconState → List ℕ) (numbers : List ℕ) (tests : Checked (Unit {0})) (opening closing after : List ℕ) (r : ℕ) : Type 0 where
+pub record StepCall (s : Settings) (document st : BeaconState) (k : Step)
+    (contents : BeaconState → List ℕ) (numbers : List ℕ) (tests : Checked (Unit {0}))
+    (opening closing after : List ℕ) (r : ℕ) : Type 0 where
   pub byNumber : ByNumber numbers (contents document) opening closing after r
   -- it answers as the document in 64 bits would, or a row parts the two
   pub complete : Closes contents tests (In64Bits.step s st k) opening closing after r ⊎ ((tests ≡ value tt) × StepParts s st k)
 
 -- `st` is any state that has what the call is lent
 pub record StepCalls (s : Settings) (st : BeaconState) (opening closing after : List ℕ) (r : ℕ) : Type 0 where
-  pub inactivity : decode opening ≡ st .validators → let tests = registryTests s (st .finality .slot) (finalizedEpochOf st) opening closing in Closes encode tests («process_inactivity_updates» s (st .finality .slot) (finalizedEpochOf st) (decode opening)) opening closing after r → StepCall s (documentStep s st inactivityStep) st inactivityStep registryOf (0 ∷ 1 ∷ 2 ∷ 3 ∷ 5 ∷ []) tests opening closing after r
-  pub registry : decode opening ≡ st .validators → let tests = registryTests s (st .finality .slot) (finalizedEpochOf st) opening closing in Closes encode tests («process_registry_updates» s (st .finality .slot) (finalizedEpochOf st) (decode opening)) opening closing after r → StepCall s (documentStep s st registryStep) st registryStep registryOf (0 ∷ 1 ∷ 2 ∷ 3 ∷ 5 ∷ []) tests opening closing after r
-  pub effectiveBalances : decode opening ≡ st .validators → let tests = effectiveBalanceTests s opening closing in Closes encode tests («process_effective_balance_updates» s (decode opening)) opening closing after r → StepCall s (documentStep s st effectiveBalancesStep) st effectiveBalancesStep registryOf (0 ∷ 1 ∷ 2 ∷ 3 ∷ 5 ∷ []) tests opening closing after r
-  pub slashingsReset : let tests = slashingsResetTests s (st .finality .slot) (st .slashings) closing in Closes (λ xs. xs) tests (value (resetSlashings s (st .finality .slot) (st .slashings))) (st .slashings) closing after r → StepCall s (documentStep s st slashingsResetStep) st slashingsResetStep slashingsOf (0 ∷ 1 ∷ 2 ∷ 3 ∷ []) tests (st .slashings) closing after r
-  pub participationFlags : decode opening ≡ st .validators → let tests = rotationTests opening closing in Closes encode tests (value («process_participation_flag_updates» (decode opening))) opening closing after r → StepCall s (documentStep s st participationFlagsStep) st participationFlagsStep registryOf (0 ∷ 1 ∷ 3 ∷ []) tests opening closing after r
+  pub inactivity : decode opening ≡ st .validators
+      → let tests = registryTests s (st .finality .slot) (finalizedEpochOf st) opening closing in
+      Closes encode tests («process_inactivity_updates» s (st .finality .slot) (finalizedEpochOf st) (decode opening)) opening closing after r
+      → StepCall s (documentStep s st inactivityStep) st inactivityStep registryOf (0 ∷ 1 ∷ 2 ∷ 3 ∷ 5 ∷ []) tests opening closing after r
+  pub registry : decode opening ≡ st .validators
+      → let tests = registryTests s (st .finality .slot) (finalizedEpochOf st) opening closing in
+      Closes encode tests («process_registry_updates» s (st .finality .slot) (finalizedEpochOf st) (decode opening)) opening closing after r
+      → StepCall s (documentStep s st registryStep) st registryStep registryOf (0 ∷ 1 ∷ 2 ∷ 3 ∷ 5 ∷ []) tests opening closing after r
+  pub effectiveBalances : decode opening ≡ st .validators
+      → let tests = effectiveBalanceTests s opening closing in
+      Closes encode tests («process_effective_balance_updates» s (decode opening)) opening closing after r
+      → StepCall s (documentStep s st effectiveBalancesStep) st effectiveBalancesStep registryOf (0 ∷ 1 ∷ 2 ∷ 3 ∷ 5 ∷ []) tests opening closing after r
+  pub slashingsReset : let tests = slashingsResetTests s (st .finality .slot) (st .slashings) closing in
+      Closes (λ xs. xs) tests (value (resetSlashings s (st .finality .slot) (st .slashings))) (st .slashings) closing after r
+      → StepCall s (documentStep s st slashingsResetStep) st slashingsResetStep slashingsOf (0 ∷ 1 ∷ 2 ∷ 3 ∷ []) tests (st .slashings) closing after r
+  pub participationFlags : decode opening ≡ st .validators
+      → let tests = rotationTests opening closing in
+      Closes encode tests (value («process_participation_flag_updates» (decode opening))) opening closing after r
+      → StepCall s (documentStep s st participationFlagsStep) st participationFlagsStep registryOf (0 ∷ 1 ∷ 3 ∷ []) tests opening closing after r
 
 -- the two steps that are lent rules
 pub record RulesCalls (r : Rules) (st : BeaconState) (opening closing after : List ℕ) (n : ℕ) : Type 0 where
-  pub rewards : decode opening ≡ st .validators → let s = settingsUnder r in let tests = rewardsTests r (st .finality .slot) (finalizedEpochOf st) opening closing in Closes encode tests («process_rewards_and_penalties» s (s .«inactivity_penalty_quotient_altair») (st .finality .slot) (finalizedEpochOf st) (decode opening)) opening closing after n → StepCall s (documentStepUnder r st rewardsStep) st rewardsStep registryOf (0 ∷ 1 ∷ 2 ∷ 3 ∷ 5 ∷ []) tests opening closing after n
-  pub slashings : decode opening ≡ st .validators → let s = settingsUnder r in let tests = slashingsTests r (st .finality .slot) (st .slashings) opening closing in Closes encode tests («process_slashings» s (s .«proportional_slashing_multiplier_altair») (st .finality .slot) (st .slashings) (decode opening)) opening closing after n → StepCall s (documentStepUnder r st slashingsStep) st slashingsStep registryOf (0 ∷ 1 ∷ 2 ∷ 3 ∷ 5 ∷ []) tests opening closing after n
+  pub rewards : decode opening ≡ st .validators
+      → let s = settingsUnder r in
+      let tests = rewardsTests r (st .finality .slot) (finalizedEpochOf st) opening closing in
+      Closes encode tests («process_rewards_and_penalties» s (s .«inactivity_penalty_quotient_altair») (st .finality .slot) (finalizedEpochOf st) (decode opening))
+      opening closing after n
+      → StepCall s (documentStepUnder r st rewardsStep) st rewardsStep registryOf (0 ∷ 1 ∷ 2 ∷ 3 ∷ 5 ∷ []) tests opening closing after n
+  pub slashings : decode opening ≡ st .validators
+      → let s = settingsUnder r in
+      let tests = slashingsTests r (st .finality .slot) (st .slashings) opening closing in
+      Closes encode tests («process_slashings» s (s .«proportional_slashing_multiplier_altair») (st .finality .slot) (st .slashings) (decode opening))
+      opening closing after n
+      → StepCall s (documentStepUnder r st slashingsStep) st slashingsStep registryOf (0 ∷ 1 ∷ 2 ∷ 3 ∷ 5 ∷ []) tests opening closing after n
 
 -- The registry step with a stop (02, R-6): what the document's step gives, from the stop up with the activation epochs of vs
 abbrev pub stoppedOf : ℕ → List Validator → BeaconState → List ℕ
 stoppedOf stop vs st = encode (keptFrom stop vs (st .validators))
 
 abbrev pub StoppedCalls : Type 0
-StoppedCalls = (stop : ℕ) (s : Settings) (st : BeaconState) (opening closing after : List ℕ) (r : ℕ) → decode opening ≡ st .validators → let tests = registryToTests stop s (st .finality .slot) (finalizedEpochOf st) opening closing in Closes encode tests (registryUpdatesTo stop s (st .finality .slot) (finalizedEpochOf st) (decode opening)) opening closing after r → StepCall s (documentStep s st registryStep) st registryStep (stoppedOf stop (st .validators)) (0 ∷ 1 ∷ 2 ∷ 3 ∷ 5 ∷ []) tests opening closing after r
+StoppedCalls =
+    (stop : ℕ) (s : Settings) (st : BeaconState) (opening closing after : List ℕ) (r : ℕ)
+    → decode opening ≡ st .validators
+    → let tests = registryToTests stop s (st .finality .slot) (finalizedEpochOf st) opening closing in
+    Closes encode tests (registryUpdatesTo stop s (st .finality .slot) (finalizedEpochOf st) (decode opening)) opening closing after r
+    → StepCall s (documentStep s st registryStep) st registryStep (stoppedOf stop (st .validators)) (0 ∷ 1 ∷ 2 ∷ 3 ∷ 5 ∷ []) tests opening closing after r
 
 -- Justification has no buffer; its operations stand where the document has them
-pub record JustificationCall (s : Settings) (st : BeaconState) (answer : CloseAnswer) : Type 0 where
+
+-- what the document in 64 bits answers after the same tests
+abbrev pub justificationIn64Bits : Settings → BeaconState → List ℕ → CloseAnswer
+justificationIn64Bits s st registry =
+    let tests = justificationTests s (st .«block_roots») (st .finality) registry in
+    let document = bind (In64Bits.step s st justificationStep) (λ after. value (after .finality)) in
+    closeAnswerFor (afterTests tests document) (st .finality) (raisedTotals s (st .finality .slot) (st .validators))
+
+pub record JustificationCall (s : Settings) (st : BeaconState) (registry : List ℕ) (answer : CloseAnswer) : Type 0 where
   pub number : OneOf (answer .refusal) (0 ∷ 1 ∷ 2 ∷ 3 ∷ 4 ∷ 5 ∷ [])
-  pub accepted : answer .refusal ≡ 0 → (answer .finality ≡ documentStep s st justificationStep .finality) × (answer .raised ≡ raisedTotals s (st .finality .slot) (st .validators))
+  pub accepted : answer .refusal ≡ 0 →
+      (answer .finality ≡ documentStep s st justificationStep .finality) × (answer .raised ≡ raisedTotals s (st .finality .slot) (st .validators))
   pub refused : OneOf (answer .refusal) (1 ∷ 2 ∷ 3 ∷ 4 ∷ 5 ∷ []) → (answer .finality ≡ st .finality) × (answer .raised ≡ noneRaised)
+  -- "for no other cause": it answers as the document in 64 bits would, and no row parts the two
+  pub complete : answer ≡ justificationIn64Bits s st registry
 
 abbrev pub JustificationCalls : Type 0
-JustificationCalls = (s : Settings) (st : BeaconState) (registry : List ℕ) (answer : CloseAnswer) → decode registry ≡ st .validators → answer ≡ closeAnswerFor (afterTests (justificationTests s (st .«block_roots») (st .finality) registry) («process_justification_and_finalization» s (st .«block_roots») (st .finality) (decode registry))) (st .finality) (raisedTotals s (st .finality .slot) (decode registry)) → JustificationCall s st answer
+JustificationCalls =
+    (s : Settings) (st : BeaconState) (registry : List ℕ) (answer : CloseAnswer) → decode registry ≡ st .validators
+    → let tests = justificationTests s (st .«block_roots») (st .finality) registry in
+    let work = «process_justification_and_finalization» s (st .«block_roots») (st .finality) (decode registry) in
+    answer ≡ closeAnswerFor (afterTests tests work) (st .finality) (raisedTotals s (st .finality .slot) (decode registry))
+    → JustificationCall s st registry answer
 
 -- Files: the numbers. What is left on a refusal is round_trip, Refused.antt.
 pub record FileCalls : Type 0 where

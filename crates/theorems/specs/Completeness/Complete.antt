@@ -5,6 +5,7 @@ use mathlib.Core.List.{List}
 use mathlib.Core.Logic.{_⊎_}
 use Prim.Native.Nat.{ℕ}
 use Rattle.definitions.specs.declared.Settings.{Settings}
+use Rattle.definitions.specs.declared.Deltas.{Deltas}
 use Rattle.definitions.specs.declared.Rules.{Rules}
 use Rattle.definitions.specs.Record.{Validator, BeaconState}
 use Rattle.definitions.specs.Checked.{value, refused, overflow}
@@ -36,7 +37,9 @@ pub record StepParts (s : Settings) (st : BeaconState) (k : Step) : Type 0 where
 
 -- registry alone asks for the tests, which keep the activation epoch in 64 bits
 abbrev pub CompleteStep : Type 0
-CompleteStep = (s : Settings) (st : BeaconState) (k : Step) → (k ≡ registryStep → Passed s (st .finality .slot)) → (Rust.step s st k ≡ In64Bits.step s st k) ⊎ StepParts s st k
+CompleteStep =
+    (s : Settings) (st : BeaconState) (k : Step) → (k ≡ registryStep → Passed s (st .finality .slot))
+    → (Rust.step s st k ≡ In64Bits.step s st k) ⊎ StepParts s st k
 
 -- The rows are no wider than they need be
 pub record EveryRow (s : Settings) (st : BeaconState) : Type 0 where
@@ -55,10 +58,22 @@ pub record EveryRow (s : Settings) (st : BeaconState) : Type 0 where
 pub record LeafParts (s : Settings) (stateSlot finalizedEpoch : ℕ) (vs : List Validator) (flagIndex : ℕ) (v : Validator) : Type 0 where
   pub row : LeafRow s stateSlot finalizedEpoch flagIndex v
   pub rust : RustHelpers.«get_flag_index_deltas» s stateSlot finalizedEpoch vs flagIndex v ≡ refused overflow
-  pub document : In64Bits.deltasOfOne s stateSlot finalizedEpoch vs flagIndex v ≡ value (DocumentHelpers.flagIndexDeltas s stateSlot finalizedEpoch vs flagIndex v)
+  pub document : In64Bits.deltasOfOne s stateSlot finalizedEpoch vs flagIndex v
+      ≡ value (DocumentHelpers.flagIndexDeltas s stateSlot finalizedEpoch vs flagIndex v)
 
 abbrev pub CompleteLeaf : Type 0
-CompleteLeaf = (s : Settings) (stateSlot finalizedEpoch : ℕ) (vs : List Validator) (flagIndex : ℕ) (v : Validator) → (RustHelpers.«get_flag_index_deltas» s stateSlot finalizedEpoch vs flagIndex v ≡ In64Bits.deltasOfOne s stateSlot finalizedEpoch vs flagIndex v) ⊎ LeafParts s stateSlot finalizedEpoch vs flagIndex v
+CompleteLeaf =
+    (s : Settings) (stateSlot finalizedEpoch : ℕ) (vs : List Validator) (flagIndex : ℕ) (v : Validator)
+    → (RustHelpers.«get_flag_index_deltas» s stateSlot finalizedEpoch vs flagIndex v ≡ In64Bits.deltasOfOne s stateSlot finalizedEpoch vs flagIndex v)
+    ⊎ LeafParts s stateSlot finalizedEpoch vs flagIndex v
+
+pub record EveryLeafRow (s : Settings) (stateSlot finalizedEpoch : ℕ) (vs : List Validator) (flagIndex : ℕ) (v : Validator) : Type 0 where
+  pub refuses : LeafRow s stateSlot finalizedEpoch flagIndex v
+      → RustHelpers.«get_flag_index_deltas» s stateSlot finalizedEpoch vs flagIndex v ≡ refused overflow
+  -- where the document goes on the two part
+  pub parts : (d : Deltas) → LeafRow s stateSlot finalizedEpoch flagIndex v
+      → In64Bits.deltasOfOne s stateSlot finalizedEpoch vs flagIndex v ≡ value d
+      → LeafParts s stateSlot finalizedEpoch vs flagIndex v
 
 -- The whole close
 
@@ -68,7 +83,15 @@ pub record CloseParts (s : Settings) (st : BeaconState) : Type 0 where
   pub document : In64Bits.«process_epoch» s st ≡ value (Document.«process_epoch» s st)
 
 abbrev pub CompleteClose : Type 0
-CompleteClose = (s : Settings) (st : BeaconState) → Passed s (st .finality .slot) → (Rust.«process_epoch» s st ≡ In64Bits.«process_epoch» s st) ⊎ CloseParts s st
+CompleteClose =
+    (s : Settings) (st : BeaconState) → Passed s (st .finality .slot)
+    → (Rust.«process_epoch» s st ≡ In64Bits.«process_epoch» s st) ⊎ CloseParts s st
+
+pub record EveryCloseRow (s : Settings) (st : BeaconState) : Type 0 where
+  -- at each the Rust gives no record
+  pub refuses : (st′ : BeaconState) → CloseRow s st → Rust.«process_epoch» s st ≡ value st′ → ⊥
+  -- and where the document does the two part
+  pub parts : (st′ : BeaconState) → Passed s (st .finality .slot) → CloseRow s st → In64Bits.«process_epoch» s st ≡ value st′ → CloseParts s st
 
 -- why the second row is none of a close: rewards comes after an inactivity step that gave a value
 abbrev pub NoRewardsRow : Type 0

@@ -1,17 +1,18 @@
 -- The smallest records of docs/DIFFERENCES.md: each row is met by one that passes the tests, as a step and, for two of them, in a close.
 use mathlib.Core.Path.{_≡_}
-use mathlib.Core.List.{List, [], _∷_}
-use Prim.Native.Nat.{ℕ, _-_, _^_}
-use lib.ListN.{replicate}
+use mathlib.Core.List.{List, [], _∷_, _++_}
+use Prim.Native.Nat.{ℕ, _+_, _-_, _^_}
+use lib.ListN.{getD, replicate}
 use Rattle.definitions.specs.declared.Settings.{Settings}
 use Rattle.definitions.specs.declared.Checkpoint.{Checkpoint}
-use Rattle.definitions.specs.Record.{«FAR_FUTURE_EPOCH»}
+use Rattle.definitions.specs.Record.{nobody, «FAR_FUTURE_EPOCH»}
 use Rattle.definitions.specs.Checked.{value, refused, overflow}
 use Rattle.definitions.specs.Rules.{«BELLATRIX», settingsUnder, altairRules}
 use Rattle.definitions.specs.Close as Rust
-use Rattle.definitions.specs.Close.{inactivityStep, rewardsStep, registryStep, effectiveBalancesStep, Call, stateOf, closeTests}
+use Rattle.definitions.specs.Close.{finalizedEpochOf, inactivityStep, rewardsStep, registryStep, effectiveBalancesStep, Call, stateOf, closeTests}
 use Rattle.theorems.specs.Completeness.DocumentIn64Bits as In64Bits
-use Rattle.theorems.specs.Completeness.Complete.{StepParts, CloseParts}
+use Rattle.theorems.specs.Completeness.Complete.{StepParts, LeafParts, CloseParts}
+use Rattle.theorems.specs.Completeness.Rows.{Row}
 
 -- 1 for the divisors and the two lengths, and 0 for the rest, but for these three
 abbrev pub least : ℕ → ℕ → ℕ → Settings
@@ -58,7 +59,7 @@ callOf s registry slot finalized =
       closingSlashings = 0 ∷ [];
     }
 
--- the same under fork 1, with a pair that has the Altair two's numbers
+-- the same under fork 1, with a pair of other numbers than the Altair two
 abbrev pub onBellatrix : Call → Call
 onBellatrix c =
     let s = c .rules .settings in
@@ -67,8 +68,8 @@ onBellatrix c =
         settings = s;
         fork = «BELLATRIX»;
         bellatrix = record {
-          «inactivity_penalty_quotient_bellatrix» = s .«inactivity_penalty_quotient_altair»;
-          «proportional_slashing_multiplier_bellatrix» = s .«proportional_slashing_multiplier_altair»;
+          «inactivity_penalty_quotient_bellatrix» = s .«inactivity_penalty_quotient_altair» + 1;
+          «proportional_slashing_multiplier_bellatrix» = s .«proportional_slashing_multiplier_altair» + 3;
         };
       };
       finality = c .finality;
@@ -87,6 +88,12 @@ ahead = callOf (least 1 0 0) [] 1 1
 abbrev pub missed : Call
 missed = callOf (least 1 0 0) (1 ∷ 0 ∷ 0 ∷ 0 ∷ «FAR_FUTURE_EPOCH» ∷ «FAR_FUTURE_EPOCH» ∷ 1 ∷ 0 ∷ 0 ∷ 0 ∷ []) 1 1
 
+-- the same with two, whose effective balances, 2^63 each, have a sum outside 64 bits: in the row of rewards, but the document goes no further either
+abbrev pub heavy : Call
+heavy =
+    let v : List ℕ = 2 ^ 63 ∷ 0 ∷ 0 ∷ 0 ∷ «FAR_FUTURE_EPOCH» ∷ «FAR_FUTURE_EPOCH» ∷ 1 ∷ 0 ∷ 0 ∷ 0 ∷ [] in
+    callOf (least 1 0 0) (v ++ v) 1 1
+
 -- no validators, and the downward threshold is 2^94
 abbrev pub wide : Call
 wide = callOf (least (2 ^ 47) (2 ^ 47) 0) [] 0 0
@@ -95,7 +102,7 @@ wide = callOf (least (2 ^ 47) (2 ^ 47) 0) [] 0 0
 abbrev pub untested : Call
 untested = callOf (least 1 0 (2 ^ 64 - 1)) [] 0 0
 
--- the first three pass the tests and part: a step of each and, but for rewards, the whole close
+-- `ahead`, `missed` and `wide` pass the tests and part: a step of each, the leaf, and, but for rewards, the whole close
 pub record Parting (turned : Call → Call) : Type 0 where
   pub aheadTests : closeTests (turned ahead) ≡ value tt
   pub inactivity : StepParts (settingsUnder (turned ahead .rules)) (stateOf (turned ahead)) inactivityStep
@@ -103,10 +110,17 @@ pub record Parting (turned : Call → Call) : Type 0 where
   pub aheadClose : CloseParts (settingsUnder (turned ahead .rules)) (stateOf (turned ahead))
   pub missedTests : closeTests (turned missed) ≡ value tt
   pub missedRewards : StepParts (settingsUnder (turned missed .rules)) (stateOf (turned missed)) rewardsStep
-  pub missedClose : (Rust.«process_epoch» (settingsUnder (turned missed .rules)) (stateOf (turned missed)) ≡ refused overflow) × (In64Bits.«process_epoch» (settingsUnder (turned missed .rules)) (stateOf (turned missed)) ≡ refused overflow)
+  pub missedLeaf : let c = turned missed in let st = stateOf c in
+      LeafParts (settingsUnder (c .rules)) (c .finality .slot) (finalizedEpochOf st) (st .validators) 0 (getD (st .validators) 0 nobody)
+  pub missedClose : let s = settingsUnder (turned missed .rules) in let st = stateOf (turned missed) in
+      (Rust.«process_epoch» s st ≡ refused overflow) × (In64Bits.«process_epoch» s st ≡ refused overflow)
   pub wideTests : closeTests (turned wide) ≡ value tt
   pub effectiveBalances : StepParts (settingsUnder (turned wide .rules)) (stateOf (turned wide)) effectiveBalancesStep
   pub wideClose : CloseParts (settingsUnder (turned wide .rules)) (stateOf (turned wide))
+  -- in a row, and both refuse
+  pub heavyTests : closeTests (turned heavy) ≡ value tt
+  pub heavyRow : Row (settingsUnder (turned heavy .rules)) (stateOf (turned heavy)) rewardsStep
+  pub heavyDocument : In64Bits.step (settingsUnder (turned heavy .rules)) (stateOf (turned heavy)) rewardsStep ≡ refused overflow
   -- why the steps are said of what passes the tests: without them registry would part, too
   pub untestedRust : Rust.step (settingsUnder (turned untested .rules)) (stateOf (turned untested)) registryStep ≡ refused overflow
   pub untestedDocument : In64Bits.step (settingsUnder (turned untested .rules)) (stateOf (turned untested)) registryStep ≡ value (stateOf (turned untested))

@@ -16,14 +16,14 @@ use Rattle.definitions.specs.Rust.Phase0.Helpers.{«get_validator_churn_limit»
 use Rattle.definitions_close.specs.FullClose.{FullCall, settingsOf, FullOutcome, fullClose}
 use Rattle.definitions_close.specs.QueueCalls.{exitQueueTests, QueueCloses}
 use Rattle.definitions_close.specs.Orders.{NinthCall, NinthOutcome, ordersIn, answersTo, closingValidators, ninthTests, carryOut}
-use Rattle.theorems.specs.CloseBySteps.Desk.{Desk, Act, acts, stepsOf, oneToEight, NotBegun}
+use Rattle.theorems.specs.CloseBySteps.Desk.{Desk, Act, acts, Closed, NotBegun}
 use Rattle.history.specs.ExitEpochs.{Event, exitEpoch, Premises, Claim}
 
 -- as it was called and as it came back
 pub data Called : Type 0 where
   -- a whole close
   closing : FullCall → FullOutcome → Called
-  -- a close by steps: eight calls in turn, with whatever orders come between them
+  -- a close by steps, up to its ninth call: any calls, in turn or not, with whatever orders; the steps are done, or it is refused
   stepping : FullCall → Desk → List Act → Called
   -- exit orders carried out, by the ninth call
   carrying : NinthCall → NinthOutcome → Called
@@ -75,7 +75,7 @@ event (exiting s slot i queue registry r after) =
 -- it came back as its definition says
 abbrev pub Defined : Called → Type 0
 Defined (closing c o) = o ≡ fullClose c
-Defined (stepping c d list) = NotBegun c d × (stepsOf list ≡ oneToEight)
+Defined (stepping c d list) = NotBegun c d × Closed (acts c d list)
 Defined (carrying c o) = o ≡ carryOut c
 Defined (exiting s slot i queue registry r after) =
     QueueCloses (exitQueueTests s slot i queue registry) («initiate_validator_exit» s slot (decode registry) i) queue registry registry after r

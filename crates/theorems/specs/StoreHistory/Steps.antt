@@ -5,13 +5,14 @@ use mathlib.Core.List.{List, [], _∷_}
 use Prim.Native.Nat.{ℕ}
 use Rattle.definitions.specs.declared.Rules.{Rules}
 use Rattle.definitions.specs.Checked.{value}
+use Rattle.definitions.specs.Rules.{settingsUnder}
 use Rattle.definitions_close.specs.CloseBySteps.{saysEnded}
-use Rattle.definitions_close.specs.Orders.{takeOrder, untried}
+use Rattle.definitions_close.specs.Orders.{Order, takeOrder, untried}
 use Rattle.definitions_close.specs.Store.{noRules}
 use Rattle.definitions_close.specs.StoreClose.{StoreCall, callBy, rulesFor, storeClose}
 use Rattle.definitions_close.specs.StoreSteps.{StoreStepCall, storeStep, StoreNinthCall, ninthOf, storeCarryOut}
 use Rattle.theorems.specs.CloseBySteps.Desk as desk
-use Rattle.theorems.specs.CloseBySteps.Desk.{Desk, Act, stepping, ordering, orderCall, afterStep, afterOrder, stepsOf, oneToEight, Gives, NinthLent, Carries, arrived}
+use Rattle.theorems.specs.CloseBySteps.Desk.{Desk, Act, stepping, ordering, carrying, orderCall, afterStep, afterOrder, afterNinth, arrivedBy, Closed, GivesWhole, NinthLent, Carries, CarriedOut}
 
 -- what the next call is handed: store and opening as they were lent, and all else as it was handed back
 abbrev pub lent : StoreCall → Desk → StoreCall
@@ -31,22 +32,6 @@ lent c d =
 abbrev pub stepCall : StoreCall → Desk → ℕ → StoreStepCall
 stepCall c d k = record { number = k; running = d .running; whole = lent c d }
 
-unfoldable pub act : StoreCall → Desk → Act → Desk
-act c d (stepping k) = afterStep d (storeStep (stepCall c d k))
-act c d (ordering o) = afterOrder d (takeOrder (orderCall d o))
-
-unfoldable pub acts : StoreCall → Desk → List Act → Desk
-acts c d [] = d
-acts c d (a ∷ rest) = acts c (act c d a) rest
-
--- no rules are asked
-abbrev pub NotBegun : StoreCall → Desk → Type 0
-NotBegun c d = desk.NotBegun (callBy c noRules) d
-
--- the eight steps in turn, with whatever orders before, between and behind them; refused by 1, 2 and 13 too
-abbrev pub StoreEightCalls : Type 0
-StoreEightCalls = (c : StoreCall) (d : Desk) → NotBegun c d → (list : List Act) → stepsOf list ≡ oneToEight → Gives (storeClose c) (acts c d list)
-
 abbrev pub ninthCall : StoreCall → Desk → ℕ → List ℕ → StoreNinthCall
 ninthCall c d period answers =
     record {
@@ -58,11 +43,41 @@ ninthCall c d period answers =
       answers = answers;
     }
 
--- "carried out by a ninth call in order of arrival": by the rules of the close, and where it is refused the orders stay untried
+unfoldable pub act : StoreCall → Desk → Act → Desk
+act c d (stepping k) = afterStep d (storeStep (stepCall c d k))
+act c d (ordering o) = afterOrder d (takeOrder (orderCall d o))
+act c d (carrying period answers) = afterNinth d (storeCarryOut (ninthCall c d period answers))
+
+unfoldable pub acts : StoreCall → Desk → List Act → Desk
+acts c d [] = d
+acts c d (a ∷ rest) = acts c (act c d a) rest
+
+-- no rules are asked
+abbrev pub NotBegun : StoreCall → Desk → Type 0
+NotBegun c d = desk.NotBegun (callBy c noRules) d
+
+-- the orders that were taken, as they arrived
+abbrev pub arrived : StoreCall → Desk → List Act → List Order
+arrived c d list = arrivedBy (act c) d list
+
+-- whatever calls are made, in turn or not, turned away or not; refused by 1, 2 and 13 too
+abbrev pub StoreAnyCalls : Type 0
+StoreAnyCalls =
+    (c : StoreCall) (d : Desk) → NotBegun c d → (list : List Act) → let last = acts c d list in
+    Closed last → GivesWhole (storeClose c) (arrived c d list) last
+
+-- "carried out by a ninth call in order of arrival": by the rules of the close; it says so where the close has ended, and the orders stay untried
 abbrev pub StoreNineCalls : Type 0
 StoreNineCalls =
-    (c : StoreCall) (d : Desk) → NotBegun c d → (list : List Act) → stepsOf list ≡ oneToEight
-    → (period : ℕ) (answers : List ℕ) → let last = ninthCall c (acts c d list) period answers in
-    ((rules : Rules) → rulesFor c ≡ value rules → storeClose c .refusal ≡ 0 → NinthLent d period answers
-    → Carries (callBy c rules) (arrived (callBy c rules) d list) period answers (storeCarryOut last))
-    × ((storeClose c .refusal ≡ 0 → ⊥) → storeCarryOut last ≡ untried (saysEnded (acts c d list .running)) (ninthOf last))
+    (c : StoreCall) (d : Desk) → NotBegun c d → (list : List Act) → (period : ℕ) (answers : List ℕ)
+    → let last = acts c d list in let out = storeCarryOut (ninthCall c last period answers) in
+    (last .running .done ≡ 8 → NinthLent d period answers
+    → (rules : Rules) × (rulesFor c ≡ value rules) × Carries (callBy c rules) (arrived c d list) period answers out)
+    × (last .running .done ≡ 9 → out ≡ untried (saysEnded (last .running)) (ninthOf (ninthCall c last period answers)))
+
+-- and where orders have been carried out, they were those that arrived
+abbrev pub StoreAfterNine : Type 0
+StoreAfterNine =
+    (c : StoreCall) (d : Desk) → NotBegun c d → (list : List Act) → let last = acts c d list in
+    last .running .done ≡ 9 → last .running .answer .refusal ≡ 0
+    → (rules : Rules) × (rulesFor c ≡ value rules) × CarriedOut (storeClose c) (settingsUnder rules) (arrived c d list) last

@@ -1,0 +1,11 @@
+use mathlib.Core.Path.{ap, _∙_}
+use Rattle.definitions.specs.Plain.{plainNumber}
+use borrow.Author.Needs.{needs}
+use Rattle.exports.proofs.electra.electra_get_balance_churn_limit.Statement.{statement}
+use Rattle.exports.proofs.electra.electra_get_balance_churn_limit.Tie as tie
+
+returns : tie.Need-returns
+returns c = c .plain-number .ensures ∙ ap plainNumber (c .before .get-balance-churn-limit .ensures .is)
+
+pub electra-get-balance-churn-limit-spec : {M : Type 1} → statement M
+electra-get-balance-churn-limit-spec = tie.close (tie.spec (λ c κs. search needs) (λ c κs. search needs) returns)

@@ -1,0 +1,4 @@
+pub mod SameClose
+pub mod Files
+pub mod Roots
+pub mod Parts

@@ -1,0 +1,2 @@
+-- A shelf of records beside the whole close.
+pub mod Files
