@@ -19,7 +19,7 @@ fn records() -> Vec<(Record, Option<Refusal>)> {
         alter(&mut r);
         all.push((r, refusal));
     };
-    altered(Some(Refusal::Shape), &|r| r.roots.truncate(32));
+    altered(Some(Refusal::SHAPE), &|r| r.roots.truncate(32));
     altered(Some(Refusal::Settings), &|r| r.settings[at::INCREMENT] = 0);
     altered(Some(Refusal::Record), &|r| r.finality.bits = 16);
     altered(Some(Refusal::Record), &|r| r.registry[10 * (VALIDATORS - 1) + of::SLASHED] = 2);

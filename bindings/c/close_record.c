@@ -1,5 +1,5 @@
 /* Closes the record file on standard input and prints the close, or `refused` and the number. Exit status: 0 closed, 1 refused,
- * 2 could not read or write. command/altair-close.c is the program for people; this one shows the calls.
+ * with the number and its words on standard error, 2 could not read or write. command/altair-close.c is the program for people; this one shows the calls.
  *
  *     cc -Wall -Wextra -Werror -o target/close_record bindings/c/close_record.c target/altair/libaltair.a
  *     tools/record write samples/example.json - | target/close_record
@@ -24,10 +24,12 @@ static void *room(size_t count, size_t size) {
     return p;
 }
 
+/* The input, or of a longer one a byte more than the longest file: it is refused whatever follows. */
 static uint8_t *read_all(FILE *in, size_t *length) {
+    const size_t longest = ALTAIR_FILE_LENGTH(ALTAIR_MOST_VALIDATORS, ALTAIR_LONGEST_VECTOR, ALTAIR_LONGEST_VECTOR);
     size_t held = 0, size = 65536;
     uint8_t *bytes = room(size, 1);
-    for (size_t got; (got = fread(bytes + held, 1, size - held, in)) > 0;) {
+    for (size_t got; held <= longest && (got = fread(bytes + held, 1, size - held, in)) > 0;) {
         held += got;
         if (held == size) {
             size *= 2;
@@ -50,6 +52,7 @@ static void printed(void) {
 static int refused(uint64_t number) {
     printf("refused %" PRIu64 "\n", number);
     printed();
+    fprintf(stderr, "close_record: refused %" PRIu64 ": %s\n", number, altair_refusal_text(number));
     return 1;
 }
 

@@ -413,6 +413,16 @@ static void the_file(void) {
     closed = CLOSE(none);
     RAISED(closed, 0, 0, 1);
     RAISED(altair_listing_head(s, 31, closed.finality, registry, FIVE), 0, 0, 1);
+    /* by a store whose increment is above every sum: the first line goes by its entry, and not by the record's settings */
+    altair_settings rich = s;
+    rich.effective_balance_increment = 1000000000000;
+    altair_put_entry(store, 0, altair_under_altair(rich));
+    closed = CLOSE(none);
+    RAISED(closed, 1, 1, 1);
+    const altair_settings by = altair_read_rules(store, ALTAIR_ENTRY_LENGTH, 1, 3).rules.settings;
+    RAISED(altair_listing_head(by, 31, closed.finality, registry, FIVE), 1, 1, 1);
+    altair_put_entry(store, 0, altair_under_altair(s));
+    closed = CLOSE(none);
     registry[ENTRY * 4 + ALTAIR_BALANCE] = 6, closing[ENTRY * 4 + ALTAIR_BALANCE] = 7;
     closing[ENTRY * 4 + ALTAIR_EFFECTIVE_BALANCE] = 8, closing[ENTRY * 4 + ALTAIR_INACTIVITY_SCORE] = 9;
     altair_line line = altair_listing_line(registry, FIVE, closing, FIVE, 4);
@@ -543,6 +553,19 @@ static void in_c(void) {
     /* a step from a registry into itself, one number on: refused, and nothing is written */
     SAME(altair_checked_process_participation_flag_updates(five, FIVE, five + 1, FIVE), 1), SAME(five[FIVE], 99);
     SAME(altair_checked_process_participation_flag_updates(NULL, 0, NULL, 0), 0);
+    /* refused with 1: the argument at fault, and the length called for; of a call that is not, nothing */
+#define WHY(call, name, wants)                                                                                         \
+    SAME(strcmp((call).argument, name), 0), SAME((call).number, wants), SAME((call).wanted[0] != '\0', 1)
+    uint64_t other[FIVE];
+    WHY(altair_why_process_participation_flag_updates(five, FIVE, other, FIVE - 1), "closing", FIVE);
+    WHY(altair_why_process_participation_flag_updates(five, FIVE - 1, other, FIVE - 1), "opening", FIVE - 10);
+    WHY(altair_why_get_base_reward_per_increment(mainnet, 0), "total", 1);
+    WHY(altair_why_has_flag(1, 8), "flag_index", 7);
+    SAME(altair_why_has_flag(1, 7).argument == NULL, 1);
+    SAME(altair_why_process_participation_flag_updates(five, FIVE, other, FIVE).argument == NULL, 1);
+    /* a close that has ended says so, whatever its buffers are */
+    const altair_running ended = {.done = 9};
+    SAME(altair_checked_carry_out(five, FIVE, 1, 0, ended, five, FIVE, five, FIVE, five + 1, FIVE).ended, 1);
 }
 
 /* settings by starting epoch */
@@ -585,6 +608,76 @@ static void net_changes(void) {
     REFUSED(altair_net_change(UINT64_MAX, 0), 7);
 }
 
+/* Electra's steps and helpers: mainnet, slot 127, the last of epoch 3 */
+static void electra(void) {
+    const altair_electra_rules rules = {ALTAIR_MAINNET, ALTAIR_MAINNET_BELLATRIX, ALTAIR_MAINNET_ELECTRA};
+    uint64_t five[FIVE], closing[FIVE + 10], slashings[8192] = {0}, compounding[5] = {1}, marks[6], places[1];
+    fill(five, 5);
+    SAME(electra_get_balance_churn_limit(rules, 127, five, FIVE).value, 128 * ETH);
+    SAME(electra_get_activation_exit_churn_limit(rules, 127, five, FIVE).value, 128 * ETH);
+    SAME(electra_get_max_effective_balance(rules, 1).value, 2048 * ETH);
+    SAME(electra_get_max_effective_balance(rules, 0).value, 32 * ETH);
+    SAME(electra_get_max_effective_balance(rules, 2).refusal, 3);
+    /* a whole limit at epoch 8, then what it leaves */
+    altair_exit_churn_answer left =
+        electra_compute_exit_epoch_and_update_churn(rules, 127, (altair_exit_churn){0, 0}, 32 * ETH, five, FIVE);
+    SAME(left.churn.exit_balance_to_consume, 96 * ETH), SAME(left.churn.earliest_exit_epoch, 8);
+    left = electra_initiate_validator_exit(rules, 127, 4, left.churn, five, FIVE);
+    SAME(left.churn.exit_balance_to_consume, 64 * ETH);
+    SAME(five[40 + ALTAIR_EXIT_EPOCH], 8), SAME(five[40 + ALTAIR_WITHDRAWABLE_EPOCH], 264);
+    SAME(electra_initiate_validator_exit(rules, 127, 5, left.churn, five, FIVE).refusal, 1);
+
+    fill(five, 5);
+    five[ALTAIR_EFFECTIVE_BALANCE] = 16 * ETH;
+    left = electra_process_registry_updates(rules, 127, 2, (altair_exit_churn){0, 0}, five, FIVE, closing, FIVE);
+    SAME(left.refusal, 0), SAME(left.churn.exit_balance_to_consume, 112 * ETH), SAME(closing[ALTAIR_EXIT_EPOCH], 8);
+
+    /* 3 * 32 ETH over 160 whole increments: 600000000 an increment, of which the slashed one has 32 */
+    fill(five, 5);
+    slashings[0] = 32 * ETH, five[ALTAIR_SLASHED] = 1, five[ALTAIR_WITHDRAWABLE_EPOCH] = 3 + 4096;
+    SAME(electra_process_slashings(rules, 127, slashings, 8192, five, FIVE, closing, FIVE), 0);
+    SAME(closing[ALTAIR_BALANCE], 32 * ETH - 32 * 600000000ull);
+
+    /* a new key, whose effective balance is rounded down */
+    fill(five, 5);
+    const uint64_t deposit[ALTAIR_DEPOSIT_LENGTH] = {5, 1, 33 * ETH + 1, 64, 1};
+    uint64_t rest[ALTAIR_DEPOSIT_LENGTH];
+    const altair_deposits_answer deposited =
+        electra_process_pending_deposits(rules, 127, 2, (altair_deposit_numbers){0, 6, 6}, five, FIVE, compounding, 5,
+                                         deposit, 5, closing, FIVE + 10, marks, 6, rest, 5, places, 1);
+    SAME(deposited.refusal, 0), SAME(deposited.validators, 6), SAME(deposited.deposits, 0);
+    SAME(closing[50 + ALTAIR_EFFECTIVE_BALANCE], 33 * ETH), SAME(closing[50 + ALTAIR_BALANCE], 33 * ETH + 1), SAME(marks[5], 1);
+    SAME(closing[50 + ALTAIR_ACTIVATION_EPOCH], FAR);
+
+    /* a source that is withdrawable in the next epoch */
+    const uint64_t pair[ALTAIR_CONSOLIDATION_LENGTH] = {0, 1};
+    uint64_t pairs[ALTAIR_CONSOLIDATION_LENGTH];
+    five[ALTAIR_EXIT_EPOCH] = 3, five[ALTAIR_WITHDRAWABLE_EPOCH] = 4;
+    const altair_consolidations_answer merged =
+        electra_process_pending_consolidations(rules, 127, five, FIVE, pair, 2, closing, FIVE, pairs, 2);
+    SAME(merged.refusal, 0), SAME(merged.consolidations, 0);
+    SAME(closing[ALTAIR_BALANCE], 0), SAME(closing[10 + ALTAIR_BALANCE], 64 * ETH);
+
+    /* each by its own maximum */
+    fill(five, 5);
+    five[ALTAIR_BALANCE] = five[10 + ALTAIR_BALANCE] = 64 * ETH;
+    SAME(electra_process_effective_balance_updates(rules, compounding, 5, five, FIVE, closing, FIVE), 0);
+    SAME(closing[ALTAIR_EFFECTIVE_BALANCE], 64 * ETH), SAME(closing[10 + ALTAIR_EFFECTIVE_BALANCE], 32 * ETH);
+}
+
+/* five that wait, by their eligibility epochs: the last of them has four ahead, and a churn limit of 4 lets it in at the second close */
+static void waiting(void) {
+    uint64_t five[FIVE];
+    fill(five, 5);
+    for (size_t i = 0; i < 5; i++)
+        five[10 * i + ALTAIR_ACTIVATION_ELIGIBILITY_EPOCH] = 1, five[10 * i + ALTAIR_ACTIVATION_EPOCH] = FAR;
+    altair_wait_answer wait = altair_activation_wait(mainnet, 2, five, FIVE, 4);
+    SAME(wait.refusal, 0), SAME(wait.waits, 1), SAME(wait.ahead, 4), SAME(wait.closes, 2);
+    SAME(altair_activation_wait(mainnet, 2, five, FIVE, 0).closes, 1);
+    SAME(altair_activation_wait(mainnet, 0, five, FIVE, 4).waits, 0);
+    SAME(altair_activation_wait(mainnet, 2, five, FIVE, 5).refusal, 1);
+}
+
 int main(void) {
     slots_and_epochs();
     opening_hours();
@@ -598,6 +691,8 @@ int main(void) {
     by_steps();
     the_shelf();
     net_changes();
+    electra();
+    waiting();
     in_c();
     printf("%d figures agreed, %d did not\n", agreed, parted);
     return parted != 0;

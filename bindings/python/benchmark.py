@@ -46,7 +46,7 @@ def calls(opening):
     close = _signatures.function("close")
     rows = memoryview(registry).cast("B").cast("Q", shape=[len(registry) // 10, 10])
     made = {
-        "the C function": lambda: (close(*words).refusal, lent)[0],  # what is lent stays where it is
+        "the C function": lambda: (close(*words).word0, lent)[0],  # what is lent stays where it is
         "close, with out": lambda: altair_close.close(*opening, out=out),
         "close, new buffers": lambda: altair_close.close(*opening),
         "close, a memoryview of two dimensions": lambda: altair_close.close(settings, finality, queue, rows, slashings, roots, out=out),

@@ -26,8 +26,8 @@ def project(key):
 def library():
     path = Path(os.environ.get("ALTAIR_LIBRARY") or ROOT / "target/altair/libaltair.so")
     if not path.is_file():
-        raise SystemExit(
-            f"build_wheel: the shared library is missing: there is no file {path}. `make`, run in the repository, makes it; "
+        raise OSError(
+            f"the shared library is missing: there is no file {path}. `make`, run in the repository, makes it; "
             "ALTAIR_LIBRARY=PATH names one that stands elsewhere."
         )
     return path.read_bytes()
@@ -48,7 +48,7 @@ def metadata():
 
 def contents(info):
     """Every file of the wheel but the list of them."""
-    for path in sorted((HERE / "altair_close").glob("*.py")):
+    for path in sorted([*(HERE / "altair_close").glob("*.py"), HERE / "altair_close/py.typed"]):
         yield f"altair_close/{path.name}", path.read_bytes()
     yield "altair_close/libaltair.so", library()
     for name in ("LICENSE.md", "NOTICE"):
@@ -87,8 +87,10 @@ def build_sdist(sdist_directory, config_settings=None):
 
 if __name__ == "__main__":
     if len(sys.argv) != 2 or sys.argv[1].startswith("-"):
-        sys.exit(__doc__)
+        print(__doc__, file=sys.stderr)
+        sys.exit(2)
     try:
-        print(Path(sys.argv[1], build_wheel(sys.argv[1])))
+        print(Path(sys.argv[1], build_wheel(sys.argv[1])), flush=True)
     except OSError as error:
-        sys.exit(f"build_wheel: {error}")
+        print(f"build_wheel: {error}", file=sys.stderr)
+        os._exit(2)  # what could not be written is not tried again

@@ -8,12 +8,12 @@ An ORDER is STEP:VALIDATOR:EPOCH, as 3:1:0: after step 3, validator 1, to leave 
 taken and as it is carried out; the listing of the close comes last. --period is shard_committee_period (mainnet's 256; here 0 unless it is
 named). It exits with 0, with 1 where the record is refused, and with 2 where the words are wrong or it could not read, write or find the
 library."""
-import os
 import re
 import sys
 from collections import defaultdict
 
-from altair_close import Desk, REFUSALS, Record, Refused
+from altair_close import Desk, REFUSALS, Record, _command
+from altair_close._errors import Stopped
 
 STEPS = ("justification", "inactivity", "rewards", "registry", "slashings", "effective balances", "slashings reset", "participation flags")
 
@@ -55,23 +55,14 @@ def run(record, period, orders):
 
 
 def main(words):
+    if "-h" in words or "--help" in words:
+        return print(__doc__)
     try:
         period, orders = asked(words)
     except ValueError as error:
-        print(f"desk: not understood: {str(error)[:60]!r}\n\n{__doc__}", file=sys.stderr)
-        return 2
-    try:
-        run(Record.read(sys.stdin.buffer.read()), period, orders)
-        sys.stdout.flush()
-    except Refused as refused:
-        print(refused, flush=True)
-        return 1
-    return 0
+        raise Stopped(f"not understood: {str(error)[:60]!r}\n\n{__doc__}") from None
+    run(Record.open("-"), period, orders)
 
 
 if __name__ == "__main__":
-    try:
-        sys.exit(main(sys.argv[1:]))
-    except (OSError, ImportError) as error:
-        print(f"desk: {error}", file=sys.stderr)
-        os._exit(2)  # what could not be written is not tried again
+    _command.run("desk", main, sys.argv[1:])

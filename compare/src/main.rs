@@ -10,6 +10,9 @@ mod files;
 mod leaves;
 mod library;
 mod listing;
+#[allow(dead_code, unused_imports, unused_macros)]
+#[path = "../../bindings/rust/src/fault.rs"]
+mod fault;
 #[allow(dead_code)]
 #[path = "../../bindings/rust/src/raw.rs"]
 mod raw;

@@ -263,8 +263,8 @@ uint64_t expected(const row *row, const lent *c) {
     for (size_t i = 0; i < reads; i++)
         good = good && shaped(read[i], c->in[i], row, c, validators);
     for (size_t i = 0; i < writes; i++)
-        if (written[i] == 'R' || (written[i] == 'S' && memchr(read, 'S', reads) != NULL))
-            good = good && c->out[i].length == c->in[(const char *)memchr(read, written[i], reads) - read].length;
+        if (row->opening[i] >= 0 && strchr("RS", written[i]) != NULL)
+            good = good && c->out[i].length == c->in[row->opening[i]].length;
         else
             good = good && shaped(written[i], c->out[i], row, c, validators);
     if (tests(row, 'j'))
@@ -301,7 +301,8 @@ uint64_t expected(const row *row, const lent *c) {
         (tests(row, 'f') && !good_finality(&f)) || (whole && first_bad(registry.at, validators) != 10 * validators))
         return 3;
     for (size_t i = 0; i < reads; i++)
-        if (read[i] == 'M' && !good_marks(c->in[i]))
+        if ((read[i] == 'M' && !good_marks(c->in[i])) ||
+            (tests(row, 'l') && first_bad((const uint64_t *)c->in[i].at + 10 * c->index, 1) != 10))
             return 3;
     return tests(row, 'q') && !is_queue_of(queue, registry.at, validators) ? 8 : 0;
 }

@@ -17,7 +17,7 @@
 #include <unistd.h>
 
 static uint64_t seed, round_number;
-uint64_t calls, seen[MOST_ROWS][16];
+uint64_t calls, seen[MOST_ROWS][32];
 const char *calling = "nothing yet";
 
 void fail(const char *form, ...) {
@@ -44,35 +44,15 @@ static void one_round(void) {
     rules_hold(&r);
 }
 
-/* each number that a line of the table names, and 0, must have been answered: else the records do not reach it */
+/* each number that a function names, and 0, must have been answered: else the records do not reach it */
 static int unseen(void) {
     int missing = 0;
-    for (size_t i = 0; i < row_count; i++) {
-        const row *row = &rows[i];
-        const bool file = row->lends[0] == 'F', reads_file = row->kind == READ;
-        bool named[16] = {true};
-        for (const char *n = row->may; *n != '\0'; n++)
-            named[*n - '0'] = true;
-        named[1] = file ? reads_file : row->lends[0] != '\0' || strpbrk(row->tests, "sigGed") != NULL;
-        named[2] = reads_file || strpbrk(row->tests, "sc") != NULL || row->lends[0] == 'T';
-        named[12] = strchr(row->tests, 'n') != NULL;
-        named[13] = row->lends[0] == 'T';
-        named[11] = strchr(row->tests, 'p') != NULL;
-        if (strchr(row->tests, 'p') != NULL)
-            named[2] = false;
-        if (row->lends[0] == 'H')
-            named[2] = false;
-        named[3] = reads_file || (!file && (strpbrk(row->lends, "RVrv") != NULL || strpbrk(row->tests, "tzf") != NULL));
-        named[6] = file;
-        named[8] = reads_file || strchr(row->tests, 'q') != NULL;
-        named[14] = strchr(row->tests, 'w') != NULL;
-        named[15] = strchr(row->tests, 'c') != NULL;
-        for (int n = 0; n < 16; n++)
-            if (named[n] && seen[i][n] == 0) {
-                printf("fuzz: %s never answered %d\n", row->name, n);
+    for (size_t i = 0; i < row_count; i++)
+        for (int n = 0; n < 32 && strchr(rows[i].tests, '?') == NULL; n++)
+            if (((rows[i].refuses | 1) >> n & 1) && seen[i][n] == 0) {
+                printf("fuzz: %s never answered %d\n", rows[i].name, n);
                 missing++;
             }
-    }
     return missing;
 }
 

@@ -25,7 +25,7 @@ typedef struct buffer {
     size_t length, size; /* in elements, and bytes of one */
 } buffer;
 
-enum { SLOTS = 9 };
+enum { READS = 8, WRITES = 8, SLOTS = READS + WRITES + 1 };
 void buffers_start(bool on_heap);
 /* a buffer in a slot, with bytes around it that must stay */
 buffer lend(int slot, size_t length, size_t size);
@@ -57,11 +57,11 @@ uint64_t number_at(const uint8_t *bytes);
 
 /* -- calls.c: the table of the functions */
 
-enum { READS = 4 };
 /* What a call is lent: in[] is read, out[] is written. */
 typedef struct lent {
     altair_settings s;
-    altair_rules rules; /* with these settings */
+    altair_rules rules;
+    altair_electra electra; /* with these settings */
     altair_finality f;
     altair_queue queue;
     altair_running running; /* with this finality and pair, or nearly so */
@@ -69,10 +69,11 @@ typedef struct lent {
     uint64_t slot, finalized, epoch, number, flag_index, index, count, totals[3];
     uint8_t flags;
     bool by_store; /* what is lent first is a store, with entries of the record's settings or nearly so */
-    buffer in[READS], out[4];
+    uint64_t any[64]; /* of a struct that has no model */
+    buffer in[READS], out[WRITES];
 } lent;
 
-typedef enum answer { ITSELF, NUMBER, VALUES, FINALITY, FULL, QUEUE, COUNT, RUNNING, READ } answer;
+typedef enum answer { ITSELF, NUMBER, VALUES, RUNNING, READ } answer;
 
 typedef struct row {
     const char *name;
@@ -80,8 +81,10 @@ typedef struct row {
     size_t size;       /* of the answer, in bytes */
     const char *lends; /* a letter for each buffer: those that are read, '>', those that are written */
     const char *tests; /* a letter for each number that is tested */
-    const char *may;   /* the refusals that may follow the tests */
-    void (*call)(const lent *c, void *answer);
+    uint32_t refuses;  /* a bit for each refusal that it names */
+    int opening[WRITES]; /* of each buffer that is written the one that is read as its opening, or -1 */
+    void (*beside)(const lent *c, void *answer); /* what it answers beside a refusal */
+    altair_fault (*call)(const lent *c, void *answer); /* calls it, or where answer is NULL says why it is refused with 1 */
 } row;
 
 extern const row rows[];
@@ -104,7 +107,7 @@ void try_row(size_t place, const record *r);
 /* -- fuzz.c */
 
 enum { MOST_ROWS = 256 };
-extern uint64_t calls, seen[MOST_ROWS][16]; /* how often a row's function answered a number */
+extern uint64_t calls, seen[MOST_ROWS][32]; /* how often a row's function answered a number */
 extern const char *calling;
 _Noreturn void fail(const char *form, ...);
 #define MUST(holds) ((holds) ? (void)0 : fail("%s:%d: not so: %s", __FILE__, __LINE__, #holds))

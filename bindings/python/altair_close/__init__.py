@@ -6,31 +6,20 @@ also with ten a row) and goes in without a copy; a list or tuple is copied. Root
 
 What would be written into a lent buffer comes back: a new one, or the one that the keyword `out` names. An argument of the wrong
 kind raises TypeError, one out of range ValueError, with the argument's name, and does not reach C. A refused call raises Refused,
-with the number. Python's standard library alone, CPython 3.8 or later.
+with the number and, where that is 1, the argument and the length called for. Python's standard library alone, CPython 3.8 or later.
 
     >>> import altair_close
     >>> altair_close.get_base_reward_per_increment(altair_close.MAINNET, 160 * 10**9)
     160000
 """
-from ._close import charged, close, listing_head, listing_line, listing_lines, net_change
-from ._desk import Desk, Ended, carry_out, close_step, take_order
-from ._helpers import *
-from ._record import Record, read_file, read_header, write_file
-from ._refusals import REFUSALS, Refused
-from ._shelf import close_files, close_shelf
-from ._signatures import VERSION, call as _call
-from ._steps import *
-from ._store import Store, add_rules, read_rules
-from ._types import (ACTIVATION_ELIGIBILITY_EPOCH, ACTIVATION_EPOCH, AMOUNTS_LENGTH, BALANCE, BOTH_KNOWN, BOTH_UNKNOWN,
-                     ENTRY_LENGTH, CURRENT_EPOCH_PARTICIPATION, CURRENT_UNKNOWN, EFFECTIVE_BALANCE, EXIT_EPOCH, FAR_FUTURE_EPOCH,
-                     FORK_ALTAIR, FORK_BELLATRIX, HEAD_REWARD, HEAD_TAKEN, INACTIVITY_REWARD, INACTIVITY_SCORE, INACTIVITY_TAKEN,
-                     MAINNET, MAINNET_BELLATRIX, MAINNET_CLOCK, MINIMAL, PASSES_IN_ALL, PASSES_IN_NONE, PASSES_IN_SOME, PRESETS,
-                     PREVIOUS_EPOCH_PARTICIPATION, PREVIOUS_UNKNOWN, SLASHED, SLASHING_TAKEN, SOURCE_REWARD, SOURCE_TAKEN,
-                     TARGET_REWARD, TARGET_TAKEN, VALIDATOR_LENGTH, WITHDRAWABLE_EPOCH, Amounts, Bellatrix, Checkpoint, Clock,
-                     Closed, Deltas, Entry, ExitQueue, Finality, Head, Header, Justified, Line, Queued, Raised, Rules, Running, Settings,
-                     Shelf, Told, Total, Votes)
-
-
-def version():
-    """The number of the interface of the library that was opened."""
-    return _call("version")
+# `X as X`: a type checker takes no other name as handed on
+from ._words import *
+from ._calls import *
+from ._close import close as close, listing_lines as listing_lines
+from ._desk import Desk as Desk, Ended as Ended, carry_out as carry_out, close_step as close_step, take_order as take_order
+from ._record import ClosedRecord as ClosedRecord, Record as Record, read_file as read_file
+from ._refusals import Fault as Fault, Refused as Refused
+from ._shelf import close_files as close_files, close_shelf as close_shelf
+from ._store import add_rules as add_rules
+from ._types import PRESETS as PRESETS, Amounts as Amounts, Closed as Closed, Entry as Entry, Queued as Queued, Running as Running
+from ._types import Shelf as Shelf, Store as Store, Told as Told, Votes as Votes

@@ -1,11 +1,13 @@
-"""The kinds of argument: what each one takes from Python, and the words that C gets for it.
+"""The kinds of argument: what each one takes from Python, and the words that C gets for it; and the values of a struct.
 
 A kind has `words`, the ctypes of what C takes, and `lend(name, value, lent)`, which checks the value and gives those words; the
 buffers among them join the dictionary `lent` under the argument's name. What is wrong is told with the argument's name.
 """
 import ctypes
+import functools
 import operator
 import struct
+import typing
 from array import array
 
 from . import _buffers, _types
@@ -53,20 +55,31 @@ def view_of(name, value, wanted):
     except TypeError:
         raise TypeError(f"{name}: {wanted} is wanted, not {kind_of(value)}") from None
     except (ValueError, BufferError) as error:
-        raise ValueError(f"{name}: {wanted} is wanted: {error}") from None
+        raise ValueError(f"{name}: {wanted} is wanted, not this {kind_of(value)}: {error}") from None
     if not view.c_contiguous:
-        raise ValueError(f"{name}: {wanted} is wanted, and this one is not C-contiguous")
+        raise ValueError(f"{name}: {wanted} is wanted, and this {kind_of(value)} is not C-contiguous")
     return view
 
 
 class Number:
-    words = (U64,)
+    """A number by itself, or of a struct."""
+
+    format = "Q"
 
     def __init__(self, largest=LARGEST, word=U64):
         self.largest, self.words = largest, (word,)
 
     def lend(self, name, value, lent):
         return (number(name, value, self.largest),)
+
+    def flat(self, name, value):
+        return [number(name, value)]
+
+    def build(self, parts):
+        return next(parts)
+
+
+NUMBER, FLAGS = Number(), Number(255, ctypes.c_uint8)
 
 
 class Buffer:
@@ -75,18 +88,18 @@ class Buffer:
     words = (ctypes.c_void_p, ctypes.c_size_t)
     format, size, wanted, or_else = "", 0, "", ""
 
-    def __init__(self, row=None, written=None, blank=False):
+    def __init__(self, row=None, written=None, blank=False, scratch=False):
         """row: how many elements a row of a 2-D buffer has. written: how long one is made where None is given, from `lent`. blank: it is
-        made of zeros, since an accepted call need not fill all of it."""
-        self.row, self.written, self.blank = row, written, blank
+        made of zeros, since an accepted call need not fill all of it. scratch: C works in it, and it does not come back."""
+        self.row, self.written, self.blank, self.scratch = row, written, blank, scratch
 
     def checked(self, name, value, written):
         wanted = self.wanted if written else self.or_else + self.wanted
         view = view_of(name, value, wanted)
         format = view.format.lstrip("@=<")
         if view.itemsize != self.size or len(format) != 1 or format not in self.format:
-            found = f"format {view.format!r} with {view.itemsize} bytes an element"
-            raise TypeError(f"{name}: {wanted} is wanted, not one of {found}")
+            found = f"{kind_of(value)} of format {view.format!r} with {view.itemsize} bytes an element"
+            raise TypeError(f"{name}: {wanted} is wanted, not {found}")
         if view.ndim > 1 and (self.row is None or view.ndim > 2 or view.shape[1] != self.row):
             rows = "has one dimension" if self.row is None else f"with two dimensions has {self.row} elements a row"
             raise ValueError(f"{name}: one that {rows} is wanted, not one of shape {tuple(view.shape)}")
@@ -143,41 +156,14 @@ class Changed(Numbers):
         return found.address, found.count
 
 
-class Store:
-    """A store, or Rules or Settings, which are a store of one entry that starts at epoch 0: its numbers, and how many entries are in use."""
+class Kept(Numbers):
+    """Numbers that the caller holds from call to call, and C changes there: never a list, of which C would change a copy."""
 
-    words = (*Buffer.words, U64)
-    numbers = Numbers(row=_types.ENTRY_LENGTH)
-
-    def lend(self, name, value, lent):
-        if isinstance(value, (_types.Rules, _types.Settings)):
-            value = [_types.entry_numbers(0, checked_rules(name, value)), 1]
-        if not isinstance(value, (tuple, list)) or len(value) != 2 or hasattr(value, "_fields") and value._fields != ("numbers", "count"):
-            raise TypeError(f"{name}: a Store, Rules or Settings are wanted, not {kind_of(value)}")
-        count = number(f"{name}.count", value[1])
-        return (*self.lend_numbers(name, value[0], lent), count)
-
-    def lend_numbers(self, name, value, lent):
-        return self.numbers.lend(name, value, lent)
-
-
-class ChangedStore(Store):
-    """A store that C adds to: it is handed a copy, which comes back."""
-
-    numbers = Changed(row=_types.ENTRY_LENGTH)
-
-    def lend(self, name, value, lent):
-        store, out = value
-        if isinstance(store, (_types.Rules, _types.Settings)):
-            raise TypeError(f"{name}: a Store is wanted, not {kind_of(store)}")
-        return super().lend(name, store, lent)
-
-    def lend_numbers(self, name, value, lent):
-        return self.numbers.lend(name, (value, None), lent)
+    def __init__(self, row=None):
+        super().__init__(row=row, written=held_by_the_caller)
 
 
 def held_by_the_caller(lent):
-    """For a buffer that is changed from call to call: none is made in its place."""
     raise TypeError("out: a buffer that stays from call to call is wanted, not None")
 
 
@@ -186,126 +172,153 @@ def as_long_as(other):
     return lambda lent: lent[other].count
 
 
-# By value
+class Store:
+    """A store, or Rules or Settings, which are a store of one entry that starts at epoch 0: its numbers, and how many entries are in use."""
 
+    words = (*Buffer.words, U64)
 
-class Fields:
-    """A named tuple of numbers: a struct of as many 64-bit numbers."""
-
-    def __init__(self, given):
-        self.given = given
-        fields = [("numbers", U64 * len(given._fields))]
-        self.words = (type(given.__name__ + "Words", (ctypes.Structure,), {"_fields_": fields}),)
+    def __init__(self, changed):
+        self.changed = changed  # C adds to a copy, which comes back
+        self.numbers = (Changed if changed else Numbers)(row=_types.ENTRY_LENGTH)
 
     def lend(self, name, value, lent):
-        fields = self.given._fields
-        if not isinstance(value, self.given) or len(value) != len(fields):
+        alone = isinstance(value, (_types.Rules, _types.Settings))
+        if alone and not self.changed:
+            value = [_types.entry_numbers(0, struct_of(_types.Rules).checked(name, value)), 1]
+        wanted = "a Store is wanted" if self.changed else "a Store, Rules or Settings are wanted"
+        if alone and self.changed or not isinstance(value, (tuple, list)) or len(value) != 2:
+            raise TypeError(f"{name}: {wanted}, not {kind_of(value)}")
+        if hasattr(value, "_fields") and not isinstance(value, _types.Store):
+            raise TypeError(f"{name}: {wanted}, not {kind_of(value)}")
+        count = number(f"{name}.count", value[1])
+        return (*self.numbers.lend(name, (value[0], None) if self.changed else value[0], lent), count)
+
+
+# By value: the parts of a struct, each with its format and what it takes and gives
+
+
+def words_of(size):
+    """A struct of 64-bit words, as C has it."""
+    return type(f"Words{size}", (ctypes.Structure,), {"_fields_": [(f"word{i}", U64) for i in range(size // 8)]})
+
+
+class Part:
+    """A value of a struct: `flat` checks it and gives what is packed, `build` takes as much from what was unpacked."""
+
+    def __init__(self, format, flat, build=lambda value: value):
+        self.format, self.flat, self._build = format, lambda name, value: [flat(name, value)], build
+
+    def build(self, parts):
+        return self._build(next(parts))
+
+
+def truth(name, value):
+    if not isinstance(value, (bool, int)):
+        raise TypeError(f"{name}: True or False is wanted, not {kind_of(value)}")
+    return int(bool(value))
+
+
+def signed(name, value):
+    """An int of 64 bits with its sign."""
+    if type(value) is int and not -(2**63) <= value < 2**63:
+        raise ValueError(f"{name}: a number from -2^63 to 2^63 - 1 is wanted, not {told(value)}")
+    return value if type(value) is int else number(name, value)
+
+
+class Octets:
+    """So many bytes."""
+
+    def __init__(self, count):
+        self.count, self.format = count, f"{count}s"
+
+    def flat(self, name, value):
+        lent = Bytes().checked(name, value, False)
+        if lent.count != self.count:
+            raise ValueError(f"{name}: {self.count} bytes are wanted, not {lent.count}")
+        return [bytes(lent.view)]
+
+    def build(self, parts):
+        return next(parts)
+
+
+class Several:
+    """So many numbers, a tuple of them."""
+
+    def __init__(self, count):
+        self.count, self.format = count, f"{count}Q"
+
+    def flat(self, name, value):
+        if not isinstance(value, (tuple, list)) or len(value) != self.count:
+            raise TypeError(f"{name}: a tuple of {self.count} numbers is wanted, not {kind_of(value)}")
+        return [number(f"{name}[{place}]", item) for place, item in enumerate(value)]
+
+    def build(self, parts):
+        return tuple(next(parts) for _ in range(self.count))
+
+
+TRUTH, SIGNED, ROOT = Part("Q", truth, lambda n: n == 1), Part("q", signed), Octets(32)
+
+
+class Row:
+    """Values one behind another."""
+
+    def __init__(self, parts):
+        self.parts, self.format = parts, "".join(part.format for part in parts)
+
+    def build(self, parts):
+        return [part.build(parts) for part in self.parts]
+
+
+def part_of(hint):
+    """What a field's hint says: a number, a truth, a root, several numbers, or a named tuple."""
+    if getattr(hint, "__origin__", None) is tuple:
+        return Several(len(hint.__args__))
+    return {int: NUMBER, bool: TRUTH, bytes: ROOT}.get(hint) or struct_of(hint)
+
+
+class Struct(Row):
+    """A named tuple that C has as a struct of 64-bit numbers and roots: its fields by their hints, or as they are named here."""
+
+    def __init__(self, given, named):
+        self.given = given
+        hints = typing.get_type_hints(given)
+        super().__init__([named.get(field) or part_of(hints[field]) for field in given._fields])
+        self.words = (words_of(struct.calcsize("<" + self.format)),)
+
+    def checked(self, name, value):
+        if not isinstance(value, self.given) or len(value) != len(self.given._fields):
             raise TypeError(f"{name}: {self.given.__name__} is wanted, not {kind_of(value)}")
-        numbers = [number(f"{name}.{field}", item) for field, item in zip(fields, value)]
-        return (self.words[0].from_buffer_copy(struct.pack(f"<{len(fields)}Q", *numbers)),)
+        return value
+
+    def flat(self, name, value):
+        value = self.checked(name, value)
+        return [item for field, part, inner in zip(value._fields, self.parts, value) for item in part.flat(f"{name}.{field}", inner)]
+
+    def lend(self, name, value, lent):
+        return (self.words[0].from_buffer_copy(struct.pack("<" + self.format, *self.flat(name, value))),)
+
+    def build(self, parts):
+        return self.given(*super().build(parts))
 
 
-class RulesWords(ctypes.Structure):
-    _fields_ = [("numbers", U64 * 22)]
-
-
-def checked_rules(name, value):
-    """Rules of numbers that C takes; Settings are Altair's."""
-    if isinstance(value, _types.Settings):
-        value = _types.Rules(value)
-    if not isinstance(value, _types.Rules) or len(value) != len(_types.Rules._fields):
-        raise TypeError(f"{name}: Rules or Settings are wanted, not {kind_of(value)}")
-    SETTINGS.lend(f"{name}.settings", value.settings, {})
-    BELLATRIX.lend(f"{name}.bellatrix", value.bellatrix, {})
-    number(f"{name}.fork", value.fork)
-    return value
-
-
-class Rules:
+class Rules(Struct):
     """Rules, or Settings, which are closed as Altair."""
 
-    words = (RulesWords,)
-
-    def lend(self, name, value, lent):
-        settings, fork, pair = checked_rules(name, value)
-        return (RulesWords.from_buffer_copy(struct.pack("<22Q", *settings, fork, *pair)),)
-
-
-def rules_of(words):
-    numbers = words.numbers[:]
-    return _types.Rules(_types.Settings(*numbers[:19]), numbers[19], _types.Bellatrix(*numbers[20:]))
-
-
-class FinalityWords(ctypes.Structure):
-    _fields_ = [("numbers", U64 * 17)]
+    def checked(self, name, value):
+        if isinstance(value, _types.Settings):
+            value = _types.Rules(value)
+        if not isinstance(value, _types.Rules) or len(value) != len(_types.Rules._fields):
+            raise TypeError(f"{name}: Rules or Settings are wanted, not {kind_of(value)}")
+        self.parts[0].flat(f"{name}.settings", value.settings)
+        number(f"{name}.fork", value.fork)
+        self.parts[2].flat(f"{name}.bellatrix", value.bellatrix)
+        return value
 
 
-_FINALITY = struct.Struct("<QQQ32sQ32sQ32s")
+@functools.lru_cache(maxsize=None)
+def struct_of(given, **named):
+    """The struct of a named tuple, one for each."""
+    return (Rules if given is _types.Rules else Struct)(given, named)
 
 
-class Finality:
-    words = (FinalityWords,)
-
-    def lend(self, name, value, lent):
-        fields = _types.Finality._fields
-        if not isinstance(value, _types.Finality) or len(value) != len(fields):
-            raise TypeError(f"{name}: Finality is wanted, not {kind_of(value)}")
-        parts = [number(f"{name}.{field}", item) for field, item in zip(fields[:2], value)]
-        for field, checkpoint in zip(fields[2:], value[2:]):
-            parts += self.checkpoint(f"{name}.{field}", checkpoint)
-        return (FinalityWords.from_buffer_copy(_FINALITY.pack(*parts)),)
-
-    def checkpoint(self, name, value):
-        if not isinstance(value, _types.Checkpoint) or len(value) != 2:
-            raise TypeError(f"{name}: Checkpoint is wanted, not {kind_of(value)}")
-        root = BYTES.checked(f"{name}.root", value.root, False)
-        if root.count != 32:
-            raise ValueError(f"{name}.root: 32 bytes are wanted, not {root.count}")
-        return number(f"{name}.epoch", value.epoch), bytes(root.view)
-
-
-class RunningWords(ctypes.Structure):
-    _fields_ = [("numbers", U64 * 26)]
-
-
-class Running:
-    words = (RunningWords,)
-
-    def lend(self, name, value, lent):
-        if not isinstance(value, _types.Running) or len(value) != len(_types.Running._fields):
-            raise TypeError(f"{name}: Running is wanted, not {kind_of(value)}")
-        done, refusal, finality, queue, raised, test, orders = value
-        (by_finality,) = FINALITY.lend(f"{name}.finality", finality, lent)
-        (by_queue,) = QUEUE.lend(f"{name}.queue", queue, lent)
-        if not isinstance(raised, _types.Raised) or len(raised) != 3:
-            raise TypeError(f"{name}.raised: Raised is wanted, not {kind_of(raised)}")
-        numbers = [number(f"{name}.{field}", n) for field, n in (("done", done), ("refusal", refusal), ("test", test), ("orders", orders))]
-        parts = struct.pack("<2Q", *numbers[:2]), bytes(by_finality), bytes(by_queue), struct.pack("<5Q", *map(bool, raised), *numbers[2:])
-        return (RunningWords.from_buffer_copy(b"".join(parts)),)
-
-
-def running_of(words):
-    data = bytes(words)
-    done, refusal = struct.unpack_from("<2Q", data)
-    last, count, *raised, test, orders = struct.unpack_from("<7Q", data, 152)
-    raised = _types.Raised(*(n == 1 for n in raised))
-    return _types.Running(done, refusal, finality_of(data[16:152]), _types.ExitQueue(last, count), raised, test, orders)
-
-
-def finality_of(words):
-    slot, bits, *rest = _FINALITY.unpack(bytes(words))
-    return _types.Finality(slot, bits, *(_types.Checkpoint(*rest[i : i + 2]) for i in (0, 2, 4)))
-
-
-SETTINGS, BELLATRIX, RULES = Fields(_types.Settings), Fields(_types.Bellatrix), Rules()
-CLOCK, FINALITY, QUEUE = Fields(_types.Clock), Finality(), Fields(_types.ExitQueue)
-NUMBER, FLAGS = Number(), Number(255, ctypes.c_uint8)
-REGISTRY, SLASHINGS, MARKS = Numbers(row=_types.VALIDATOR_LENGTH), Numbers(), Numbers()
-VALIDATOR = REGISTRY  # ten numbers: C counts them
-ROOTS, BYTES = Bytes(row=32), Bytes()
-CHANGED = Changed(row=_types.VALIDATOR_LENGTH)
-STORE, CHANGED_STORE = Store(), ChangedStore()
-RUNNING = Running()
-# what the caller holds from call to call, and C changes there: never a list, of which C would change a copy
-KEPT_REGISTRY = Numbers(row=_types.VALIDATOR_LENGTH, written=held_by_the_caller)
-KEPT, KEPT_AMOUNTS = Numbers(written=held_by_the_caller), Numbers(row=_types.AMOUNTS_LENGTH, written=held_by_the_caller)
+STORE, CHANGED_STORE = Store(False), Store(True)

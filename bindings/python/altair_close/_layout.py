@@ -4,8 +4,8 @@ The limits are the library's, said here once for Python; test_layout.py holds `f
 import struct
 from typing import NamedTuple
 
-from ._types import (CURRENT_EPOCH_PARTICIPATION, EXIT_EPOCH, FAR_FUTURE_EPOCH, PREVIOUS_EPOCH_PARTICIPATION, SLASHED,
-                     VALIDATOR_LENGTH, ExitQueue, Finality, Settings)
+from ._words import (CURRENT_EPOCH_PARTICIPATION, EXIT_EPOCH, FAR_FUTURE_EPOCH, LONGEST_VECTOR, MOST_VALIDATORS, NUMBER_LIMIT,
+                     PREVIOUS_EPOCH_PARTICIPATION, SLASHED, VALIDATOR_LENGTH, ExitQueue, Finality, Settings)
 
 VERSIONS = 1, 2
 FILE_VERSION = 2  # the one that is written; version 1 has no exit queue's pair
@@ -15,9 +15,7 @@ CHECKPOINTS_AT = {name: FINALITY_AT + 16 + 40 * place for place, name in enumera
 VALIDATOR = ("effective_balance", "slashed", "activation_eligibility_epoch", "activation_epoch", "exit_epoch", "withdrawable_epoch",
              "balance", "previous_epoch_participation", "current_epoch_participation", "inactivity_score")
 
-MOST_VALIDATORS = 2**24
-LONGEST_VECTOR = 65536
-BELOW = 2**48  # slots, epochs of checkpoints and settings
+BELOW = NUMBER_LIMIT  # slots, epochs of checkpoints and settings
 MOST_BITS = 15
 LARGEST = {SLASHED: 1, PREVIOUS_EPOCH_PARTICIPATION: 255, CURRENT_EPOCH_PARTICIPATION: 255}
 NOT_ZERO = ("slots_per_epoch", "effective_balance_increment", "hysteresis_quotient", "inactivity_score_bias",
@@ -38,6 +36,9 @@ def slashings_at(validators, roots, version=FILE_VERSION):
 
 def file_length(validators, roots, slashings, version=FILE_VERSION):
     return slashings_at(validators, roots, version) + 8 * slashings
+
+
+LONGEST_FILE = file_length(MOST_VALIDATORS, LONGEST_VECTOR, LONGEST_VECTOR)
 
 
 def header(validators, roots, slashings, version=FILE_VERSION):

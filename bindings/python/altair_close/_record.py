@@ -1,44 +1,42 @@
 """A record: its file over lent buffers, and one with buffers of its own."""
-from pathlib import Path
-from typing import Any, NamedTuple, Optional
+from typing import Any, Iterator, NamedTuple, Optional, Sequence, Union
 
 from . import _layout
-from ._close import buffers, charged, close, listing_head, listing_lines
-from ._files import write_whole
+from ._arguments import number, struct_of
+from ._calls import charged, listing_head, read_header, write_file
+from ._close import close, listing_lines
+from ._files import read_record, write_whole
 from ._refusals import Refused
-from ._signatures import call, pair_of
-from ._types import FORK_ALTAIR, Bellatrix, ExitQueue, Finality, Rules, Settings
+from ._signatures import buffers, call, promised
+from ._types import (FORK_ALTAIR, Amounts, Bellatrix, Buffer, BytesLike, Closed, ExitQueue, Finality, Raised, Rules, Settings, StoreLike, held)
 
 
-def read_header(file):
-    """How many validators, roots and slashings a file holds."""
-    return call("read_header", file)
-
-
-def read_file(file, *, out=(None, None)):
-    """The record of a file of version 1 or 2. `out` is a pair of buffers for its registry and slashings, as long as the header says.
-
-    Refused has the position at which reading stopped and the field at fault; nothing is then written.
-    """
+@promised
+def read_file(file: BytesLike, *, out: Sequence[Optional[Buffer]] = (None, None)) -> "Record":
+    """It gives a Record. `out` is a pair of buffers for registry and slashings. Refused has the position at which reading stopped and the
+    field at fault."""
     try:
-        settings, finality, registry, slashings, queue = call("read_file", file, *buffers(out, "registry", "slashings"))
+        registry, slashings, read = call("read_file", file, *buffers(out, "registry", "slashings"))
     except Refused as refused:
         fault = _layout.fault(file)
         same = fault and (fault.refusal, fault.position) == (refused.number, refused.position)
-        raise Refused(refused.number, refused.position, fault.field if same else None) from None
+        raise Refused(refused.number, refused.position, fault.field if same else None, refused.fault) from None
     validators, roots, _ = read_header(file)
     version = memoryview(file).cast("B")[0]
     part = slice(_layout.roots_at(validators, version), _layout.slashings_at(validators, roots, version))
-    return Record(settings, finality, registry, slashings, bytes(memoryview(file)[part]), queue)
+    return Record(read.settings, read.finality, registry, slashings, bytes(memoryview(file).cast("B")[part]), read.queue)
 
 
-def write_file(settings, finality, queue, registry, roots, slashings, *, out=None):
-    """The file of a record, of version 2, in `out`, a buffer of as many bytes as it has, or in a memoryview. `queue` is the exit queue's
-    pair of the registry, or None. Refused, nothing is written."""
-    return call("write_file", settings, finality, pair_of(queue, registry), registry, roots, slashings, out)
+class _Record(NamedTuple):
+    settings: Settings
+    finality: Finality
+    registry: Any
+    slashings: Any
+    roots: Any
+    queue: Optional[ExitQueue] = None
 
 
-class Record(NamedTuple):
+class Record(_Record):
     """All that a close is handed, and hands back: registry and slashings are buffers of 64-bit numbers, roots are bytes. `queue` is the
     exit queue's pair; None has it worked out.
 
@@ -52,53 +50,94 @@ class Record(NamedTuple):
     2080000
     """
 
-    settings: Settings
-    finality: Finality
-    registry: Any
-    slashings: Any
-    roots: Any
-    queue: Optional[ExitQueue] = None
+    __slots__ = ()
 
     @classmethod
-    def read(cls, file):
+    def read(cls, file: BytesLike) -> "Record":
         """The record of a file's bytes."""
         return read_file(file)
 
     @classmethod
-    def open(cls, path):
-        """The record of the file at a path."""
-        return read_file(Path(path).read_bytes())
+    def open(cls, path: Any) -> "Record":
+        """The record of the file at a path; '-' is standard input."""
+        return read_file(read_record(path))
 
-    def write(self):
+    def write(self) -> bytes:
         """The bytes of the record's file."""
         return bytes(write_file(self.settings, self.finality, self.queue, self.registry, self.roots, self.slashings))
 
-    def save(self, path):
+    def save(self, path: Any) -> None:
         """Writes the record's file to a path; what stood there stays where it cannot be written."""
         write_whole(path, [self.write()])
 
-    def closing(self, *, fork=FORK_ALTAIR, bellatrix=Bellatrix(0, 0), store=None, out=(None, None, None)):
+    def closing(self, *, fork: int = FORK_ALTAIR, bellatrix: Bellatrix = Bellatrix(0, 0), store: Optional[StoreLike] = None,
+                out: Sequence[Optional[Buffer]] = (None, None, None)) -> Closed:
         """What the close says of this record, amounts too, under a fork with Bellatrix's pair: Closed. `out` is as that of the function.
         A `store` stands in the place of the record's settings, fork and pair."""
-        by = Rules(self.settings, fork, bellatrix) if store is None else store
-        return close(by, self.finality, self.queue, self.registry, self.slashings, self.roots, out=out)
+        if store is None:
+            struct_of(Bellatrix).flat("bellatrix", bellatrix)
+            store = Rules(self.settings, number("fork", fork), bellatrix)
+        return close(store, self.finality, self.queue, self.registry, self.slashings, self.roots, out=out)
 
-    def close(self, **how):
+    def close(self, **how: Any) -> "ClosedRecord":
         """The closed record, as `closing` gives it; roots stay."""
         closed = self.closing(**how)
-        return Record(self.settings, closed.finality, closed.registry, closed.slashings, self.roots, closed.queue)
+        return ClosedRecord(self.settings, closed.finality, closed.registry, closed.slashings, self.roots, closed.queue).after(closed)
 
-    def charged(self):
+    def charged(self) -> int:
         """How many validators are charged."""
         return charged(self.settings, self.finality.slot, self.registry)
 
-    def listing(self, closed):
-        """The lines of the listing, as text, of this record and the closed one. Refused, there is none of them."""
+    def listing(self, closed: Union[Closed, "Record"]) -> Iterator[str]:
+        """The lines of the listing, as text, of this record and the closed one. The figures are those of the close: of one by a store by its
+        entry. Of a record that does not know its close they are by the settings of this one. Refused, there is none of them."""
+        close = closed.closed or closed if isinstance(closed, ClosedRecord) else closed
+        if not isinstance(close, (Closed, Record)):
+            raise TypeError(f"closed: a closed Record or Closed is wanted, not {type(closed).__name__}")
         # all of them before the first is handed out: a net change may not fit
         lines = ["%d %d %d %d %d %d" % line for line in listing_lines(self.registry, closed.registry)]
-        head = listing_head(self.settings, self.finality.slot, closed.finality, self.registry)
+        settings = close.rules.settings if isinstance(close, Closed) and close.by is not None else self.settings
+        head = listing_head(settings, self.finality.slot, closed.finality, self.registry)
         yield (
             f"epoch {head.epoch} justified {head.justified_epoch} finalized {head.finalized_epoch} "
-            f"bits {head.justification_bits} charged {head.charged} %d %d %d" % head.raised
+            f"bits {head.justification_bits} charged {head.charged} %d %d %d" % (close.raised if isinstance(close, Closed) else head.raised)
         )
         yield from lines
+
+    def __reduce__(self) -> Any:
+        return Record, (*self[:2], held(self.registry), held(self.slashings), bytes(memoryview(self.roots)), self.queue)
+
+
+class ClosedRecord(Record):
+    """A closed record, which knows its close: the amounts, which totals were raised, which test finalized, and what it went by."""
+
+    closed: Optional[Closed] = None  # none where it was made otherwise, as by _replace
+
+    def after(self, closed: Closed) -> "ClosedRecord":
+        self.closed = closed
+        return self
+
+    def booked(self) -> Iterator[Amounts]:
+        """The Amounts of every validator, in order."""
+        return self._close().booked()
+
+    @property
+    def raised(self) -> Raised:
+        return self._close().raised
+
+    @property
+    def test(self) -> int:
+        return self._close().test
+
+    def _close(self) -> Closed:
+        if self.closed is None:
+            raise ValueError("closed: this record was changed after its close, and knows it no more")
+        return self.closed
+
+    def __reduce__(self) -> Any:
+        return _closed_again, (super().__reduce__()[1], self.closed)
+
+
+def _closed_again(values: Any, closed: Optional[Closed]) -> ClosedRecord:
+    again = ClosedRecord(*values)
+    return again.after(closed) if closed else again

@@ -1,32 +1,27 @@
 """Why a call was refused."""
+from typing import Any, NamedTuple, Optional
 
-REFUSALS = {
-    1: "a length, a vector's size or an index is not the one called for",
-    2: "a setting is 0 where it divides, or 2^48 or more",
-    3: "a slot, epoch, bit field or flag of the record is out of range",
-    4: "a block root is wanted that the record does not keep",
-    5: "a sum, product or difference that is evaluated leaves 64 bits",
-    6: "a record file's header is not as it must be",
-    7: "a net change, closing minus opening balance, does not fit signed 64 bits",
-    8: "the exit queue's pair is not that of the registry",
-    9: "an exit order's validator is unknown, not active or leaving already",
-    10: "an exit order's start is ahead, or its validator has not been active for long enough",
-    11: "the list of exit orders is full",
-    12: "a new entry's start is not above that of the last entry",
-    13: "the store has no entry for the epoch",
-    14: "a second is before genesis",
-    15: "seconds_per_slot is 0",
-}
+from ._words import REFUSALS
+
+
+class Fault(NamedTuple):
+    """What was wrong where a call is refused with 1: the argument, words for what is called for, and the number or length."""
+
+    argument: str
+    wanted: str
+    number: int
 
 
 class Refused(Exception):
-    """A refused call: its number; for a file also where reading stopped, and the field that is at fault where one is."""
+    """A refused call: its number; where that is 1 the fault, and of a file where reading stopped and the field that is at fault, where one
+    is."""
 
-    def __init__(self, number, position=None, field=None):
+    def __init__(self, number: int, position: Optional[int] = None, field: Optional[str] = None, fault: Optional[Fault] = None) -> None:
         where = "" if position is None else f", at byte {position}"
         what = "" if field is None else f": {field}"
-        super().__init__(f"refused {number}: {REFUSALS.get(number, 'a number that this version does not know')}{where}{what}")
-        self.number, self.position, self.field = number, position, field
+        why = "" if fault is None or field is not None else f": {fault.argument}: {fault.wanted} ({fault.number})"
+        super().__init__(f"refused {number}: {REFUSALS.get(number, 'a number that this version does not know')}{where}{what}{why}")
+        self.number, self.position, self.field, self.fault = number, position, field, fault
 
-    def __reduce__(self):
-        return Refused, (self.number, self.position, self.field)
+    def __reduce__(self) -> Any:
+        return Refused, (self.number, self.position, self.field, self.fault)

@@ -1,54 +1,52 @@
-"""Settings by starting epoch: a store of entries, each with the epoch from which its rules hold."""
+"""Settings by starting epoch: entries added to a store."""
 from array import array
-from typing import Any, NamedTuple
+from typing import Any, Optional, Sequence, Tuple, Union
 
-from ._signatures import call
-from ._types import ENTRY_LENGTH, Bellatrix, Entry, Rules, Settings
-
-
-def read_rules(store, epoch):
-    """The Rules of the last entry of a store whose start is not above the epoch."""
-    return call("read_rules", store, epoch)
+from ._refusals import Refused
+from ._signatures import call, promised
+from ._types import ENTRY_LENGTH, FAR_FUTURE_EPOCH, Rules, Settings, Store, held
 
 
-def add_rules(store, start, rules):
-    """The store with an entry more, in the room behind those in use; a store without room is refused with 1. What is handed in stays."""
-    numbers, count = call("add_rules", (store, None), start, rules)
-    return Store(numbers, count)
+@promised
+def add_rules(store: Store, start: int, rules: Union[Rules, Settings]) -> Store:
+    """It gives a Store of its own, and what is handed in stays. A store without room behind the entries in use is refused with 1."""
+    return Store(*call("add_rules", store, start, rules))
 
 
-class Store(NamedTuple):
-    """Entries of 23 numbers, and how many of them are in use. Where a close wants a store, Rules or Settings alone are one of one entry
-    that starts at epoch 0.
+def with_room(store: Store) -> Store:
+    """The store with room for one entry more."""
+    return Store(held(store.used()) + array("Q", bytes(8 * ENTRY_LENGTH)), store.count)
 
-    >>> from altair_close import FORK_BELLATRIX, MAINNET, MAINNET_BELLATRIX, Rules, Store
-    >>> store = Store.of((10, MAINNET), (20, Rules(MAINNET, FORK_BELLATRIX, MAINNET_BELLATRIX)))
-    >>> [store.rules_at(epoch).fork for epoch in (10, 19, 20)]
-    [0, 0, 1]
-    """
 
-    numbers: Any = ()
-    count: int = 0
+def _good(numbers: "array[int]", count: int) -> int:
+    """How many of the entries, from the first on, the library takes as a store."""
+    low, high = 0, count
+    while low < high:
+        middle = high if low == 0 and high == count else (low + high + 1) // 2
+        try:
+            call("read_rules", Store(numbers[: ENTRY_LENGTH * middle], middle), FAR_FUTURE_EPOCH)
+            low = middle
+        except Refused:
+            high = middle - 1
+    return low
 
-    @classmethod
-    def of(cls, *entries):
-        """A store of these entries, each a start and Rules or Settings. Refused where one of them cannot be added."""
-        store = cls()
-        for start, rules in entries:
-            store = store.adding(start, rules)
-        return store
 
-    def adding(self, start, rules):
-        """The store with an entry more, for which room is made."""
-        used = array("Q", list(self.numbers)[: ENTRY_LENGTH * self.count])
-        return add_rules(Store(used + array("Q", bytes(8 * ENTRY_LENGTH)), self.count), start, rules)
-
-    def rules_at(self, epoch):
-        """The Rules that an epoch goes by."""
-        return read_rules(self, epoch)
-
-    def entries(self):
-        """The entries in use: start and Rules."""
-        for at in range(0, ENTRY_LENGTH * self.count, ENTRY_LENGTH):
-            start, fork, *numbers = list(self.numbers[at : at + ENTRY_LENGTH])
-            yield Entry(start, Rules(Settings(*numbers[:19]), fork, Bellatrix(*numbers[19:])))
+def added(entries: Sequence[Any]) -> Tuple[Store, Optional[Refused]]:
+    """The store of as many of the entries as can be added one behind another, and the Refused of the next one, or None. To add an entry takes
+    a time that grows with the store: so they are tested alone and then all together."""
+    numbers = array("Q")
+    for place, entry in enumerate(entries):
+        if not isinstance(entry, (tuple, list)) or len(entry) != 2:
+            raise TypeError(f"entries[{place}]: a start and Rules or Settings are wanted, not {type(entry).__name__}")
+        try:
+            numbers.extend(add_rules(with_room(Store()), *entry).numbers)
+        except Refused:
+            break
+    count = _good(numbers, len(numbers) // ENTRY_LENGTH)
+    store = Store(numbers[: ENTRY_LENGTH * count], count)
+    if count == len(entries):
+        return store, None
+    try:
+        raise AssertionError(f"entry {count} was refused among others and is taken alone: {store.adding(*entries[count])}")
+    except Refused as refused:
+        return store, refused

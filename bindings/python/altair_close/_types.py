@@ -1,71 +1,50 @@
-"""What goes in and comes back by value."""
-from typing import Any, NamedTuple
+"""What goes in and comes back: the named tuples of _words.py, and those that hold buffers or say more."""
+from array import array
+from typing import Any, Iterator, NamedTuple, Sequence, Tuple, Union
 
-FAR_FUTURE_EPOCH = 2**64 - 1
+from ._words import *
+from ._words import FullValues, Read, VotesValues, _Amounts
 
-# the places of a validator's ten numbers
-(EFFECTIVE_BALANCE, SLASHED, ACTIVATION_ELIGIBILITY_EPOCH, ACTIVATION_EPOCH, EXIT_EPOCH, WITHDRAWABLE_EPOCH, BALANCE,
- PREVIOUS_EPOCH_PARTICIPATION, CURRENT_EPOCH_PARTICIPATION, INACTIVITY_SCORE, VALIDATOR_LENGTH) = range(11)
-
-# the places of the nine numbers that a close books of a validator, by the rule behind each
-(SOURCE_REWARD, SOURCE_TAKEN, TARGET_REWARD, TARGET_TAKEN, HEAD_REWARD, HEAD_TAKEN, INACTIVITY_REWARD, INACTIVITY_TAKEN,
- SLASHING_TAKEN, AMOUNTS_LENGTH) = range(10)
-
-
-class Settings(NamedTuple):
-    """The nineteen settings of a network. MAINNET._replace(slots_per_epoch=8) changes one."""
-
-    slots_per_epoch: int
-    slots_per_historical_root: int
-    epochs_per_slashings_vector: int
-    effective_balance_increment: int
-    max_effective_balance: int
-    hysteresis_quotient: int
-    hysteresis_downward_multiplier: int
-    hysteresis_upward_multiplier: int
-    base_reward_factor: int
-    min_epochs_to_inactivity_penalty: int
-    inactivity_score_bias: int
-    inactivity_score_recovery_rate: int
-    inactivity_penalty_quotient_altair: int
-    proportional_slashing_multiplier_altair: int
-    max_seed_lookahead: int
-    min_validator_withdrawability_delay: int
-    ejection_balance: int
-    min_per_epoch_churn_limit: int
-    churn_limit_quotient: int
-
-
-MAINNET = Settings(32, 8192, 8192, 10**9, 32 * 10**9, 4, 1, 5, 64, 4, 4, 16, 50331648, 2, 4, 256, 16 * 10**9, 4, 65536)
-# as the public text's presets and configuration of that name have them
-MINIMAL = MAINNET._replace(slots_per_epoch=8, slots_per_historical_root=64, epochs_per_slashings_vector=64,
-                           min_per_epoch_churn_limit=2, churn_limit_quotient=32)
 PRESETS = {"mainnet": MAINNET, "minimal": MINIMAL}
 
-
-class Bellatrix(NamedTuple):
-    """The two numbers that Bellatrix uses in place of inactivity_penalty_quotient_altair and
-    proportional_slashing_multiplier_altair."""
-
-    inactivity_penalty_quotient_bellatrix: int
-    proportional_slashing_multiplier_bellatrix: int
+# what a type checker cannot say: a C-contiguous buffer of 64-bit unsigned numbers or of bytes, and what goes in for one
+Buffer = Any
+NumbersLike = Any
+BytesLike = Any
 
 
-# mainnet's, which minimal has too
-MAINNET_BELLATRIX = Bellatrix(16777216, 3)
-FORK_ALTAIR, FORK_BELLATRIX = range(2)
+def _call(name: str, *values: Any) -> Any:
+    from ._signatures import call  # it stands on this module
+
+    return call(name, *values)
 
 
-class Rules(NamedTuple):
-    """What a close goes by. Under fork 0 the pair is not read and may be anything; under fork 1 it stands in the place of the
-    Altair two, which are tested all the same. Where Rules are wanted, Settings are those of Altair."""
-
-    settings: Settings
-    fork: int = FORK_ALTAIR
-    bellatrix: Bellatrix = Bellatrix(0, 0)
+def flat(numbers: Any) -> memoryview:
+    """A buffer's numbers in one row, or a list's or tuple's in a buffer of their own."""
+    return memoryview(array("Q", numbers) if isinstance(numbers, (list, tuple)) else numbers).cast("B").cast("Q")
 
 
-ENTRY_LENGTH = 23
+def lent(name: str, numbers: Any, row: int) -> memoryview:
+    """The same of what a user has put into a tuple: what is wrong with it is said by this name."""
+    from ._arguments import Numbers
+
+    kind = Numbers(row=row)
+    return flat(kind.checked(name, kind.made(name, numbers), False).view)
+
+
+def held(numbers: Any) -> "array[int]":
+    """The numbers in a buffer that is nobody else's, and that can be pickled."""
+    return array("Q", flat(numbers).tobytes())
+
+
+class Amounts(_Amounts):
+    __doc__ = _Amounts.__doc__
+    __slots__ = ()
+
+    @property
+    def net(self) -> int:
+        """Closing minus opening balance."""
+        return sum(self[:SLASHING_TAKEN:2]) - sum(self[1:SLASHING_TAKEN:2]) - self.slashing_taken
 
 
 class Entry(NamedTuple):
@@ -75,97 +54,62 @@ class Entry(NamedTuple):
     rules: Rules
 
 
-def entry_numbers(start, rules):
+class Store(NamedTuple):
+    """Entries of 23 numbers, also one a row, and how many of them are in use. Where a close wants a store, Rules or Settings alone are one
+    of one entry that starts at epoch 0.
+
+    >>> from altair_close import FORK_BELLATRIX, MAINNET, MAINNET_BELLATRIX, Rules, Store
+    >>> store = Store.of((10, MAINNET), (20, Rules(MAINNET, FORK_BELLATRIX, MAINNET_BELLATRIX)))
+    >>> [store.rules_at(epoch).fork for epoch in (10, 19, 20)]
+    [0, 0, 1]
+    """
+
+    numbers: Any = ()
+    count: int = 0  # type: ignore[assignment]  # a tuple has a method of this name
+
+    @classmethod
+    def of(cls, *entries: Tuple[int, Union[Rules, Settings]]) -> "Store":
+        """A store of these entries, each a start and Rules or Settings. Refused where one of them cannot be added."""
+        from ._store import added  # it stands on this module
+
+        store, refused = added(entries)
+        if refused:
+            raise refused
+        return store
+
+    def adding(self, start: int, rules: Union[Rules, Settings]) -> "Store":
+        """The store with an entry more, for which room is made."""
+        from ._store import add_rules, with_room
+
+        return add_rules(with_room(self), start, rules)
+
+    def rules_at(self, epoch: int) -> Rules:
+        """The Rules that an epoch goes by."""
+        return _call("read_rules", self, epoch)
+
+    def used(self) -> memoryview:
+        """The numbers of the entries in use, in one row."""
+        from ._arguments import number
+
+        return lent("numbers", self.numbers, ENTRY_LENGTH)[: ENTRY_LENGTH * number("count", self.count)]
+
+    def entries(self) -> Iterator[Entry]:
+        """The entries in use: start and Rules."""
+        numbers = self.used()
+        for at in range(0, len(numbers), ENTRY_LENGTH):
+            start, fork, *rest = numbers[at : at + ENTRY_LENGTH].tolist()
+            yield Entry(start, Rules(Settings(*rest[:19]), fork, Bellatrix(*rest[19:])))
+
+    def __reduce__(self) -> Any:
+        return Store, (held(self.numbers), self.count)
+
+
+StoreLike = Union[Store, Rules, Settings, Sequence[Any]]
+
+
+def entry_numbers(start: int, rules: Rules) -> Any:
     """The 23 numbers of an entry: start, fork, the nineteen settings and the pair."""
     return [start, rules.fork, *rules.settings, *rules.bellatrix]
-
-
-class Clock(NamedTuple):
-    """A network's clock. Seconds are those of Unix time; genesis_time is the first second of slot 0."""
-
-    genesis_time: int
-    seconds_per_slot: int
-    slots_per_epoch: int
-
-
-MAINNET_CLOCK = Clock(1606824023, 12, 32)
-
-
-class Checkpoint(NamedTuple):
-    """An epoch and the root of its first block, any 32 bytes."""
-
-    epoch: int = 0
-    root: bytes = bytes(32)
-
-
-class Finality(NamedTuple):
-    """Bit i of justification_bits counts 2^i; bit 0 is the current epoch's."""
-
-    slot: int
-    justification_bits: int = 0
-    previous_justified_checkpoint: Checkpoint = Checkpoint()
-    current_justified_checkpoint: Checkpoint = Checkpoint()
-    finalized_checkpoint: Checkpoint = Checkpoint()
-
-
-class ExitQueue(NamedTuple):
-    """The exit queue's pair of a registry: the largest exit epoch below FAR, or 0 where there is none, and how many validators have
-    exactly it. exit_queue works it out; where a call is handed None in its place, so does the call."""
-
-    last_epoch: int
-    number: int
-
-
-class Amounts(NamedTuple):
-    """What a close gave and took of one validator, by the rule behind it. Each reward was added before what was taken, as far as there
-    was balance; the inactivity reward is 0. Opening balance plus rewards less what was taken is the closing balance."""
-
-    source_reward: int
-    source_taken: int
-    target_reward: int
-    target_taken: int
-    head_reward: int
-    head_taken: int
-    inactivity_reward: int
-    inactivity_taken: int
-    slashing_taken: int
-
-    @property
-    def net(self):
-        """Closing minus opening balance."""
-        return sum(self[:SLASHING_TAKEN:2]) - sum(self[1:SLASHING_TAKEN:2]) - self.slashing_taken
-
-
-class Deltas(NamedTuple):
-    """What one validator gains and loses by one rule."""
-
-    reward: int
-    penalty: int
-
-
-class Total(NamedTuple):
-    """A total balance, and whether its plain sum was below one increment, so that the total was raised to it."""
-
-    balance: int
-    raised: bool
-
-
-class Raised(NamedTuple):
-    """Which totals were raised to one increment: of the active, and of those that hit the target of the previous and of the current
-    epoch. None up to epoch 1."""
-
-    active: bool
-    previous: bool
-    current: bool
-
-
-class Justified(NamedTuple):
-    """What justification gives. `test` is which of the four finality tests, 1 to 4 in their order, last set the finalized checkpoint,
-    or 0."""
-
-    finality: Finality
-    raised: Raised
-    test: int
 
 
 class Queued(NamedTuple):
@@ -174,11 +118,15 @@ class Queued(NamedTuple):
     registry: Any
     queue: ExitQueue
 
+    @classmethod
+    def given(cls, queue: ExitQueue, registry: Any) -> "Queued":
+        return cls(registry, queue)
 
-class Closed(NamedTuple):
-    """A closed record with its exit queue's pair: registry, slashings and amounts, nine numbers a validator, are the buffers of `out`,
-    or memoryviews of 64-bit numbers. And which totals were raised, and which test finalized, as in Justified."""
+    def __reduce__(self) -> Any:
+        return Queued, (held(self.registry), self.queue)
 
+
+class _Closed(NamedTuple):
     finality: Finality
     queue: ExitQueue
     registry: Any
@@ -187,10 +135,43 @@ class Closed(NamedTuple):
     raised: Raised
     test: int
 
-    def booked(self):
+
+class Closed(_Closed):
+    """A closed record with its exit queue's pair: registry, slashings and amounts, nine numbers a validator, are the buffers of `out`,
+    or memoryviews of 64-bit numbers. And which totals were raised, and which test finalized, as in Justified."""
+
+    by: Any = None  # what the close went by: a store, rules or settings
+
+    @classmethod
+    def given(cls, values: FullValues, registry: Any, slashings: Any, amounts: Any) -> "Closed":
+        return cls(values.finality, values.queue, registry, slashings, amounts, values.raised, values.test)
+
+    def went_by(self, store: Any) -> "Closed":
+        """The same, which knows what it went by."""
+        self.by = store
+        return self
+
+    @property
+    def rules(self) -> Rules:
+        """The rules that the close went by: of a store those of its entry for the record's epoch."""
+        if isinstance(self.by, Rules):
+            return self.by
+        if isinstance(self.by, Settings):
+            return Rules(self.by)
+        return _call("read_rules", self.by, self.finality.slot // flat(self.by[0])[ENTRY_SETTINGS])
+
+    def booked(self) -> Iterator[Amounts]:
         """The Amounts of every validator, in order."""
-        numbers = memoryview(self.amounts).cast("B").cast("Q")
+        numbers = lent("amounts", self.amounts, AMOUNTS_LENGTH)
         return (Amounts(*numbers[at : at + AMOUNTS_LENGTH]) for at in range(0, len(numbers), AMOUNTS_LENGTH))
+
+    def __reduce__(self) -> Any:
+        finality, queue, *buffers, raised, test = self
+        return _closed_again, ((finality, queue, *map(held, buffers), raised, test), self.by)
+
+
+def _closed_again(values: Any, by: Any) -> Closed:
+    return Closed(*values).went_by(by)
 
 
 class Running(NamedTuple):
@@ -223,47 +204,14 @@ class Shelf(NamedTuple):
     answers: Any
 
 
-class Head(NamedTuple):
-    """The numbers of a listing's first line."""
-
-    epoch: int
-    justified_epoch: int
-    finalized_epoch: int
-    justification_bits: int
-    charged: int
-    raised: Raised
-
-
-class Line(NamedTuple):
-    """The numbers of one validator's line: effective balance and score are those after the close, net_change is closing minus
-    opening balance."""
-
-    index: int
-    opening_balance: int
-    closing_balance: int
-    effective_balance: int
-    inactivity_score: int
-    net_change: int
-
-
-class Header(NamedTuple):
-    """How much a record file holds."""
-
-    validators: int
-    roots: int
-    slashings: int
-
-
-# a validator's mark: which of its two target flags are unknown
-BOTH_KNOWN, PREVIOUS_UNKNOWN, CURRENT_UNKNOWN, BOTH_UNKNOWN = range(4)
-
-# in how many fillings of the unknown flags a target's two-thirds test passes
-PASSES_IN_NONE, PASSES_IN_SOME, PASSES_IN_ALL = range(3)
-
-
 class Votes(NamedTuple):
     """What votes not yet counted can come to: the finalized epochs, rising, and PASSES_IN_.. of each target's test."""
 
-    finalized_epochs: tuple
+    finalized_epochs: Tuple[int, ...]
     previous_target: int
     current_target: int
+
+    @classmethod
+    def given(cls, values: VotesValues) -> "Votes":
+        return cls(values.finalized_epochs[: values.count], values.previous_target, values.current_target)
+

@@ -9,16 +9,13 @@ import re
 import struct
 
 from . import _layout
+from ._errors import Bad
 from ._layout import CHECKPOINTS, VALIDATOR
 from ._types import FAR_FUTURE_EPOCH, VALIDATOR_LENGTH, ExitQueue, Settings
 
 NAMES = ("settings", "slot", "justification_bits", *CHECKPOINTS, "exit_queue", "validators", "block_roots", "slashings")
 MAY_MISS = ("exit_queue", "block_roots", "slashings")
 ROOT = re.compile("(?:0x)?([0-9a-fA-F]{64})")
-
-
-class Bad(Exception):
-    """A text or a file that is not a record, with the place and what is wrong there."""
 
 
 class _Digits(str):

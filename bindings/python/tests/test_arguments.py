@@ -24,9 +24,12 @@ def good(kind):
         return VALIDATOR
     if isinstance(kind, kinds.Bytes):
         return ROOTS
-    values = {kinds.SETTINGS: MAINNET, kinds.RULES: altair.Rules(MAINNET), kinds.CLOCK: altair.MAINNET_CLOCK, kinds.FINALITY: Finality(127),
-              kinds.QUEUE: altair.ExitQueue(0, 0), kinds.STORE: altair.Rules(MAINNET), kinds.CHANGED_STORE: altair.Store([0] * 23, 0),
-              kinds.BELLATRIX: altair.MAINNET_BELLATRIX, kinds.RUNNING: altair.Running()}
+    if isinstance(kind, kinds.Struct):
+        return {altair.Settings: MAINNET, altair.Rules: altair.Rules(MAINNET), altair.Clock: altair.MAINNET_CLOCK, Finality: Finality(127),
+                altair.ExitQueue: altair.ExitQueue(0, 0), altair.Bellatrix: altair.MAINNET_BELLATRIX, altair.Running: altair.Running(),
+                altair.ElectraRules: altair.ElectraRules(MAINNET, altair.MAINNET_BELLATRIX, altair.MAINNET_ELECTRA),
+                altair.ExitChurn: altair.ExitChurn(), altair.DepositNumbers: altair.DepositNumbers()}[kind.given]
+    values = {kinds.STORE: altair.Rules(MAINNET), kinds.CHANGED_STORE: altair.Store([0] * 23, 0)}
     return values.get(kind, 1)
 
 
@@ -49,7 +52,7 @@ def wrong(kind):
     if isinstance(kind, kinds.Store):
         return [each for each in NEITHER if not isinstance(each, list)] + [None, 1, VALIDATOR, ROOTS, tuple(MAINNET), Finality(127), (127, 0),
                 (array("q", [0] * 23), 0), ([0] * 23, -1), ([0] * 23, None), ([0.5], 1), altair.ExitQueue(0, 0), altair.MAINNET_BELLATRIX]
-    none = [] if kind is kinds.QUEUE else [None]  # of a pair it means that it is worked out
+    none = [] if kind.given is altair.ExitQueue else [None]  # of a pair it means that it is worked out
     return [*NEITHER, *OTHER_BUFFERS, *none, 1, VALIDATOR, ROOTS, tuple(MAINNET), list(MAINNET), (127, 0)]
 
 

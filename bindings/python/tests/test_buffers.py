@@ -208,6 +208,36 @@ class Buffers(unittest.TestCase):
         with ThreadPoolExecutor(4) as pool:
             self.assertEqual(list(pool.map(close, registries_ * 50)), list(map(close, registries_)) * 50)
 
+    def refused_kinds(self):
+        """Buffers of other kinds, with what is said of each."""
+        yield array("q", NUMBERS[6:7] * 10), "array.array of format 'q' with 8 bytes"
+        yield array("I", range(10)), "array.array of format 'I' with 4 bytes"
+        yield array("d", range(10)), "array.array of format 'd' with 8 bytes"
+        yield bytes(80), "bytes of format 'B' with 1 bytes"
+        yield memoryview(NUMBERS)[::2], "this memoryview is not C-contiguous"
+        yield memoryview(bytearray(81))[1:].cast("Q"), "do not begin at a multiple of 8 bytes"
+        yield memoryview(bytearray(80)).cast("Q", shape=[1, 1, 10]), r"not one of shape \(1, 1, 10\)"
+        yield (ctypes.c_int64 * 10)(), "c_long(long)?_Array_10 of format '<[lq]' with 8 bytes"
+        if numpy:
+            table = numpy.zeros((10, 10), dtype=numpy.uint64)
+            for dtype, code, size in (("int64", "l", 8), ("uint32", "I", 4), ("float64", "d", 8), (">u8", ">[LQ]", 8), ("bool", r"\?", 1), ("O", "O", 8)):
+                yield table[0].astype(dtype), f"numpy.ndarray of format '{code}' with {size} bytes"
+            yield table.T[:, :3], "this numpy.ndarray is not C-contiguous"
+            yield table[:, :5], "this numpy.ndarray is not C-contiguous"
+            yield numpy.asfortranarray(table), "this numpy.ndarray is not C-contiguous"
+            yield table.reshape(20, 5), r"not one of shape \(20, 5\)"
+            yield numpy.zeros(3, dtype="datetime64[s]"), "not this numpy.ndarray: cannot include dtype 'M'"
+
+    def test_a_refused_kind_is_named(self):
+        for value, said in self.refused_kinds():
+            self.assertRaisesRegex((TypeError, ValueError), rf"^registry: .*{said}", altair.charged, MINIMAL, 31, value)
+        readonly = memoryview(NUMBERS.tobytes()).cast("Q")
+        self.assertRaisesRegex(TypeError, r"^out \(closing\): it is written, and it is read-only", altair.process_participation_flag_updates, NUMBERS, out=readonly)
+        if numpy:
+            self.assertRaisesRegex(TypeError, r"^roots: .*numpy.ndarray of format 'b' with 1 bytes", altair.get_block_root, MINIMAL, numpy.zeros(2048, dtype="int8"), 31, 2)
+            table = numpy.zeros((VALIDATORS, 10), dtype=numpy.uint64)
+            self.assertIs(altair.process_participation_flag_updates(NUMBERS, out=table), table)
+
     def test_nothing_is_moved_while_it_is_lent(self):
         registry = array("Q", NUMBERS)
         lines = altair.listing_lines(registry, self.closed.registry)

@@ -1,14 +1,17 @@
 """The library that is opened, what is said where it is none, and the examples of bindings/README.md."""
+import ast
 import os
 import pickle
 import re
+import shutil
 import subprocess
 import sys
 import tempfile
 import unittest
 from pathlib import Path
+from unittest import mock
 
-from altair_close import Refused, _library, text
+from altair_close import VERSION, Refused, _library, text
 
 ROOT = Path(__file__).resolve().parents[3]
 
@@ -33,6 +36,29 @@ class Library(unittest.TestCase):
         if other:
             self.assertIn("is not the library of the close", run(call, ALTAIR_LIBRARY=other)[1])
 
+    def test_a_relative_name_is_that_file_and_no_other(self):
+        """dlopen searches the system for a name without a folder: libc.so.6 beside us is none, and must not be the system's."""
+        call = "import altair_close; print(altair_close.version())"
+        with tempfile.TemporaryDirectory() as folder:
+            os.symlink(_library.path(), Path(folder, "mine.so"))
+            Path(folder, "libc.so.6").write_text("no library")
+            there = f"import os; os.chdir({folder!r}); "
+            self.assertEqual(run(there + call, ALTAIR_LIBRARY="mine.so"), (f"{VERSION}\n", ""))
+            self.assertEqual(run(there + call, ALTAIR_LIBRARY="./mine.so"), (f"{VERSION}\n", ""))
+            self.assertIn(f"{folder}/libc.so.6 is not the library of the close", run(there + call, ALTAIR_LIBRARY="libc.so.6")[1])
+            self.assertIn(f"no file {folder}/libm.so.6", run(there + call, ALTAIR_LIBRARY="libm.so.6")[1])
+
+    def test_it_is_imported_wherever_it_stands(self):
+        for here in "/altair_close", "/app/altair_close", "/a/b/c/d/e/altair_close":
+            with mock.patch.multiple(_library, HERE=Path(here), BESIDE=Path(here, "libaltair.so")), mock.patch.dict(os.environ):
+                os.environ.pop("ALTAIR_LIBRARY", None)
+                self.assertEqual(_library.places(), [Path(here, "libaltair.so")])
+                self.assertRaisesRegex(ImportError, f"no file {here}/libaltair.so. ", _library.path)
+        with tempfile.TemporaryDirectory(dir="/tmp") as folder:
+            shutil.copytree(ROOT / "bindings/python/altair_close", Path(folder, "altair_close"))
+            shutil.copy(_library.path(), Path(folder, "altair_close/libaltair.so"))
+            self.assertEqual(run("import altair_close; print(altair_close.version())", PYTHONPATH=folder, ALTAIR_LIBRARY=""), (f"{VERSION}\n", ""))
+
     def test_another_version(self):
         call = "import altair_close._signatures as s; s.VERSION = 99; s.call('version')"
         self.assertIn("of the interface, and 99 is wanted", run(call)[1])
@@ -44,6 +70,12 @@ class Library(unittest.TestCase):
     def test_nothing_is_opened_before_the_first_call(self):
         printed = run("import altair_close; print(altair_close.MAINNET.slots_per_epoch)", ALTAIR_LIBRARY="/none")
         self.assertEqual(printed, ("32\n", ""))
+
+    def test_the_syntax_of_every_version(self):
+        """Python 3.8 to 3.13 by syntax: the parser of this one takes what that of each has."""
+        for path in sorted((ROOT / "bindings/python").glob("**/*.py")):
+            for minor in range(8, 14):
+                ast.parse(path.read_text(), str(path), feature_version=(3, minor))
 
     def test_refused_goes_from_process_to_process(self):
         refused = pickle.loads(pickle.dumps(Refused(3, 432, "slot")))

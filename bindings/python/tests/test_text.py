@@ -10,7 +10,7 @@ import tempfile
 import unittest
 from pathlib import Path
 
-from altair_close import _command, _layout, text
+from altair_close import _layout, _record_command, text
 from altair_close.text import Bad
 
 ROOT = Path(__file__).resolve().parents[3]
@@ -205,7 +205,7 @@ class Command(unittest.TestCase):
                     bent[random_.randrange(random_.choice((80, 448, len(bent))))] = random_.randrange(256)
                 Path(path).write_bytes(bent[: random_.choice((len(bent), random_.randrange(len(bent))))])
                 for words in (["show", path, out], ["check", path], ["write", path, out]):
-                    self.assertIn(_command.main(words), (0, 1))
+                    self.assertIn(_record_command.main(words), (0, 1))
 
 
 if __name__ == "__main__":

@@ -1,8 +1,8 @@
 //! Closes the record file on standard input and prints the close, or `refused` and the number. Exit status: 0 closed, 1 refused,
-//! 2 could not read or write.
+//! with the number and its words on standard error, 2 could not read or write.
 //!
 //!     tools/record write samples/example.json - | cargo run --example close_record
-use altair_close::{listing_head, listing_line, Record, Refusal};
+use altair_close::{listing_head, listing_line, Header, Record, Refusal};
 use std::io::{self, Read, Write};
 use std::process::ExitCode;
 
@@ -37,21 +37,30 @@ fn listing(file: &[u8]) -> Result<String, Refusal> {
     Ok(text)
 }
 
+/// The longest file that the library reads: of a longer input a byte more is read, and it is refused whatever follows.
+const LONGEST: Header = Header { version: 2, validators: 1 << 24, roots: 1 << 16, slashings: 1 << 16 };
+
+/// What is wrong, where somebody can be told.
+fn said(words: impl std::fmt::Display) {
+    let _ = writeln!(io::stderr(), "close_record: {words}");
+}
+
 fn run() -> io::Result<u8> {
     let mut file = Vec::new();
-    io::stdin().read_to_end(&mut file)?;
-    let (text, code) = match listing(&file) {
-        Ok(text) => (text, 0),
-        Err(refusal) => (format!("refused {}\n", refusal.number()), 1),
+    io::stdin().take(LONGEST.file_length() as u64 + 1).read_to_end(&mut file)?;
+    let (text, refused) = match listing(&file) {
+        Ok(text) => (text, None),
+        Err(refusal) => (format!("refused {}\n", refusal.number()), Some(refusal)),
     };
     io::stdout().write_all(text.as_bytes())?;
     io::stdout().flush()?;
-    Ok(code)
+    refused.iter().for_each(said);
+    Ok(refused.is_some() as u8)
 }
 
 fn main() -> ExitCode {
     let code = run().unwrap_or_else(|error| {
-        eprintln!("close_record: {error}");
+        said(error);
         2
     });
     ExitCode::from(code)

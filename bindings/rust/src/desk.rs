@@ -1,12 +1,15 @@
 //! A close that is run one step a call, and exit orders that are taken meanwhile and carried out at its end.
-use crate::close::pair_of;
-use crate::raw::{self, Lent};
+use crate::calls;
+use crate::close::{numbers, pair_of};
+use crate::fault::Fault;
+use crate::raw::RunningAnswer;
 use crate::refusal::Refusal;
 use crate::store::By;
 use crate::types::{Amounts, Closed, ExitQueue, Running};
 use crate::{validator, ClosedRecord, Record};
 use std::error::Error;
-use std::fmt;
+use std::vec::Vec;
+use std::{fmt, vec};
 
 /// Why a call of a close by steps did nothing, or ended it.
 #[derive(Clone, Copy, Debug, PartialEq, Eq)]
@@ -42,7 +45,7 @@ impl Error for NotDone {}
 ///     queue: None,
 /// };
 /// let mut desk = Desk::new(&record, &Rules::altair(&settings), 2);
-/// assert_eq!(desk.order(1, 0), Err(NotDone::Refused(Refusal::Shape))); // before the first step nothing runs
+/// assert_eq!(desk.order(1, 0), Err(NotDone::Refused(Refusal::SHAPE))); // before the first step nothing runs
 /// desk.step()?;
 /// desk.order(1, 0)?;
 /// desk.order(7, 0)?;
@@ -89,61 +92,56 @@ impl<'a> Desk<'a> {
         self.running.done
     }
 
-    fn told(&mut self, answer: raw::RunningAnswer) -> Result<(), NotDone> {
+    fn told(&mut self, (answer, fault): (RunningAnswer, Fault)) -> Result<(), NotDone> {
         self.running = answer.running;
         if answer.ended == 1 {
             return Err(NotDone::Ended);
         }
-        Refusal::or(answer.refusal, ()).map_err(NotDone::Refused)
+        Refusal::or(answer.refusal, fault, || ()).map_err(NotDone::Refused)
     }
 
     /// The next of the eight steps.
     pub fn step(&mut self) -> Result<(), NotDone> {
         let (store, count) = self.by.lent();
-        let lent = Lent {
+        let r = self.record;
+        let closing = (&mut self.registry, &mut self.slashings, numbers(&mut self.amounts));
+        let told = calls::close_step(
+            self.running.done + 1,
+            &self.running,
             store,
             count,
-            finality: self.record.finality,
-            queue: self.queue,
-            registry: &self.record.registry,
-            slashings: &self.record.slashings,
-            roots: &self.record.roots,
-            closing_registry: &mut self.registry,
-            closing_slashings: &mut self.slashings,
-            amounts: &mut self.amounts,
-        };
-        let answer = raw::close_step(self.running.done + 1, self.running, lent);
-        self.told(answer)
+            &r.finality,
+            &self.queue,
+            &r.registry,
+            &r.slashings,
+            &r.roots,
+            closing.0,
+            closing.1,
+            closing.2,
+        );
+        self.told(told)
     }
 
     /// Takes an exit order, between the first step and the end.
     pub fn order(&mut self, validator: u64, start: u64) -> Result<(), NotDone> {
-        let (at, length) = (self.orders.as_mut_ptr(), self.orders.len());
-        let answer = unsafe { raw::altair_take_order(self.running, validator, start, at, length) };
-        self.told(answer)
+        let told = calls::take_order(&self.running, validator, start, &mut self.orders);
+        self.told(told)
+    }
+
+    /// The orders that were taken, in order of arrival: validator and start. They stay, also after a close that was refused.
+    pub fn orders(&self) -> impl Iterator<Item = (u64, u64)> + '_ {
+        self.orders.chunks_exact(2).take(self.running.orders as usize).map(|order| (order[0], order[1]))
     }
 
     /// The ninth call: tries every order in order of arrival, and ends the close. What came of each.
     pub fn carry_out(&mut self, shard_committee_period: u64) -> Result<Vec<Result<(), Refusal>>, NotDone> {
         let tried = self.running.orders as usize;
         let (store, count) = self.by.lent();
-        let answer = unsafe {
-            raw::altair_carry_out(
-                store.as_ptr(),
-                store.len(),
-                count,
-                shard_committee_period,
-                self.running,
-                self.registry.as_mut_ptr(),
-                self.registry.len(),
-                self.orders.as_ptr(),
-                self.orders.len(),
-                self.answers.as_mut_ptr(),
-                self.answers.len(),
-            )
-        };
-        self.told(answer)?;
-        Ok(self.answers[..tried].iter().map(|&number| Refusal::or(number, ())).collect())
+        let (orders, answers) = (&self.orders, &mut self.answers);
+        let told =
+            calls::carry_out(store, count, shard_committee_period, &self.running, &mut self.registry, orders, answers);
+        self.told(told)?;
+        Ok(self.answers[..tried].iter().map(|&number| Refusal::or(number, Fault::UNKNOWN, || ())).collect())
     }
 
     /// The closed record, once the close has ended and was not refused.

@@ -1,11 +1,10 @@
 //! A record file over lent slices. [`crate::Record`] does the same with vectors of its own.
-use crate::close::pair_of;
-use crate::raw;
+use crate::calls::{self, promise};
 use crate::refusal::Refusal;
 use crate::types::{ExitQueue, Finality, Settings};
-use std::error::Error;
-use std::fmt;
-use std::ops::Range;
+use core::error::Error;
+use core::fmt;
+use core::ops::Range;
 
 /// How much a record file holds. `version` is 1 or 2; version 1 has no room for the exit queue's pair, and version 2 is written.
 #[derive(Clone, Copy, Debug, PartialEq, Eq)]
@@ -53,65 +52,27 @@ impl From<ReadRefused> for Refusal {
     }
 }
 
-/// How much the file holds, from its header.
+#[doc = promise!(read_header)]
 ///
 /// ```
 /// use altair_close::{read_header, Refusal};
 /// assert_eq!(read_header(b"not a record file"), Err(Refusal::File));
 /// ```
 pub fn read_header(file: &[u8]) -> Result<Header, Refusal> {
-    let found = unsafe { raw::altair_read_header(file.as_ptr(), file.len()) };
+    let (found, fault) = calls::read_header(file);
     // each is below the file's length
     let [validators, roots, slashings] = [found.validators, found.roots, found.slashings].map(|n| n as usize);
     let version = file.first().copied().unwrap_or_default().into();
-    Refusal::or(found.refusal, Header { version, validators, roots, slashings })
+    Refusal::or(found.refusal, fault, || Header { version, validators, roots, slashings })
 }
 
-/// Settings, finality and the exit queue's pair, which of version 1 is worked out; registry and slashings go into slices as long as the header says, ten numbers a validator.
-/// Refused, the slices are as before.
+#[doc = promise!(read_file)]
 pub fn read_file(
     file: &[u8],
     registry: &mut [u64],
     slashings: &mut [u64],
 ) -> Result<(Settings, Finality, ExitQueue), ReadRefused> {
-    let read = unsafe {
-        raw::altair_read_file(
-            file.as_ptr(),
-            file.len(),
-            registry.as_mut_ptr(),
-            registry.len(),
-            slashings.as_mut_ptr(),
-            slashings.len(),
-        )
-    };
-    Refusal::or(read.refusal, (read.settings, read.finality, read.queue))
+    let (read, fault) = calls::read_file(file, registry, slashings);
+    Refusal::or(read.refusal, fault, || (read.settings, read.finality, read.queue))
         .map_err(|refusal| ReadRefused { refusal, position: read.position })
-}
-
-/// The record's file, of version 2, into a slice of [`Header::file_length`] bytes. Refused, the slice is as before.
-pub fn write_file(
-    settings: &Settings,
-    finality: &Finality,
-    queue: Option<&ExitQueue>,
-    registry: &[u64],
-    roots: &[u8],
-    slashings: &[u64],
-    file: &mut [u8],
-) -> Result<(), Refusal> {
-    let number = unsafe {
-        raw::altair_write_file(
-            *settings,
-            *finality,
-            pair_of(queue, registry),
-            registry.as_ptr(),
-            registry.len(),
-            roots.as_ptr(),
-            roots.len(),
-            slashings.as_ptr(),
-            slashings.len(),
-            file.as_mut_ptr(),
-            file.len(),
-        )
-    };
-    Refusal::or(number, ())
 }

@@ -22,41 +22,63 @@
 //! assert_eq!(closed.amounts[0].target_taken, 2_080_000);
 //! # Ok::<(), altair_close::Refusal>(())
 //! ```
-mod close;
-mod desk;
-mod file;
-mod helpers;
-mod opening_hours;
-mod raw;
-mod record;
-mod refusal;
-mod shelf;
-mod steps;
-mod store;
-mod types;
-mod unknown_votes;
-pub mod validator;
+//!
+//! What altair.h asks of a caller, the compiler sees to here: a slice is as long and as aligned as it says, one that is written overlaps
+//! no other, and no other thread has it. Neither of these is accepted:
+//!
+//! ```compile_fail,E0502
+//! let mut registry = altair_close::validator::new(32_000_000_000);
+//! altair_close::process_participation_flag_updates(&registry[..], &mut registry[..]);
+//! ```
+//!
+//! ```compile_fail,E0506
+//! let (opening, mut closing) = (altair_close::validator::new(32_000_000_000), [0; 10]);
+//! std::thread::scope(|threads| {
+//!     threads.spawn(|| altair_close::process_participation_flag_updates(&opening, &mut closing));
+//!     closing[0] = 1;
+//! });
+//! ```
+//!
+//! Without the feature `std`, which is on by default, the crate is `no_std` and allocates nothing: what has vectors of its own
+//! ([`Record`], [`Desk`], [`Store`], [`close_files`]) is then left out.
+#![no_std]
+#[cfg(feature = "std")]
+extern crate std;
 
-pub use close::*;
+#[cfg_attr(not(feature = "std"), allow(dead_code))]
+#[rustfmt::skip] // bindings/generate writes it
+mod calls;
+mod close;
+#[cfg(feature = "std")]
+mod desk;
+mod fault;
+mod file;
+#[cfg_attr(not(feature = "std"), allow(dead_code))]
+#[rustfmt::skip] // bindings/generate writes it
+mod raw;
+#[cfg(feature = "std")]
+mod record;
+#[rustfmt::skip] // bindings/generate writes it
+mod refusal;
+mod rules;
+#[cfg(feature = "std")]
+mod shelf;
+mod store;
+#[rustfmt::skip] // bindings/generate writes it
+mod types;
+mod votes;
+
+pub use calls::*;
+pub use close::close;
+#[cfg(feature = "std")]
 pub use desk::{Desk, NotDone};
-pub use file::*;
-pub use helpers::*;
+pub use fault::Fault;
+pub use file::{read_file, read_header, Header, ReadRefused};
+#[cfg(feature = "std")]
 pub use record::{ClosedRecord, OpenError, Record};
 pub use refusal::Refusal;
-pub use shelf::*;
-pub use steps::*;
+#[cfg(feature = "std")]
+pub use shelf::close_files;
 pub use store::*;
 pub use types::*;
-pub use unknown_votes::unknown_votes;
-
-/// The number of the interface that this crate is written for.
-pub const VERSION: u64 = 5;
-
-/// The number of the interface of the library that was linked.
-///
-/// ```
-/// assert_eq!(altair_close::version(), altair_close::VERSION);
-/// ```
-pub fn version() -> u64 {
-    unsafe { raw::altair_version() }
-}
+pub use votes::{Passes, Votes};

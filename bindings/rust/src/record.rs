@@ -1,12 +1,13 @@
 //! A record with vectors of its own.
-use crate::file::{read_file, read_header, write_file, Header, ReadRefused};
+use crate::file::{read_file, read_header, Header, ReadRefused};
 use crate::store::By;
 use crate::types::{Amounts, Bellatrix, ExitQueue, Finality, Raised, Rules, Settings};
-use crate::{charged, close, validator, Refusal};
+use crate::{charged, close, validator, write_file, Refusal};
 use std::error::Error;
 use std::ops::Deref;
 use std::path::Path;
-use std::{fmt, fs, io};
+use std::vec::Vec;
+use std::{fmt, fs, io, vec};
 
 /// All that a close is handed, and hands back.
 #[derive(Clone, Debug, PartialEq, Eq)]
@@ -172,7 +173,8 @@ impl Record {
         Ok(ClosedRecord { record, amounts, raised: closed.raised, test: closed.test })
     }
 
-    /// How many validators were active in the previous epoch.
+    /// How many validators are charged: active in the previous epoch, or slashed with the previous epoch + 1 below the withdrawable
+    /// epoch; nobody at epoch 0.
     pub fn charged(&self) -> Result<u64, Refusal> {
         charged(&self.settings, self.finality.slot, &self.registry)
     }

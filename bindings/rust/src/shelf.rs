@@ -1,43 +1,10 @@
 //! A shelf of record files, closed in one call.
-use crate::raw;
+use crate::close_shelf;
+use crate::fault::Fault;
 use crate::refusal::Refusal;
 use crate::types::Bellatrix;
-
-/// Closes the files that stand one behind another in `files`, of these lengths, into `closing`, each as if it were alone, and puts 0 or the
-/// number of a [`Refusal`] for each into `answers`. The two working lists are each at least as many bytes long as the longest file; what
-/// they hold afterwards is of no use. Refused as a whole, nothing is written. A file that is refused with 4 or 5 has its own bytes in its
-/// part of `closing`; with another number its part is as before. [`close_files`] does the same with buffers of its own.
-#[allow(clippy::too_many_arguments)]
-pub fn close_shelf(
-    files: &[u8],
-    lengths: &[u64],
-    closing: &mut [u8],
-    opening_numbers: &mut [u64],
-    closing_numbers: &mut [u64],
-    answers: &mut [u64],
-    fork: u64,
-    pair: &Bellatrix,
-) -> Result<(), Refusal> {
-    let number = unsafe {
-        raw::altair_close_shelf(
-            files.as_ptr(),
-            files.len(),
-            lengths.as_ptr(),
-            lengths.len(),
-            closing.as_mut_ptr(),
-            closing.len(),
-            opening_numbers.as_mut_ptr(),
-            opening_numbers.len(),
-            closing_numbers.as_mut_ptr(),
-            closing_numbers.len(),
-            answers.as_mut_ptr(),
-            answers.len(),
-            fork,
-            *pair,
-        )
-    };
-    Refusal::or(number, ())
-}
+use std::vec;
+use std::vec::Vec;
 
 /// The closed record's file of each, or why it was refused. A record file of version 1 is refused.
 ///
@@ -74,5 +41,5 @@ pub fn close_files<File: AsRef<[u8]>>(files: &[File], fork: u64, pair: &Bellatri
         (part, rest) = rest.split_at(length as usize);
         part.to_vec()
     });
-    parts.zip(&answers).map(|(part, &number)| Refusal::or(number, part)).collect()
+    parts.zip(&answers).map(|(part, &number)| Refusal::or(number, Fault::UNKNOWN, || part)).collect()
 }

@@ -31,7 +31,7 @@ fn slots_and_epochs() {
     assert_eq!(get_previous_epoch(&MAINNET, 31), Ok(0));
     assert_eq!(get_current_epoch(&MAINNET, 1 << 48), Err(Refusal::Record));
     assert_eq!(get_current_epoch(&Settings { slots_per_epoch: 0, ..MAINNET }, 127), Err(Refusal::Settings));
-    assert_eq!(get_current_epoch(&Settings { slots_per_historical_root: 0, ..MAINNET }, 127), Err(Refusal::Shape));
+    assert_eq!(get_current_epoch(&Settings { slots_per_historical_root: 0, ..MAINNET }, 127), Err(Refusal::SHAPE));
 }
 
 #[test]
@@ -55,12 +55,12 @@ fn opening_hours() {
 fn one_validator() {
     let mut v = hit();
     assert_eq!(is_active_validator(&v, 3), Ok(true));
-    assert_eq!(is_active_validator(&v[1..], 3), Err(Refusal::Shape));
+    assert_eq!(is_active_validator(&v[1..], 3), Err(Refusal::SHAPE));
     assert_eq!(is_eligible(&MAINNET, 127, &v), Ok(true));
     assert_eq!(is_unslashed_participating(&MAINNET, 127, 1, 2, &v), Ok(true));
-    assert_eq!(is_unslashed_participating(&MAINNET, 127, 1, 1, &v), Err(Refusal::Shape));
+    assert_eq!(is_unslashed_participating(&MAINNET, 127, 1, 1, &v), Err(Refusal::SHAPE));
     assert_eq!(get_base_reward(&MAINNET, 160 * ETH, &v), Ok(5_120_000));
-    assert_eq!(get_base_reward(&MAINNET, 0, &v), Err(Refusal::Shape));
+    assert_eq!(get_base_reward(&MAINNET, 0, &v), Err(Refusal::SHAPE));
 
     assert_eq!(increase_balance(&mut v, 5), Ok(()));
     assert_eq!(v[BALANCE], 32 * ETH + 5);
@@ -81,7 +81,7 @@ fn one_validator() {
 
     assert_eq!(has_flag(6, 1), Ok(true));
     assert_eq!(has_flag(6, 0), Ok(false));
-    assert_eq!(has_flag(6, 8), Err(Refusal::Shape));
+    assert_eq!(has_flag(6, 8), Err(Refusal::SHAPE));
     assert_eq!(add_flag(5, 1), Ok(7));
 
     let mut v = hit();
@@ -116,7 +116,7 @@ fn block_roots_and_finality() {
     let current_justified_checkpoint = Checkpoint { epoch: 2, root: [7; 32] };
     assert_eq!(after, Ok(Finality { justification_bits: 2, current_justified_checkpoint, ..before }));
     let short = weigh_justification_and_finalization(&MAINNET, &roots[..32], &before, 3 * ETH, 2 * ETH, 0);
-    assert_eq!(short, Err(Refusal::Shape));
+    assert_eq!(short, Err(Refusal::SHAPE));
 
     assert_eq!(get_finality_delay(&MAINNET, 127, 1), Ok(1));
     assert_eq!(get_finality_delay(&MAINNET, 127, 3), Err(Refusal::Overflow));
@@ -148,7 +148,7 @@ fn the_registry() {
     registry[LENGTH * 4 + PREVIOUS_EPOCH_PARTICIPATION] = 0;
     assert_eq!(target(0, &registry), Ok(Deltas { reward: 1_664_000, penalty: 0 }));
     assert_eq!(target(4, &registry), Ok(Deltas { reward: 0, penalty: 2_080_000 }));
-    assert_eq!(target(5, &registry), Err(Refusal::Shape));
+    assert_eq!(target(5, &registry), Err(Refusal::SHAPE));
 
     let (wrong, one) = (ExitQueue { last_epoch: 8, number: 1 }, ExitQueue { last_epoch: 8, number: 1 });
     assert_eq!(initiate_validator_exit(&MAINNET, 127, 1, Some(&wrong), &mut registry), Err(Refusal::Queue));
@@ -156,7 +156,7 @@ fn the_registry() {
     assert_eq!(exit_queue(&registry), Ok(one));
     assert_eq!(registry[LENGTH + EXIT_EPOCH..][..2], [8, 264]);
     assert_eq!(registry[EXIT_EPOCH], FAR);
-    assert_eq!(initiate_validator_exit(&MAINNET, 127, 5, Some(&one), &mut registry), Err(Refusal::Shape));
+    assert_eq!(initiate_validator_exit(&MAINNET, 127, 5, Some(&one), &mut registry), Err(Refusal::SHAPE));
 }
 
 #[test]
@@ -186,12 +186,12 @@ fn the_steps() {
     assert_eq!(process_registry_updates(&MAINNET, 127, 1, None, &opening, &mut closing), Ok(none));
     assert_eq!(closing[LENGTH + ACTIVATION_EPOCH], 8);
     let before = closing.clone();
-    assert_eq!(process_registry_updates(&MAINNET, 127, 1, None, &opening, &mut closing[LENGTH..]), Err(Refusal::Shape));
+    assert_eq!(process_registry_updates(&MAINNET, 127, 1, None, &opening, &mut closing[LENGTH..]), Err(Refusal::SHAPE));
     assert_eq!(process_registry_updates(&MAINNET, 127, 1, Some(&wrong), &opening, &mut closing), Err(Refusal::Queue));
     assert_eq!(closing, before);
     assert_eq!(process_registry_updates_to(5, &MAINNET, 127, 1, Some(&none), &opening, &mut closing), Ok(none));
     assert_eq!(closing, before);
-    assert_eq!(process_registry_updates_to(6, &MAINNET, 127, 1, None, &opening, &mut closing), Err(Refusal::Shape));
+    assert_eq!(process_registry_updates_to(6, &MAINNET, 127, 1, None, &opening, &mut closing), Err(Refusal::SHAPE));
     assert_eq!(process_registry_updates_to(1, &MAINNET, 127, 1, None, &opening, &mut closing), Ok(none));
     assert_eq!(closing, opening);
 
@@ -280,7 +280,7 @@ fn the_file() {
     assert_eq!(Record::read(&file), Err(ReadRefused { refusal: Refusal::Record, position: at as u64 }));
     assert_eq!(Record::read(&file[1..]), Err(ReadRefused { refusal: Refusal::File, position: 80 }));
     assert_eq!(Record::read(&[]), Err(ReadRefused { refusal: Refusal::File, position: 0 }));
-    assert_eq!(Record { registry: vec![0; 9], ..record }.write(), Err(Refusal::Shape));
+    assert_eq!(Record { registry: vec![0; 9], ..record }.write(), Err(Refusal::SHAPE));
 }
 
 #[test]
@@ -305,7 +305,7 @@ fn the_close() {
     let (effective_balance, inactivity_score, net_change) = (8, 9, -3_200_000);
     let line = Line { index: 4, opening_balance, closing_balance, effective_balance, inactivity_score, net_change };
     assert_eq!(listing_line(&record.registry, &last, 4), Ok(line));
-    assert_eq!(listing_line(&record.registry, &last, 5), Err(Refusal::Shape));
+    assert_eq!(listing_line(&record.registry, &last, 5), Err(Refusal::SHAPE));
     last[40 + BALANCE] = u64::MAX;
     assert_eq!(listing_line(&record.registry, &last, 4), Err(Refusal::SignedOverflow));
 
@@ -344,7 +344,7 @@ fn by_steps() {
     for done in 1..=8 {
         assert_eq!((desk.step(), desk.done()), (Ok(()), done));
     }
-    assert_eq!(desk.step(), Err(NotDone::Refused(Refusal::Shape)));
+    assert_eq!(desk.step(), Err(NotDone::Refused(Refusal::SHAPE)));
     assert_eq!(desk.carry_out(1 << 48), Err(NotDone::Refused(Refusal::Settings)));
     assert_eq!(desk.carry_out(256), Ok(vec![]));
     assert_eq!((desk.closed(), record.close_by(&store)), (record.close().ok(), record.close()));
@@ -371,10 +371,11 @@ fn votes_not_yet_counted() {
         ..finality(31)
     };
     let (roots, registry) = (vec![0; 32 * 64], hit().repeat(5));
-    let votes = |finality: &Finality, marks: &[u64]| unknown_votes(&settings, &roots, finality, &registry, marks);
-    let told = |finalized_epochs: &[u64], previous_target, current_target| {
-        Ok(Votes { finalized_epochs: finalized_epochs.to_vec(), previous_target, current_target })
+    let votes = |finality: &Finality, marks: &[u64]| {
+        unknown_votes(&settings, &roots, finality, &registry, marks)
+            .map(|v| (v.finalized_epochs().to_vec(), v.previous_target, v.current_target))
     };
+    let told = |epochs: &[u64], previous_target, current_target| Ok((epochs.to_vec(), previous_target, current_target));
     assert_eq!(votes(&standing, &[mark::BOTH_KNOWN; 5]), told(&[2], Passes::InAll, Passes::InAll));
     assert_eq!(votes(&standing, &[mark::BOTH_UNKNOWN; 5]), told(&[0, 1, 2], Passes::InSome, Passes::InSome));
     assert_eq!(votes(&standing, &[mark::PREVIOUS_UNKNOWN; 5]), told(&[0, 2], Passes::InSome, Passes::InAll));
@@ -383,7 +384,7 @@ fn votes_not_yet_counted() {
     assert_eq!(votes(&early, &[3; 5]), told(&[5], Passes::InNone, Passes::InNone));
     assert_eq!(votes(&finality(24), &[3; 5]), Err(Refusal::Root));
     assert_eq!(votes(&standing, &[4, 0, 0, 0, 0]), Err(Refusal::Record));
-    assert_eq!(votes(&standing, &[0; 4]), Err(Refusal::Shape));
+    assert_eq!(votes(&standing, &[0; 4]), Err(Refusal::SHAPE));
 }
 
 #[test]
@@ -396,6 +397,70 @@ fn refusals_have_their_numbers() {
         assert_eq!(Refusal::from_number(refusal.number()), Some(refusal));
         assert!(refusal.to_string().starts_with(&format!("refused {}: ", refusal.number())));
     }
+}
+
+// refused with 1: the argument and the length called for, and of another refusal nothing
+#[test]
+fn what_was_wrong() {
+    let r = worked();
+    let why = |refused: Refusal| match refused {
+        Refusal::Shape(fault) => {
+            assert!(refused
+                .to_string()
+                .ends_with(&format!(": {}: {} ({})", fault.argument, fault.wanted, fault.number)));
+            (fault.argument, fault.number)
+        }
+        _ => panic!("{refused}"),
+    };
+    let closed = |r: Record| why(r.close().unwrap_err());
+    assert_eq!(closed(Record { roots: vec![0; 31], ..r.clone() }), ("roots", 2048));
+    assert_eq!(closed(Record { slashings: vec![0; 63], ..r.clone() }), ("slashings", 64));
+    assert_eq!(closed(Record { registry: vec![0; 51], ..r.clone() }), ("registry", 50));
+    assert_eq!(why(r.close_under(2, &Bellatrix::default()).unwrap_err()), ("store", 1));
+    let short = Settings { slots_per_historical_root: 0, ..MAINNET };
+    assert_eq!(why(get_current_epoch(&short, 127).unwrap_err()), ("settings", 65536));
+    assert_eq!(why(get_flag_index_deltas(&MAINNET, 127, 1, 1, 5, &r.registry).unwrap_err()), ("index", 5));
+    assert_eq!(
+        why(process_effective_balance_updates(&MAINNET, &r.registry, &mut [0; 49]).unwrap_err()),
+        ("closing", 50)
+    );
+    assert_eq!(
+        why(write_file(&r.settings, &r.finality, None, &r.registry, &r.roots, &r.slashings, &mut []).unwrap_err()).0,
+        "file"
+    );
+    assert_eq!(why(read_file(&r.write().unwrap(), &mut [0; 49], &mut [0; 64]).unwrap_err().refusal), ("registry", 50));
+    assert_eq!(why(add_rules(&mut [], 0, 1, &MAINNET).unwrap_err()), ("store", 23));
+    let mut desk = Desk::new(&r, &r.settings, 1);
+    let Err(NotDone::Refused(refused)) = desk.order(1, 0) else { panic!() };
+    assert_eq!(why(refused), ("running", 1));
+    assert_eq!(get_current_epoch(&MAINNET, 1 << 48).unwrap_err().to_string().matches(':').count(), 1);
+}
+
+// the orders stay in their list after a close that was refused, and can be read
+#[test]
+fn orders_of_a_refused_close() {
+    let mut record = worked();
+    (record.registry[BALANCE], record.registry[PREVIOUS_EPOCH_PARTICIPATION]) = (FAR, 7);
+    let mut desk = Desk::new(&record, &record.settings, 3);
+    desk.step().unwrap();
+    desk.order(1, 0).unwrap();
+    desk.order(9, 4).unwrap();
+    desk.step().unwrap();
+    assert_eq!((desk.step(), desk.done()), (Err(NotDone::Refused(Refusal::Overflow)), 9));
+    assert_eq!(desk.orders().collect::<Vec<_>>(), [(1, 0), (9, 4)]);
+    assert_eq!((desk.order(2, 0), desk.closed()), (Err(NotDone::Ended), None));
+    assert_eq!(desk.orders().count(), 2);
+}
+
+// who is charged: also one that is slashed and withdrawable only later, and nobody at epoch 0
+#[test]
+fn charged_of_a_record() {
+    let mut record = worked();
+    (record.registry[SLASHED], record.registry[EXIT_EPOCH], record.registry[WITHDRAWABLE_EPOCH]) = (1, 1, 4);
+    assert_eq!(record.charged(), Ok(5));
+    record.registry[WITHDRAWABLE_EPOCH] = 3;
+    assert_eq!(record.charged(), Ok(4));
+    assert_eq!(Record { finality: finality(7), ..record }.charged(), Ok(0));
 }
 
 // both ends of the range, and one beyond either
