@@ -4,6 +4,7 @@
 #include "altair.h"
 
 #include <errno.h>
+#include <fcntl.h>
 #include <inttypes.h>
 #include <signal.h>
 #include <stdarg.h>
@@ -32,8 +33,9 @@ static const char help[] =
     "                inactivity, the amount taken by slashing, and its closing balance; with --json or --csv beside the listing\n"
     "  --json        the listing as one JSON object; numbers are whole, up to 2^64 - 1; a loss has a minus sign\n"
     "  --csv         the listing as lines of comma separated values, the epoch's figures on each line\n"
-    "  --store FILE  closes by a store of settings by starting epoch (tools/store), in place of the record's own as Altair\n"
-    "  --out FILE    the closed record, written as a record file of version 2; it is there whole, or not at all\n"
+    "  --store FILE  closes by a store of settings by starting epoch (altair-store), in place of the record's own as Altair\n"
+    "  --out FILE    the closed record, written as a record file of version 2; it is there whole, or not at all, and once all is\n"
+    "                printed. FILE may be RECORD. A link is followed, and one to a file that is not there is refused\n"
     "  --help        this text\n"
     "  --version     the version\n"
     "\n"
@@ -44,7 +46,18 @@ static const char help[] =
 /* the largest file that any record makes; input beyond it has one byte more than is read, and is refused */
 #define LONGEST ALTAIR_FILE_LENGTH(ALTAIR_MOST_VALIDATORS, ALTAIR_LONGEST_VECTOR, ALTAIR_LONGEST_VECTOR)
 
+/* A file that is written beside its name, to be moved there once all is printed, so that a failure leaves what stood there. */
+typedef struct pending {
+    const char *path; /* as it was given */
+    char *name;       /* where it will stand; a link stays a link */
+    char beside[];
+} pending;
+
+static pending *volatile made; /* written, and not yet in its place */
+
 static _Noreturn void trouble(const char *form, ...) {
+    if (made != NULL)
+        unlink(made->beside);
     va_list words;
     va_start(words, form);
     fputs(NAME ": ", stderr);
@@ -89,9 +102,9 @@ static uint8_t *read_all(const char *path, size_t *length) {
     uint8_t *bytes = room(size, 1);
     for (size_t got; held < wanted && (got = fread(bytes + held, 1, (size < wanted ? size : wanted) - held, in)) > 0;) {
         held += got;
-        if (held >= 16) {
-            const uint64_t named = number_at(bytes + 8);
-            wanted = (named < LONGEST ? named : LONGEST) + 1;
+        if (held >= 16) { /* of another version the header alone is looked at */
+            const uint64_t version = number_at(bytes), named = number_at(bytes + 8);
+            wanted = version < 1 || version > 2 ? 80 : (named < LONGEST ? named : LONGEST) + 1;
             wanted = wanted < 80 ? 80 : wanted;
         }
         if (held == size && held < wanted) {
@@ -144,7 +157,8 @@ static const char *place(uint64_t number, uint64_t position, uint64_t version) {
     return words;
 }
 
-/* The numbers of a store file and how many entries it has, all of them in use. What is no store the close refuses. */
+/* The numbers of a store file and how many entries it has, all of them in use; NULL where it has no whole number of them, or too
+ * many. What else is no store the close refuses. */
 static uint64_t *read_store(const char *path, size_t *numbers) {
     enum { MOST = 1 << 16 };
     FILE *in = fopen(path, "rb");
@@ -155,9 +169,10 @@ static uint64_t *read_store(const char *path, size_t *numbers) {
     if (ferror(in))
         trouble("%s: %s", path, strerror(errno));
     fclose(in);
-    if (held % (8 * ALTAIR_ENTRY_LENGTH) != 0)
-        trouble("%s: no store file: its length is not a multiple of %d bytes, or it has more than %d entries", path,
-                8 * ALTAIR_ENTRY_LENGTH, MOST);
+    if (held % (8 * ALTAIR_ENTRY_LENGTH) != 0) {
+        free(bytes);
+        return NULL;
+    }
     *numbers = held / 8;
     uint64_t *store = room(*numbers, sizeof *store);
     for (size_t i = 0; i < *numbers; i++)
@@ -169,7 +184,7 @@ static uint64_t *read_store(const char *path, size_t *numbers) {
 /* -- Writing ------------------------------------------------------------------------------------------------------- */
 
 static void finish(FILE *out, const char *path) {
-    if (ferror(out) || fclose(out) != 0)
+    if (ferror(out) || fflush(out) != 0 || fclose(out) != 0)
         trouble("%s: %s", path, strerror(errno));
 }
 
@@ -305,37 +320,95 @@ static void print(const form *as, const shown *all, const record *opening, const
     finish(stdout, "standard output");
 }
 
-/* A file is written beside its name and then moved there, so that a failure leaves what stood there; a device is
- * written to. */
-static void write_record(const char *path, const uint8_t *bytes, size_t length) {
-    struct stat found;
-    if (stat(path, &found) == 0 && !S_ISREG(found.st_mode)) {
-        FILE *out = fopen(path, "wb");
-        if (out == NULL || fwrite(bytes, 1, length, out) != length)
+/* A signal that ends the command leaves no file behind. */
+static void remove_made(int number) {
+    if (made != NULL)
+        unlink(made->beside);
+    signal(number, SIG_DFL);
+    raise(number);
+}
+
+static const int ending[] = {SIGINT, SIGTERM, SIGHUP};
+
+static void catch_signals(void) {
+    for (size_t i = 0; i < sizeof ending / sizeof *ending; i++)
+        if (signal(ending[i], remove_made) == SIG_IGN)
+            signal(ending[i], SIG_IGN);
+}
+
+static void with_signals(int how) {
+    sigset_t set;
+    sigemptyset(&set);
+    for (size_t i = 0; i < sizeof ending / sizeof *ending; i++)
+        sigaddset(&set, ending[i]);
+    sigprocmask(how, &set, NULL);
+}
+
+/* Where the path names a pipe or a device, that, opened; NULL where it is a plain file, or, with a mode of 0, none. */
+static FILE *device(const char *path, struct stat *found) {
+    struct stat link;
+    FILE *out = NULL;
+    if (stat(path, found) == 0) {
+        if (!S_ISREG(found->st_mode) && (out = fopen(path, "wb")) == NULL)
             trouble("%s: %s", path, strerror(errno));
-        finish(out, path);
-        return;
-    }
-    char *real = realpath(path, NULL); /* a link stays a link */
-    const char *name = real != NULL ? real : path;
-    const size_t space = strlen(name) + sizeof ".XXXXXX";
-    char *beside = room(space, 1);
-    snprintf(beside, space, "%s.XXXXXX", name);
-    const int made = mkstemp(beside);
-    if (made < 0)
+    } else if (errno != ENOENT) {
         trouble("%s: %s", path, strerror(errno));
-    const mode_t mask = umask(0);
-    umask(mask);
-    FILE *out = fdopen(made, "wb");
-    int whole = out != NULL && fchmod(made, real != NULL ? found.st_mode & 07777 : 0666 & ~mask) == 0;
-    whole = whole && fwrite(bytes, 1, length, out) == length && fflush(out) == 0 && fsync(made) == 0;
-    whole = whole && fclose(out) == 0 && rename(beside, name) == 0;
-    if (!whole) {
-        const int why = errno;
-        unlink(beside);
-        trouble("%s: %s", path, strerror(why));
+    } else if (lstat(path, &link) == 0) {
+        trouble("%s: a link to a file that is not there", path);
+    } else {
+        found->st_mode = 0;
     }
-    free(beside), free(real);
+    return out;
+}
+
+/* How long the folder's part of a name is: all up to the last slash. */
+static size_t folder_length(const char *name) {
+    const char *slash = strrchr(name, '/');
+    return slash == NULL ? 0 : (size_t)(slash - name) + 1;
+}
+
+static void write_beside(const char *path, const struct stat *found, const uint8_t *bytes, size_t length) {
+    static const char own[] = ".altair-XXXXXX";
+    char *name = found->st_mode != 0 ? realpath(path, NULL) : strdup(path);
+    if (name == NULL)
+        trouble("%s: %s", path, strerror(errno));
+    pending *file = room(1, sizeof *file + folder_length(name) + sizeof own);
+    file->path = path, file->name = name;
+    memcpy(file->beside, name, folder_length(name));
+    memcpy(file->beside + folder_length(name), own, sizeof own);
+    with_signals(SIG_BLOCK);
+    const int handle = mkstemp(file->beside);
+    if (handle < 0)
+        trouble("%s: %s", path, strerror(errno));
+    made = file;
+    with_signals(SIG_UNBLOCK);
+    mode_t mode = found->st_mode & 07777;
+    if (found->st_mode == 0) {
+        const mode_t mask = umask(0);
+        umask(mask);
+        mode = 0666 & ~mask;
+    } else if (fchown(handle, found->st_uid, found->st_gid) != 0 && errno != EPERM) {
+        trouble("%s: %s", path, strerror(errno));
+    }
+    FILE *out = fdopen(handle, "wb");
+    if (out == NULL || fchmod(handle, mode) != 0 || fwrite(bytes, 1, length, out) != length || fflush(out) != 0 ||
+        fsync(handle) != 0 || fclose(out) != 0)
+        trouble("%s: %s", path, strerror(errno));
+}
+
+static void move_into_place(void) {
+    with_signals(SIG_BLOCK);
+    pending *file = made;
+    if (rename(file->beside, file->name) != 0)
+        trouble("%s: %s", file->path, strerror(errno));
+    made = NULL;
+    with_signals(SIG_UNBLOCK);
+    /* the new name survives a loss of power, where the file system can say so */
+    file->name[folder_length(file->name)] = '\0';
+    const int folder = open(*file->name ? file->name : ".", O_RDONLY | O_DIRECTORY);
+    if (folder >= 0)
+        fsync(folder), close(folder);
+    free(file->name), free(file);
 }
 
 /* -- The command --------------------------------------------------------------------------------------------------- */
@@ -368,6 +441,8 @@ static int close_record(const char *path, const char *by, const form *as, int bo
     uint64_t *amounts = room(amounts_length, sizeof *amounts);
     size_t store_length = ALTAIR_ENTRY_LENGTH;
     uint64_t *store = by != NULL ? read_store(by, &store_length) : room(store_length, sizeof *store);
+    if (store == NULL)
+        return refused(by, ALTAIR_BAD_SHAPE, " (a store file has 184 bytes an entry, and at most 65536 entries)");
     if (by == NULL) /* of one entry: the file's settings, as Altair, from epoch 0 on */
         altair_put_entry(store, 0, altair_under_altair(r.settings));
     const altair_full_answer closed =
@@ -392,25 +467,42 @@ static int close_record(const char *path, const char *by, const form *as, int bo
         return refused(path, number, words);
     }
 
+    uint8_t *file = NULL;
+    const size_t length = ALTAIR_FILE_LENGTH(header.validators, header.roots, header.slashings);
+    FILE *out = NULL;
     if (target != NULL) {
-        const size_t length = ALTAIR_FILE_LENGTH(header.validators, header.roots, header.slashings);
-        uint8_t *file = room(length, 1);
+        struct stat found;
+        file = room(length, 1);
         const uint64_t number =
             altair_write_file(r.settings, closed.finality, closed.queue, closing, r.numbers, r.roots, r.roots_length,
                               closing_slashings, r.slashings_length, file, length);
         if (number != 0)
             return refused(path, number, " (the closed record)");
-        write_record(target, file, length);
-        free(file);
+        out = device(target, &found);
+        if (out == NULL)
+            write_beside(target, &found, file, length);
     }
     print(as, &all, &r, closing);
-    free(r.file), free(r.registry), free(r.slashings), free(closing), free(closing_slashings), free(amounts), free(store);
+    if (made != NULL)
+        move_into_place();
+    if (out != NULL) {
+        fwrite(file, 1, length, out);
+        finish(out, target);
+    }
+    free(file), free(r.file), free(r.registry), free(r.slashings), free(closing), free(closing_slashings), free(amounts), free(store);
     return CLOSED;
 }
 
 static _Noreturn void misused(const char *what, const char *word) {
     fprintf(stderr, NAME ": %s%s%s\n\n%s", what, *word ? ": " : "", word, help);
     exit(TROUBLE);
+}
+
+/* A standard stream that was closed stays so: no file that is opened later gets its number, or is printed into. */
+static void hold_closed_streams(void) {
+    for (int i = 0; i < 3; i++)
+        if (fcntl(i, F_GETFD) < 0)
+            open("/dev/null", i == 0 ? O_WRONLY : O_RDONLY); /* the lowest number that is free, which is this one */
 }
 
 int main(int count, char **words) {
@@ -420,6 +512,8 @@ int main(int count, char **words) {
     /* a closed pipe and a file beyond its limit are then errors of writing, and exit 2 */
     signal(SIGPIPE, SIG_IGN);
     signal(SIGXFSZ, SIG_IGN);
+    hold_closed_streams();
+    catch_signals();
     for (int i = 1; i < count; i++) {
         const char *word = words[i];
         if (ended || word[0] != '-' || strcmp(word, "-") == 0) {
