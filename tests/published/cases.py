@@ -2,10 +2,12 @@
 from pathlib import Path
 from typing import NamedTuple
 
-from beacon_state.containers import FORKS
 from beacon_state.settings import PRESETS
 
 from .steps import STEPS
+
+# Capella's eight steps are Bellatrix's; a later fork has steps of its own
+FORKS = ("altair", "bellatrix", "capella")
 
 
 class Case(NamedTuple):

@@ -4,6 +4,8 @@ import struct
 from itertools import accumulate
 
 FAR = 2**64 - 1
+FORKS = ("altair", "bellatrix", "capella", "deneb", "electra", "fulu")
+SINCE = {fork: FORKS[k:] for k, fork in enumerate(FORKS)}
 # slots an epoch, block roots, randao mixes, slashings, sync committee
 SIZES = {"mainnet": (32, 8192, 65536, 8192, 512), "minimal": (8, 64, 64, 64, 32)}
 # document 01's order
@@ -66,7 +68,7 @@ def random_state(rng, preset, fork, validators, others):
         "current_sync_committee": sync(),
         "next_sync_committee": sync(),
     }
-    if fork == "bellatrix":
+    if fork in SINCE["bellatrix"]:
         state["latest_execution_payload_header"] = {
             "parent_hash": rng.randbytes(32),
             "fee_recipient": rng.randbytes(20),
@@ -83,7 +85,34 @@ def random_state(rng, preset, fork, validators, others):
             "block_hash": rng.randbytes(32),
             "transactions_root": rng.randbytes(32),
         }
+        header = state["latest_execution_payload_header"]
+        header.update({"withdrawals_root": rng.randbytes(32)} if fork in SINCE["capella"] else {})
+        header.update({"blob_gas_used": u64(), "excess_blob_gas": u64()} if fork in SINCE["deneb"] else {})
+    if fork in SINCE["capella"]:
+        state["next_withdrawal_index"], state["next_withdrawal_validator_index"] = u64(), u64()
+        summary = lambda: {"block_summary_root": rng.randbytes(32), "state_summary_root": rng.randbytes(32)}
+        state["historical_summaries"] = [summary() for _ in range(others)]
+    if fork in SINCE["electra"]:
+        for name in AFTER_CAPELLA:
+            state[name] = u64()
+        state["pending_deposits"] = [random_deposit(rng, state["validators"], u64) for _ in range(2 * others)]
+        partial = lambda: {"validator_index": u64(), "amount": u64(), "withdrawable_epoch": u64()}
+        state["pending_partial_withdrawals"] = [partial() for _ in range(others)]
+        state["pending_consolidations"] = [{"source_index": u64(), "target_index": u64()} for _ in range(others)]
+    if fork == "fulu":
+        state["proposer_lookahead"] = [u64() for _ in range(2 * SIZES[preset][0])]
     return state
+
+
+AFTER_CAPELLA = """deposit_requests_start_index deposit_balance_to_consume exit_balance_to_consume earliest_exit_epoch
+consolidation_balance_to_consume earliest_consolidation_epoch""".split()
+
+
+def random_deposit(rng, validators, u64):
+    """A deposit for a validator that is there, for one of two keys that nobody has, or for a key of its own."""
+    key = rng.choice([v["pubkey"] for v in validators] + [b"A" * 48, b"B" * 48, rng.randbytes(48)])
+    credentials = bytes([rng.choice([0, 1, 2, 3])]) + rng.randbytes(31)
+    return {"pubkey": key, "withdrawal_credentials": credentials, "amount": u64(), "signature": rng.randbytes(96), "slot": u64()}
 
 
 def words(*numbers):
@@ -115,10 +144,18 @@ def ssz(s, times=1):
         tail.append(
             p["parent_hash"] + p["fee_recipient"] + p["state_root"] + p["receipts_root"] + p["logs_bloom"] + p["prev_randao"]
             + words(p["block_number"], p["gas_limit"], p["gas_used"], p["timestamp"])
-            + struct.pack("<I", 536)
+            + struct.pack("<I", 536 + 32 * ("withdrawals_root" in p) + 16 * ("blob_gas_used" in p))
             + p["base_fee_per_gas"].to_bytes(32, "little")
-            + p["block_hash"] + p["transactions_root"] + p["extra_data"]
+            + p["block_hash"] + p["transactions_root"] + p.get("withdrawals_root", b"")
+            + (words(p["blob_gas_used"], p["excess_blob_gas"]) if "blob_gas_used" in p else b"") + p["extra_data"]
         )
+    if "historical_summaries" in s:
+        tail.append(b"".join(h["block_summary_root"] + h["state_summary_root"] for h in s["historical_summaries"]))
+    if "pending_deposits" in s:
+        deposit = lambda d: d["pubkey"] + d["withdrawal_credentials"] + words(d["amount"]) + d["signature"] + words(d["slot"])
+        tail.append(b"".join(map(deposit, s["pending_deposits"])))
+        tail.append(b"".join(words(w["validator_index"], w["amount"], w["withdrawable_epoch"]) for w in s["pending_partial_withdrawals"]))
+        tail.append(b"".join(words(c["source_index"], c["target_index"]) for c in s["pending_consolidations"]))
 
     def head(offsets):
         o = [struct.pack("<I", offset) for offset in offsets]
@@ -132,7 +169,12 @@ def ssz(s, times=1):
             checkpoint(s["previous_justified_checkpoint"]), checkpoint(s["current_justified_checkpoint"]),
             checkpoint(s["finalized_checkpoint"]), o[6], sync(s["current_sync_committee"]), sync(s["next_sync_committee"]),
         ]  # fmt: skip
-        return b"".join(parts + o[7:])
+        parts += o[7:8]
+        if "historical_summaries" in s:
+            parts += [words(s["next_withdrawal_index"], s["next_withdrawal_validator_index"]), o[8]]
+        if "pending_deposits" in s:
+            parts += [words(*(s[name] for name in AFTER_CAPELLA)), *o[9:12]]
+        return b"".join(parts) + words(*s.get("proposer_lookahead", ()))
 
     fixed = len(head([0] * len(tail)))
     offsets = list(accumulate([fixed] + [len(part) for part in tail[:-1]]))

@@ -1,5 +1,6 @@
 """The README's way from a node to a statement, command by command, against a node that serves a state of the tests."""
 import http.server
+import json
 import os
 import re
 import subprocess
@@ -9,6 +10,8 @@ import unittest
 import encoder
 import worked
 from tool import ROOT, Directory
+
+from beacon_state.settings import CONFIG, MAINNET
 
 LISTING = (ROOT / "tests/example.listing").read_text()
 
@@ -24,6 +27,11 @@ class Node(http.server.BaseHTTPRequestHandler):
     state, slot = None, 127
 
     def do_GET(self):
+        if self.path == "/eth/v1/config/spec":
+            self.send_response(200)
+            self.end_headers()
+            self.wfile.write(json.dumps({"data": {"PRESET_BASE": "mainnet", **{name: str(MAINNET[name]) for name in CONFIG}}}).encode())
+            return
         found = self.path == f"/eth/v2/debug/beacon/states/{self.slot}"
         self.send_response(200 if found else 404)
         self.end_headers()
@@ -49,7 +57,7 @@ class Readme(unittest.TestCase):
         threading.Thread(target=server.serve_forever, daemon=True).start()
         self.addCleanup(server.server_close)
         self.addCleanup(server.shutdown)
-        self.environment = {**os.environ, "NODE": f"http://127.0.0.1:{server.server_port}", "SLOT": "127", "no_proxy": "*"}
+        self.environment = {**os.environ, "NODE": f"http://127.0.0.1:{server.server_port}", "SLOT": "127", "EPOCH": "3", "no_proxy": "*"}
 
     def sh(self, command):
         done = subprocess.run(["sh", "-c", command], cwd=self.at.path, env=self.environment, capture_output=True)
@@ -57,8 +65,14 @@ class Readme(unittest.TestCase):
         return done.stdout.decode()
 
     def test_from_a_node_to_a_statement(self):
-        fetch, record, close, out, back = commands()
-        self.assertEqual((self.sh(fetch), self.sh(record)), ("", ""))
+        page, fetch, statement, record, close, out, back = commands()
+        self.assertEqual((self.sh(page), self.sh(fetch)), ("", ""))
+        text = self.at.read("statement.html").decode()
+        self.assertIn("Statement of epoch 3", text)
+        self.assertEqual(text.count("<tr><td class=\"left\"><b>"), 5)
+        said = [line.split() for line in self.sh(statement).splitlines()]
+        self.assertEqual([line[-6] for line in said if line and line[0].isdigit()], ["32003456000"] * 4 + ["31996800000"])
+        self.assertEqual(self.sh(record), "")
         self.assertEqual(self.sh(close), LISTING)
         self.sh(out)
         self.sh(back)
@@ -71,7 +85,7 @@ class Readme(unittest.TestCase):
         self.assertEqual(self.at.read("closed.ssz"), encoder.ssz(after))
 
     def test_in_json(self):
-        fetch, record, close, *_ = commands()
+        _, fetch, _, record, close, *_ = commands()
         self.sh(fetch.replace("-H 'Accept: application/octet-stream' ", ""))
         self.assertTrue(self.at.read("state.ssz").startswith(b"{"))
         self.sh(record)

@@ -90,10 +90,11 @@ class Damaged(unittest.TestCase):
     def test_another_preset_or_fork(self):
         mainnet = encoder.random_state(random.Random(1), "mainnet", "altair", 1, 1)
         self.refused(encoder.ssz(mainnet), "historical_roots, byte 4272", "preset?")
-        self.refused(encoder.text(minimal(), "phase0"), "version", "phase0")
+        self.refused(encoder.text(minimal(), "phase0"), "this is a phase0 state")
         self.refused(encoder.text(minimal(), "bellatrix"), "version")
-        self.refused(encoder.text({**minimal(), "next_withdrawal_index": 5}), "'next_withdrawal_index', byte ")
-        self.refused(encoder.text({**minimal(), "next_withdrawal_index": 5}, "altair"), "'next_withdrawal_index', byte ")
+        self.refused(encoder.text({**minimal(), "next_withdrawal_index": 5}), "no state of Capella: latest_execution_payload_header, ")
+        self.refused(encoder.text({**minimal(), "next_withdrawal_index": 5}, "altair"), "version, byte 1: Altair, and the layout is that of Cap")
+        self.refused(encoder.text({**minimal(), "balance": 5}), "'balance', byte ")
 
     def test_json_values(self):
         state = minimal()
@@ -149,7 +150,7 @@ class Damaged(unittest.TestCase):
     def test_random_damages(self):
         """A damaged state is refused, or is a state; then it has a record and comes back from it."""
         rng, taken = random.Random(10), 0
-        forms = [form(minimal(fork)) for fork in ("altair", "bellatrix") for form in (encoder.ssz, encoder.text)]
+        forms = [form(minimal(fork)) for fork in ("altair", "bellatrix", "deneb") for form in (encoder.ssz, encoder.text)]
         places = list(OFFSETS.values())
         for k in range(COUNT):
             data = bytearray(forms[k % len(forms)])
@@ -167,7 +168,7 @@ class Damaged(unittest.TestCase):
                 said = run("record", "--preset", "minimal", "--pair", "altair", at / "state", at / "made")
                 if said.code == 0:
                     taken += 1
-                    self.assertEqual(run("back", "--preset", "minimal", at / "state", at / "made", at / "again").code, 0)
+                    self.assertEqual(run("back", "--unchecked", "--preset", "minimal", at / "state", at / "made", at / "again").code, 0)
                     self.assertEqual(at.read("again"), bytes(data))
                 else:
                     self.assertEqual((said.code, at.names(), said.err.count("\n")), (1, ["state"], 1), said.err)
@@ -184,7 +185,7 @@ class Damaged(unittest.TestCase):
 
             def back(record):
                 at.write("closed", record)
-                return run("back", "--preset", "minimal", "--force", at / "state", at / "closed", at / "made")
+                return run("back", "--unchecked", "--preset", "minimal", "--force", at / "state", at / "closed", at / "made")
 
             for at_byte, new, part in [
                 (0, b"\3", "header, byte 0: 3, and 1 or 2 is wanted"),

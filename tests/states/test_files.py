@@ -37,8 +37,8 @@ class Commands(unittest.TestCase):
             said = self.said(0, "", "record", *MINIMAL, "-", "-", input=form)
             self.assertEqual(said.out, RECORD)
             self.at.write("closed", RECORD)
-            self.assertEqual(self.said(0, "", "back", *MINIMAL, "-", self.at / "closed", "-", input=form).out, form)
-        self.assertEqual(self.said(0, "", "back", *MINIMAL, self.at / "state", "-", "-", input=RECORD).out, encoder.ssz(STATE))
+            self.assertEqual(self.said(0, "", "back", "--unchecked", *MINIMAL, "-", self.at / "closed", "-", input=form).out, form)
+        self.assertEqual(self.said(0, "", "back", "--unchecked", *MINIMAL, self.at / "state", "-", "-", input=RECORD).out, encoder.ssz(STATE))
         self.said(1, "standard input: genesis_time, byte 0", "record", "-", "-", input=b"")
         self.said(2, "cannot both be", "back", "-", "-", "-", input=b"")
 
@@ -51,12 +51,12 @@ class Commands(unittest.TestCase):
         self.assertEqual(self.at.read("made"), RECORD)
         self.assertEqual((self.at / "made").stat().st_mode & 0o777, 0o640)
         # the state itself may be replaced by its own new form
-        self.said(0, "", "back", *MINIMAL, "--force", self.at / "state", self.at / "made", self.at / "state")
+        self.said(0, "", "back", "--unchecked", *MINIMAL, "--force", self.at / "state", self.at / "made", self.at / "state")
         self.assertEqual(self.at.read("state"), encoder.ssz(STATE))
         self.assertEqual(self.at.names(), ["made", "state"])
         # a name that stands for another file keeps doing so
         os.symlink("made", self.at / "link")
-        self.said(2, "made is there already", "record", *MINIMAL, self.at / "state", self.at / "link")
+        self.said(2, "link is there already", "record", *MINIMAL, self.at / "state", self.at / "link")
         self.said(0, "", "record", *MINIMAL, "--force", self.at / "state", self.at / "link")
         self.assertTrue((self.at / "link").is_symlink())
 
@@ -71,18 +71,18 @@ class Commands(unittest.TestCase):
 
     @unittest.skipUnless(os.path.exists("/dev/full"), "no /dev/full here")
     def test_a_full_disk(self):
-        self.said(2, "the disk is full", "record", *MINIMAL, self.at / "state", "/dev/full")
+        self.said(2, "No space left on device", "record", *MINIMAL, self.at / "state", "/dev/full")
         with open("/dev/full", "wb") as full:
             words = [ROOT / "tools/state", "record", *MINIMAL, self.at / "state", "-"]
             done = subprocess.run(words, stdout=full, stderr=subprocess.PIPE)
         self.assertEqual((done.returncode, done.stderr.count(b"\n")), (2, 2), done.stderr)
-        self.assertIn(b"the disk is full", done.stderr)
+        self.assertIn(b"No space left on device", done.stderr)
 
     def test_no_standard_streams(self):
         """Closed ones, as some schedulers leave them."""
         for words, code, said in [
-            ("record --preset minimal - made <&-", 2, b"no standard input"),
-            ("record --preset minimal state - >&-", 2, b"no standard output"),
+            ("record --preset minimal - made <&-", 2, b"standard input: it is closed"),
+            ("record --preset minimal state - >&-", 2, b"standard output: it is closed"),
             ("record --preset minimal state made 2>&-", 0, b""),
             ("record --preset minimal --force state made 2</dev/null", 0, b""),
         ]:
@@ -98,7 +98,7 @@ class Commands(unittest.TestCase):
         done = subprocess.run(words, stdout=writing, stderr=subprocess.PIPE)
         os.close(writing)
         self.assertEqual(done.returncode, 2)
-        self.assertTrue(done.stderr.endswith(b"state: the output was closed before all of it was written\n"), done.stderr)
+        self.assertTrue(done.stderr.endswith(b"state: standard output: Broken pipe\n"), done.stderr)
 
 
 if __name__ == "__main__":

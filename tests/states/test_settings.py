@@ -1,6 +1,7 @@
 """Settings from files: a node's config.yaml, preset files and the JSON of /eth/v1/config/spec."""
 import json
 import random
+import time
 import unittest
 
 import encoder
@@ -102,6 +103,17 @@ class Settings(unittest.TestCase):
         ]:
             with self.subTest(said=said):
                 self.assertIn(said, self.made(*files)[0])
+
+    def test_spaces_and_odd_lines(self):
+        """Spaces cost no more than their number; only a newline ends a line; what is quoted may hold a #."""
+        began = time.monotonic()
+        spaces = b" " * 2**17
+        odd = b"SLOTS_PER_EPOCH:" + spaces + b"8" + spaces + b"# eight" + spaces + b"\nA" + spaces + b":" + spaces + b"\n"
+        self.assertEqual(self.made(CONFIG, odd)[1], self.expected(**self.OURS))
+        self.assertIn("file1, line 1: not a line", self.made(CONFIG, b"x" + spaces + b"y")[0])
+        self.assertLess(time.monotonic() - began, 10)
+        quoted = "NAME: \"a # b\"   # c \u2028 SLOTS_PER_EPOCH 9\nBASE_REWARD_FACTOR: '65' # d".encode()
+        self.assertEqual(self.made(CONFIG, quoted)[1], self.expected(**self.OURS, BASE_REWARD_FACTOR=65))
 
     def test_no_slots_in_an_epoch(self):
         """A setting that the library refuses under its number is written as it is."""

@@ -44,15 +44,16 @@ class SpecTests(unittest.TestCase):
         self.tree = Tree(self.at)
 
     def test_equal(self):
-        """Every step, at both presets and forks, by hand."""
-        for preset, fork in ("minimal", "altair"), ("minimal", "bellatrix"), ("mainnet", "altair"), ("mainnet", "bellatrix"):
+        """Every step, at both presets and three forks, by hand."""
+        kinds = ("minimal", "altair"), ("minimal", "bellatrix"), ("minimal", "capella"), ("mainnet", "altair"), ("mainnet", "bellatrix")
+        for preset, fork in kinds:
             for k, (step, pre, post) in enumerate(worked.cases(preset, fork)):
                 self.tree.case(preset, fork, step, "worked", pre, post, stream=preset == "minimal" and k % 2 == 1)
         said = spec_tests(self.at.path)
         self.assertEqual((said.code, said.err), (0, ""), said.out + said.err)
         self.assertEqual(set(rows(said.out).values()), {(1, 1, 0, 0, 0)})
-        self.assertEqual(len(rows(said.out)), 32)
-        self.assertIn("spec_tests: 32 run, 32 equal, 0 different, 0 unreadable, 0 skipped", said.out)
+        self.assertEqual(len(rows(said.out)), 40)
+        self.assertIn("spec_tests: 40 run, 40 equal, 0 different, 0 unreadable, 0 skipped", said.out)
         # from below, too
         self.assertEqual(spec_tests(self.at / "tests").code, 0)
 

@@ -6,7 +6,7 @@ import unittest
 import encoder
 from tool import Directory, run
 
-KINDS = [(preset, fork) for preset in ("minimal", "mainnet") for fork in ("altair", "bellatrix")]
+KINDS = [(preset, fork) for preset in ("minimal", "mainnet") for fork in ("altair", "bellatrix", "capella", "deneb")]
 LENGTHS = [(0, 0), (1, 1), (37, 5), (0, 3), (3, 0)]
 
 
@@ -66,7 +66,7 @@ class Records(unittest.TestCase):
             self.assertEqual(at.read("made"), encoder.record(bellatrix, numbers))
             at.write("state", encoder.ssz(altair))
             said = run("record", "--preset", "minimal", "--pair", "bellatrix", "--force", at / "state", at / "made")
-            self.assertEqual((said.code, said.err), (2, "state: a state of Altair, and --pair bellatrix\n"))
+            self.assertEqual((said.code, said.err), (2, "state: an Altair state, and --pair bellatrix\n"))
 
     def test_the_end_of_an_epoch(self):
         for slot, ended in (127, True), (126, False), (128, False), (95, True):
@@ -83,7 +83,7 @@ class Records(unittest.TestCase):
                 after = closed(rng, state)
                 at.write("state", encoder.ssz(state))
                 at.write("closed", encoder.record(after, encoder.SETTINGS[preset]))
-                said = run("back", "--preset", preset, at / "state", at / "closed", at / "made")
+                said = run("back", "--unchecked", "--preset", preset, at / "state", at / "closed", at / "made")
                 self.assertEqual((said.code, said.err), (0, ""))
                 self.assertEqual(at.read("made"), encoder.ssz(after))
 
@@ -95,7 +95,7 @@ class Records(unittest.TestCase):
                     after = closed(rng, state)
                     at.write("state", b" \n" + encoder.text(state, **layout) + b"\n\n")
                     at.write("closed", encoder.record(after, encoder.SETTINGS[preset]))
-                    said = run("back", "--preset", preset, at / "state", at / "closed", at / "made")
+                    said = run("back", "--unchecked", "--preset", preset, at / "state", at / "closed", at / "made")
                     self.assertEqual((said.code, said.err), (0, ""))
                     self.assertEqual(at.read("made"), b" \n" + encoder.text(after, **layout) + b"\n\n")
 
@@ -105,7 +105,7 @@ class Records(unittest.TestCase):
             with Directory() as at:
                 at.write("state", form)
                 run("record", "--pair", "bellatrix", at / "state", at / "made")
-                said = run("back", at / "state", at / "made", at / "again")
+                said = run("back", "--unchecked", at / "state", at / "made", at / "again")
                 self.assertEqual((said.code, said.err), (0, ""))
                 self.assertEqual(at.read("again"), form)
 
@@ -115,7 +115,7 @@ class Records(unittest.TestCase):
         with Directory() as at:
             at.write("state", encoder.text(state).replace(b'"exit_epoch"', b'"\\u0065xit_epoch"'))
             at.write("closed", encoder.record(after, encoder.SETTINGS["minimal"]))
-            self.assertEqual(run("back", "--preset", "minimal", at / "state", at / "closed", at / "made").code, 0)
+            self.assertEqual(run("back", "--unchecked", "--preset", "minimal", at / "state", at / "closed", at / "made").code, 0)
             self.assertEqual(json.loads(at.read("made")), json.loads(encoder.text(after)))
 
     def test_a_long_json(self):
@@ -131,7 +131,7 @@ class Records(unittest.TestCase):
             self.assertEqual(at.read("made"), encoder.record(state, encoder.SETTINGS["minimal"]))
             for k, after in enumerate([everywhere, here_and_there]):
                 at.write("closed", encoder.record(after, encoder.SETTINGS["minimal"]))
-                self.assertEqual(run("back", "--preset", "minimal", at / "state", at / "closed", at / f"again{k}").code, 0)
+                self.assertEqual(run("back", "--unchecked", "--preset", "minimal", at / "state", at / "closed", at / f"again{k}").code, 0)
                 self.assertEqual(at.read(f"again{k}"), encoder.text(after, "altair"))
 
     def test_a_value_at_the_edge_of_the_window(self):
@@ -142,7 +142,7 @@ class Records(unittest.TestCase):
                 before = b'{"other": ' + b" " * (2**20 - 18 + k - 10) + b'123456, "name": "text", '
                 at.write("state", before + whole[1:])
                 self.assertEqual(run("record", "--preset", "minimal", "--force", at / "state", at / "made").code, 0)
-                self.assertEqual(run("back", "--preset", "minimal", "--force", at / "state", at / "made", at / "again").code, 0)
+                self.assertEqual(run("back", "--unchecked", "--preset", "minimal", "--force", at / "state", at / "made", at / "again").code, 0)
                 self.assertEqual(at.read("again"), at.read("state"))
 
 

@@ -10,6 +10,7 @@ from typing import NamedTuple
 ROOT = Path(__file__).resolve().parents[2]
 sys.path[:0] = [str(ROOT / place) for place in ("tools", "tests", "bindings/python")]
 
+from altair_close._command import status_of  # noqa: E402
 from beacon_state import command  # noqa: E402
 
 
@@ -46,7 +47,7 @@ class Directory:
 def run(*words):
     err = io.StringIO()
     with contextlib.redirect_stderr(err):
-        code = command.main([str(word) for word in words])
+        code = status_of("state", command.work, [str(word) for word in words])
     return Said(code, err.getvalue())
 
 

@@ -1,10 +1,12 @@
 """The containers of a state, by fork.
 
 Altair: altair/beacon_state.rs, phase0/validator.rs and phase0/operations.rs of ralexstokes/ethereum-consensus, and the
-public text for Fork, BeaconBlockHeader and SyncCommittee. Bellatrix: the public text, from knowledge."""
+public text for Fork, BeaconBlockHeader and SyncCommittee. Bellatrix to Fulu: the public text, from knowledge."""
 from .ssz import Bits, Boolean, ByteList, Bytes, Container, List, Uint, Vector
 
-FORKS = ("altair", "bellatrix")
+FORKS = ("altair", "bellatrix", "capella", "deneb", "electra", "fulu")
+# what no state is read of, but is told by its name
+OTHERS = ("phase0", "gloas")
 U8, U64, U256 = Uint(1), Uint(8), Uint(32)
 Root = Hash = Bytes(32)
 PublicKey = Bytes(48)
@@ -25,10 +27,21 @@ Validator = Container(
     ("exit_epoch", U64),
     ("withdrawable_epoch", U64),
 )
+HistoricalSummary = Container(("block_summary_root", Root), ("state_summary_root", Root))
+PendingDeposit = Container(
+    ("pubkey", PublicKey), ("withdrawal_credentials", Bytes(32)), ("amount", U64), ("signature", Bytes(96)), ("slot", U64)
+)
+PendingPartialWithdrawal = Container(("validator_index", U64), ("amount", U64), ("withdrawable_epoch", U64))
+PendingConsolidation = Container(("source_index", U64), ("target_index", U64))
 
 
-def execution_payload_header(sizes):
-    return Container(
+def from_on(fork, first):
+    """Whether a fork is this one or a later one."""
+    return FORKS.index(fork) >= FORKS.index(first)
+
+
+def execution_payload_header(fork, sizes):
+    fields = [
         ("parent_hash", Hash),
         ("fee_recipient", Bytes(20)),
         ("state_root", Root),
@@ -43,7 +56,12 @@ def execution_payload_header(sizes):
         ("base_fee_per_gas", U256),
         ("block_hash", Hash),
         ("transactions_root", Root),
-    )
+    ]
+    if from_on(fork, "capella"):
+        fields.append(("withdrawals_root", Root))
+    if from_on(fork, "deneb"):
+        fields += [("blob_gas_used", U64), ("excess_blob_gas", U64)]
+    return Container(*fields)
 
 
 def beacon_state(fork, sizes):
@@ -77,6 +95,27 @@ def beacon_state(fork, sizes):
         ("current_sync_committee", committee),
         ("next_sync_committee", committee),
     ]
-    if fork == "bellatrix":
-        fields.append(("latest_execution_payload_header", execution_payload_header(sizes)))
+    if from_on(fork, "bellatrix"):
+        fields.append(("latest_execution_payload_header", execution_payload_header(fork, sizes)))
+    if from_on(fork, "capella"):
+        fields += [
+            ("next_withdrawal_index", U64),
+            ("next_withdrawal_validator_index", U64),
+            ("historical_summaries", List(HistoricalSummary, sizes["HISTORICAL_ROOTS_LIMIT"])),
+        ]
+    if from_on(fork, "electra"):
+        fields += [
+            ("deposit_requests_start_index", U64),
+            ("deposit_balance_to_consume", U64),
+            ("exit_balance_to_consume", U64),
+            ("earliest_exit_epoch", U64),
+            ("consolidation_balance_to_consume", U64),
+            ("earliest_consolidation_epoch", U64),
+            ("pending_deposits", List(PendingDeposit, sizes["PENDING_DEPOSITS_LIMIT"])),
+            ("pending_partial_withdrawals", List(PendingPartialWithdrawal, sizes["PENDING_PARTIAL_WITHDRAWALS_LIMIT"])),
+            ("pending_consolidations", List(PendingConsolidation, sizes["PENDING_CONSOLIDATIONS_LIMIT"])),
+        ]
+    if fork == "fulu":
+        slots = (sizes["MIN_SEED_LOOKAHEAD"] + 1) * sizes["SLOTS_PER_EPOCH"]
+        fields.append(("proposer_lookahead", Vector(U64, slots)))
     return Container(*fields)

@@ -1,7 +1,9 @@
 """What is wrong with an input, and where."""
+from altair_close import _errors
+from altair_close._errors import Stopped
 
 
-class Bad(Exception):
+class Bad(_errors.Bad):
     """Input that is not what it must be: the field, the byte and what is wrong with it."""
 
     def __init__(self, what, field="", offset=None):
@@ -9,10 +11,6 @@ class Bad(Exception):
         if offset is not None:
             place.append(f"byte {offset}")
         super().__init__(f"{', '.join(place)}: {what}" if place else what)
-
-
-class Stopped(Exception):
-    """A command that cannot be carried out, whatever its input holds."""
 
 
 def counted(count, what):

@@ -1,0 +1,86 @@
+"""The close of a record under a fork's rules, through the library; and which forks the library at hand closes.
+
+Capella's eight steps are Bellatrix's, and Fulu's ten Electra's (document 03). A fork whose call the library has not is refused by one
+line; the call is looked for, so that nothing here changes when it lands."""
+import altair_close as altair
+
+from . import settings as settings_of
+from .containers import from_on
+from .errors import Bad
+from .forks import a_state
+from .record_file import CHECKPOINTS, VALIDATOR
+
+# the call of each fork that Altair's does not close, by its name in the Python package
+CALLS = {"deneb": "deneb_close", "electra": "electra_close", "fulu": "electra_close"}
+
+
+def has(name):
+    """Whether the Python package has a call; its library then has it too, or is not opened at all."""
+    return hasattr(altair, name)
+
+
+def test_closable(fork):
+    """Refuses a fork that the library has no close for, and Electra's until its twelve amounts are booked here (document 03, F-3)."""
+    if fork in CALLS and (from_on(fork, "electra") or not has(CALLS[fork])):
+        raise Bad(f"this library cannot close {a_state(fork, 'epoch')} yet")
+
+
+def settings_of_record(record):
+    return altair.Settings(*record.settings)
+
+
+def finality_of(record):
+    """The Finality of a record of this package."""
+    parts = [bytes(record.checkpoints[at : at + 40]) for at in range(0, 120, 40)]
+    points = [altair.Checkpoint(int.from_bytes(part[:8], "little"), part[8:]) for part in parts]
+    return altair.Finality(record.slot, record.justification_bits, *points)
+
+
+def numbers(data):
+    return memoryview(data).cast("B").cast("Q")
+
+
+def rules(record, fork, settings):
+    """What the close of a record goes by under a fork up to Capella; the pair is not read under Altair."""
+    if fork == "altair":
+        return altair.Rules(settings_of_record(record))
+    pair = altair.Bellatrix(*(settings[f"{name}_BELLATRIX"] for name in settings_of.PAIR))
+    return altair.Rules(settings_of_record(record), altair.FORK_BELLATRIX, pair)
+
+
+def close(record, fork, settings):
+    """The Closed of a record of Altair to Deneb."""
+    test_closable(fork)
+    by, registry = rules(record, fork, settings), numbers(record.registry)
+    lent = dict(finality=finality_of(record), queue=altair.exit_queue(registry), registry=registry, slashings=numbers(record.slashings),
+                roots=record.block_roots)
+    if fork == "deneb":
+        most = settings["MAX_PER_EPOCH_ACTIVATION_CHURN_LIMIT"]
+        return altair.deneb_close(settings=by.settings, bellatrix=by.bellatrix, max_per_epoch_activation_churn_limit=most, **lent)
+    return altair.close(by, **lent)
+
+
+def is_close_of(closed, opening, fork, settings):
+    """Refuses a closed record that the close of this opening is not, with the first field that differs."""
+    try:
+        right = close(opening, fork, settings)
+    except altair.Refused as refused:
+        raise Bad(f"the library refuses to close this state ({refused}), so that this is no close of it") from None
+    finality = finality_of(closed)
+    for name in ("justification_bits", *CHECKPOINTS):
+        if getattr(finality, name) != getattr(right.finality, name):
+            raise other(name, getattr(finality, name), getattr(right.finality, name))
+    for name, ours, theirs in ("validators", closed.registry, right.registry), ("slashings", closed.slashings, right.slashings):
+        ours, theirs = numbers(ours), numbers(theirs)
+        if ours != theirs:
+            at = next(k for k, (a, b) in enumerate(zip(ours, theirs)) if a != b)
+            place = f"slashings[{at}]" if name == "slashings" else f"validators[{at // 10}].{VALIDATOR[at % 10]}"
+            raise other(place, ours[at], theirs[at])
+
+
+def other(field, there, right):
+    return Bad(f"{told(there)}, and the close of this state under its own rules has {told(right)}: it is another record's close", field)
+
+
+def told(value):
+    return f"epoch {value.epoch} with root 0x{value.root.hex()}" if isinstance(value, altair.Checkpoint) else str(value)
