@@ -90,8 +90,8 @@ only-fold h b [] = only-value b
 only-fold h b (x ∷ xs) = only-bind (h b x) (λ c. only-fold h c xs)
 
 module _ (s : Settings) (slot : ℕ) where
-  abbrev now : ℕ
-  now = «get_current_epoch» s slot
+  abbrev present : ℕ
+  present = «get_current_epoch» s slot
 
   abbrev limit : List Validator → ℕ
   limit vs = «get_validator_churn_limit» s slot vs
@@ -105,15 +105,15 @@ module _ (s : Settings) (slot : ℕ) where
   only-exit vs i =
       only-either (eqb (getD vs i nobody .«exit_epoch») «FAR_FUTURE_EPOCH»)
       (only-bind
-      (only-bind (only-activation now) (λ least. only-either (leb (limit vs) (exitQueueChurn (maximum least (exitEpochs vs)) vs)) (only-add64 _ _) (only-value _)))
+      (only-bind (only-activation present) (λ least. only-either (leb (limit vs) (exitQueueChurn (maximum least (exitEpochs vs)) vs)) (only-add64 _ _) (only-value _)))
       (λ exit. only-bind (only-add64 _ _) (λ w. only-value _)))
       (only-value vs)
 
   only-at : (vs : List Validator) (i : ℕ) → OnlyOverflow (updateRegistryAt s slot vs i)
   unfolding updateRegistryAt
   only-at vs i =
-      let queued = set vs i (queueEligible s now (getD vs i nobody)) in
-      only-either (isEjected s now (getD queued i nobody)) (only-exit queued i) (only-value queued)
+      let queued = set vs i (queueEligible s present (getD vs i nobody)) in
+      only-either (isEjected s present (getD queued i nobody)) (only-exit queued i) (only-value queued)
 
   only-active : (vs : List Validator) → OnlyOverflow («get_total_active_balance» s slot vs)
   unfolding «get_total_active_balance»
@@ -122,7 +122,7 @@ module _ (s : Settings) (slot : ℕ) where
   only-registry : (fin : ℕ) (vs : List Validator) → OnlyOverflow («process_registry_updates» s slot fin vs)
   unfolding «process_registry_updates»
   only-registry fin vs =
-      only-bind (only-fold only-at vs (range 0 (length vs))) (λ queued. only-bind (only-activation now) (λ epoch. only-value _))
+      only-bind (only-fold only-at vs (range 0 (length vs))) (λ queued. only-bind (only-activation present) (λ epoch. only-value _))
 
   only-totals : (fin : ℕ) (vs : List Validator) (index : ℕ) → OnlyOverflow (flagTotals s slot fin vs index)
   unfolding flagTotals
@@ -132,12 +132,12 @@ module _ (s : Settings) (slot : ℕ) where
   only-inactivity : (fin : ℕ) (vs : List Validator) → OnlyOverflow («process_inactivity_updates» s slot fin vs)
   unfolding «process_inactivity_updates»
   only-inactivity fin vs =
-      only-either (eqb now «GENESIS_EPOCH») (only-value vs) (only-bind (finality.only-leak s slot fin) (λ leaking. only-map (only-score s _ _ leaking) vs))
+      only-either (eqb present «GENESIS_EPOCH») (only-value vs) (only-bind (finality.only-leak s slot fin) (λ leaking. only-map (only-score s _ _ leaking) vs))
 
   only-rewards : (quotient fin : ℕ) (vs : List Validator) → OnlyOverflow («process_rewards_and_penalties» s quotient slot fin vs)
   unfolding «process_rewards_and_penalties»
   only-rewards quotient fin vs =
-      only-either (eqb now «GENESIS_EPOCH») (only-value vs)
+      only-either (eqb present «GENESIS_EPOCH») (only-value vs)
       (only-bind (only-totals fin vs _) (λ source.
       only-bind (only-totals fin vs _) (λ target.
       only-bind (only-totals fin vs _) (λ head. only-map (only-reward s quotient _ _ source target head) vs))))
