@@ -20,7 +20,7 @@
 enum { CLOSED = 0, REFUSED = 1, TROUBLE = 2 };
 
 static const char help[] =
-    "altair-close [--amounts] [--json | --csv] [--store FILE] [--out FILE] RECORD\n"
+    "altair-close [--amounts] [--json | --csv] [--fork FORK | --store FILE] [--out FILE] RECORD\n"
     "\n"
     "Closes the epoch of a record file ('-' is standard input) and prints the listing: epoch, justified and finalized "
     "epoch,\n"
@@ -34,6 +34,12 @@ static const char help[] =
     "  --json        the listing as one JSON object; numbers are whole, up to 2^64 - 1; a loss has a minus sign\n"
     "  --csv         the listing as lines of comma separated values, the epoch's figures on each line\n"
     "  --store FILE  closes by a store of settings by starting epoch (altair-store), in place of the record's own as Altair\n"
+    "  --fork FORK   closes by the rules of altair (as it does where nothing is said), bellatrix, capella, whose rules are Bellatrix's, or\n"
+    "                deneb. What a later fork adds is mainnet's or minimal's where the record's settings are; else it must be said:\n"
+    "  --bellatrix QUOTIENT,MULTIPLIER\n"
+    "                inactivity_penalty_quotient_bellatrix and proportional_slashing_multiplier_bellatrix\n"
+    "  --activation-limit NUMBER\n"
+    "                max_per_epoch_activation_churn_limit, of a Deneb close\n"
     "  --out FILE    the closed record, written as a record file of version 2; it is there whole, or not at all, and once all is\n"
     "                printed. FILE may be RECORD. A link is followed, and one to a file that is not there is refused\n"
     "  --help        this text\n"
@@ -413,7 +419,82 @@ static void move_into_place(void) {
 
 /* -- The command --------------------------------------------------------------------------------------------------- */
 
-static int close_record(const char *path, const char *by, const form *as, int booked, const char *target) {
+static _Noreturn void misused(const char *what, const char *word) {
+    fprintf(stderr, NAME ": %s%s%s\n\n%s", what, *word ? ": " : "", word, help);
+    exit(TROUBLE);
+}
+
+enum fork { ALTAIR, BELLATRIX, CAPELLA, DENEB };
+
+/* What a close goes by besides the record's settings: a store, or a fork and what it adds; NULL where it was not said. */
+typedef struct how {
+    const char *store;
+    enum fork fork;
+    int told;
+    const char *pair, *limit;
+} how;
+
+static enum fork fork_named(const char *word) {
+    static const char *const names[] = {"altair", "bellatrix", "capella", "deneb"};
+    for (size_t i = 0; i < sizeof names / sizeof *names; i++)
+        if (strcmp(word, names[i]) == 0)
+            return (enum fork)i;
+    if (strcmp(word, "electra") == 0 || strcmp(word, "fulu") == 0)
+        trouble("--fork %s: a record file has no place for its queues; altair-statement closes such a state, where its library can", word);
+    misused("--fork wants altair, bellatrix, capella or deneb, not", word);
+}
+
+/* A number below 2^64, and what stands behind it; NULL where there is none. */
+static const char *number_in(const char *word, uint64_t *number) {
+    const char *at = word;
+    for (*number = 0; *at >= '0' && *at <= '9'; at++) {
+        const uint64_t digit = (uint64_t)(*at - '0');
+        if (*number > (UINT64_MAX - digit) / 10)
+            return NULL;
+        *number = 10 * *number + digit;
+    }
+    return at == word ? NULL : at;
+}
+
+/* Whether the settings are a preset's, with Altair's pair or with Bellatrix's in its place. */
+static int is_preset(altair_settings settings, const altair_deneb_rules *preset) {
+    const altair_settings *wanted = &preset->settings;
+    const altair_bellatrix *pair = &preset->bellatrix;
+    if (settings.inactivity_penalty_quotient_altair == pair->inactivity_penalty_quotient_bellatrix &&
+        settings.proportional_slashing_multiplier_altair == pair->proportional_slashing_multiplier_bellatrix) {
+        settings.inactivity_penalty_quotient_altair = wanted->inactivity_penalty_quotient_altair;
+        settings.proportional_slashing_multiplier_altair = wanted->proportional_slashing_multiplier_altair;
+    }
+    return memcmp(&settings, wanted, sizeof settings) == 0;
+}
+
+/* The rules of a fork behind Altair: what was said, else the preset's that the settings are. */
+static altair_deneb_rules later_rules(const char *path, altair_settings settings, const how *told) {
+    static const altair_deneb_rules presets[] = {ALTAIR_MAINNET_DENEB, ALTAIR_MINIMAL_DENEB};
+    altair_deneb_rules rules = {settings, {0, 0}, 0};
+    int known = 0;
+    for (size_t i = 0; i < sizeof presets / sizeof *presets; i++)
+        if (is_preset(settings, &presets[i]))
+            known = 1, rules = presets[i], rules.settings = settings;
+    if (told->pair != NULL) {
+        const char *rest = number_in(told->pair, &rules.bellatrix.inactivity_penalty_quotient_bellatrix);
+        rest = rest != NULL && *rest == ',' ? number_in(rest + 1, &rules.bellatrix.proportional_slashing_multiplier_bellatrix) : NULL;
+        if (rest == NULL || *rest != '\0')
+            misused("--bellatrix wants two numbers with a comma between, not", told->pair);
+    } else if (!known) {
+        trouble("%s: its settings are neither mainnet's nor minimal's: --bellatrix must say the pair", path);
+    }
+    if (told->limit != NULL) {
+        const char *rest = number_in(told->limit, &rules.max_per_epoch_activation_churn_limit);
+        if (rest == NULL || *rest != '\0')
+            misused("--activation-limit wants a number, not", told->limit);
+    } else if (!known && told->fork == DENEB) {
+        trouble("%s: its settings are neither mainnet's nor minimal's: --activation-limit must say the number", path);
+    }
+    return rules;
+}
+
+static int close_record(const char *path, const how *told, const form *as, int booked, const char *target) {
     record r;
     r.file = read_all(path, &r.length);
     const altair_header header = altair_read_header(r.file, r.length);
@@ -440,15 +521,21 @@ static int close_record(const char *path, const char *by, const form *as, int bo
     const size_t amounts_length = ALTAIR_AMOUNTS_LENGTH * header.validators;
     uint64_t *amounts = room(amounts_length, sizeof *amounts);
     size_t store_length = ALTAIR_ENTRY_LENGTH;
-    uint64_t *store = by != NULL ? read_store(by, &store_length) : room(store_length, sizeof *store);
+    uint64_t *store = told->store != NULL ? read_store(told->store, &store_length) : room(store_length, sizeof *store);
     if (store == NULL)
-        return refused(by, ALTAIR_BAD_SHAPE, " (a store file has 184 bytes an entry, and at most 65536 entries)");
-    if (by == NULL) /* of one entry: the file's settings, as Altair, from epoch 0 on */
-        altair_put_entry(store, 0, altair_under_altair(r.settings));
+        return refused(told->store, ALTAIR_BAD_SHAPE, " (a store file has 184 bytes an entry, and at most 65536 entries)");
+    altair_deneb_rules later = {r.settings, {0, 0}, 0};
+    if (told->fork != ALTAIR)
+        later = later_rules(path, r.settings, told);
+    if (told->store == NULL) /* of one entry: the file's settings, under a fork, from epoch 0 on */
+        altair_put_entry(store, 0, told->fork == ALTAIR ? altair_under_altair(r.settings) : altair_under_bellatrix(r.settings, later.bellatrix));
     const altair_full_answer closed =
-        altair_close(store, store_length, store_length / ALTAIR_ENTRY_LENGTH, r.finality, r.queue, r.registry, r.numbers, r.slashings,
-                     r.slashings_length, r.roots, r.roots_length, closing, r.numbers, closing_slashings,
-                     r.slashings_length, amounts, amounts_length);
+        told->fork == DENEB
+            ? deneb_close(later, r.finality, r.queue, r.registry, r.numbers, r.slashings, r.slashings_length, r.roots, r.roots_length,
+                          closing, r.numbers, closing_slashings, r.slashings_length, amounts, amounts_length)
+            : altair_close(store, store_length, store_length / ALTAIR_ENTRY_LENGTH, r.finality, r.queue, r.registry, r.numbers,
+                           r.slashings, r.slashings_length, r.roots, r.roots_length, closing, r.numbers, closing_slashings,
+                           r.slashings_length, amounts, amounts_length);
     if (closed.refusal != 0)
         return refused(path, closed.refusal, "");
     /* the entries of a store, of which there is one, have the same slots_per_epoch */
@@ -493,11 +580,6 @@ static int close_record(const char *path, const char *by, const form *as, int bo
     return CLOSED;
 }
 
-static _Noreturn void misused(const char *what, const char *word) {
-    fprintf(stderr, NAME ": %s%s%s\n\n%s", what, *word ? ": " : "", word, help);
-    exit(TROUBLE);
-}
-
 /* A standard stream that was closed stays so: no file that is opened later gets its number, or is printed into. */
 static void hold_closed_streams(void) {
     for (int i = 0; i < 3; i++)
@@ -506,7 +588,8 @@ static void hold_closed_streams(void) {
 }
 
 int main(int count, char **words) {
-    const char *path = NULL, *target = NULL, *by = NULL;
+    const char *path = NULL, *target = NULL;
+    how told = {NULL, ALTAIR, 0, NULL, NULL};
     const form *as = &listing;
     int ended = 0, booked = 0;
     /* a closed pipe and a file beyond its limit are then errors of writing, and exit 2 */
@@ -532,7 +615,19 @@ int main(int count, char **words) {
         } else if (strcmp(word, "--store") == 0) {
             if (++i == count)
                 misused("--store wants a file", "");
-            by = words[i];
+            told.store = words[i];
+        } else if (strcmp(word, "--fork") == 0) {
+            if (++i == count)
+                misused("--fork wants a name", "");
+            told.fork = fork_named(words[i]), told.told = 1;
+        } else if (strcmp(word, "--bellatrix") == 0) {
+            if (++i == count)
+                misused("--bellatrix wants two numbers", "");
+            told.pair = words[i];
+        } else if (strcmp(word, "--activation-limit") == 0) {
+            if (++i == count)
+                misused("--activation-limit wants a number", "");
+            told.limit = words[i];
         } else if (strcmp(word, "--out") == 0) {
             if (++i == count)
                 misused("--out wants a file", "");
@@ -551,5 +646,11 @@ int main(int count, char **words) {
     }
     if (path == NULL)
         misused("a record file is wanted", "");
-    return close_record(path, by, as, booked, target);
+    if (told.store != NULL && told.told)
+        misused("--fork or --store, not both", "");
+    if (told.pair != NULL && told.fork == ALTAIR)
+        misused("--bellatrix goes with --fork bellatrix, capella or deneb", "");
+    if (told.limit != NULL && told.fork != DENEB)
+        misused("--activation-limit goes with --fork deneb", "");
+    return close_record(path, &told, as, booked, target);
 }

@@ -53,6 +53,8 @@ static const altair_fault fine = {NULL, NULL, 0};
 #define VECTOR(number) (1 <= (number) && (number) <= ALTAIR_LONGEST_VECTOR)
 /* whether slots_per_epoch, S and L are those of an entry */
 #define SAME(settings, entry) (memcmp(&(settings), (entry) + ALTAIR_ENTRY_SETTINGS, 3 * sizeof(uint64_t)) == 0)
+/* whether a number of a list, the one at this place of every row, reaches a bound */
+#define REACHES(list, row, place, bound) reaches(list, list##_length, row, place, bound)
 #define SUM(list) sum(list, list##_length)
 #define LONGEST(list) longest(list, list##_length)
 
@@ -62,6 +64,13 @@ static uint64_t sum(const uint64_t *numbers, size_t count) {
     for (size_t i = 0; i < count; i++)
         all = all + numbers[i] < all ? UINT64_MAX : all + numbers[i];
     return all;
+}
+
+static int reaches(const uint64_t *numbers, size_t count, size_t row, size_t place, uint64_t bound) {
+    for (size_t i = place; i < count; i += row)
+        if (numbers[i] >= bound)
+            return 1;
+    return 0;
 }
 
 static uint64_t longest(const uint64_t *numbers, size_t count) {

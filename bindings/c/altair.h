@@ -423,6 +423,19 @@ typedef struct altair_votes_answer {
     uint64_t current_target;
 } altair_votes_answer;
 
+/* What a Deneb call goes by: the nineteen settings, the Bellatrix pair, which stands in the place of the Altair two,
+ * and how many may be activated in an epoch at most. That number is below 2^48, else 2, and may be 0: then nobody is
+ * activated. */
+typedef struct altair_deneb_rules {
+    altair_settings settings;
+    altair_bellatrix bellatrix;
+    uint64_t max_per_epoch_activation_churn_limit;
+} altair_deneb_rules;
+
+/* Those of mainnet, and of the public test preset minimal. In braces. */
+#define ALTAIR_MAINNET_DENEB { ALTAIR_MAINNET, ALTAIR_MAINNET_BELLATRIX, 8 }
+#define ALTAIR_MINIMAL_DENEB { ALTAIR_MINIMAL, ALTAIR_MAINNET_BELLATRIX, 4 }
+
 /* The five numbers that Electra adds to the settings of a network. */
 typedef struct altair_electra {
     uint64_t min_activation_balance;
@@ -836,6 +849,29 @@ altair_votes_answer altair_unknown_votes(altair_settings settings, const uint8_t
                                          altair_finality finality, const uint64_t *registry, size_t registry_length,
                                          const uint64_t *marks, size_t marks_length);
 
+/* -- Deneb's registry step and close ----------------------------------------------------------------------------- */
+
+/* closing holds the registry after queueing, ejecting and activating, and the pair after the step. As many are
+ * activated as the smaller of the churn limit and max_per_epoch_activation_churn_limit says; ejections go by the
+ * churn limit. Refused with 1, 2, 3, 8 or 5. After 1, 2, 3 or 8 closing is as it was, after 5 it holds the opening's
+ * numbers. */
+altair_queue_answer deneb_process_registry_updates(altair_deneb_rules rules, uint64_t state_slot,
+                                                   uint64_t finalized_epoch, altair_queue queue,
+                                                   const uint64_t *opening, size_t opening_length, uint64_t *closing,
+                                                   size_t closing_length);
+
+/* Closes by Deneb's rules: the closed record's finality and pair, which totals were raised and which test finalized.
+ * Closing buffers hold the closed record and amounts what each rule gave and took (enum altair_amount). There is no
+ * store: the rules are those of the record's epoch. closing_registry holds the registry. closing_slashings holds the
+ * slashings. Refused with 1, 2, 3, 8, 4 or 5. After 1, 2, 3 or 8 closing_registry, closing_slashings and amounts are
+ * as they were, after 4 or 5 closing buffers hold the opening's numbers, and amounts zeros. */
+altair_full_answer deneb_close(altair_deneb_rules rules, altair_finality finality, altair_queue queue,
+                               const uint64_t *registry, size_t registry_length, const uint64_t *slashings,
+                               size_t slashings_length, const uint8_t *roots, size_t roots_length,
+                               uint64_t *closing_registry, size_t closing_registry_length,
+                               uint64_t *closing_slashings, size_t closing_slashings_length, uint64_t *amounts,
+                               size_t amounts_length);
+
 /* -- Electra's steps --------------------------------------------------------------------------------------------- */
 
 /* closing holds the registry after one loop in register order: who is queued, who is ejected by balance, and who is
@@ -859,8 +895,9 @@ uint64_t electra_process_slashings(altair_electra_rules rules, uint64_t state_sl
  * the same key; it is below N + D, where D deposits are lent. At the front of the closing buffers stand the
  * validators with the new ones, their credentials, and the queue: the rest, and behind it those postponed; what
  * stands behind them stays. places is a list of D numbers to work in: it may hold anything, and holds anything
- * afterwards. Refused with 1, 2, 3 or 5. After 1, 2 and 3 the closing buffers hold what they held before; after 5 the
- * opening's numbers at their front, and behind them what they held. */
+ * afterwards. Lengths: closing_registry 10 * (N + D), closing_compounding N + D. Refused with 1, 2, 3 or 5. After 1,
+ * 2 or 3 closing_registry, closing_compounding and closing_deposits are as they were, after 5 they hold the opening's
+ * numbers at their front, and behind them what they held. */
 altair_deposits_answer electra_process_pending_deposits(altair_electra_rules rules, uint64_t state_slot,
                                                         uint64_t finalized_epoch, altair_deposit_numbers numbers,
                                                         const uint64_t *registry, size_t registry_length,
@@ -1012,6 +1049,19 @@ uint64_t altair_checked_process_slashings_reset(altair_settings settings, uint64
 
 uint64_t altair_checked_process_participation_flag_updates(const uint64_t *opening, size_t opening_length,
                                                            uint64_t *closing, size_t closing_length);
+
+altair_queue_answer altair_checked_deneb_process_registry_updates(altair_deneb_rules rules, uint64_t state_slot,
+                                                                  uint64_t finalized_epoch, altair_queue queue,
+                                                                  const uint64_t *opening, size_t opening_length,
+                                                                  uint64_t *closing, size_t closing_length);
+
+altair_full_answer altair_checked_deneb_close(altair_deneb_rules rules, altair_finality finality, altair_queue queue,
+                                              const uint64_t *registry, size_t registry_length,
+                                              const uint64_t *slashings, size_t slashings_length,
+                                              const uint8_t *roots, size_t roots_length, uint64_t *closing_registry,
+                                              size_t closing_registry_length, uint64_t *closing_slashings,
+                                              size_t closing_slashings_length, uint64_t *amounts,
+                                              size_t amounts_length);
 
 altair_exit_churn_answer altair_checked_electra_process_registry_updates(altair_electra_rules rules,
                                                                          uint64_t state_slot,
@@ -1239,6 +1289,18 @@ altair_fault altair_why_weigh_justification_and_finalization(altair_settings set
 altair_fault altair_why_unknown_votes(altair_settings settings, const uint8_t *roots, size_t roots_length,
                                       altair_finality finality, const uint64_t *registry, size_t registry_length,
                                       const uint64_t *marks, size_t marks_length);
+
+altair_fault altair_why_deneb_process_registry_updates(altair_deneb_rules rules, uint64_t state_slot,
+                                                       uint64_t finalized_epoch, altair_queue queue,
+                                                       const uint64_t *opening, size_t opening_length,
+                                                       uint64_t *closing, size_t closing_length);
+
+altair_fault altair_why_deneb_close(altair_deneb_rules rules, altair_finality finality, altair_queue queue,
+                                    const uint64_t *registry, size_t registry_length, const uint64_t *slashings,
+                                    size_t slashings_length, const uint8_t *roots, size_t roots_length,
+                                    uint64_t *closing_registry, size_t closing_registry_length,
+                                    uint64_t *closing_slashings, size_t closing_slashings_length, uint64_t *amounts,
+                                    size_t amounts_length);
 
 altair_fault altair_why_electra_process_registry_updates(altair_electra_rules rules, uint64_t state_slot,
                                                          uint64_t finalized_epoch, altair_exit_churn churn,

@@ -47,6 +47,7 @@ _Static_assert(sizeof(altair_read_answer) == 320, "altair_read_answer");
 _Static_assert(sizeof(altair_head) == 72, "altair_head");
 _Static_assert(sizeof(altair_line) == 56, "altair_line");
 _Static_assert(sizeof(altair_votes_answer) == 56, "altair_votes_answer");
+_Static_assert(sizeof(altair_deneb_rules) == 176, "altair_deneb_rules");
 _Static_assert(sizeof(altair_electra) == 40, "altair_electra");
 _Static_assert(sizeof(altair_electra_rules) == 208, "altair_electra_rules");
 _Static_assert(sizeof(altair_exit_churn) == 16, "altair_exit_churn");
@@ -199,6 +200,31 @@ uint64_t altair_checked_process_participation_flag_updates(const uint64_t *openi
     return altair_process_participation_flag_updates(opening, opening_length, closing, closing_length);
 }
 
+altair_queue_answer altair_checked_deneb_process_registry_updates(altair_deneb_rules rules, uint64_t state_slot,
+                                                                  uint64_t finalized_epoch, altair_queue queue,
+                                                                  const uint64_t *opening, size_t opening_length,
+                                                                  uint64_t *closing, size_t closing_length) {
+    if (!APART(READ(opening), WRITTEN(closing)))
+        return (altair_queue_answer){.refusal = ALTAIR_BAD_SHAPE, .queue = queue};
+    return deneb_process_registry_updates(rules, state_slot, finalized_epoch, queue, opening, opening_length, closing,
+                                          closing_length);
+}
+
+altair_full_answer altair_checked_deneb_close(altair_deneb_rules rules, altair_finality finality, altair_queue queue,
+                                              const uint64_t *registry, size_t registry_length,
+                                              const uint64_t *slashings, size_t slashings_length,
+                                              const uint8_t *roots, size_t roots_length, uint64_t *closing_registry,
+                                              size_t closing_registry_length, uint64_t *closing_slashings,
+                                              size_t closing_slashings_length, uint64_t *amounts,
+                                              size_t amounts_length) {
+    if (!APART(READ(registry), READ(slashings), READ(roots), WRITTEN(closing_registry), WRITTEN(closing_slashings),
+               WRITTEN(amounts)))
+        return (altair_full_answer){.refusal = ALTAIR_BAD_SHAPE, .finality = finality, .queue = queue};
+    return deneb_close(rules, finality, queue, registry, registry_length, slashings, slashings_length, roots,
+                       roots_length, closing_registry, closing_registry_length, closing_slashings,
+                       closing_slashings_length, amounts, amounts_length);
+}
+
 altair_exit_churn_answer altair_checked_electra_process_registry_updates(altair_electra_rules rules,
                                                                          uint64_t state_slot,
                                                                          uint64_t finalized_epoch,
@@ -292,9 +318,10 @@ altair_fault altair_why_close(const uint64_t *store, size_t store_length, uint64
           store[ALTAIR_ENTRY_SETTINGS + 2], "as many numbers as epochs_per_slashings_vector");
     FAULT((count > 0) && roots_length != 32 * store[ALTAIR_ENTRY_SETTINGS + 1], "roots",
           32 * store[ALTAIR_ENTRY_SETTINGS + 1], "32 bytes a root, as many as slots_per_historical_root");
-    FAULT(closing_registry_length != registry_length, "closing_registry", registry_length, "as many as registry has");
+    FAULT(closing_registry_length != registry_length, "closing_registry", registry_length,
+          "as many numbers as registry has");
     FAULT(closing_slashings_length != slashings_length, "closing_slashings", slashings_length,
-          "as many as slashings has");
+          "as many numbers as slashings has");
     FAULT(amounts_length != 9 * (registry_length / 10), "amounts", 9 * (registry_length / 10),
           "nine numbers a validator");
     return fine;
@@ -397,9 +424,9 @@ altair_fault altair_why_write_file(altair_settings settings, altair_finality fin
           "32 bytes a root, as many as slots_per_historical_root");
     FAULT(slashings_length != settings.epochs_per_slashings_vector, "slashings", settings.epochs_per_slashings_vector,
           "as many numbers as epochs_per_slashings_vector");
-    FAULT(file_length != ALTAIR_FILE_LENGTH((registry_length / 10), settings.slots_per_historical_root, settings.epochs_per_slashings_vector),
+    FAULT(file_length != 384 + 80 * (registry_length / 10) + 32 * settings.slots_per_historical_root + 8 * settings.epochs_per_slashings_vector,
           "file",
-          ALTAIR_FILE_LENGTH((registry_length / 10), settings.slots_per_historical_root, settings.epochs_per_slashings_vector),
+          384 + 80 * (registry_length / 10) + 32 * settings.slots_per_historical_root + 8 * settings.epochs_per_slashings_vector,
           "the bytes of the record's file");
     return fine;
 }
@@ -412,10 +439,10 @@ altair_fault altair_why_close_shelf(const uint8_t *files, size_t files_length, c
     (void)files; (void)closing; (void)opening_numbers; (void)closing_numbers; (void)answers; (void)fork;
     (void)bellatrix;
     FAULT(SUM(lengths) != files_length, "lengths", files_length, "lengths that add up to the bytes of files");
-    FAULT(closing_length != files_length, "closing", files_length, "as many as files has");
-    FAULT(8 * opening_numbers_length < LONGEST(lengths), "opening_numbers", (LONGEST(lengths) + 7) / 8,
+    FAULT(closing_length != files_length, "closing", files_length, "as many bytes as files has");
+    FAULT(opening_numbers_length < (LONGEST(lengths) + 7) / 8, "opening_numbers", (LONGEST(lengths) + 7) / 8,
           "as many bytes as the longest file");
-    FAULT(8 * closing_numbers_length < LONGEST(lengths), "closing_numbers", (LONGEST(lengths) + 7) / 8,
+    FAULT(closing_numbers_length < (LONGEST(lengths) + 7) / 8, "closing_numbers", (LONGEST(lengths) + 7) / 8,
           "as many bytes as the longest file");
     FAULT(answers_length != lengths_length, "answers", lengths_length, "as many numbers as lengths has");
     return fine;
@@ -442,9 +469,10 @@ altair_fault altair_why_close_step(uint64_t number, altair_running running, cons
           store[ALTAIR_ENTRY_SETTINGS + 2], "as many numbers as epochs_per_slashings_vector");
     FAULT((count > 0) && roots_length != 32 * store[ALTAIR_ENTRY_SETTINGS + 1], "roots",
           32 * store[ALTAIR_ENTRY_SETTINGS + 1], "32 bytes a root, as many as slots_per_historical_root");
-    FAULT(closing_registry_length != registry_length, "closing_registry", registry_length, "as many as registry has");
+    FAULT(closing_registry_length != registry_length, "closing_registry", registry_length,
+          "as many numbers as registry has");
     FAULT(closing_slashings_length != slashings_length, "closing_slashings", slashings_length,
-          "as many as slashings has");
+          "as many numbers as slashings has");
     FAULT(amounts_length != 9 * (registry_length / 10), "amounts", 9 * (registry_length / 10),
           "nine numbers a validator");
     return fine;
@@ -507,7 +535,7 @@ altair_fault altair_why_process_inactivity_updates(altair_settings settings, uin
     FAULT(opening_length % 10 != 0, "opening", opening_length / 10 * 10, "ten numbers a validator");
     FAULT(opening_length / 10 > ALTAIR_MOST_VALIDATORS, "opening", 10 * ALTAIR_MOST_VALIDATORS,
           "ten numbers a validator, of at most 2^24");
-    FAULT(closing_length != opening_length, "closing", opening_length, "as many as opening has");
+    FAULT(closing_length != opening_length, "closing", opening_length, "as many numbers as opening has");
     return fine;
 }
 
@@ -524,7 +552,7 @@ altair_fault altair_why_process_rewards_and_penalties(altair_rules rules, uint64
     FAULT(opening_length % 10 != 0, "opening", opening_length / 10 * 10, "ten numbers a validator");
     FAULT(opening_length / 10 > ALTAIR_MOST_VALIDATORS, "opening", 10 * ALTAIR_MOST_VALIDATORS,
           "ten numbers a validator, of at most 2^24");
-    FAULT(closing_length != opening_length, "closing", opening_length, "as many as opening has");
+    FAULT(closing_length != opening_length, "closing", opening_length, "as many numbers as opening has");
     return fine;
 }
 
@@ -540,7 +568,7 @@ altair_fault altair_why_process_registry_updates(altair_settings settings, uint6
     FAULT(opening_length % 10 != 0, "opening", opening_length / 10 * 10, "ten numbers a validator");
     FAULT(opening_length / 10 > ALTAIR_MOST_VALIDATORS, "opening", 10 * ALTAIR_MOST_VALIDATORS,
           "ten numbers a validator, of at most 2^24");
-    FAULT(closing_length != opening_length, "closing", opening_length, "as many as opening has");
+    FAULT(closing_length != opening_length, "closing", opening_length, "as many numbers as opening has");
     return fine;
 }
 
@@ -558,7 +586,7 @@ altair_fault altair_why_process_registry_updates_to(uint64_t stop, altair_settin
     FAULT(opening_length % 10 != 0, "opening", opening_length / 10 * 10, "ten numbers a validator");
     FAULT(opening_length / 10 > ALTAIR_MOST_VALIDATORS, "opening", 10 * ALTAIR_MOST_VALIDATORS,
           "ten numbers a validator, of at most 2^24");
-    FAULT(closing_length != opening_length, "closing", opening_length, "as many as opening has");
+    FAULT(closing_length != opening_length, "closing", opening_length, "as many numbers as opening has");
     return fine;
 }
 
@@ -576,7 +604,7 @@ altair_fault altair_why_process_slashings(altair_rules rules, uint64_t state_slo
     FAULT(opening_length % 10 != 0, "opening", opening_length / 10 * 10, "ten numbers a validator");
     FAULT(opening_length / 10 > ALTAIR_MOST_VALIDATORS, "opening", 10 * ALTAIR_MOST_VALIDATORS,
           "ten numbers a validator, of at most 2^24");
-    FAULT(closing_length != opening_length, "closing", opening_length, "as many as opening has");
+    FAULT(closing_length != opening_length, "closing", opening_length, "as many numbers as opening has");
     return fine;
 }
 
@@ -591,7 +619,7 @@ altair_fault altair_why_process_effective_balance_updates(altair_settings settin
     FAULT(opening_length % 10 != 0, "opening", opening_length / 10 * 10, "ten numbers a validator");
     FAULT(opening_length / 10 > ALTAIR_MOST_VALIDATORS, "opening", 10 * ALTAIR_MOST_VALIDATORS,
           "ten numbers a validator, of at most 2^24");
-    FAULT(closing_length != opening_length, "closing", opening_length, "as many as opening has");
+    FAULT(closing_length != opening_length, "closing", opening_length, "as many numbers as opening has");
     return fine;
 }
 
@@ -605,7 +633,7 @@ altair_fault altair_why_process_slashings_reset(altair_settings settings, uint64
           "epochs_per_slashings_vector from 1 to 65536");
     FAULT(opening_length != settings.epochs_per_slashings_vector, "opening", settings.epochs_per_slashings_vector,
           "as many numbers as epochs_per_slashings_vector");
-    FAULT(closing_length != opening_length, "closing", opening_length, "as many as opening has");
+    FAULT(closing_length != opening_length, "closing", opening_length, "as many numbers as opening has");
     return fine;
 }
 
@@ -615,7 +643,7 @@ altair_fault altair_why_process_participation_flag_updates(const uint64_t *openi
     FAULT(opening_length % 10 != 0, "opening", opening_length / 10 * 10, "ten numbers a validator");
     FAULT(opening_length / 10 > ALTAIR_MOST_VALIDATORS, "opening", 10 * ALTAIR_MOST_VALIDATORS,
           "ten numbers a validator, of at most 2^24");
-    FAULT(closing_length != opening_length, "closing", opening_length, "as many as opening has");
+    FAULT(closing_length != opening_length, "closing", opening_length, "as many numbers as opening has");
     return fine;
 }
 
@@ -926,15 +954,63 @@ altair_fault altair_why_unknown_votes(altair_settings settings, const uint8_t *r
     return fine;
 }
 
+altair_fault altair_why_deneb_process_registry_updates(altair_deneb_rules rules, uint64_t state_slot,
+                                                       uint64_t finalized_epoch, altair_queue queue,
+                                                       const uint64_t *opening, size_t opening_length,
+                                                       uint64_t *closing, size_t closing_length) {
+    (void)state_slot; (void)finalized_epoch; (void)queue; (void)opening; (void)closing;
+    FAULT(!VECTOR(rules.settings.slots_per_historical_root), "rules", ALTAIR_LONGEST_VECTOR,
+          "slots_per_historical_root from 1 to 65536");
+    FAULT(!VECTOR(rules.settings.epochs_per_slashings_vector), "rules", ALTAIR_LONGEST_VECTOR,
+          "epochs_per_slashings_vector from 1 to 65536");
+    FAULT(opening_length % 10 != 0, "opening", opening_length / 10 * 10, "ten numbers a validator");
+    FAULT(opening_length / 10 > ALTAIR_MOST_VALIDATORS, "opening", 10 * ALTAIR_MOST_VALIDATORS,
+          "ten numbers a validator, of at most 2^24");
+    FAULT(closing_length != opening_length, "closing", opening_length, "as many numbers as opening has");
+    return fine;
+}
+
+altair_fault altair_why_deneb_close(altair_deneb_rules rules, altair_finality finality, altair_queue queue,
+                                    const uint64_t *registry, size_t registry_length, const uint64_t *slashings,
+                                    size_t slashings_length, const uint8_t *roots, size_t roots_length,
+                                    uint64_t *closing_registry, size_t closing_registry_length,
+                                    uint64_t *closing_slashings, size_t closing_slashings_length, uint64_t *amounts,
+                                    size_t amounts_length) {
+    (void)finality; (void)queue; (void)registry; (void)slashings; (void)roots; (void)closing_registry;
+    (void)closing_slashings; (void)amounts;
+    FAULT(!VECTOR(rules.settings.slots_per_historical_root), "rules", ALTAIR_LONGEST_VECTOR,
+          "slots_per_historical_root from 1 to 65536");
+    FAULT(!VECTOR(rules.settings.epochs_per_slashings_vector), "rules", ALTAIR_LONGEST_VECTOR,
+          "epochs_per_slashings_vector from 1 to 65536");
+    FAULT(registry_length % 10 != 0, "registry", registry_length / 10 * 10, "ten numbers a validator");
+    FAULT(registry_length / 10 > ALTAIR_MOST_VALIDATORS, "registry", 10 * ALTAIR_MOST_VALIDATORS,
+          "ten numbers a validator, of at most 2^24");
+    FAULT(slashings_length != rules.settings.epochs_per_slashings_vector, "slashings",
+          rules.settings.epochs_per_slashings_vector, "as many numbers as epochs_per_slashings_vector");
+    FAULT(roots_length != 32 * rules.settings.slots_per_historical_root, "roots",
+          32 * rules.settings.slots_per_historical_root, "32 bytes a root, as many as slots_per_historical_root");
+    FAULT(closing_registry_length != registry_length, "closing_registry", registry_length,
+          "as many numbers as registry has");
+    FAULT(closing_slashings_length != slashings_length, "closing_slashings", slashings_length,
+          "as many numbers as slashings has");
+    FAULT(amounts_length != 9 * (registry_length / 10), "amounts", 9 * (registry_length / 10),
+          "nine numbers a validator");
+    return fine;
+}
+
 altair_fault altair_why_electra_process_registry_updates(altair_electra_rules rules, uint64_t state_slot,
                                                          uint64_t finalized_epoch, altair_exit_churn churn,
                                                          const uint64_t *opening, size_t opening_length,
                                                          uint64_t *closing, size_t closing_length) {
-    (void)rules; (void)state_slot; (void)finalized_epoch; (void)churn; (void)opening; (void)closing;
+    (void)state_slot; (void)finalized_epoch; (void)churn; (void)opening; (void)closing;
+    FAULT(!VECTOR(rules.settings.slots_per_historical_root), "rules", ALTAIR_LONGEST_VECTOR,
+          "slots_per_historical_root from 1 to 65536");
+    FAULT(!VECTOR(rules.settings.epochs_per_slashings_vector), "rules", ALTAIR_LONGEST_VECTOR,
+          "epochs_per_slashings_vector from 1 to 65536");
     FAULT(opening_length % 10 != 0, "opening", opening_length / 10 * 10, "ten numbers a validator");
     FAULT(opening_length / 10 > ALTAIR_MOST_VALIDATORS, "opening", 10 * ALTAIR_MOST_VALIDATORS,
           "ten numbers a validator, of at most 2^24");
-    FAULT(closing_length != opening_length, "closing", opening_length, "as many as opening has");
+    FAULT(closing_length != opening_length, "closing", opening_length, "as many numbers as opening has");
     return fine;
 }
 
@@ -943,12 +1019,16 @@ altair_fault altair_why_electra_process_slashings(altair_electra_rules rules, ui
                                                   const uint64_t *opening, size_t opening_length, uint64_t *closing,
                                                   size_t closing_length) {
     (void)state_slot; (void)slashings; (void)opening; (void)closing;
+    FAULT(!VECTOR(rules.settings.slots_per_historical_root), "rules", ALTAIR_LONGEST_VECTOR,
+          "slots_per_historical_root from 1 to 65536");
+    FAULT(!VECTOR(rules.settings.epochs_per_slashings_vector), "rules", ALTAIR_LONGEST_VECTOR,
+          "epochs_per_slashings_vector from 1 to 65536");
     FAULT(slashings_length != rules.settings.epochs_per_slashings_vector, "slashings",
           rules.settings.epochs_per_slashings_vector, "as many numbers as epochs_per_slashings_vector");
     FAULT(opening_length % 10 != 0, "opening", opening_length / 10 * 10, "ten numbers a validator");
     FAULT(opening_length / 10 > ALTAIR_MOST_VALIDATORS, "opening", 10 * ALTAIR_MOST_VALIDATORS,
           "ten numbers a validator, of at most 2^24");
-    FAULT(closing_length != opening_length, "closing", opening_length, "as many as opening has");
+    FAULT(closing_length != opening_length, "closing", opening_length, "as many numbers as opening has");
     return fine;
 }
 
@@ -962,21 +1042,29 @@ altair_fault altair_why_electra_process_pending_deposits(altair_electra_rules ru
                                                          size_t closing_compounding_length,
                                                          uint64_t *closing_deposits, size_t closing_deposits_length,
                                                          uint64_t *places, size_t places_length) {
-    (void)rules; (void)state_slot; (void)finalized_epoch; (void)numbers; (void)registry; (void)compounding;
-    (void)deposits; (void)closing_registry; (void)closing_compounding; (void)closing_deposits; (void)places;
+    (void)state_slot; (void)finalized_epoch; (void)numbers; (void)registry; (void)compounding; (void)closing_registry;
+    (void)closing_compounding; (void)closing_deposits; (void)places;
+    FAULT(!VECTOR(rules.settings.slots_per_historical_root), "rules", ALTAIR_LONGEST_VECTOR,
+          "slots_per_historical_root from 1 to 65536");
+    FAULT(!VECTOR(rules.settings.epochs_per_slashings_vector), "rules", ALTAIR_LONGEST_VECTOR,
+          "epochs_per_slashings_vector from 1 to 65536");
     FAULT(registry_length % 10 != 0, "registry", registry_length / 10 * 10, "ten numbers a validator");
     FAULT(registry_length / 10 > ALTAIR_MOST_VALIDATORS, "registry", 10 * ALTAIR_MOST_VALIDATORS,
           "ten numbers a validator, of at most 2^24");
     FAULT(compounding_length != (registry_length / 10), "compounding", (registry_length / 10),
           "a number a validator");
     FAULT(deposits_length % 5 != 0, "deposits", deposits_length / 5 * 5, "five numbers a deposit");
-    FAULT(closing_registry_length != 10 * ((registry_length / 10) + deposits_length / 5), "closing_registry",
-          10 * ((registry_length / 10) + deposits_length / 5), "ten numbers a validator and a deposit");
-    FAULT(closing_compounding_length != (registry_length / 10) + deposits_length / 5, "closing_compounding",
-          (registry_length / 10) + deposits_length / 5, "a number a validator and a deposit");
+    FAULT((deposits_length / 5) > ALTAIR_MOST_VALIDATORS, "deposits", 5 * ALTAIR_MOST_VALIDATORS,
+          "five numbers a deposit, of at most 2^24");
+    FAULT(REACHES(deposits, 5, 0, (registry_length / 10) + (deposits_length / 5)), "deposits",
+          (registry_length / 10) + (deposits_length / 5), "keys below the number of validators and deposits");
+    FAULT(closing_registry_length != 10 * ((registry_length / 10) + (deposits_length / 5)), "closing_registry",
+          10 * ((registry_length / 10) + (deposits_length / 5)), "ten numbers a validator and a deposit");
+    FAULT(closing_compounding_length != (registry_length / 10) + (deposits_length / 5), "closing_compounding",
+          (registry_length / 10) + (deposits_length / 5), "a number a validator and a deposit");
     FAULT(closing_deposits_length != deposits_length, "closing_deposits", deposits_length,
           "as many numbers as deposits has");
-    FAULT(places_length != deposits_length / 5, "places", deposits_length / 5, "a number a deposit");
+    FAULT(places_length != (deposits_length / 5), "places", (deposits_length / 5), "a number a deposit");
     return fine;
 }
 
@@ -988,14 +1076,22 @@ altair_fault altair_why_electra_process_pending_consolidations(altair_electra_ru
                                                                size_t closing_registry_length,
                                                                uint64_t *closing_consolidations,
                                                                size_t closing_consolidations_length) {
-    (void)rules; (void)state_slot; (void)registry; (void)consolidations; (void)closing_registry;
-    (void)closing_consolidations;
+    (void)state_slot; (void)registry; (void)closing_registry; (void)closing_consolidations;
+    FAULT(!VECTOR(rules.settings.slots_per_historical_root), "rules", ALTAIR_LONGEST_VECTOR,
+          "slots_per_historical_root from 1 to 65536");
+    FAULT(!VECTOR(rules.settings.epochs_per_slashings_vector), "rules", ALTAIR_LONGEST_VECTOR,
+          "epochs_per_slashings_vector from 1 to 65536");
     FAULT(registry_length % 10 != 0, "registry", registry_length / 10 * 10, "ten numbers a validator");
     FAULT(registry_length / 10 > ALTAIR_MOST_VALIDATORS, "registry", 10 * ALTAIR_MOST_VALIDATORS,
           "ten numbers a validator, of at most 2^24");
     FAULT(consolidations_length % 2 != 0, "consolidations", consolidations_length / 2 * 2,
           "two numbers a consolidation");
-    FAULT(closing_registry_length != registry_length, "closing_registry", registry_length, "as many as registry has");
+    FAULT((consolidations_length / 2) > ALTAIR_MOST_VALIDATORS, "consolidations", 2 * ALTAIR_MOST_VALIDATORS,
+          "two numbers a consolidation, of at most 2^24");
+    FAULT(REACHES(consolidations, 1, 0, (registry_length / 10)), "consolidations", (registry_length / 10),
+          "validators' numbers, below the number of validators");
+    FAULT(closing_registry_length != registry_length, "closing_registry", registry_length,
+          "as many numbers as registry has");
     FAULT(closing_consolidations_length != consolidations_length, "closing_consolidations", consolidations_length,
           "as many numbers as consolidations has");
     return fine;
@@ -1006,18 +1102,26 @@ altair_fault altair_why_electra_process_effective_balance_updates(altair_electra
                                                                   size_t compounding_length, const uint64_t *opening,
                                                                   size_t opening_length, uint64_t *closing,
                                                                   size_t closing_length) {
-    (void)rules; (void)compounding; (void)opening; (void)closing;
+    (void)compounding; (void)opening; (void)closing;
+    FAULT(!VECTOR(rules.settings.slots_per_historical_root), "rules", ALTAIR_LONGEST_VECTOR,
+          "slots_per_historical_root from 1 to 65536");
+    FAULT(!VECTOR(rules.settings.epochs_per_slashings_vector), "rules", ALTAIR_LONGEST_VECTOR,
+          "epochs_per_slashings_vector from 1 to 65536");
     FAULT(compounding_length != (opening_length / 10), "compounding", (opening_length / 10), "a number a validator");
     FAULT(opening_length % 10 != 0, "opening", opening_length / 10 * 10, "ten numbers a validator");
     FAULT(opening_length / 10 > ALTAIR_MOST_VALIDATORS, "opening", 10 * ALTAIR_MOST_VALIDATORS,
           "ten numbers a validator, of at most 2^24");
-    FAULT(closing_length != opening_length, "closing", opening_length, "as many as opening has");
+    FAULT(closing_length != opening_length, "closing", opening_length, "as many numbers as opening has");
     return fine;
 }
 
 altair_fault altair_why_electra_get_balance_churn_limit(altair_electra_rules rules, uint64_t state_slot,
                                                         const uint64_t *registry, size_t registry_length) {
-    (void)rules; (void)state_slot; (void)registry;
+    (void)state_slot; (void)registry;
+    FAULT(!VECTOR(rules.settings.slots_per_historical_root), "rules", ALTAIR_LONGEST_VECTOR,
+          "slots_per_historical_root from 1 to 65536");
+    FAULT(!VECTOR(rules.settings.epochs_per_slashings_vector), "rules", ALTAIR_LONGEST_VECTOR,
+          "epochs_per_slashings_vector from 1 to 65536");
     FAULT(registry_length % 10 != 0, "registry", registry_length / 10 * 10, "ten numbers a validator");
     FAULT(registry_length / 10 > ALTAIR_MOST_VALIDATORS, "registry", 10 * ALTAIR_MOST_VALIDATORS,
           "ten numbers a validator, of at most 2^24");
@@ -1026,7 +1130,11 @@ altair_fault altair_why_electra_get_balance_churn_limit(altair_electra_rules rul
 
 altair_fault altair_why_electra_get_activation_exit_churn_limit(altair_electra_rules rules, uint64_t state_slot,
                                                                 const uint64_t *registry, size_t registry_length) {
-    (void)rules; (void)state_slot; (void)registry;
+    (void)state_slot; (void)registry;
+    FAULT(!VECTOR(rules.settings.slots_per_historical_root), "rules", ALTAIR_LONGEST_VECTOR,
+          "slots_per_historical_root from 1 to 65536");
+    FAULT(!VECTOR(rules.settings.epochs_per_slashings_vector), "rules", ALTAIR_LONGEST_VECTOR,
+          "epochs_per_slashings_vector from 1 to 65536");
     FAULT(registry_length % 10 != 0, "registry", registry_length / 10 * 10, "ten numbers a validator");
     FAULT(registry_length / 10 > ALTAIR_MOST_VALIDATORS, "registry", 10 * ALTAIR_MOST_VALIDATORS,
           "ten numbers a validator, of at most 2^24");
@@ -1034,8 +1142,11 @@ altair_fault altair_why_electra_get_activation_exit_churn_limit(altair_electra_r
 }
 
 altair_fault altair_why_electra_get_max_effective_balance(altair_electra_rules rules, uint64_t compounding) {
-    (void)rules; (void)compounding;
-
+    (void)compounding;
+    FAULT(!VECTOR(rules.settings.slots_per_historical_root), "rules", ALTAIR_LONGEST_VECTOR,
+          "slots_per_historical_root from 1 to 65536");
+    FAULT(!VECTOR(rules.settings.epochs_per_slashings_vector), "rules", ALTAIR_LONGEST_VECTOR,
+          "epochs_per_slashings_vector from 1 to 65536");
     return fine;
 }
 
@@ -1043,7 +1154,11 @@ altair_fault altair_why_electra_compute_exit_epoch_and_update_churn(altair_elect
                                                                     altair_exit_churn churn, uint64_t exit_balance,
                                                                     const uint64_t *registry,
                                                                     size_t registry_length) {
-    (void)rules; (void)state_slot; (void)churn; (void)exit_balance; (void)registry;
+    (void)state_slot; (void)churn; (void)exit_balance; (void)registry;
+    FAULT(!VECTOR(rules.settings.slots_per_historical_root), "rules", ALTAIR_LONGEST_VECTOR,
+          "slots_per_historical_root from 1 to 65536");
+    FAULT(!VECTOR(rules.settings.epochs_per_slashings_vector), "rules", ALTAIR_LONGEST_VECTOR,
+          "epochs_per_slashings_vector from 1 to 65536");
     FAULT(registry_length % 10 != 0, "registry", registry_length / 10 * 10, "ten numbers a validator");
     FAULT(registry_length / 10 > ALTAIR_MOST_VALIDATORS, "registry", 10 * ALTAIR_MOST_VALIDATORS,
           "ten numbers a validator, of at most 2^24");
@@ -1053,7 +1168,11 @@ altair_fault altair_why_electra_compute_exit_epoch_and_update_churn(altair_elect
 altair_fault altair_why_electra_initiate_validator_exit(altair_electra_rules rules, uint64_t state_slot,
                                                         uint64_t index, altair_exit_churn churn, uint64_t *registry,
                                                         size_t registry_length) {
-    (void)rules; (void)state_slot; (void)churn; (void)registry;
+    (void)state_slot; (void)churn; (void)registry;
+    FAULT(!VECTOR(rules.settings.slots_per_historical_root), "rules", ALTAIR_LONGEST_VECTOR,
+          "slots_per_historical_root from 1 to 65536");
+    FAULT(!VECTOR(rules.settings.epochs_per_slashings_vector), "rules", ALTAIR_LONGEST_VECTOR,
+          "epochs_per_slashings_vector from 1 to 65536");
     FAULT(index >= (registry_length / 10), "index", (registry_length / 10),
           "a validator's number, below the number of validators");
     FAULT(registry_length % 10 != 0, "registry", registry_length / 10 * 10, "ten numbers a validator");

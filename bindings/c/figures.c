@@ -608,6 +608,55 @@ static void net_changes(void) {
     REFUSED(altair_net_change(UINT64_MAX, 0), 7);
 }
 
+/* how many of a list of validators have this number at this place */
+static uint64_t having(const uint64_t *registry, size_t count, size_t place, uint64_t number) {
+    uint64_t found = 0;
+    for (size_t i = 0; i < count; i++)
+        found += registry[10 * i + place] == number;
+    return found;
+}
+
+/* Deneb's limit of activations, document 03's figures: forty are active, of whom twenty leave, and twenty wait */
+static void deneb(void) {
+    enum { SIXTY = 600 };
+    altair_deneb_rules rules = ALTAIR_MAINNET_DENEB;
+    const altair_deneb_rules minimal = ALTAIR_MINIMAL_DENEB;
+    SAME(rules.max_per_epoch_activation_churn_limit, 8), SAME(minimal.max_per_epoch_activation_churn_limit, 4);
+    uint64_t sixty[SIXTY], closing[SIXTY], amounts[540], slashings[8192] = {0}, left[8192];
+    static uint8_t roots[32 * 8192];
+    const altair_queue none = {0, 0};
+    fill(sixty, 60);
+    for (size_t i = 0; i < 20; i++)
+        sixty[10 * i + ALTAIR_EFFECTIVE_BALANCE] = 16 * ETH, sixty[10 * i + ALTAIR_BALANCE] = 16 * ETH;
+    for (size_t i = 40; i < 60; i++)
+        sixty[10 * i + ALTAIR_ACTIVATION_ELIGIBILITY_EPOCH] = 1, sixty[10 * i + ALTAIR_ACTIVATION_EPOCH] = FAR;
+    /* a churn limit of 40 / 4 = 10: ten leave in an epoch, eight are activated */
+    rules.settings.churn_limit_quotient = 4;
+    altair_queue_answer step = deneb_process_registry_updates(rules, 127, 1, none, sixty, SIXTY, closing, SIXTY);
+    SAME(step.refusal, 0), SAME(step.queue.last_epoch, 9), SAME(step.queue.number, 10);
+    SAME(having(closing, 20, ALTAIR_EXIT_EPOCH, 8), 10), SAME(having(closing, 20, ALTAIR_EXIT_EPOCH, 9), 10);
+    SAME(having(closing + 400, 20, ALTAIR_ACTIVATION_EPOCH, 8), 8), SAME(closing[470 + ALTAIR_ACTIVATION_EPOCH], 8);
+    const altair_finality finality = {.slot = 127, .finalized_checkpoint = {.epoch = 1}};
+    altair_full_answer closed = deneb_close(rules, finality, none, sixty, SIXTY, slashings, 8192, roots, sizeof roots, closing, SIXTY,
+                                            left, 8192, amounts, 540);
+    SAME(closed.refusal, 0), SAME(closed.queue.number, 10);
+    SAME(having(closing + 400, 20, ALTAIR_ACTIVATION_EPOCH, 8), 8), SAME(having(closing + 400, 20, ALTAIR_ACTIVATION_EPOCH, FAR), 12);
+    for (size_t i = 0; i < 60; i++) {
+        const uint64_t *a = amounts + ALTAIR_AMOUNTS_LENGTH * i;
+        SAME(sixty[10 * i + ALTAIR_BALANCE] + a[0] - a[1] + a[2] - a[3] + a[4] - a[5] + a[6] - a[7] - a[8], closing[10 * i + ALTAIR_BALANCE]);
+    }
+    /* 0 lets nobody in; 2^48 is too large a setting */
+    rules.max_per_epoch_activation_churn_limit = 0;
+    SAME(deneb_process_registry_updates(rules, 127, 1, none, sixty, SIXTY, closing, SIXTY).queue.number, 10);
+    SAME(having(closing + 400, 20, ALTAIR_ACTIVATION_EPOCH, FAR), 20);
+    rules.max_per_epoch_activation_churn_limit = UINT64_C(1) << 48;
+    SAME(deneb_process_registry_updates(rules, 127, 1, none, sixty, SIXTY, closing, SIXTY).refusal, 2);
+    /* mainnet's quotient: a churn limit of 4, and four are activated */
+    rules = (altair_deneb_rules)ALTAIR_MAINNET_DENEB;
+    step = deneb_process_registry_updates(rules, 127, 1, none, sixty, SIXTY, closing, SIXTY);
+    SAME(step.queue.last_epoch, 12), SAME(step.queue.number, 4), SAME(having(closing + 400, 20, ALTAIR_ACTIVATION_EPOCH, 8), 4);
+}
+
 /* Electra's steps and helpers: mainnet, slot 127, the last of epoch 3 */
 static void electra(void) {
     const altair_electra_rules rules = {ALTAIR_MAINNET, ALTAIR_MAINNET_BELLATRIX, ALTAIR_MAINNET_ELECTRA};
@@ -691,6 +740,7 @@ int main(void) {
     by_steps();
     the_shelf();
     net_changes();
+    deneb();
     electra();
     waiting();
     in_c();

@@ -78,6 +78,11 @@ def refusal_comment(interface):
     return "\n".join([*text, *(" * " + line for line in interface.preamble.lines("after")), " */"])
 
 
+def preset_words(numbers, prefix):
+    """The words of a preset: a number, or the name of a preset of a struct within it."""
+    return [word if word.isdigit() else prefix + word for word in numbers.split()]
+
+
 def struct(interface, s):
     rows = []
     for name, kind in s.fields:
@@ -87,7 +92,7 @@ def struct(interface, s):
     presets = s.entry.under("preset")
     if presets:
         text += ["", comment(s.entry.get("presets") + " In braces.")]
-        text += [f"#define ALTAIR_{name} {{ {', '.join(numbers.split())} }}" for name, numbers in presets.items()]
+        text += [f"#define ALTAIR_{name} {{ {', '.join(preset_words(numbers, 'ALTAIR_'))} }}" for name, numbers in presets.items()]
     for entry in interface.entries:
         if entry.kind == "c_code" and entry.title == s.name:
             text += ["", *entry.lines("code")]
@@ -146,43 +151,57 @@ def checked_call(interface, function):
     return declared(interface, function, "altair_checked_", end=" {") + f"\n{body}\n}}"
 
 
-def meaning(function):
+def meaning(interface, function):
     """C for N, S, L and the like in a condition of the words."""
-    settings = "settings" if function.named("settings") else "rules.settings" if function.named("rules") else None
-    if function.named("store") and not function.named("rules"):
+    settings = interface.settings_of(function)
+    if function.named("store") and not settings:
         at = lambda place: f"store[ALTAIR_ENTRY_SETTINGS + {place}]"
         known, s, l, per = "(count > 0)", at(1), at(2), at(0)
     else:
         known, s, l = ("1" if settings else "0"), f"{settings}.slots_per_historical_root", f"{settings}.epochs_per_slashings_vector"
         per = f"{settings}.slots_per_epoch"
-    registry = next((a.name for a in function.buffers if a.role in ("registry", "lines")), "registry")
-    epoch = f"(state_slot / {per})"
-    return {"N": f"({registry}_length / 10)", "S": s, "L": l, "KNOWN": known, "EPOCH": epoch}, per
+    counts = {letter: f"({a.name}_length / {row})" for letter, (a, row) in interface.counted(function).items()}
+    return {**counts, "S": s, "L": l, "KNOWN": known, "EPOCH": f"(state_slot / {per})"}, per
+
+
+def handed_faults(interface, name, kind, entry):
+    """The faults of a value: of what a struct holds, and then its own."""
+    for field, inner in interface.structs[kind].fields if kind in interface.structs else []:
+        yield from handed_faults(interface, f"{name}.{field}", inner, interface.value_of(inner))
+    yield from (fault.replace("$", name) for fault in (entry.keys.get("fault", []) if entry else []))
 
 
 def conditions(interface, function):
     """What a call tests under 1: function calls that say it, or (argument, condition, number, words)."""
     own = {key[6:]: values for key, values in function.entry.keys.items() if key.startswith("fault ")}
+    asked = function.entry.under("ask")
     if own.get("running"):
         yield from (("running", *fault.split("; ")) for fault in own.pop("running"))
     for a in function.arguments:
-        ask = function.entry.under("ask").get(a.name)
-        entry = interface.roles.get(a.role) if a.lent else interface.value_role(a)
-        if ask:
-            yield ask,
-        elif entry and "ask" in entry.keys:
-            yield entry.get("ask").replace("$", a.name),
-        elif entry and not function.entry.under("ask"):
-            other = function.opening_of(a) if a.written else None
-            for fault in [] if other else entry.keys.get("fault", []):
-                yield (a.name, *fault.replace("$", a.name).split("; "))
-            if other and interface.roles[a.role].get("fault") and a.kind == other.kind:
-                yield a.name, f"{a.name}_length != {other.name}_length", f"{other.name}_length", f"as many as {other.name} has"
+        role = interface.roles[a.role] if a.lent else None
+        if a.name in asked or (role and "ask" in role.keys):
+            yield (asked.get(a.name) or role.get("ask").replace("$", a.name)),
+        elif not a.lent and not asked:
+            yield from ((a.name, *fault.split("; ")) for fault in handed_faults(interface, a.name, a.kind, interface.value_role(a)))
+        elif a.lent and not asked:
+            length = interface.length(function, a)
+            if not length or not a.written:
+                yield from ((a.name, *fault.replace("$", a.name).split("; ")) for fault in role.keys.get("fault", []))
+            if length:
+                called_for = in_c(interface, function, length)
+                known = "KNOWN && " if length.by_settings else ""
+                yield a.name, f"{known}{a.name}_length {'<' if length.least else '!='} {called_for}", called_for, length.words
         yield from ((a.name, *fault.split("; ")) for fault in own.get(a.name, []))
 
 
+def in_c(interface, function, length):
+    """A length in C, but for the letters S and L."""
+    others = {"S": "S", "L": "L", "LONGEST": lambda name: f"LONGEST({name})"}
+    return interface.worked_out(function, length.said, lambda a, row: f"({a.name}_length / {row})", lambda a: f"{a.name}_length", others)
+
+
 def why(interface, function):
-    known, per = meaning(function)
+    known, per = meaning(interface, function)
     rows = ["    if (running.done == 9)\n        return fine;"] if function.named("running") else []
     for fault in conditions(interface, function):
         if len(fault) == 1:

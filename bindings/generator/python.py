@@ -5,7 +5,7 @@ import re
 import textwrap
 
 from .c import filled, places
-from .read import promise
+from .read import promise, stop
 
 WIDTH = 132
 WRITTEN = "Written by bindings/generate from crates/exports and bindings/words."
@@ -123,18 +123,40 @@ def answer(interface, function):
 
 
 def buffer(interface, function, argument):
-    role = interface.roles[argument.role]
+    role, row = interface.roles[argument.role], interface.row(function, argument)
     name = "Bytes" if argument.kind == "u8" else "Numbers"
-    words = [f"row={role.get('row')}"] if role.get("row") else []
+    words = [f"row={row}"] if row and row != "1" else []
     if argument.changed:
         name = "Kept" if function.entry.get("python") == "hand" else "Changed"
     elif argument.written:
-        length, other = interface.length(function, argument), function.opening_of(argument)
-        words.append(f"written=lengths.{length}" if length and not (other and argument.name not in function.entry.under("length") and argument.role != "amounts")
-                     else f'written=as_long_as("{other.name}")')
-        words += ["blank=True"] if role.get("blank") else []
+        held = function.entry.under("python length").get(argument.name)
+        words.append(f"written=lengths.{held}" if held else f"written={in_python(interface, function, interface.length(function, argument))}")
+        words += ["blank=True"] if role.get("blank") or argument in function.front else []
         words += ["scratch=True"] if argument.role == "scratch" else []
     return f"{name}({', '.join(words)})"
+
+
+def in_python(interface, function, length):
+    """How long a buffer is made: as long as another, or a function of those that are lent."""
+    other = function.named(length.said)
+    if other:
+        return f'as_long_as("{other.name}")'
+    counted = interface.counted(function)
+    by = lambda role: next((a.name for a in function.buffers if a.role == role and not a.written), None)
+    known = {**{letter: (a.name, row) for letter, (a, row) in counted.items()}, "S": (by("roots"), 32), "L": (by("slashings"), 1)}
+    used = {}  # the parameters, and the buffer and row of each
+
+    def word(letter, name, row):
+        if not name:
+            stop(f"words: {function.name}: Python knows no {letter} without roots or slashings")
+        used[letter] = f'("{name}", {row})'
+        return letter
+
+    names = {name: word(name, *known[name]) for name in sorted(set(re.findall(r"\b[A-Z]\b", length.said)) & set(known))}
+    others = {**names, "LONGEST": lambda name: word("LONGEST", name, "longest")}
+    said = interface.worked_out(function, length.said.replace("/", "//"), lambda a, row: next(k for k, v in counted.items() if v == (a, row)),
+                                lambda a: word(a.name, a.name, 1), others)
+    return f"of(lambda {', '.join(used)}: {said}, {', '.join(used.values())})"
 
 
 def kinds(interface, function):
@@ -156,7 +178,8 @@ def signature(interface, function):
     said = function.entry.get("python gives")
     arguments = [f"{name}={kind}" for name, kind in kinds(interface, function)]
     words = [answer(interface, function), *([f"given={said}.given"] if said else []), *arguments]
-    return fitted(f'    "{function.short}": Signature(', words, "),")
+    head = f'    "{function.short}": Signature('
+    return fitted(head, words, "),") if len(head) < 50 else head + "\n" + fitted("        ", words, "),")
 
 
 def result_hint(interface, function):
@@ -219,6 +242,7 @@ def calls(interface):
              "from typing import Any, Optional, Sequence, Tuple, Union\n\nfrom . import _lengths as lengths\n"
              "from ._arguments import (CHANGED_STORE, FLAGS, NUMBER, ROOT, SIGNED, STORE, TRUTH, Bytes, Changed, Kept, Numbers, Octets,\n"
              "                         as_long_as, struct_of)\n"
+             "from ._lengths import longest, of\n"
              "from ._signatures import CODE, ITSELF, PROMISES, SIGNATURES, TOLD, Answer, Signature, buffers, call, pair_of\n"
              + fitted("from ._types import (", [*tuples, "Buffer", "BytesLike", "NumbersLike", "StoreLike"], ")"),
              "SIGNATURES.update({\n" + "\n".join(table) + "\n})",

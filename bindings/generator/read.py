@@ -96,6 +96,18 @@ class Argument:
         self.role = self.changed = None
 
 
+class Length:
+    """How long a buffer must be: `said` of the words, over how many elements or rows other arguments have; `least` where longer will do."""
+
+    def __init__(self, said, words):
+        self.least = said.startswith("at least ")
+        self.said, self.words = re.sub("^at least ", "", said), words
+
+    @property
+    def by_settings(self):
+        return bool(re.search(r"\b[SL]\b", self.said))
+
+
 class Function:
     def __init__(self, name, arguments, answer, entry):
         self.name, self.arguments, self.answer, self.entry = name, arguments, answer, entry
@@ -117,6 +129,11 @@ class Function:
         other = self.entry.under("as").get(argument.name) or {"closing": "opening"}.get(argument.name, argument.name.replace("closing_", ""))
         found = self.named(other)
         return found if found is not argument else None
+
+    @property
+    def front(self):
+        """Those of which an accepted call writes the front, and leaves what stands behind it."""
+        return [self.named(name) for name in self.entry.get("front").split()]
 
     @property
     def buffers(self):
@@ -156,7 +173,17 @@ class Interface:
             if entry.title not in self.structs:
                 stop(f"words: there is no #[repr(C)] struct {entry.title} in crates")
             self.structs[entry.title].entry = entry
-        self.used = [self.structs[entry.title] for entry in entries]
+        self.used = []
+
+        def use(struct):  # behind those that it holds, whatever file each stands in
+            if struct not in self.used:
+                for _, kind in struct.fields:
+                    if kind in self.structs and self.structs[kind].entry:
+                        use(self.structs[kind])
+                self.used.append(struct)
+
+        for entry in entries:
+            use(self.structs[entry.title])
 
     def read_functions(self, entries):
         source = "\n".join(path.read_text() for path in sorted((ROOT / "crates/exports/src").glob("**/*.rt")))
@@ -191,8 +218,8 @@ class Interface:
                 argument.role = named.get(argument.name) or self.role_names.get(argument.name, "numbers")
                 if argument.role not in self.roles:
                     stop(f"words: {function.name}: there is no role {argument.role}")
-                if argument.written and not argument.changed and not self.length(function, argument) and not function.opening_of(argument):
-                    stop(f"words: {function.name}: `as {argument.name}: OTHER` says how long it is, or `changes: {argument.name}`")
+                if argument.written and not argument.changed and not self.length(function, argument) and not function.entry.under("python length"):
+                    stop(f"words: {function.name}: `length {argument.name}: NUMBER; WORDS` says how long it is, or `as {argument.name}: OTHER`")
             else:
                 argument.role = named.get(argument.name, argument.name)
 
@@ -202,7 +229,11 @@ class Interface:
         named = self.values.get(argument.role)
         if named and named.get("of") == wanted:
             return named
-        return next((entry for entry in self.values.values() if wanted and entry.get("of") == wanted), None)
+        return self.value_of(wanted)
+
+    def value_of(self, kind):
+        """The entry of a type."""
+        return next((entry for entry in self.values.values() if kind in self.structs and entry.get("of") == kind), None)
 
     def beside(self, function):
         """What a refused call answers beside the number, field by field: C of its arguments, for those that are not 0."""
@@ -212,10 +243,65 @@ class Interface:
         handed_in = {a.kind: a.name for a in function.arguments if a.kind in self.structs}
         found = {name: handed_in[kind] for name, kind in answer.values if kind in handed_in}
         found.update({**answer.entry.under("beside"), **function.entry.under("beside")})
+        for letter, (argument, row) in self.counted(function).items():
+            found = {name: re.sub(rf"\b{letter}\b", f"{argument.name}_length / {row}", said) for name, said in found.items()}
         return {name: found[name] for name, _ in answer.values if name in found}
 
     def length(self, function, argument):
-        return function.entry.under("length").get(argument.name) or self.roles[argument.role].get("length")
+        """The Length that a buffer must have, or None where it may have any, or as many as its role's faults say."""
+        named = argument.name in function.entry.under("length")
+        said = function.entry.under("length").get(argument.name)
+        other = function.opening_of(argument) if argument.written else None
+        if not said and other:
+            return Length(other.name, f"as many {'bytes' if other.kind == 'u8' else 'numbers'} as {other.name} has")
+        said = said or self.roles[argument.role].get("length")
+        if not said:
+            return None
+        length, _, words = said.partition("; ")
+        if not words:
+            stop(f"words: {function.name if named else 'role ' + argument.role}: a length is `NUMBER; WORDS`, not {said}")
+        return Length(length, words)
+
+    def counted(self, function):
+        """The letters of a length that count rows: the first buffer of each, and the elements of a row."""
+        found = {}
+        for a in function.buffers:
+            letter = self.roles[a.role].get("count")
+            if letter:
+                found.setdefault(letter, (a, int(self.row(function, a))))
+        return found
+
+    def row(self, function, argument):
+        return function.entry.under("row").get(argument.name) or self.roles[argument.role].get("row")
+
+    def worked_out(self, function, said, rows, elements, others):
+        """A length in a language: `rows(argument, row)` and `elements(argument)` say how many there are, `others` are its further words."""
+        counted = self.counted(function)
+
+        def word(found):
+            name, inner = found[1], found[2]
+            if inner:
+                return others[name](inner) if name in others else stop(f"words: {function.name}: there is no {name} in a length")
+            if name in counted:
+                return rows(*counted[name])
+            if name in others:
+                return others[name]
+            if not function.named(name) or not function.named(name).lent:
+                stop(f"words: {function.name}: {name} of a length is no buffer that is lent")
+            return elements(function.named(name))
+
+        return re.sub(r"\b([A-Za-z_]\w*)\b(?:\((\w+)\))?", word, said)
+
+    def settings_of(self, function):
+        """C for the settings that a call is handed, by themselves or within a struct, or None."""
+
+        def within(name, kind):
+            if kind == "Settings":
+                return name
+            fields = self.structs[kind].fields if kind in self.structs and kind != "Running" else []
+            return next(filter(None, (within(f"{name}.{field}", inner) for field, inner in fields)), None)
+
+        return next(filter(None, (within(a.name, a.kind) for a in function.arguments if not a.lent)), None)
 
     def reached(self):
         """The names of every struct that a function takes or answers."""
@@ -252,11 +338,15 @@ def leaves(function):
     written = [a for a in function.written if a.role != "scratch"]
     late = [n for n in function.refuses if n in (4, 5) and not any(a.changed for a in written)]
     early = [n for n in function.refuses if n not in late]
-    several = len(written) > 1
+    several, amounts = len(written) > 1, any(a.role == "amounts" for a in written)
     held = f"{spoken([a.name for a in written], 'and')} {'are as they were' if several else 'is as it was'}"
     if not late:
         return f"After a refusal {held}."
-    return f"After {spoken(early)} {held}, after {spoken(late)} {'they hold' if several else 'it holds'} the opening's numbers."
+    holds = "closing buffers hold" if amounts else "they hold" if several else "it holds"
+    room = any(a.name in function.entry.under("length") for a in function.front)
+    behind = " at their front, and behind them what they held" if room else ""
+    zeros = ", and amounts zeros" if amounts else ""
+    return f"After {spoken(early)} {held}, after {spoken(late)} {holds} the opening's numbers{behind}{zeros}."
 
 
 NOUNS = {"registry": "the registry", "slashings": "the slashings", "file": "the file", "validator": "the ten numbers"}
@@ -266,9 +356,12 @@ def promise(function, lent=True):
     """The paragraph that every language prints of a call; where the caller lends what is written, what that holds."""
     text = function.entry.get("text")
     unsaid = [a for a in function.written if not re.search(rf"\b{a.name}\b", text)]
-    holds = [f"{a.name} holds {NOUNS.get(a.role, 'the numbers')}" for a in unsaid if lent and a.role != "scratch" and not function.entry.get("leaves")]
+    holds = [f"{a.name} holds {NOUNS[a.role]}" for a in unsaid if lent and a.role in NOUNS and a not in function.front and not function.entry.get("leaves")]
     if len(holds) == 1 and f"{unsaid[0].name} holds {text[0].lower()}{text[1:]}".startswith(holds[0]):
         text, holds = f"{unsaid[0].name} holds {text[0].lower()}{text[1:]}", []
     holds = [said + "." for said in holds]
+    long = function.entry.under("length")
+    long = [f"{a.name} {long[a.name].split('; ')[0]}" for a in function.written if lent and a.name in long and (a in unsaid or a in function.front)]
+    holds += ["Lengths: " + ", ".join(long) + "."] if long else []
     refused = f"Refused with {spoken(function.refuses)}." if function.refuses else "It refuses nothing."
     return " ".join(" ".join([text, *holds, refused, leaves(function)]).split())

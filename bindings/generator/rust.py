@@ -11,7 +11,8 @@ WRITTEN = "// Written by bindings/generate from crates/exports and bindings/word
 
 def doc(text, indent="", mark="///"):
     text = re.sub(r"\baltair_(\w+)\b(?!\.h)", r"\1", text.replace("ALTAIR_", ""))
-    return "\n".join(f"{indent}{mark} {line}" for line in textwrap.wrap(text, WIDTH - len(indent) - 4))
+    text = re.sub(r" ([-+*]) ", "\u00a0\\1\u00a0", text)  # a line that begins with one would be an item of a list
+    return "\n".join(f"{indent}{mark} {line}" for line in textwrap.wrap(text, WIDTH - len(indent) - 4)).replace("\u00a0", " ")
 
 
 def kind_of(interface, kind):
@@ -104,6 +105,17 @@ def as_numbers(struct):
                       braced(struct.camel, names, "        "), "    }", "}"])
 
 
+def preset_name(struct, name):
+    """MAINNET of MAINNET_DENEB: the struct stands before it."""
+    return re.sub(f"_{re.sub('Rules$', '', struct.name).upper()}$", "", name)
+
+
+def preset_value(interface, kind, word):
+    """A number, or the preset of a struct within it."""
+    inner = interface.structs.get(kind)
+    return f"{inner.camel}::{preset_name(inner, word)}" if inner else f"{int(word):_}"
+
+
 def types(interface):
     parts = ["//! What goes in and comes back by value.\n" + WRITTEN.rstrip()]
     for constant in interface.constants:
@@ -132,10 +144,9 @@ def types(interface):
             if presets:
                 rows = []
                 for name, numbers in presets.items():
-                    short = re.sub(f"_{s.name.upper()}$", "", name)
-                    values = [f"{field}: {int(n):_}" for (field, _), n in zip(s.fields, numbers.split())]
+                    values = [f"{field}: {preset_value(interface, kind, word)}" for (field, kind), word in zip(s.fields, numbers.split())]
                     rows.append(doc(s.entry.get("presets"), "    "))
-                    rows.append(braced(f"pub const {short}: {s.camel} = {s.camel}", values, "    ", ";"))
+                    rows.append(braced(f"pub const {preset_name(s, name)}: {s.camel} = {s.camel}", values, "    ", ";"))
                 parts.append(f"impl {s.camel} {{\n" + "\n".join(rows) + "\n}")
         if s.answers and len(s.values) > 1 or given_name(s):
             gives(interface, s)
@@ -255,7 +266,7 @@ def calls(interface):
     answers = sorted(kind_of(interface, f.answer) for f in interface.functions if f.entry.get("rust") == "hand" and f.answer in interface.structs)
     from_raw = sorted({name for name in answers if name not in public})
     names = sorted(name for name in (used | set(answers)) & public if name)
-    parts = ["//! The calls, each lent slices: what goes in stays, and what is `&mut` is written. A closing slice is as long as its opening.\n" + WRITTEN.rstrip(),
+    parts = ["//! The calls, each lent slices: what goes in stays, and what is `&mut` is written. A closing slice is as long as its opening, or as its call says.\n" + WRITTEN.rstrip(),
              "use crate::close::pair_of;\nuse crate::fault::{asked, call, Fault};\n" + fitted("use crate::raw::{", ["self", *from_raw], "};")
              + "\nuse crate::refusal::Refusal;\n" + used_names("use crate::types::{", names) + "\nuse crate::votes::Votes;"]
     hand = [f for f in interface.functions if f.entry.get("rust") == "hand"]

@@ -1,10 +1,11 @@
 #!/usr/bin/env python3
-"""What a close costs from Python, beside the C function on the same buffers: bindings/python/benchmark.py [VALIDATORS] [ROUNDS]
+"""What a close costs from Python, beside the C function: bindings/python/benchmark.py [VALIDATORS] [ROUNDS]
 
-The rounds alternate, so that what disturbs one disturbs all; the least of each is compared. How new memory comes to a process differs from
-one to the next, so that where a call costs more than 1.3 times the C close another process tries, five in all. It exits with 1 where each
-found it so."""
-import os
+A close into buffers that are lent is held to the C function on the same buffers. One that makes its buffers is held to the C function with
+three of malloc's that are freed behind it, as a C program would: memory that is new costs both the same. The rounds alternate, so that what
+disturbs one disturbs all, their number is fixed, and the least of each is compared. It exits with 1 where a call costs more than 1.3 times
+what it is held to."""
+import ctypes
 import sys
 import time
 from array import array
@@ -13,7 +14,7 @@ import altair_close
 from altair_close import FAR_FUTURE_EPOCH, MAINNET, Checkpoint, ExitQueue, Finality, _signatures
 
 LIMIT = 1.3
-TRIES = 5  # processes
+LENT, NEW = "the C function, lent buffers", "the C function, new buffers"
 
 
 def record(validators):
@@ -28,31 +29,41 @@ def record(validators):
 
 
 def least(rounds, calls):
-    """The least time of each call in milliseconds, the C function's first. Where a round was disturbed, up to ten times as many
-    follow: a call that costs more stays above the limit."""
+    """The least time of each call in milliseconds."""
     times = dict.fromkeys(calls, float("inf"))
-    for round_ in range(10 * rounds):
-        for name, call in calls.items():
+    for _ in range(rounds):
+        for name, (call, _) in calls.items():
             began = time.perf_counter()
             call()
             times[name] = min(times[name], 1000 * (time.perf_counter() - began))
-        if round_ + 1 >= rounds and max(times.values()) <= LIMIT * next(iter(times.values())):
-            break
     return times
 
 
 def calls(opening):
+    """Each call, and the one that it is held to."""
     settings, finality, queue, registry, slashings, roots = opening
     out = array("Q", bytes(8 * len(registry))), array("Q", bytes(8 * 8192)), array("Q", bytes(72 * (len(registry) // 10)))
     lent = {}
     words = _signatures.lend("close", (*opening, *out), lent)
     close = _signatures.function("close")
     rows = memoryview(registry).cast("B").cast("Q", shape=[len(registry) // 10, 10])
+    libc = ctypes.CDLL(None)
+    libc.malloc.restype, libc.malloc.argtypes, libc.free.restype, libc.free.argtypes = ctypes.c_void_p, [ctypes.c_size_t], None, [ctypes.c_void_p]
+    read, lengths = words[:-6], words[-5::2]
+
+    def new():
+        made = [libc.malloc(8 * length) for length in lengths]
+        refusal = close(*read, *(word for pair in zip(made, lengths) for word in pair)).word0
+        for buffer in made:
+            libc.free(buffer)
+        return refusal
+
     made = {
-        "the C function": lambda: (close(*words).word0, lent)[0],  # what is lent stays where it is
-        "close, with out": lambda: altair_close.close(*opening, out=out),
-        "close, new buffers": lambda: altair_close.close(*opening),
-        "close, a memoryview of two dimensions": lambda: altair_close.close(settings, finality, queue, rows, slashings, roots, out=out),
+        LENT: (lambda: (close(*words).word0, lent)[0], LENT),  # what is lent stays where it is
+        NEW: (new, NEW),
+        "close, with out": (lambda: altair_close.close(*opening, out=out), LENT),
+        "close, new buffers": (lambda: altair_close.close(*opening), NEW),
+        "close, a memoryview of two dimensions": (lambda: altair_close.close(settings, finality, queue, rows, slashings, roots, out=out), LENT),
     }
     try:
         import numpy
@@ -60,23 +71,21 @@ def calls(opening):
         return made
     table = numpy.frombuffer(registry, dtype=numpy.uint64).reshape(-1, 10)
     room = numpy.zeros_like(table), numpy.zeros(8192, dtype=numpy.uint64), numpy.zeros((len(table), 9), dtype=numpy.uint64)
-    made["close, numpy"] = lambda: altair_close.close(settings, finality, queue, table, slashings, roots, out=room)
+    made["close, numpy"] = lambda: altair_close.close(settings, finality, queue, table, slashings, roots, out=room), LENT
     return made
 
 
-def main(validators=100000, rounds=40):
+def main(validators=100000, rounds=100):
     made = calls(record(validators))
-    assert made["the C function"]() == 0, "the record is closed"
+    assert made[LENT][0]() == made[NEW][0]() == 0, "the record is closed"
     found = least(rounds, made)
-    alone = found["the C function"]
+    over = False
     for name, milliseconds in found.items():
-        print(f"{name:40} {milliseconds:8.3f} ms  {milliseconds / alone:5.2f}", flush=True)
-    return max(found.values()) > LIMIT * alone
+        ratio = milliseconds / found[made[name][1]]
+        over = over or ratio > LIMIT
+        print(f"{name:40} {milliseconds:8.3f} ms  {ratio:5.2f}", flush=True)
+    return over
 
 
 if __name__ == "__main__":
-    over = main(*map(int, sys.argv[1:3]))
-    tried = int(os.environ.get("ALTAIR_TRIED", "1"))
-    if over and tried < TRIES:
-        os.execve(sys.executable, [sys.executable, "-B", *sys.argv], {**os.environ, "ALTAIR_TRIED": str(tried + 1)})
-    sys.exit(over)
+    sys.exit(main(*map(int, sys.argv[1:3])))

@@ -42,9 +42,10 @@ static bool is_queue_of(altair_queue q, const uint64_t *registry, size_t validat
     return q.last_epoch == right.last_epoch && q.number == right.number;
 }
 
-static bool good_marks(buffer marks) {
-    for (size_t i = 0; i < marks.length; i++)
-        if (((const uint64_t *)marks.at)[i] > 3)
+/* whether the numbers from a place on, one a row, are at most this */
+static bool at_most(buffer list, size_t row, size_t place, uint64_t most) {
+    for (size_t i = place; i < list.length; i += row)
+        if (((const uint64_t *)list.at)[i] > most)
             return false;
     return true;
 }
@@ -53,6 +54,14 @@ static bool good_pair(uint64_t fork, altair_bellatrix pair) {
     return fork != 1 || (pair.inactivity_penalty_quotient_bellatrix != 0 &&
                          is_small(pair.inactivity_penalty_quotient_bellatrix) &&
                          is_small(pair.proportional_slashing_multiplier_bellatrix));
+}
+
+/* Electra's five, beside settings that are good */
+static bool good_electra(const altair_electra_rules *r) {
+    const altair_electra e = r->electra;
+    return is_small(e.min_activation_balance) && is_small(e.max_effective_balance_electra) && is_small(e.min_per_epoch_churn_limit_electra) &&
+           is_small(e.max_per_epoch_activation_exit_churn_limit) && is_small(e.max_pending_deposits_per_epoch) &&
+           e.min_per_epoch_churn_limit_electra >= r->settings.effective_balance_increment && e.max_per_epoch_activation_exit_churn_limit != 0;
 }
 
 /* -- A store */
@@ -163,46 +172,41 @@ uint64_t expected_position(const lent *c) {
 
 static bool tests(const row *row, char letter) { return strchr(row->tests, letter) != NULL; }
 
-/* a store without entries: what a setting calls for is not asked */
-static bool by_no_entry(const lent *c) { return c->by_store && c->count == 0; }
-
-/* the buffer of a letter among those that are read */
-static buffer read_as(char letter, const row *row, const lent *c) { return c->in[strchr(row->lends, letter) - row->lends]; }
-
-static bool shaped(char letter, buffer b, const row *row, const lent *c, size_t validators) {
+/* what test 1 asks of a buffer besides the length that the table calls for */
+static bool shaped(char letter, buffer b, const lent *c, size_t validators) {
     switch (letter) {
     case 'R':
     case 'r':
     case 'P':
         return b.length % 10 == 0 && b.length / 10 <= ALTAIR_MOST_VALIDATORS;
-    case 'V':
-    case 'v':
-        return b.length == 10;
-    case 'S':
-        return by_no_entry(c) || b.length == c->s.epochs_per_slashings_vector;
-    case 'B':
-        return by_no_entry(c) || b.length == 32 * c->s.slots_per_historical_root;
     case 'T':
     case 'u':
         return shaped_store(b, c->count);
-    case 's': /* the record so far is as long as the opening */
-        return b.length == read_as('S', row, c).length;
-    case 'a':
-        return b.length == ALTAIR_AMOUNTS_LENGTH * validators;
     case 'O':
     case 'o':
         return b.length % 2 == 0 && c->running.orders <= b.length / 2;
-    case 'm':
-        return b.length == read_as('O', row, c).length / 2;
-    case 'F':
-        return b.length ==
-               ALTAIR_FILE_LENGTH(validators, c->s.slots_per_historical_root, c->s.epochs_per_slashings_vector);
+    case 'D': /* a key is a validator's, or one of at most as many as there are deposits */
+        return b.length % 5 == 0 && b.length / 5 <= ALTAIR_MOST_VALIDATORS &&
+               (b.length == 0 || at_most(b, 5, ALTAIR_DEPOSIT_PUBKEY, validators + b.length / 5 - 1));
+    case 'E': /* a source or target is a validator's */
+        return b.length % 2 == 0 && b.length / 2 <= ALTAIR_MOST_VALIDATORS && (b.length == 0 || (validators > 0 && at_most(b, 1, 0, validators - 1)));
+    default:
+        return true;
+    }
+}
+
+/* what test 3 asks of a buffer's numbers, the registry's own aside */
+static bool recorded(char letter, buffer b) {
+    switch (letter) {
     case 'M':
-        return b.length == validators;
-    case 'A':
-        return b.length == ALTAIR_AMOUNTS_LENGTH * validators;
-    default: /* Q */
-        return b.length == c->in[0].length;
+        return at_most(b, 1, 0, 3);
+    case 'K':
+        return at_most(b, 1, 0, 1);
+    case 'D':
+        return at_most(b, 5, ALTAIR_DEPOSIT_COMPOUNDING, 1) && at_most(b, 5, ALTAIR_DEPOSIT_SLOT, ALTAIR_NUMBER_LIMIT - 1) &&
+               at_most(b, 5, ALTAIR_DEPOSIT_VALID, 1);
+    default:
+        return true;
     }
 }
 
@@ -236,7 +240,7 @@ uint64_t expected(const row *row, const lent *c) {
         (tests(row, 'p') && (c->running.done < 1 || c->running.done > 8)))
         return 1;
     if (tests(row, 'p'))
-        return !shaped('o', c->out[0], row, c, 0) ? 1 : c->running.orders == c->out[0].length / 2 ? 11 : 0;
+        return !shaped('o', c->out[0], c, 0) ? 1 : c->running.orders == c->out[0].length / 2 ? 11 : 0;
     if (tests(row, 'c') && c->clock.seconds_per_slot == 0)
         return 15;
     if (row->lends[0] == 'F')
@@ -260,15 +264,12 @@ uint64_t expected(const row *row, const lent *c) {
 
     if (tests(row, 's'))
         good = is_vector(c->s.slots_per_historical_root) && is_vector(c->s.epochs_per_slashings_vector);
-    for (size_t i = 0; i < reads; i++)
-        good = good && shaped(read[i], c->in[i], row, c, validators);
-    for (size_t i = 0; i < writes; i++)
-        if (row->opening[i] >= 0 && strchr("RS", written[i]) != NULL)
-            good = good && c->out[i].length == c->in[row->opening[i]].length;
-        else
-            good = good && shaped(written[i], c->out[i], row, c, validators);
-    if (tests(row, 'j'))
-        good = good && c->out[0].length == read_as('R', row, c).length;
+    called_for lengths[READS + WRITES];
+    row->lengths(c, lengths);
+    for (size_t i = 0; i < reads + writes; i++) {
+        const buffer b = i < reads ? c->in[i] : c->out[i - reads];
+        good = good && as_called_for(lengths[i], b) && shaped(i < reads ? read[i] : written[i - reads], b, c, validators);
+    }
     if (!good || (tests(row, 'i') && c->index >= validators) || (tests(row, 'o') && c->index > validators) ||
         (tests(row, 'g') && c->flag_index > 2) || (tests(row, 'G') && c->flag_index > 7) ||
         (tests(row, 'd') && c->totals[0] == 0) || (tests(row, 'e') && !participation_epoch(c)) ||
@@ -280,6 +281,10 @@ uint64_t expected(const row *row, const lent *c) {
     if (tests(row, 's') && !good_settings(&c->s))
         return 2;
     if (tests(row, 'k') && !good_pair(c->rules.fork, c->rules.bellatrix))
+        return 2;
+    if ((tests(row, 'B') && !good_pair(1, c->rules.bellatrix)) || (tests(row, 'm') && !is_small(c->activation_churn)))
+        return 2;
+    if (tests(row, 'b') && !(good_pair(1, c->electra.bellatrix) && good_electra(&c->electra)))
         return 2;
     if (tests(row, 'y') && !is_small(c->number))
         return 2;
@@ -301,8 +306,9 @@ uint64_t expected(const row *row, const lent *c) {
         (tests(row, 'f') && !good_finality(&f)) || (whole && first_bad(registry.at, validators) != 10 * validators))
         return 3;
     for (size_t i = 0; i < reads; i++)
-        if ((read[i] == 'M' && !good_marks(c->in[i])) ||
-            (tests(row, 'l') && first_bad((const uint64_t *)c->in[i].at + 10 * c->index, 1) != 10))
+        if (!recorded(read[i], c->in[i]) || (tests(row, 'l') && first_bad((const uint64_t *)c->in[i].at + 10 * c->index, 1) != 10))
             return 3;
+    if (tests(row, 'h') && c->number > 1)
+        return 3;
     return tests(row, 'q') && !is_queue_of(queue, registry.at, validators) ? 8 : 0;
 }

@@ -61,17 +61,26 @@ uint64_t number_at(const uint8_t *bytes);
 typedef struct lent {
     altair_settings s;
     altair_rules rules;
-    altair_electra electra; /* with these settings */
+    altair_electra_rules electra; /* with these settings and this pair */
+    altair_exit_churn churn;
+    altair_deposit_numbers deposits;
     altair_finality f;
     altair_queue queue;
     altair_running running; /* with this finality and pair, or nearly so */
     altair_clock clock;
+    uint64_t activation_churn; /* Deneb's */
     uint64_t slot, finalized, epoch, number, flag_index, index, count, totals[3];
     uint8_t flags;
     bool by_store; /* what is lent first is a store, with entries of the record's settings or nearly so */
     uint64_t any[64]; /* of a struct that has no model */
     buffer in[READS], out[WRITES];
 } lent;
+
+/* How long a buffer must be, or at least be; or it may have any length. */
+typedef struct called_for {
+    enum { ANY_LENGTH, EXACT_LENGTH, LEAST_LENGTH } kind;
+    size_t size, length; /* bytes of an element, and elements */
+} called_for;
 
 typedef enum answer { ITSELF, NUMBER, VALUES, RUNNING, READ } answer;
 
@@ -83,6 +92,7 @@ typedef struct row {
     const char *tests; /* a letter for each number that is tested */
     uint32_t refuses;  /* a bit for each refusal that it names */
     int opening[WRITES]; /* of each buffer that is written the one that is read as its opening, or -1 */
+    void (*lengths)(const lent *c, called_for *all); /* of each buffer, those that are read first, of those that are lent */
     void (*beside)(const lent *c, void *answer); /* what it answers beside a refusal */
     altair_fault (*call)(const lent *c, void *answer); /* calls it, or where answer is NULL says why it is refused with 1 */
 } row;
@@ -90,6 +100,7 @@ typedef struct row {
 extern const row rows[];
 extern const size_t row_count;
 const char *written_letters(const row *row);
+bool as_called_for(called_for length, buffer b);
 
 /* -- expected.c: what altair.h says of the tests 15, 6, 1, 2, 12, 13, 14, 3 and 8: the number, or 0 where they pass */
 

@@ -23,6 +23,12 @@ static size_t odd_length(size_t length) {
     return change < 0 && length < (size_t)-change ? length + 1 : length + change;
 }
 
+/* A length as called for, or else this one; where that would be too long to lend, as wrong settings may call for it, a short one. */
+static size_t long_enough(called_for length, size_t otherwise) {
+    const size_t wanted = length.kind == ANY_LENGTH ? otherwise : length.length + (length.kind == LEAST_LENGTH ? below(3) : 0);
+    return wanted > (LARGEST - 4096) / length.size ? below(100) : wanted;
+}
+
 /* A buffer with these contents, of another length now and then. */
 static buffer with(int slot, const void *contents, size_t length, size_t size) {
     const size_t lent = odd_length(length), held = lent < length ? lent : length;
@@ -75,13 +81,6 @@ static buffer random_lengths(int slot) {
     for (size_t i = 0; i < shelf_count; i++)
         lengths[i] = one_in(40) ? odd_number() : shelf_lengths[i];
     return with(slot, lengths, shelf_count, 8);
-}
-
-static size_t longest_file(void) {
-    size_t longest = 0;
-    for (size_t i = 0; i < shelf_count; i++)
-        longest = longest < shelf_lengths[i] ? shelf_lengths[i] : longest;
-    return longest;
 }
 
 /* A close about as far as its step's number says, with the record's finality and pair or nearly so, and orders in a list. */
@@ -156,6 +155,16 @@ static buffer random_deposits(const record *r, const lent *c, int slot) {
     return with(slot, deposits, ALTAIR_DEPOSIT_LENGTH * count, 8);
 }
 
+/* any numbers or bytes, as many as the table calls for, or any number of them */
+static buffer any_buffer(called_for length, int slot) {
+    const buffer b = lend(slot, odd_length(long_enough(length, below(65))), length.size);
+    for (size_t i = 0; i < bytes_of(b) / 8; i++)
+        ((uint64_t *)b.at)[i] = one_in(2) ? odd_number() : below(100);
+    for (size_t i = bytes_of(b) / 8 * 8; i < bytes_of(b); i++)
+        ((uint8_t *)b.at)[i] = (uint8_t)random_number();
+    return b;
+}
+
 static buffer read_buffer(char letter, const record *r, lent *c, int slot) {
     static uint64_t marks[LARGEST / 80], any[64];
     uint64_t validator[10];
@@ -195,10 +204,6 @@ static buffer read_buffer(char letter, const record *r, lent *c, int slot) {
         for (size_t i = 0; i < 16; i++)
             any[i] = one_in(60) || r->validators == 0 ? odd_number() : below(r->validators);
         return with(slot, any, 2 * below(9), 8);
-    case 'X':
-        for (size_t i = 0; i < 64; i++)
-            any[i] = one_in(2) ? odd_number() : below(100);
-        return with(slot, any, below(65), 8);
     case 'Q':
         like = with(slot, c->in[0].at, c->in[0].length, 8);
         for (size_t i = ALTAIR_BALANCE; i < like.length; i += 10)
@@ -224,19 +229,13 @@ static uint64_t *any_numbers(size_t count) {
     return numbers;
 }
 
-/* how many deposits a call is lent */
-static size_t deposits_lent(const row *row, const lent *c) {
-    const char *at = strchr(row->lends, 'D');
-    return at == NULL ? 0 : c->in[at - row->lends].length / ALTAIR_DEPOSIT_LENGTH;
-}
-
 static buffer written_buffer(size_t k, const row *row, const record *r, lent *c, int slot) {
     const char letter = written_letters(row)[k];
     uint64_t validator[10];
     buffer so_far;
-    size_t length = row->opening[k] >= 0 ? c->in[row->opening[k]].length
-                    : letter == 'R'      ? 10 * r->validators
-                                         : r->slashings_length;
+    called_for lengths[READS + WRITES];
+    row->lengths(c, lengths);
+    const called_for length = lengths[strcspn(row->lends, ">") + k];
     switch (letter) {
     case 'r':
         return row->kind == RUNNING ? registry_so_far(r, c, slot) : with(slot, r->registry, 10 * r->validators, 8);
@@ -246,7 +245,7 @@ static buffer written_buffer(size_t k, const row *row, const record *r, lent *c,
     case 'u':
         return random_store(r, c, slot);
     case 'x':
-        return read_buffer('X', r, c, slot);
+        return any_buffer(length, slot);
     case 's':
         so_far = with(slot, r->slashings, r->slashings_length, 8);
         if (so_far.length > 0)
@@ -258,24 +257,9 @@ static buffer written_buffer(size_t k, const row *row, const record *r, lent *c,
         return random_orders(r, slot);
     case 'm':
         return with(slot, any_numbers(c->in[1].length / 2), c->in[1].length / 2, 8);
-    case 'F':
-        return lend(slot, odd_length(file_length(r, 2)), 1);
-    case 'C':
-        return lend(slot, odd_length(c->in[0].length), 1);
-    case 'W':
-        return lend(slot, odd_length((longest_file() + 7) / 8 + below(3)), 8);
-    case 'N':
-        return lend(slot, odd_length(c->in[1].length), 8);
-    case 'A':
-        return lend(slot, odd_length(ALTAIR_AMOUNTS_LENGTH * r->validators), 8);
-    case 'Y':
-        return lend(slot, odd_length(10 * (r->validators + deposits_lent(row, c))), 8);
-    case 'J':
-        return lend(slot, odd_length(r->validators + deposits_lent(row, c)), 8);
-    case 'Z':
-        length = deposits_lent(row, c);
     }
-    return lend(slot, odd_length(length), 8);
+    const size_t held = letter == 'R' ? 10 * r->validators : r->slashings_length; /* by a file */
+    return lend(slot, odd_length(long_enough(length, held)), length.size);
 }
 
 static void random_numbers(const record *r, lent *c) {
@@ -292,15 +276,18 @@ static void random_numbers(const record *r, lent *c) {
         c->rules.bellatrix.inactivity_penalty_quotient_bellatrix = one_in(2) ? odd_number() : below(100);
     if (one_in(3))
         c->rules.bellatrix.proportional_slashing_multiplier_bellatrix = one_in(2) ? odd_number() : below(100);
-    c->electra = (altair_electra)ALTAIR_MAINNET_ELECTRA;
+    c->electra = (altair_electra_rules){r->s, one_in(4) ? c->rules.bellatrix : (altair_bellatrix)ALTAIR_MAINNET_BELLATRIX, ALTAIR_MAINNET_ELECTRA};
+    altair_electra *e = &c->electra.electra;
     if (one_in(4))
-        c->electra.max_pending_deposits_per_epoch = one_in(4) ? odd_number() : below(5);
-    if (one_in(4))
-        c->electra.min_per_epoch_churn_limit_electra = one_in(4) ? odd_number() : below(200) * 1000000000;
+        e->max_pending_deposits_per_epoch = one_in(4) ? odd_number() : below(5);
+    if (one_in(4)) /* also the increment, and one below it */
+        e->min_per_epoch_churn_limit_electra = one_in(4)   ? odd_number()
+                                               : one_in(2) ? r->s.effective_balance_increment - below(2)
+                                                           : below(200) * 1000000000;
     if (one_in(8))
-        c->electra.max_per_epoch_activation_exit_churn_limit = one_in(4) ? odd_number() : below(200) * 1000000000;
+        e->max_per_epoch_activation_exit_churn_limit = one_in(4) ? odd_number() : below(200) * 1000000000;
     if (one_in(8))
-        c->electra.max_effective_balance_electra = odd_number();
+        *(one_in(2) ? &e->max_effective_balance_electra : &e->min_activation_balance) = odd_number();
     c->clock = (altair_clock)ALTAIR_MAINNET_CLOCK;
     if (one_in(2))
         c->clock.genesis_time = one_in(2) ? 0 : odd_number();
@@ -310,6 +297,9 @@ static void random_numbers(const record *r, lent *c) {
         c->clock.slots_per_epoch = odd_number();
     for (int i = 0; i < 64; i++)
         c->any[i] = one_in(4) ? odd_number() : below(100);
+    c->activation_churn = one_in(4) ? odd_number() : below(10);
+    c->churn = (altair_exit_churn){c->any[0] * (one_in(2) ? 1000000000 : 1), c->any[1]};
+    c->deposits = (altair_deposit_numbers){c->any[2] * (one_in(2) ? 1000000000 : 1), c->any[3], c->any[4]};
     for (int i = 0; i < 3; i++)
         c->totals[i] = one_in(8) ? odd_number() : below(100) * 1000000000;
 }
@@ -382,8 +372,12 @@ static void refused_buffers(const row *row, const lent *c, uint64_t number) {
     const char *written = written_letters(row);
     for (size_t k = 0; k < strlen(written); k++) {
         const char letter = (char)toupper(written[k]);
-        if (letter == 'A' && (number == 4 || number == 5)) {
-            MUST(zeros(c->out[k].at, bytes_of(c->out[k])));
+        if ((letter == 'A' || letter == 'W') && (number == 4 || number == 5)) { /* zeros, and where there is room behind them what was there */
+            size_t at = 0;
+            while (at < bytes_of(c->out[k]) && ((const uint8_t *)c->out[k].at)[at] == 0)
+                at++;
+            MUST(at == bytes_of(c->out[k]) ||
+                 (letter == 'W' && memcmp((const uint8_t *)c->out[k].at + at, saved[WRITTEN + k] + at, bytes_of(c->out[k]) - at) == 0));
             continue;
         }
         const bool late = row->opening[k] >= 0 && (number == 4 || number == 5);
@@ -468,11 +462,11 @@ static void try_checked(const row *row, const lent *c, const uint8_t *accepted) 
 }
 
 /* why it is refused with 1 is said where it is, and nowhere else: from the arguments as they were before the call */
-static void told_why(const row *row, const lent *c, uint64_t number, bool modelled) {
+static void told_why(const row *row, const lent *c, uint64_t number) {
     const altair_fault fault = row->call(c, NULL);
     if (fault.argument != NULL && number != 1)
         fail("%s is said to be at fault, %s, and it answers %" PRIu64, fault.argument, fault.wanted, number);
-    if (fault.argument == NULL && number == 1 && modelled)
+    if (fault.argument == NULL && number == 1)
         fail("it is refused with 1, and nothing is said to be at fault");
     MUST((fault.argument == NULL) == (fault.wanted == NULL));
 }
@@ -490,10 +484,13 @@ void try_row(size_t place, const record *r) {
         c.running.done = one_in(4) ? c.running.done : 8;
         c.number = one_in(6) ? odd_number() : below(300);
     }
-    for (size_t i = 0; i < reads; i++) {
-        c.in[i] = read_buffer(row->lends[i], r, &c, (int)i);
-        save((int)i, c.in[i]);
-    }
+    called_for lengths[READS + WRITES];
+    for (size_t i = 0; i < 2 * reads; i++) /* those of any numbers last, since others may say how long they must be */
+        if ((row->lends[i % reads] == 'X') == (i >= reads)) {
+            row->lengths(&c, lengths);
+            c.in[i % reads] = i < reads ? read_buffer(row->lends[i], r, &c, (int)i) : any_buffer(lengths[i - reads], (int)(i - reads));
+            save((int)(i % reads), c.in[i % reads]);
+        }
     for (size_t k = 0; k < writes; k++) {
         c.out[k] = written_buffer(k, row, r, &c, WRITTEN + (int)k);
         if (bytes_of(c.out[k]) > 0 && !in_place(row, &c, written[k]))
@@ -512,7 +509,7 @@ void try_row(size_t place, const record *r) {
     if (!named || (modelled && (wanted != 0 ? number != wanted : !late)))
         fail("it answers %" PRIu64 ", and the tests %" PRIu64, number, wanted);
     if (row->kind != ITSELF)
-        told_why(row, &c, number, modelled);
+        told_why(row, &c, number);
     seen[place][number]++;
     MUST(altair_refusal_text(number) != NULL);
     if (number != 0) {
@@ -542,8 +539,8 @@ void try_row(size_t place, const record *r) {
         refused_buffers(row, &c, number);
     else
         for (size_t k = 0; k < writes; k++) /* a working list holds anything, and a refused file's part what it held before */
-            MUST(bytes_of(c.out[k]) == 0 || strchr("CWZ", written[k]) != NULL ||
-                 same_but_untouched(c.out[k].at, left[k], bytes_of(c.out[k]), strchr("YJU", written[k]) != NULL));
+            MUST(bytes_of(c.out[k]) == 0 || strchr("CZ", written[k]) != NULL ||
+                 same_but_untouched(c.out[k].at, left[k], bytes_of(c.out[k]), strchr("YW", written[k]) != NULL));
     if (strncmp(row->name, "altair_checked_", 15) == 0 && writes > 0 && bytes_of(c.out[0]) > 0)
         try_checked(row, &c, answer);
 }

@@ -15,7 +15,7 @@ with the number and, where that is 1, the argument and the length called for. Py
 # `X as X`: a type checker takes no other name as handed on
 from ._words import *
 from ._calls import *
-from ._close import close as close, listing_lines as listing_lines
+from ._close import close as close, deneb_close as deneb_close, listing_lines as listing_lines
 from ._desk import Desk as Desk, Ended as Ended, carry_out as carry_out, close_step as close_step, take_order as take_order
 from ._record import ClosedRecord as ClosedRecord, Record as Record, read_file as read_file
 from ._refusals import Fault as Fault, Refused as Refused

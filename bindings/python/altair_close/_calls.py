@@ -4,10 +4,11 @@ from typing import Any, Optional, Sequence, Tuple, Union
 from . import _lengths as lengths
 from ._arguments import (CHANGED_STORE, FLAGS, NUMBER, ROOT, SIGNED, STORE, TRUTH, Bytes, Changed, Kept, Numbers, Octets,
                          as_long_as, struct_of)
+from ._lengths import longest, of
 from ._signatures import CODE, ITSELF, PROMISES, SIGNATURES, TOLD, Answer, Signature, buffers, call, pair_of
-from ._types import (Bellatrix, Checkpoint, Clock, Closed, Deltas, DepositNumbers, Deposited, Electra, ElectraRules, ExitChurn,
-                     ExitQueue, Finality, FullValues, Head, Header, Justified, Line, Queued, Raised, Read, Rules, Running, Settings,
-                     Told, Total, Votes, VotesValues, Wait, Buffer, BytesLike, NumbersLike, StoreLike)
+from ._types import (Bellatrix, Checkpoint, Clock, Closed, Deltas, DenebRules, DepositNumbers, Deposited, Electra, ElectraRules,
+                     ExitChurn, ExitQueue, Finality, FullValues, Head, Header, Justified, Line, Queued, Raised, Read, Rules,
+                     Running, Settings, Told, Total, Votes, VotesValues, Wait, Buffer, BytesLike, NumbersLike, StoreLike)
 
 SIGNATURES.update({
     "version": Signature(ITSELF),
@@ -16,7 +17,7 @@ SIGNATURES.update({
                        queue=struct_of(ExitQueue), registry=Numbers(row=10), slashings=Numbers(), roots=Bytes(row=32),
                        closing_registry=Numbers(row=10, written=as_long_as("registry")),
                        closing_slashings=Numbers(written=as_long_as("slashings")),
-                       amounts=Numbers(row=9, written=lengths.amounts_length)),
+                       amounts=Numbers(row=9, written=of(lambda N: 9 * N, ("registry", 10)))),
     "read_rules": Signature(Answer(struct_of(Rules)), store=STORE, epoch=NUMBER),
     "add_rules": Signature(Answer(NUMBER), store=CHANGED_STORE, start=NUMBER, rules=struct_of(Rules)),
     "charged": Signature(Answer(NUMBER), settings=struct_of(Settings), state_slot=NUMBER, registry=Numbers(row=10)),
@@ -34,11 +35,11 @@ SIGNATURES.update({
                            slashings=Numbers(written=lengths.held_slashings)),
     "write_file": Signature(CODE, settings=struct_of(Settings), finality=struct_of(Finality), queue=struct_of(ExitQueue),
                             registry=Numbers(row=10), roots=Bytes(row=32), slashings=Numbers(),
-                            file=Bytes(written=lengths.file_length)),
+                            file=Bytes(written=of(lambda L, N, S: 384 + 80 * N + 32 * S + 8 * L, ("slashings", 1), ("registry", 10), ("roots", 32)))),
     # A shelf of records
     "close_shelf": Signature(CODE, files=Bytes(), lengths=Numbers(), closing=Bytes(written=as_long_as("files"), blank=True),
-                             opening_numbers=Numbers(written=lengths.working_length),
-                             closing_numbers=Numbers(written=lengths.working_length),
+                             opening_numbers=Numbers(written=of(lambda LONGEST: (LONGEST + 7) // 8, ("lengths", longest))),
+                             closing_numbers=Numbers(written=of(lambda LONGEST: (LONGEST + 7) // 8, ("lengths", longest))),
                              answers=Numbers(written=as_long_as("lengths")), fork=NUMBER, bellatrix=struct_of(Bellatrix)),
     # A close by steps, and exit orders meanwhile
     "close_step": Signature(TOLD, number=NUMBER, running=struct_of(Running), store=STORE, finality=struct_of(Finality),
@@ -48,9 +49,9 @@ SIGNATURES.update({
     "carry_out": Signature(TOLD, store=STORE, shard_committee_period=NUMBER, running=struct_of(Running),
                            closing_registry=Kept(row=10), orders=Numbers(), answers=Kept()),
     # The eight steps, in the order of the close
-    "process_justification_and_finalization": Signature(Answer(struct_of(Justified)), settings=struct_of(Settings),
-                                                        roots=Bytes(row=32), finality=struct_of(Finality),
-                                                        registry=Numbers(row=10)),
+    "process_justification_and_finalization": Signature(
+        Answer(struct_of(Justified)), settings=struct_of(Settings), roots=Bytes(row=32), finality=struct_of(Finality),
+        registry=Numbers(row=10)),
     "process_inactivity_updates": Signature(CODE, settings=struct_of(Settings), state_slot=NUMBER, finalized_epoch=NUMBER,
                                             opening=Numbers(row=10), closing=Numbers(row=10, written=as_long_as("opening"))),
     "process_rewards_and_penalties": Signature(CODE, rules=struct_of(Rules), state_slot=NUMBER, finalized_epoch=NUMBER,
@@ -64,12 +65,12 @@ SIGNATURES.update({
                                              closing=Numbers(row=10, written=as_long_as("opening"))),
     "process_slashings": Signature(CODE, rules=struct_of(Rules), state_slot=NUMBER, slashings=Numbers(), opening=Numbers(row=10),
                                    closing=Numbers(row=10, written=as_long_as("opening"))),
-    "process_effective_balance_updates": Signature(CODE, settings=struct_of(Settings), opening=Numbers(row=10),
-                                                   closing=Numbers(row=10, written=as_long_as("opening"))),
+    "process_effective_balance_updates": Signature(
+        CODE, settings=struct_of(Settings), opening=Numbers(row=10), closing=Numbers(row=10, written=as_long_as("opening"))),
     "process_slashings_reset": Signature(CODE, settings=struct_of(Settings), state_slot=NUMBER, opening=Numbers(),
                                          closing=Numbers(written=as_long_as("opening"))),
-    "process_participation_flag_updates": Signature(CODE, opening=Numbers(row=10),
-                                                    closing=Numbers(row=10, written=as_long_as("opening"))),
+    "process_participation_flag_updates": Signature(
+        CODE, opening=Numbers(row=10), closing=Numbers(row=10, written=as_long_as("opening"))),
     # Slots and epochs
     "integer_sqrt": Signature(ITSELF, n=NUMBER),
     "compute_epoch_at_slot": Signature(Answer(NUMBER), settings=struct_of(Settings), slot=NUMBER),
@@ -87,7 +88,8 @@ SIGNATURES.update({
     "last_second_of_epoch": Signature(Answer(NUMBER), clock=struct_of(Clock), epoch=NUMBER),
     # One validator: `validator` has ten numbers
     "is_active_validator": Signature(Answer(TRUTH), validator=Numbers(row=10), epoch=NUMBER),
-    "is_eligible_for_activation_queue": Signature(Answer(TRUTH), settings=struct_of(Settings), validator=Numbers(row=10)),
+    "is_eligible_for_activation_queue": Signature(
+        Answer(TRUTH), settings=struct_of(Settings), validator=Numbers(row=10)),
     "is_eligible_for_activation": Signature(Answer(TRUTH), finalized_epoch=NUMBER, validator=Numbers(row=10)),
     "is_eligible": Signature(Answer(TRUTH), settings=struct_of(Settings), state_slot=NUMBER, validator=Numbers(row=10)),
     "increase_balance": Signature(CODE, validator=Changed(row=10), delta=NUMBER),
@@ -120,41 +122,52 @@ SIGNATURES.update({
     # Finality
     "get_finality_delay": Signature(Answer(NUMBER), settings=struct_of(Settings), state_slot=NUMBER, finalized_epoch=NUMBER),
     "is_in_inactivity_leak": Signature(Answer(TRUTH), settings=struct_of(Settings), state_slot=NUMBER, finalized_epoch=NUMBER),
-    "weigh_justification_and_finalization": Signature(Answer(struct_of(Finality)), settings=struct_of(Settings),
-                                                      roots=Bytes(row=32), finality=struct_of(Finality), total=NUMBER,
-                                                      previous=NUMBER, current=NUMBER),
+    "weigh_justification_and_finalization": Signature(
+        Answer(struct_of(Finality)), settings=struct_of(Settings), roots=Bytes(row=32), finality=struct_of(Finality), total=NUMBER,
+        previous=NUMBER, current=NUMBER),
     # Votes not yet counted
     "unknown_votes": Signature(Answer(struct_of(VotesValues)), given=Votes.given, settings=struct_of(Settings), roots=Bytes(row=32),
                                finality=struct_of(Finality), registry=Numbers(row=10), marks=Numbers()),
+    # Deneb's registry step and close
+    "deneb_process_registry_updates": Signature(Answer(struct_of(ExitQueue)), given=Queued.given, rules=struct_of(DenebRules),
+                                                state_slot=NUMBER, finalized_epoch=NUMBER, queue=struct_of(ExitQueue),
+                                                opening=Numbers(row=10), closing=Numbers(row=10, written=as_long_as("opening"))),
+    "deneb_close": Signature(Answer(struct_of(FullValues)), given=Closed.given, rules=struct_of(DenebRules),
+                             finality=struct_of(Finality), queue=struct_of(ExitQueue), registry=Numbers(row=10),
+                             slashings=Numbers(), roots=Bytes(row=32),
+                             closing_registry=Numbers(row=10, written=as_long_as("registry")),
+                             closing_slashings=Numbers(written=as_long_as("slashings")),
+                             amounts=Numbers(row=9, written=of(lambda N: 9 * N, ("registry", 10)))),
     # Electra's steps
-    "electra_process_registry_updates": Signature(Answer(struct_of(ExitChurn)), rules=struct_of(ElectraRules), state_slot=NUMBER,
-                                                  finalized_epoch=NUMBER, churn=struct_of(ExitChurn), opening=Numbers(row=10),
-                                                  closing=Numbers(row=10, written=as_long_as("opening"))),
+    "electra_process_registry_updates": Signature(
+        Answer(struct_of(ExitChurn)), rules=struct_of(ElectraRules), state_slot=NUMBER, finalized_epoch=NUMBER,
+        churn=struct_of(ExitChurn), opening=Numbers(row=10), closing=Numbers(row=10, written=as_long_as("opening"))),
     "electra_process_slashings": Signature(CODE, rules=struct_of(ElectraRules), state_slot=NUMBER, slashings=Numbers(),
                                            opening=Numbers(row=10), closing=Numbers(row=10, written=as_long_as("opening"))),
-    "electra_process_pending_deposits": Signature(Answer(struct_of(Deposited)), rules=struct_of(ElectraRules), state_slot=NUMBER,
-                                                  finalized_epoch=NUMBER, numbers=struct_of(DepositNumbers),
-                                                  registry=Numbers(row=10), compounding=Numbers(), deposits=Numbers(row=5),
-                                                  closing_registry=Numbers(row=10, written=lengths.roomy_registry),
-                                                  closing_compounding=Numbers(written=lengths.roomy_credentials),
-                                                  closing_deposits=Numbers(written=as_long_as("deposits")),
-                                                  places=Numbers(written=lengths.many_deposits, scratch=True)),
-    "electra_process_pending_consolidations": Signature(Answer(NUMBER), rules=struct_of(ElectraRules), state_slot=NUMBER,
-                                                        registry=Numbers(row=10), consolidations=Numbers(),
-                                                        closing_registry=Numbers(row=10, written=as_long_as("registry")),
-                                                        closing_consolidations=Numbers(written=as_long_as("consolidations"))),
-    "electra_process_effective_balance_updates": Signature(CODE, rules=struct_of(ElectraRules), compounding=Numbers(),
-                                                           opening=Numbers(row=10),
-                                                           closing=Numbers(row=10, written=as_long_as("opening"))),
+    "electra_process_pending_deposits": Signature(
+        Answer(struct_of(Deposited)), rules=struct_of(ElectraRules), state_slot=NUMBER, finalized_epoch=NUMBER,
+        numbers=struct_of(DepositNumbers), registry=Numbers(row=10), compounding=Numbers(), deposits=Numbers(row=5),
+        closing_registry=Numbers(row=10, written=of(lambda D, N: 10 * (N + D), ("deposits", 5), ("registry", 10)), blank=True),
+        closing_compounding=Numbers(written=of(lambda D, N: N + D, ("deposits", 5), ("registry", 10)), blank=True),
+        closing_deposits=Numbers(row=5, written=as_long_as("deposits"), blank=True),
+        places=Numbers(written=of(lambda D: D, ("deposits", 5)), scratch=True)),
+    "electra_process_pending_consolidations": Signature(
+        Answer(NUMBER), rules=struct_of(ElectraRules), state_slot=NUMBER, registry=Numbers(row=10), consolidations=Numbers(row=2),
+        closing_registry=Numbers(row=10, written=as_long_as("registry")),
+        closing_consolidations=Numbers(row=2, written=as_long_as("consolidations"), blank=True)),
+    "electra_process_effective_balance_updates": Signature(
+        CODE, rules=struct_of(ElectraRules), compounding=Numbers(), opening=Numbers(row=10),
+        closing=Numbers(row=10, written=as_long_as("opening"))),
     # Electra's helpers
     "electra_get_balance_churn_limit": Signature(Answer(NUMBER), rules=struct_of(ElectraRules), state_slot=NUMBER,
                                                  registry=Numbers(row=10)),
-    "electra_get_activation_exit_churn_limit": Signature(Answer(NUMBER), rules=struct_of(ElectraRules), state_slot=NUMBER,
-                                                         registry=Numbers(row=10)),
-    "electra_get_max_effective_balance": Signature(Answer(NUMBER), rules=struct_of(ElectraRules), compounding=NUMBER),
-    "electra_compute_exit_epoch_and_update_churn": Signature(Answer(struct_of(ExitChurn)), rules=struct_of(ElectraRules),
-                                                             state_slot=NUMBER, churn=struct_of(ExitChurn), exit_balance=NUMBER,
-                                                             registry=Numbers(row=10)),
+    "electra_get_activation_exit_churn_limit": Signature(
+        Answer(NUMBER), rules=struct_of(ElectraRules), state_slot=NUMBER, registry=Numbers(row=10)),
+    "electra_get_max_effective_balance": Signature(
+        Answer(NUMBER), rules=struct_of(ElectraRules), compounding=NUMBER),
+    "electra_compute_exit_epoch_and_update_churn": Signature(
+        Answer(struct_of(ExitChurn)), rules=struct_of(ElectraRules), state_slot=NUMBER, churn=struct_of(ExitChurn),
+        exit_balance=NUMBER, registry=Numbers(row=10)),
     "electra_initiate_validator_exit": Signature(Answer(struct_of(ExitChurn)), rules=struct_of(ElectraRules), state_slot=NUMBER,
                                                  index=NUMBER, churn=struct_of(ExitChurn), registry=Changed(row=10)),
 })
@@ -171,8 +184,9 @@ __all__ = ["version", "read_rules", "charged", "activation_wait", "listing_head"
            "get_participating_balance", "get_validator_churn_limit", "exit_queue", "initiate_validator_exit",
            "get_base_reward_per_increment", "get_base_reward", "get_flag_index_deltas", "get_inactivity_penalty_deltas",
            "get_finality_delay", "is_in_inactivity_leak", "weigh_justification_and_finalization", "unknown_votes",
-           "electra_process_registry_updates", "electra_process_slashings", "electra_process_pending_deposits",
-           "electra_process_pending_consolidations", "electra_process_effective_balance_updates", "electra_get_balance_churn_limit",
+           "deneb_process_registry_updates", "electra_process_registry_updates", "electra_process_slashings",
+           "electra_process_pending_deposits", "electra_process_pending_consolidations",
+           "electra_process_effective_balance_updates", "electra_get_balance_churn_limit",
            "electra_get_activation_exit_churn_limit", "electra_get_max_effective_balance",
            "electra_compute_exit_epoch_and_update_churn", "electra_initiate_validator_exit"]
 
@@ -208,6 +222,11 @@ PROMISES.update({
         "also for a shard_committee_period of 2^48 or more; mainnet's is 256. Refused, the call may be made again. "
         "closing_registry holds the record with the exits, answers 0, 9, 10 or 5 for each order that was tried and else what it "
         "held. Refused with 1, 2, 13, 3 or 8. After a refusal closing_registry and answers are as they were."),
+    "deneb_close": ("Closes by Deneb's rules: the closed record's finality and pair, which totals were raised and which test finalized. "
+        "Closing buffers hold the closed record and amounts what each rule gave and took (enum amount). There is no store: the "
+        "rules are those of the record's epoch. Refused with 1, 2, 3, 8, 4 or 5. After 1, 2, 3 or 8 closing_registry, "
+        "closing_slashings and amounts are as they were, after 4 or 5 closing buffers hold the opening's numbers, and amounts "
+        "zeros."),
 })
 
 
@@ -563,6 +582,17 @@ def unknown_votes(settings: Settings, roots: BytesLike, finality: Finality, regi
     return call("unknown_votes", settings, roots, finality, registry, marks)
 
 
+# Deneb's registry step and close
+
+
+def deneb_process_registry_updates(rules: DenebRules, state_slot: int, finalized_epoch: int, queue: Optional[ExitQueue],
+                                   opening: NumbersLike, *, out: Optional[Buffer] = None) -> Queued:
+    """The registry after queueing, ejecting and activating, and the pair after the step. As many are activated as the smaller of
+    the churn limit and max_per_epoch_activation_churn_limit says; ejections go by the churn limit. Refused with 1, 2, 3, 8 or 5.
+    After 1, 2, 3 or 8 closing is as it was, after 5 it holds the opening's numbers."""
+    return call("deneb_process_registry_updates", rules, state_slot, finalized_epoch, pair_of(queue, opening), opening, out)
+
+
 # Electra's steps
 
 
@@ -590,8 +620,8 @@ def electra_process_pending_deposits(rules: ElectraRules, state_slot: int, final
     is that validator's, from N on one that no validator has, the same number for the same key; it is below N + D, where D deposits
     are lent. At the front of the closing buffers stand the validators with the new ones, their credentials, and the queue: the
     rest, and behind it those postponed; what stands behind them stays. places is a list of D numbers to work in: it may hold
-    anything, and holds anything afterwards. Refused with 1, 2, 3 or 5. After 1, 2 and 3 the closing buffers hold what they held
-    before; after 5 the opening's numbers at their front, and behind them what they held."""
+    anything, and holds anything afterwards. Refused with 1, 2, 3 or 5. After 1, 2 or 3 closing_registry, closing_compounding and
+    closing_deposits are as they were, after 5 they hold the opening's numbers at their front, and behind them what they held."""
     out = buffers(out, "closing_registry", "closing_compounding", "closing_deposits")
     return call("electra_process_pending_deposits", rules, state_slot, finalized_epoch, numbers, registry, compounding, deposits,
                 out[0], out[1], out[2], None)

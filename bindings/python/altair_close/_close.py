@@ -2,7 +2,7 @@
 from typing import Iterator, Optional, Sequence
 
 from ._signatures import SIGNATURES, buffers, call, function, lend, pair_of, promised, refused
-from ._types import VALIDATOR_LENGTH, Buffer, BytesLike, Closed, ExitQueue, Finality, Line, NumbersLike, StoreLike
+from ._types import VALIDATOR_LENGTH, Buffer, BytesLike, Closed, DenebRules, ExitQueue, Finality, Line, NumbersLike, StoreLike
 
 
 @promised
@@ -12,6 +12,14 @@ def close(store: StoreLike, finality: Finality, queue: Optional[ExitQueue], regi
     registry, or None, and it is worked out. `out` is the three buffers."""
     lent = buffers(out, "registry", "slashings", "amounts")
     return call("close", store, finality, pair_of(queue, registry), registry, slashings, roots, *lent).went_by(store)
+
+
+@promised
+def deneb_close(rules: DenebRules, finality: Finality, queue: Optional[ExitQueue], registry: NumbersLike, slashings: NumbersLike,
+                roots: BytesLike, *, out: Sequence[Optional[Buffer]] = (None, None, None)) -> Closed:
+    """It gives Closed. `queue` and `out` are as those of close."""
+    lent = buffers(out, "registry", "slashings", "amounts")
+    return call("deneb_close", rules, finality, pair_of(queue, registry), registry, slashings, roots, *lent).went_by(rules)
 
 
 def listing_lines(opening: NumbersLike, closing: NumbersLike) -> Iterator[Line]:

@@ -1,17 +1,18 @@
 """How long a buffer is made that a call writes and that is not lent: from the buffers that are lent beside it."""
-from . import _layout, _signatures
+from . import _signatures
 from ._refusals import Refused
-from ._words import AMOUNTS_LENGTH, DEPOSIT_LENGTH, VALIDATOR_LENGTH, Header
+from ._words import VALIDATOR_LENGTH, Header
 
 
-def amounts_length(lent):
-    return AMOUNTS_LENGTH * (lent["registry"].count // VALIDATOR_LENGTH)
+def of(number, *counts):
+    """A length as the table of words has it: a number of how many rows each of these buffers has, or of what it holds."""
+    return lambda lent: number(*(row(lent, name) if callable(row) else lent[name].count // row for name, row in counts))
 
 
-def working_length(lent):
-    """Numbers with as many bytes as the longest file; one that is longer than all of them is refused."""
-    longest = max(lent["lengths"].view.cast("B").cast("Q"), default=0) if lent["lengths"].count else 0
-    return -(-min(longest, lent["files"].count) // 8)
+def longest(lent, name):
+    """The largest number of a list, but no more than all that is lent has in bytes: C refuses one that is larger."""
+    numbers = lent[name].view.cast("B").cast("Q") if lent[name].count else []
+    return min(max(numbers, default=0), sum(other.view.nbytes for other in lent.values()))
 
 
 def _held(lent):
@@ -28,21 +29,3 @@ def held_registry(lent):
 
 def held_slashings(lent):
     return _held(lent).slashings
-
-
-def file_length(lent):
-    """Of one that the counts fit; C refuses others under 1."""
-    return _layout.file_length(lent["registry"].count // VALIDATOR_LENGTH, lent["roots"].count // 32, lent["slashings"].count)
-
-
-def many_deposits(lent):
-    return lent["deposits"].count // DEPOSIT_LENGTH
-
-
-def roomy_credentials(lent):
-    """Room for a validator of every deposit."""
-    return lent["registry"].count // VALIDATOR_LENGTH + many_deposits(lent)
-
-
-def roomy_registry(lent):
-    return VALIDATOR_LENGTH * roomy_credentials(lent)

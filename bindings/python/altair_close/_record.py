@@ -4,11 +4,12 @@ from typing import Any, Iterator, NamedTuple, Optional, Sequence, Union
 from . import _layout
 from ._arguments import number, struct_of
 from ._calls import charged, listing_head, read_header, write_file
-from ._close import close, listing_lines
+from ._close import close, deneb_close, listing_lines
 from ._files import read_record, write_whole
 from ._refusals import Refused
 from ._signatures import buffers, call, promised
-from ._types import (FORK_ALTAIR, Amounts, Bellatrix, Buffer, BytesLike, Closed, ExitQueue, Finality, Raised, Rules, Settings, StoreLike, held)
+from ._types import (FORK_ALTAIR, Amounts, Bellatrix, Buffer, BytesLike, Closed, DenebRules, ExitQueue, Finality, Raised, Rules, Settings,
+                     StoreLike, held)
 
 
 @promised
@@ -70,10 +71,12 @@ class Record(_Record):
         """Writes the record's file to a path; what stood there stays where it cannot be written."""
         write_whole(path, [self.write()])
 
-    def closing(self, *, fork: int = FORK_ALTAIR, bellatrix: Bellatrix = Bellatrix(0, 0), store: Optional[StoreLike] = None,
-                out: Sequence[Optional[Buffer]] = (None, None, None)) -> Closed:
+    def closing(self, *, fork: int = FORK_ALTAIR, bellatrix: Bellatrix = Bellatrix(0, 0),
+                store: Union[StoreLike, DenebRules, None] = None, out: Sequence[Optional[Buffer]] = (None, None, None)) -> Closed:
         """What the close says of this record, amounts too, under a fork with Bellatrix's pair: Closed. `out` is as that of the function.
-        A `store` stands in the place of the record's settings, fork and pair."""
+        A `store` stands in the place of the record's settings, fork and pair; so do DenebRules, and it is a Deneb close."""
+        if isinstance(store, DenebRules):
+            return deneb_close(store, self.finality, self.queue, self.registry, self.slashings, self.roots, out=out)
         if store is None:
             struct_of(Bellatrix).flat("bellatrix", bellatrix)
             store = Rules(self.settings, number("fork", fork), bellatrix)

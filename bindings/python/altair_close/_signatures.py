@@ -82,12 +82,13 @@ def function(name):
 
 
 def lend(name, values, lent):
-    """C's words for the values, in their order; the buffers among them join `lent`."""
-    words = []
-    for (argument, kind), value in zip(SIGNATURES[name].arguments.items(), values):
-        words += kind.lend(argument, value, lent)
+    """C's words for the values, in their order; the buffers among them join `lent`, what is read before what is written, whose length it says."""
+    arguments, words = SIGNATURES[name].arguments, {}
+    handed = dict(zip(arguments, values))
+    for argument in sorted(handed, key=lambda argument: getattr(arguments[argument], "written", None) is not None):
+        words[argument] = arguments[argument].lend(argument, handed[argument], lent)
     _buffers.apart(lent.values())
-    return words
+    return [word for argument in arguments for word in words[argument]]
 
 
 def buffers(out, *names):
@@ -124,7 +125,8 @@ def call(name, *values):
     refusal, given = signature.answer.read(answer)
     if refusal != 0:
         raise refused(name, words, refusal, answer)
-    written = [buffer for argument, buffer in lent.items() if buffer.written and not getattr(signature.arguments[argument], "scratch", False)]
+    written = [lent[argument] for argument, kind in signature.arguments.items()
+               if argument in lent and lent[argument].written and not getattr(kind, "scratch", False)]
     for buffer in written:
         buffer.settle()
     written = [buffer.value for buffer in written]

@@ -140,7 +140,7 @@ class Closed(_Closed):
     """A closed record with its exit queue's pair: registry, slashings and amounts, nine numbers a validator, are the buffers of `out`,
     or memoryviews of 64-bit numbers. And which totals were raised, and which test finalized, as in Justified."""
 
-    by: Any = None  # what the close went by: a store, rules or settings
+    by: Any = None  # what the close went by: a store, rules of Deneb or of another fork, or settings
 
     @classmethod
     def given(cls, values: FullValues, registry: Any, slashings: Any, amounts: Any) -> "Closed":
@@ -152,9 +152,9 @@ class Closed(_Closed):
         return self
 
     @property
-    def rules(self) -> Rules:
+    def rules(self) -> Union[Rules, DenebRules]:
         """The rules that the close went by: of a store those of its entry for the record's epoch."""
-        if isinstance(self.by, Rules):
+        if isinstance(self.by, (Rules, DenebRules)):
             return self.by
         if isinstance(self.by, Settings):
             return Rules(self.by)

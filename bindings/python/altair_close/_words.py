@@ -10,8 +10,9 @@ __all__ = ["REFUSALS", "VERSION", "FAR_FUTURE_EPOCH", "MOST_VALIDATORS", "LONGES
            "CURRENT_UNKNOWN", "BOTH_UNKNOWN", "DEPOSIT_PUBKEY", "DEPOSIT_COMPOUNDING", "DEPOSIT_AMOUNT", "DEPOSIT_SLOT",
            "DEPOSIT_VALID", "DEPOSIT_LENGTH", "CONSOLIDATION_SOURCE", "CONSOLIDATION_TARGET", "CONSOLIDATION_LENGTH", "Settings",
            "MAINNET", "MINIMAL", "Bellatrix", "MAINNET_BELLATRIX", "Rules", "Clock", "MAINNET_CLOCK", "Checkpoint", "Finality",
-           "ExitQueue", "Raised", "Justified", "Wait", "Total", "Deltas", "Header", "Head", "Line", "Electra", "MAINNET_ELECTRA",
-           "MINIMAL_ELECTRA", "ElectraRules", "ExitChurn", "DepositNumbers", "Deposited"]
+           "ExitQueue", "Raised", "Justified", "Wait", "Total", "Deltas", "Header", "Head", "Line", "DenebRules", "MAINNET_DENEB",
+           "MINIMAL_DENEB", "Electra", "MAINNET_ELECTRA", "MINIMAL_ELECTRA", "ElectraRules", "ExitChurn", "DepositNumbers",
+           "Deposited"]
 
 REFUSALS = {
     1: "a length, a vector's size or an index is not the one called for",
@@ -310,6 +311,20 @@ class VotesValues(NamedTuple):
     finalized_epochs: Tuple[int, int, int]
     previous_target: int
     current_target: int
+
+
+class DenebRules(NamedTuple):
+    """What a Deneb call goes by: the nineteen settings, the Bellatrix pair, which stands in the place of the Altair two, and how
+    many may be activated in an epoch at most. That number is below 2^48, else 2, and may be 0: then nobody is activated."""
+
+    settings: Settings
+    bellatrix: Bellatrix
+    max_per_epoch_activation_churn_limit: int
+
+
+# Those of mainnet, and of the public test preset minimal.
+MAINNET_DENEB = DenebRules(MAINNET, MAINNET_BELLATRIX, 8)
+MINIMAL_DENEB = DenebRules(MINIMAL, MAINNET_BELLATRIX, 4)
 
 
 class Electra(NamedTuple):

@@ -19,16 +19,18 @@ class Odd:
 
 
 def good(kind):
-    """An argument that each function takes, or refuses under a number."""
+    """An argument that each function takes, or refuses under a number: a struct's preset where it has one, else one of good parts."""
     if isinstance(kind, kinds.Numbers):
         return VALIDATOR
     if isinstance(kind, kinds.Bytes):
         return ROOTS
     if isinstance(kind, kinds.Struct):
-        return {altair.Settings: MAINNET, altair.Rules: altair.Rules(MAINNET), altair.Clock: altair.MAINNET_CLOCK, Finality: Finality(127),
-                altair.ExitQueue: altair.ExitQueue(0, 0), altair.Bellatrix: altair.MAINNET_BELLATRIX, altair.Running: altair.Running(),
-                altair.ElectraRules: altair.ElectraRules(MAINNET, altair.MAINNET_BELLATRIX, altair.MAINNET_ELECTRA),
-                altair.ExitChurn: altair.ExitChurn(), altair.DepositNumbers: altair.DepositNumbers()}[kind.given]
+        presets = [value for value in vars(altair).values() if type(value) is kind.given]
+        return presets[0] if presets else kind.given(*map(good, kind.parts))
+    if isinstance(kind, kinds.Octets):
+        return bytes(kind.count)
+    if isinstance(kind, kinds.Several):
+        return (1,) * kind.count
     values = {kinds.STORE: altair.Rules(MAINNET), kinds.CHANGED_STORE: altair.Store([0] * 23, 0)}
     return values.get(kind, 1)
 
@@ -42,7 +44,7 @@ def wrong(kind):
     if isinstance(kind, kinds.Numbers):
         return [*NEITHER, *OTHER_BUFFERS, 1, MAINNET._asdict(), ROOTS,
                 memoryview(bytearray(81))[1:].cast("Q"),  # not aligned
-                memoryview(bytearray(80)).cast("Q", shape=[5, 2]),
+                memoryview(bytearray(80)).cast("Q", shape=[2, 5] if kind.row == 2 else [5, 2]),
                 memoryview(bytearray(80)).cast("Q", shape=[1, 1, 10])]
     if isinstance(kind, kinds.Bytes):
         return [*NEITHER, *OTHER_BUFFERS, 1, MAINNET, VALIDATOR, [0] * 32, array("b", [0] * 32)]

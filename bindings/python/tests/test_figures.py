@@ -1,5 +1,6 @@
 """Every function, at document 01's figures."""
 import unittest
+from array import array
 
 import altair_close as altair
 from altair_close import *
@@ -192,6 +193,41 @@ class Figures(unittest.TestCase):
         turned = process_participation_flag_updates(changed(HIT, current_epoch_participation=5))
         self.assertEqual(list(turned), changed(HIT, previous_epoch_participation=5, current_epoch_participation=0))
         self.refused(1, process_participation_flag_updates, HIT[1:])
+
+    def test_deneb(self):
+        """Document 03, F-1: by a churn limit of 10 ten leave in an epoch and eight are activated; by one of 4, four."""
+        self.assertEqual((MAINNET_DENEB.max_per_epoch_activation_churn_limit, MINIMAL_DENEB.max_per_epoch_activation_churn_limit), (8, 4))
+        leaving, waiting = changed(HIT, effective_balance=16 * ETH), changed(HIT, activation_eligibility_epoch=1, activation_epoch=FAR)
+        counted = lambda numbers, place, epoch: list(numbers[place::10]).count(epoch)
+        forty = leaving * 20 + HIT * 20 + waiting * 20
+        smaller = MAINNET_DENEB._replace(settings=MAINNET._replace(churn_limit_quotient=4))
+        for rules, leave, enter in (smaller, 10, 8), (MAINNET_DENEB, 4, 4), (smaller._replace(max_per_epoch_activation_churn_limit=0), 10, 0):
+            registry, queue = deneb_process_registry_updates(rules, 127, 1, None, forty)
+            self.assertEqual((counted(registry, EXIT_EPOCH, 8), counted(registry, ACTIVATION_EPOCH, 8)), (leave, enter))
+            self.assertEqual(queue, exit_queue(registry))
+            finality = Finality(127, 0, Checkpoint(0), Checkpoint(0), Checkpoint(1))
+            closed = deneb_close(rules, finality, None, forty, [0] * 8192, bytes(32 * 8192))
+            self.assertEqual((counted(closed.registry, EXIT_EPOCH, 8), counted(closed.registry, ACTIVATION_EPOCH, 8)), (leave, enter))
+            self.assertEqual((closed.queue, closed.rules), (queue, rules))
+            for before, after, booked in zip(forty[BALANCE::10], closed.registry[BALANCE::10], closed.booked()):
+                self.assertEqual(before + booked.net, after)
+        self.refused(2, deneb_process_registry_updates, MAINNET_DENEB._replace(max_per_epoch_activation_churn_limit=2**48), 127, 1, None, forty)
+
+    def test_deneb_at_mainnet_size(self):
+        """A churn limit of 10 by 655360 that are active."""
+        leaving, waiting = changed(HIT, effective_balance=16 * ETH), changed(HIT, activation_eligibility_epoch=1, activation_epoch=FAR)
+        registry = array("Q", leaving) * 20 + array("Q", HIT) * 655340 + array("Q", waiting) * 20
+        closing, queue = deneb_process_registry_updates(MAINNET_DENEB, 127, 1, None, registry)
+        self.assertEqual(closing[EXIT_EPOCH:200:10].tolist(), [8] * 10 + [9] * 10)
+        self.assertEqual(closing[-200 + ACTIVATION_EPOCH :: 10].tolist(), [8] * 8 + [FAR] * 12)
+        self.assertEqual(queue, ExitQueue(9, 10))
+
+    def test_a_deneb_record(self):
+        """A record closed by Deneb's rules: what Bellatrix's give it where nobody waits."""
+        pair = Rules(MINIMAL, FORK_BELLATRIX, MAINNET_BELLATRIX)
+        closed = RECORD.close(store=MINIMAL_DENEB)
+        self.assertEqual(closed.write(), RECORD.close(store=pair).write())
+        self.assertEqual(list(RECORD.listing(closed)), list(RECORD.listing(RECORD.close(store=pair))))
 
     def test_the_store(self):
         later = MAINNET._replace(min_per_epoch_churn_limit=8)

@@ -1,4 +1,4 @@
-//! The calls, each lent slices: what goes in stays, and what is `&mut` is written. A closing slice is as long as its opening.
+//! The calls, each lent slices: what goes in stays, and what is `&mut` is written. A closing slice is as long as its opening, or as its call says.
 // Written by bindings/generate from crates/exports and bindings/words.
 
 use crate::close::pair_of;
@@ -6,8 +6,8 @@ use crate::fault::{asked, call, Fault};
 use crate::raw::{self, HeaderAnswer, ReadAnswer, RunningAnswer};
 use crate::refusal::Refusal;
 use crate::types::{
-    Answer, Bellatrix, Clock, Deltas, DepositNumbers, Deposited, ElectraRules, ExitChurn, ExitQueue, Finality, Head,
-    Justified, Line, Rules, Running, Settings, Total, Wait,
+    Answer, Bellatrix, Clock, Deltas, DenebRules, DepositNumbers, Deposited, ElectraRules, ExitChurn, ExitQueue,
+    Finality, Head, Justified, Line, Rules, Running, Settings, Total, Wait,
 };
 use crate::votes::Votes;
 
@@ -47,6 +47,13 @@ macro_rules! promise {
          for. 2 is also for a shard_committee_period of 2^48 or more; mainnet's is 256. Refused, the call may be made again. \
          closing_registry holds the record with the exits, answers 0, 9, 10 or 5 for each order that was tried and else what \
          it held. Refused with 1, 2, 13, 3 or 8. After a refusal closing_registry and answers are as they were."
+    };
+    (deneb_close) => {
+        "Closes by Deneb's rules: the closed record's finality and pair, which totals were raised and which test finalized. \
+         Closing buffers hold the closed record and amounts what each rule gave and took (enum amount). There is no store: \
+         the rules are those of the record's epoch. closing_registry holds the registry. closing_slashings holds the \
+         slashings. Refused with 1, 2, 3, 8, 4 or 5. After 1, 2, 3 or 8 closing_registry, closing_slashings and amounts are \
+         as they were, after 4 or 5 closing buffers hold the opening's numbers, and amounts zeros."
     };
 }
 pub(crate) use promise;
@@ -965,6 +972,66 @@ pub fn unknown_votes(
     )
 }
 
+/// closing holds the registry after queueing, ejecting and activating, and the pair after the step. As many are
+/// activated as the smaller of the churn limit and max_per_epoch_activation_churn_limit says; ejections go by the churn
+/// limit. Refused with 1, 2, 3, 8 or 5. After 1, 2, 3 or 8 closing is as it was, after 5 it holds the opening's
+/// numbers.
+pub fn deneb_process_registry_updates(
+    rules: &DenebRules,
+    state_slot: u64,
+    finalized_epoch: u64,
+    queue: Option<&ExitQueue>,
+    opening: &[u64],
+    closing: &mut [u64],
+) -> Result<ExitQueue, Refusal> {
+    let queue = pair_of(queue, opening);
+    call!(
+        deneb_process_registry_updates,
+        altair_why_deneb_process_registry_updates,
+        *rules,
+        state_slot,
+        finalized_epoch,
+        queue,
+        opening.as_ptr(),
+        opening.len(),
+        closing.as_mut_ptr(),
+        closing.len(),
+    )
+}
+
+#[allow(clippy::too_many_arguments)]
+pub(crate) fn deneb_close(
+    rules: &DenebRules,
+    finality: &Finality,
+    queue: &ExitQueue,
+    registry: &[u64],
+    slashings: &[u64],
+    roots: &[u8],
+    closing_registry: &mut [u64],
+    closing_slashings: &mut [u64],
+    amounts: &mut [u64],
+) -> (Answer, Fault) {
+    asked!(
+        deneb_close,
+        altair_why_deneb_close,
+        *rules,
+        *finality,
+        *queue,
+        registry.as_ptr(),
+        registry.len(),
+        slashings.as_ptr(),
+        slashings.len(),
+        roots.as_ptr(),
+        roots.len(),
+        closing_registry.as_mut_ptr(),
+        closing_registry.len(),
+        closing_slashings.as_mut_ptr(),
+        closing_slashings.len(),
+        amounts.as_mut_ptr(),
+        amounts.len(),
+    )
+}
+
 /// closing holds the registry after one loop in register order: who is queued, who is ejected by balance, and who is
 /// activated, of which there is no limit; answered are the exit queue's two numbers after the step. Refused with 1, 2,
 /// 3 or 5. After 1, 2 or 3 closing is as it was, after 5 it holds the opening's numbers.
@@ -1019,9 +1086,10 @@ pub fn electra_process_slashings(
 /// caller has found out. A key below N is that validator's, from N on one that no validator has, the same number for
 /// the same key; it is below N + D, where D deposits are lent. At the front of the closing buffers stand the validators
 /// with the new ones, their credentials, and the queue: the rest, and behind it those postponed; what stands behind
-/// them stays. places is a list of D numbers to work in: it may hold anything, and holds anything afterwards. Refused
-/// with 1, 2, 3 or 5. After 1, 2 and 3 the closing buffers hold what they held before; after 5 the opening's numbers at
-/// their front, and behind them what they held.
+/// them stays. places is a list of D numbers to work in: it may hold anything, and holds anything afterwards. Lengths:
+/// closing_registry 10 * (N + D), closing_compounding N + D. Refused with 1, 2, 3 or 5. After 1, 2 or 3
+/// closing_registry, closing_compounding and closing_deposits are as they were, after 5 they hold the opening's numbers
+/// at their front, and behind them what they held.
 #[allow(clippy::too_many_arguments)]
 pub fn electra_process_pending_deposits(
     rules: &ElectraRules,

@@ -3,7 +3,7 @@ use crate::calls::{self, promise};
 use crate::fault::Answered;
 use crate::refusal::Refusal;
 use crate::store::By;
-use crate::types::{Amounts, Closed, ExitQueue, Finality, AMOUNTS_LENGTH};
+use crate::types::{Amounts, Closed, DenebRules, ExitQueue, Finality, AMOUNTS_LENGTH};
 
 /// The amounts as the numbers that C writes.
 pub(crate) fn numbers(amounts: &mut [Amounts]) -> &mut [u64] {
@@ -51,6 +51,45 @@ pub fn close<'a>(
     let closing = (closing_registry, closing_slashings, numbers(amounts));
     let (answer, fault) =
         calls::close(store, count, finality, &queue, registry, slashings, roots, closing.0, closing.1, closing.2);
+    answer.result(fault)
+}
+
+#[doc = promise!(deneb_close)]
+///
+/// With `None` for the pair it is worked out from the registry.
+///
+/// ```
+/// use altair_close::{deneb_close, validator, Amounts, DenebRules, Finality, Refusal, Settings};
+///
+/// let settings = Settings { slots_per_historical_root: 64, epochs_per_slashings_vector: 64, ..Settings::MAINNET };
+/// let rules = DenebRules { settings, ..DenebRules::MAINNET };
+/// let finality = Finality { slot: 31, ..Finality::default() };
+/// let registry = validator::new(32_000_000_000);
+/// let (slashings, roots) = (vec![0; 64], vec![0; 32 * 64]);
+/// let (mut closing, mut left, mut amounts) = (vec![0; 10], vec![0; 64], vec![Amounts::default(); 1]);
+/// let mut closed = |rules| {
+///     deneb_close(rules, &finality, None, &registry, &slashings, &roots, &mut closing, &mut left, &mut amounts)
+/// };
+/// assert_eq!(closed(&rules)?.finality.slot, 31);
+/// assert_eq!(closed(&DenebRules { max_per_epoch_activation_churn_limit: 1 << 48, ..rules }), Err(Refusal::Settings));
+/// # Ok::<(), Refusal>(())
+/// ```
+#[allow(clippy::too_many_arguments)]
+pub fn deneb_close(
+    rules: &DenebRules,
+    finality: &Finality,
+    queue: Option<&ExitQueue>,
+    registry: &[u64],
+    slashings: &[u64],
+    roots: &[u8],
+    closing_registry: &mut [u64],
+    closing_slashings: &mut [u64],
+    amounts: &mut [Amounts],
+) -> Result<Closed, Refusal> {
+    let queue = pair_of(queue, registry);
+    let closing = (closing_registry, closing_slashings, numbers(amounts));
+    let (answer, fault) =
+        calls::deneb_close(rules, finality, &queue, registry, slashings, roots, closing.0, closing.1, closing.2);
     answer.result(fault)
 }
 

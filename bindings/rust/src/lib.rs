@@ -69,7 +69,7 @@ mod types;
 mod votes;
 
 pub use calls::*;
-pub use close::close;
+pub use close::{close, deneb_close};
 #[cfg(feature = "std")]
 pub use desk::{Desk, NotDone};
 pub use fault::Fault;

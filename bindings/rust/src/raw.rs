@@ -3,8 +3,8 @@
 
 use crate::fault::{Answered, RawFault};
 use crate::types::{
-    Answer, Bellatrix, Checkpoint, Clock, Closed, Deltas, DepositNumbers, Deposited, Electra, ElectraRules, ExitChurn,
-    ExitQueue, Finality, Head, Justified, Line, RaisedNumbers, Rules, Running, Settings, Total, Wait,
+    Answer, Bellatrix, Checkpoint, Clock, Closed, Deltas, DenebRules, DepositNumbers, Deposited, Electra, ElectraRules,
+    ExitChurn, ExitQueue, Finality, Head, Justified, Line, RaisedNumbers, Rules, Running, Settings, Total, Wait,
 };
 
 #[repr(C)]
@@ -481,6 +481,7 @@ const _: () = {
     assert!(size_of::<HeadAnswer>() == 72);
     assert!(size_of::<LineAnswer>() == 56);
     assert!(size_of::<VotesAnswer>() == 56);
+    assert!(size_of::<DenebRules>() == 176);
     assert!(size_of::<Electra>() == 40);
     assert!(size_of::<ElectraRules>() == 208);
     assert!(size_of::<ExitChurn>() == 16);
@@ -840,6 +841,34 @@ extern "C" {
         marks: *const u64,
         marks_length: usize,
     ) -> VotesAnswer;
+    // Deneb's registry step and close
+    pub fn deneb_process_registry_updates(
+        rules: DenebRules,
+        state_slot: u64,
+        finalized_epoch: u64,
+        queue: ExitQueue,
+        opening: *const u64,
+        opening_length: usize,
+        closing: *mut u64,
+        closing_length: usize,
+    ) -> QueueAnswer;
+    pub fn deneb_close(
+        rules: DenebRules,
+        finality: Finality,
+        queue: ExitQueue,
+        registry: *const u64,
+        registry_length: usize,
+        slashings: *const u64,
+        slashings_length: usize,
+        roots: *const u8,
+        roots_length: usize,
+        closing_registry: *mut u64,
+        closing_registry_length: usize,
+        closing_slashings: *mut u64,
+        closing_slashings_length: usize,
+        amounts: *mut u64,
+        amounts_length: usize,
+    ) -> Answer;
     // Electra's steps
     pub fn electra_process_registry_updates(
         rules: ElectraRules,
@@ -1256,6 +1285,33 @@ extern "C" {
         registry_length: usize,
         marks: *const u64,
         marks_length: usize,
+    ) -> RawFault;
+    pub fn altair_why_deneb_process_registry_updates(
+        rules: DenebRules,
+        state_slot: u64,
+        finalized_epoch: u64,
+        queue: ExitQueue,
+        opening: *const u64,
+        opening_length: usize,
+        closing: *mut u64,
+        closing_length: usize,
+    ) -> RawFault;
+    pub fn altair_why_deneb_close(
+        rules: DenebRules,
+        finality: Finality,
+        queue: ExitQueue,
+        registry: *const u64,
+        registry_length: usize,
+        slashings: *const u64,
+        slashings_length: usize,
+        roots: *const u8,
+        roots_length: usize,
+        closing_registry: *mut u64,
+        closing_registry_length: usize,
+        closing_slashings: *mut u64,
+        closing_slashings_length: usize,
+        amounts: *mut u64,
+        amounts_length: usize,
     ) -> RawFault;
     pub fn altair_why_electra_process_registry_updates(
         rules: ElectraRules,

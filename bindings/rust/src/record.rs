@@ -1,8 +1,8 @@
 //! A record with vectors of its own.
 use crate::file::{read_file, read_header, Header, ReadRefused};
 use crate::store::By;
-use crate::types::{Amounts, Bellatrix, ExitQueue, Finality, Raised, Rules, Settings};
-use crate::{charged, close, validator, write_file, Refusal};
+use crate::types::{Amounts, Bellatrix, Closed, DenebRules, ExitQueue, Finality, Raised, Rules, Settings};
+use crate::{charged, close, deneb_close, validator, write_file, Refusal};
 use std::error::Error;
 use std::ops::Deref;
 use std::path::Path;
@@ -148,20 +148,29 @@ impl Record {
     /// # Ok::<(), Refusal>(())
     /// ```
     pub fn close_by<'a>(&self, by: impl Into<By<'a>>) -> Result<ClosedRecord, Refusal> {
+        self.closed(|r, registry, slashings, amounts| {
+            let queue = r.queue.as_ref();
+            close(by, &r.finality, queue, &r.registry, &r.slashings, &r.roots, registry, slashings, amounts)
+        })
+    }
+
+    /// The closed record by Deneb's rules, in place of the record's own settings; these stay in the closed record.
+    pub fn close_by_deneb(&self, rules: &DenebRules) -> Result<ClosedRecord, Refusal> {
+        self.closed(|r, registry, slashings, amounts| {
+            let queue = r.queue.as_ref();
+            deneb_close(rules, &r.finality, queue, &r.registry, &r.slashings, &r.roots, registry, slashings, amounts)
+        })
+    }
+
+    /// What a close makes of it, which is lent the closing buffers.
+    fn closed<F>(&self, close: F) -> Result<ClosedRecord, Refusal>
+    where
+        F: FnOnce(&Record, &mut [u64], &mut [u64], &mut [Amounts]) -> Result<Closed, Refusal>,
+    {
         let mut registry = vec![0; self.registry.len()];
         let mut slashings = vec![0; self.slashings.len()];
         let mut amounts = vec![Amounts::default(); self.registry.len() / validator::LENGTH];
-        let closed = close(
-            by,
-            &self.finality,
-            self.queue.as_ref(),
-            &self.registry,
-            &self.slashings,
-            &self.roots,
-            &mut registry,
-            &mut slashings,
-            &mut amounts,
-        )?;
+        let closed = close(self, &mut registry, &mut slashings, &mut amounts)?;
         let record = Record {
             settings: self.settings,
             finality: closed.finality,

@@ -461,6 +461,32 @@ pub struct Line {
     pub net_change: i64,
 }
 
+/// What a Deneb call goes by: the nineteen settings, the Bellatrix pair, which stands in the place of the Altair two,
+/// and how many may be activated in an epoch at most. That number is below 2^48, else 2, and may be 0: then nobody is
+/// activated.
+#[repr(C)]
+#[derive(Clone, Copy, Debug, PartialEq, Eq)]
+pub struct DenebRules {
+    pub settings: Settings,
+    pub bellatrix: Bellatrix,
+    pub max_per_epoch_activation_churn_limit: u64,
+}
+
+impl DenebRules {
+    /// Those of mainnet, and of the public test preset minimal.
+    pub const MAINNET: DenebRules = DenebRules {
+        settings: Settings::MAINNET,
+        bellatrix: Bellatrix::MAINNET,
+        max_per_epoch_activation_churn_limit: 8,
+    };
+    /// Those of mainnet, and of the public test preset minimal.
+    pub const MINIMAL: DenebRules = DenebRules {
+        settings: Settings::MINIMAL,
+        bellatrix: Bellatrix::MAINNET,
+        max_per_epoch_activation_churn_limit: 4,
+    };
+}
+
 /// The five numbers that Electra adds to the settings of a network.
 #[repr(C)]
 #[derive(Clone, Copy, Debug, PartialEq, Eq)]

@@ -222,6 +222,39 @@ fn the_steps() {
     assert_eq!(closing[PREVIOUS_EPOCH_PARTICIPATION..][..2], [5, 0]);
 }
 
+/// Deneb's limit of activations, document 03's figures: forty are active, of whom twenty leave, and twenty wait
+#[test]
+fn deneb() {
+    let (mut leaving, mut waiting) = (hit(), hit());
+    leaving[EFFECTIVE_BALANCE] = 16 * ETH;
+    (waiting[ACTIVATION_ELIGIBILITY_EPOCH], waiting[ACTIVATION_EPOCH]) = (1, FAR);
+    let opening = [leaving.repeat(20), hit().repeat(20), waiting.repeat(20)].concat();
+    let having = |numbers: &[u64], place: usize| numbers.chunks(LENGTH).filter(|one| one[place] == 8).count();
+    let small = Settings { churn_limit_quotient: 4, ..MAINNET };
+    let smaller = DenebRules { settings: small, ..DenebRules::MAINNET };
+    let nobody = DenebRules { max_per_epoch_activation_churn_limit: 0, ..smaller };
+    let finality = Finality { finalized_checkpoint: Checkpoint { epoch: 1, root: [0; 32] }, ..finality(127) };
+    let record = Record {
+        settings: MAINNET,
+        finality,
+        registry: opening.clone(),
+        slashings: vec![0; 8192],
+        roots: vec![0; 32 * 8192],
+        queue: None,
+    };
+    for (rules, leave, enter) in [(smaller, 10, 8), (DenebRules::MAINNET, 4, 4), (nobody, 10, 0)] {
+        let mut closing = vec![0; opening.len()];
+        let queue = deneb_process_registry_updates(&rules, 127, 1, None, &opening, &mut closing).unwrap();
+        assert_eq!((having(&closing, EXIT_EPOCH), having(&closing, ACTIVATION_EPOCH)), (leave, enter));
+        assert_eq!(exit_queue(&closing), Ok(queue));
+        let closed = record.close_by_deneb(&rules).unwrap();
+        assert_eq!((having(&closed.registry, EXIT_EPOCH), having(&closed.registry, ACTIVATION_EPOCH)), (leave, enter));
+        assert_eq!(closed.queue, Some(queue));
+    }
+    let wrong = DenebRules { max_per_epoch_activation_churn_limit: 1 << 48, ..smaller };
+    assert_eq!(record.close_by_deneb(&wrong), Err(Refusal::Settings));
+}
+
 /// document 01's worked record
 fn worked() -> Record {
     let checkpoint = |epoch| Checkpoint { epoch, root: [0; 32] };
