@@ -47,4 +47,9 @@ def state(preset, fork, epoch, validators, seed=1):
     )  # fmt: skip
     for name, back in ("previous_justified", 2), ("current_justified", 1), ("finalized", 2):
         made[f"{name}_checkpoint"] = {"epoch": epoch - back, "root": bytes(32)}
+    if fork in encoder.SINCE["electra"]:  # sixteen new keys' deposits, and a consolidation that is not due
+        deposits = [dict(pubkey=bytes([k]) * 48, withdrawal_credentials=b"\2" + bytes(31), amount=32 * ETH, signature=bytes(96), slot=0)
+                    for k in range(200, 216)]
+        made.update(eth1_deposit_index=5, deposit_requests_start_index=5, deposit_balance_to_consume=0, exit_balance_to_consume=0,
+                    earliest_exit_epoch=0, pending_deposits=deposits, pending_consolidations=[dict(source_index=0, target_index=1)])
     return made

@@ -9,6 +9,7 @@ from tool import Directory, run
 from beacon_state import electra, opening
 from beacon_state.containers import beacon_state
 from beacon_state.settings import PRESETS, from_files
+from beacon_state.statement.choice import Choice
 
 VERSIONS = {fork: bytes([k, 0, 0, 1]) for k, fork in enumerate(("phase0", *encoder.FORKS, "gloas"))}
 WORDS = ("record", "--preset", "minimal", "--pair", "altair")
@@ -126,7 +127,7 @@ class Forks(unittest.TestCase):
             for words in ["--pair", "bellatrix"], []:
                 said = run("record", "--preset", "minimal", *words, at / "state", at / "made")
                 self.assertEqual((said.code, at.names()), (2, ["state"]))
-                self.assertIn("say --pair altair for a call", said.err)
+                self.assertIn("say --pair altair, and close the record by altair-close --fork deneb", said.err)
 
 
 class Electra(unittest.TestCase):
@@ -138,11 +139,11 @@ class Electra(unittest.TestCase):
             unknown = {}
             for place, d in enumerate(state["pending_deposits"]):
                 key = keys.index(d["pubkey"]) if d["pubkey"] in keys else unknown.setdefault(d["pubkey"], 4 + len(unknown))
-                valid = int(place in (1, 5))
+                valid = int(place not in (1, 5))
                 numbered += [key, int(d["withdrawal_credentials"][0] == 2), d["amount"], d["slot"], valid]
             for data in encoder.ssz(state), encoder.text(state):
                 found = read(data)
-                made = electra.record(found.keys(), found.credentials(), found.queues(), valid=(1, 5))
+                made = electra.record(found.keys(), found.credentials(), found.queues(), Choice(["1,5"], "these").places)
                 self.assertEqual(list(made.compounding), [int(v["withdrawal_credentials"][0] == 2) for v in state["validators"]])
                 self.assertEqual(list(made.deposits), numbered)
                 self.assertTrue(max(numbered[::5]) < 4 + len(state["pending_deposits"]))
@@ -151,13 +152,18 @@ class Electra(unittest.TestCase):
                     self.assertEqual(getattr(made, name), state[name])
 
     def test_valid(self):
-        """Nobody is taken for valid unsaid, and a place that the queue has not is refused."""
+        """A deposit is taken as valid unsaid; one may be named by its place or key, and a place or key that the queue has not is refused."""
         state = minimal("electra")
         found = read(encoder.ssz(state))
-        made = electra.record(found.keys(), found.credentials(), found.queues())
-        self.assertEqual(set(made.deposits[4::5]), {0})
-        with self.assertRaisesRegex(Exception, "deposit 4 is said to be valid, and the queue has 4"):
-            electra.record(found.keys(), found.credentials(), found.queues(), valid=(4,))
+        record = lambda *words: electra.record(found.keys(), found.credentials(), found.queues(), Choice(words, "these").places)
+        self.assertEqual(list(record().deposits[4::5]), [1, 1, 1, 1])
+        self.assertEqual(list(record("0-1").deposits[4::5]), [0, 0, 1, 1])
+        keys = [deposit["pubkey"] for deposit in state["pending_deposits"]]
+        self.assertEqual(list(record("0x" + keys[2].hex()).deposits[4::5]), [int(key != keys[2]) for key in keys])
+        with self.assertRaisesRegex(Exception, "these: there is no deposit 4: the queue has 4"):
+            record("3-4")
+        with self.assertRaisesRegex(Exception, "these: no deposit of the queue has the public key 0x0505"):
+            record("05" * 48)
 
 
 def patched(data, at, more):

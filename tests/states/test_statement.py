@@ -21,9 +21,10 @@ from beacon_state.statement.plain import wait_words
 from beacon_state.statement.waiting import waits
 
 COMMAND = ROOT / "tools/statement"
-CLOSABLE = ("altair", "bellatrix", "capella")
+CLOSABLE = ("altair", "bellatrix", "capella", *(["deneb"] if closing.has("deneb_close") else []))
 ETH = network.ETH
 PAIR = altair.Bellatrix(*encoder.BELLATRIX_PAIR)
+DENEB = {"mainnet": 8, "minimal": 4}
 
 
 def run(*words, **options):
@@ -34,6 +35,8 @@ def run(*words, **options):
 def closed(state, preset, fork):
     """The library's close of the encoder's record."""
     record = altair.Record.read(encoder.record(state, encoder.SETTINGS[preset]))
+    if fork == "deneb":
+        return record.closing(store=altair.DenebRules(record.settings, PAIR, DENEB[preset]))
     how = dict(fork=altair.FORK_ALTAIR if fork == "altair" else altair.FORK_BELLATRIX, bellatrix=PAIR)
     return record.closing(**how)
 
@@ -82,7 +85,7 @@ class Case(unittest.TestCase):
 
 class Figures(Case):
     def test_each_fork_and_form(self):
-        for preset, forks in ("minimal", CLOSABLE), ("mainnet", CLOSABLE[-1:]):
+        for preset, forks in ("minimal", CLOSABLE), ("mainnet", CLOSABLE[2:]):
             for fork in forks:
                 state = network.state(preset, fork, 9, 20)
                 right = closed(state, preset, fork)
@@ -119,32 +122,31 @@ class Figures(Case):
             state["validators"][0].update(slashed=True, withdrawable_epoch=9 + 32)
             taken[fork] = self.made("--validators", "0", self.put("state", state))["validators"][0]["amounts"]["slashing_taken"]
         # 8 of 10 are active: 32 of 256 increments, doubled or tripled, of 32 ETH
-        self.assertEqual(taken, {"altair": str(8 * ETH), "bellatrix": str(12 * ETH), "capella": str(12 * ETH)})
+        self.assertEqual(taken, {fork: str((8 if fork == "altair" else 12) * ETH) for fork in CLOSABLE})
 
     def test_forks_that_the_library_does_not_close_yet(self):
         for fork, call in closing.CALLS.items():
             for form in encoder.ssz, encoder.text:
                 state = self.put("state", network.state("minimal", fork, 9, 40), form)
-                if fork == "deneb" and closing.has(call):
-                    self.assertEqual(self.made(state)["epochs"][0]["fork"], "deneb")
+                if closing.has(call):
                     continue
                 article = "an" if fork == "electra" else "a"
                 self.refused(1, f"this library cannot close {article} {fork.capitalize()} epoch yet", "--preset", "minimal", state)
 
-    def test_with_deneb_s_call(self):
-        """How deneb_close is handed a state, with a call in its place: here Bellatrix's, which is Deneb's where the limit is not met."""
-        handed = []
+    @unittest.skipUnless(closing.has("deneb_close"), "this library cannot close a Deneb epoch yet")
+    def test_deneb_s_limit(self):
+        """By a churn limit of 10 and Deneb's 8, of ten that wait eight are activated, and ten as Capella; by Deneb's 4, four."""
+        def activated(fork, limit, form=encoder.ssz):
+            state = network.state("minimal", fork, 9, 100)
+            self.at.write("config.yaml", b"PRESET_BASE: minimal\nMAX_PER_EPOCH_ACTIVATION_CHURN_LIMIT: %d\n" % limit + b"".join(
+                b"%s: %d\n" % pair for pair in [(b"INACTIVITY_SCORE_BIAS", 4), (b"INACTIVITY_SCORE_RECOVERY_RATE", 16), (b"CHURN_LIMIT_QUOTIENT", 8),
+                    (b"MIN_VALIDATOR_WITHDRAWABILITY_DELAY", 256), (b"EJECTION_BALANCE", 16 * ETH), (b"MIN_PER_EPOCH_CHURN_LIMIT", 2),
+                    (b"SECONDS_PER_SLOT", 6)]))
+            code, out, err = run("--settings", self.at / "config.yaml", "--format", "json", self.put("state", state, form))
+            self.assertEqual((code, err), (0, ""))
+            return sum(wait.get("closes") == "0" for wait in json.loads(out)["waiting"])
 
-        def stand_in(settings, bellatrix, max_per_epoch_activation_churn_limit, **lent):
-            handed.append(max_per_epoch_activation_churn_limit)
-            return altair.close(altair.Rules(settings, altair.FORK_BELLATRIX, bellatrix), **lent)
-
-        state = network.state("minimal", "deneb", 9, 20)
-        with unittest.mock.patch.object(altair, "deneb_close", stand_in, create=True):
-            command.work(["--preset", "minimal", "--out", str(self.at / "made.json"), str(self.put("state", state))])
-        made, right = json.loads(self.at.read("made.json")), closed(state, "minimal", "bellatrix")
-        self.assertEqual((handed, made["epochs"][0]["fork"]), ([4], "deneb"))
-        self.assertEqual([line["closing_balance"] for line in made["validators"]], [str(n) for n in right.registry[6::10]])
+        self.assertEqual([activated("capella", 8), activated("deneb", 8), activated("deneb", 8, encoder.text), activated("deneb", 4)], [10, 8, 8, 4])
 
     def test_dates(self):
         made = self.made(self.put("state", network.state("mainnet", "capella", 194048, 4)), preset="mainnet")
@@ -431,7 +433,7 @@ class Waiting(Case):
         state = network.state("minimal", "capella", 9, 80)
         state["validators"][75]["activation_eligibility_epoch"] = 2
         opened = Opening("it", "capella", record_of(self.put("state", state)), PRESETS["minimal"], altair.Clock(network.GENESIS, 6, 8))
-        _, left = close(opened, None)
+        _, left = close(opened, lambda *_: None)
         with unittest.mock.patch.object(altair, "activation_wait", counted, create=True):
             found = {wait.index: wait for wait in waits(left, range(80))}
         # 75, the first of all, and 5 are let in by this close; six are left, two a close

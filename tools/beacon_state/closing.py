@@ -5,13 +5,13 @@ line; the call is looked for, so that nothing here changes when it lands."""
 import altair_close as altair
 
 from . import settings as settings_of
-from .containers import from_on
 from .errors import Bad
 from .forks import a_state
 from .record_file import CHECKPOINTS, VALIDATOR
 
 # the call of each fork that Altair's does not close, by its name in the Python package
 CALLS = {"deneb": "deneb_close", "electra": "electra_close", "fulu": "electra_close"}
+ELECTRA = tuple(name.upper() for name in altair.Electra._fields)
 
 
 def has(name):
@@ -20,8 +20,8 @@ def has(name):
 
 
 def test_closable(fork):
-    """Refuses a fork that the library has no close for, and Electra's until its twelve amounts are booked here (document 03, F-3)."""
-    if fork in CALLS and (from_on(fork, "electra") or not has(CALLS[fork])):
+    """Refuses a fork that the library has no close for."""
+    if fork in CALLS and not has(CALLS[fork]):
         raise Bad(f"this library cannot close {a_state(fork, 'epoch')} yet")
 
 
@@ -40,12 +40,31 @@ def numbers(data):
     return memoryview(data).cast("B").cast("Q")
 
 
+def pair_of(settings):
+    return altair.Bellatrix(*(settings[f"{name}_BELLATRIX"] for name in settings_of.PAIR))
+
+
 def rules(record, fork, settings):
     """What the close of a record goes by under a fork up to Capella; the pair is not read under Altair."""
     if fork == "altair":
         return altair.Rules(settings_of_record(record))
-    pair = altair.Bellatrix(*(settings[f"{name}_BELLATRIX"] for name in settings_of.PAIR))
-    return altair.Rules(settings_of_record(record), altair.FORK_BELLATRIX, pair)
+    return altair.Rules(settings_of_record(record), altair.FORK_BELLATRIX, pair_of(settings))
+
+
+def electra_rules(record, settings):
+    """What a close of Electra's or Fulu's goes by."""
+    five = (settings[name] for name in ELECTRA)
+    return altair.ElectraRules(settings_of_record(record), pair_of(settings), altair.Electra(*five))
+
+
+def electra_close(record, queues, settings):
+    """The ElectraClosed of a record with the parts that Electra's has beside it."""
+    test_closable("electra")
+    numbers_of = altair.DepositNumbers(queues.deposit_balance_to_consume, queues.eth1_deposit_index, queues.deposit_requests_start_index)
+    return altair.electra_close(
+        electra_rules(record, settings), finality=finality_of(record), churn=altair.ExitChurn(queues.exit_balance_to_consume, queues.earliest_exit_epoch),
+        numbers=numbers_of, registry=numbers(record.registry), compounding=queues.compounding, slashings=numbers(record.slashings),
+        roots=record.block_roots, deposits=queues.deposits, consolidations=queues.consolidations)
 
 
 def close(record, fork, settings):
@@ -56,7 +75,7 @@ def close(record, fork, settings):
                 roots=record.block_roots)
     if fork == "deneb":
         most = settings["MAX_PER_EPOCH_ACTIVATION_CHURN_LIMIT"]
-        return altair.deneb_close(settings=by.settings, bellatrix=by.bellatrix, max_per_epoch_activation_churn_limit=most, **lent)
+        return altair.deneb_close(altair.DenebRules(by.settings, by.bellatrix, most), **lent)
     return altair.close(by, **lent)
 
 

@@ -23,8 +23,9 @@ of STATE. '-' is standard input or output. What is no state is refused with the 
 another fork by that fork's name. Balances are in Gwei, 10^9 to the ETH, in all of them.
 
 A record file holds what Altair's close reads. Bellatrix's and Capella's read the same with another pair of numbers (--pair),
-Deneb's one number more, which a call is handed (--pair altair). Electra's and Fulu's queues have no place in a record file:
-tools/statement closes such a state by itself, as soon as the library can.
+Deneb's one number more, which altair-close --fork deneb has of mainnet and minimal, and a call is handed (--pair altair).
+Electra's and Fulu's queues have no place in a record file: tools/statement closes such a state by itself, as soon as the
+library can.
 
 `back` asks the library for the close of STATE, by its fork's rules, and refuses a record that is another. A state that took
 a close back is not yet the network's next one: the steps that are left out (eth1, randao, historical roots, sync committees)
@@ -52,7 +53,7 @@ def arguments():
         "--pair",
         choices=("altair", "bellatrix"),
         help="must be said of a state behind Altair, since a record names no fork: whose inactivity penalty quotient and slashing "
-        "multiplier go into it. bellatrix for a program that closes as Altair; altair for a call that is told the fork and the pair",
+        "multiplier go into it. bellatrix for a program that closes as Altair; altair for altair-close --fork, or a call that is told the fork",
     )
     record.add_argument("state", metavar="STATE")
     record.add_argument("made", metavar="RECORD")
@@ -77,7 +78,7 @@ def test_pair(fork, pair):
     if from_on(fork, "electra"):
         raise Bad(f"{a_state(fork)}: a record file has no place for its queues; tools/statement closes it from the state")
     if fork == "deneb" and pair != "altair":
-        raise Stopped("a Deneb state: programs that close a record file activate more than its rules; say --pair altair for a call")
+        raise Stopped("a Deneb state, and a record names no fork: say --pair altair, and close the record by altair-close --fork deneb")
     if fork != "altair" and not pair:
         raise Stopped(f"{a_state(fork)}, and a record names no fork: say --pair bellatrix or --pair altair (see --help)")
     if fork == "altair" and pair == "bellatrix":

@@ -1,13 +1,11 @@
 """What Electra's record has beside Altair's (document 03, F-2), made of a state: credentials, three numbers, two indices, queues.
 
 Whether a deposit's signature is valid is asked of the close, and no signature is checked here: that takes BLS, which is not in
-Python's library. It is read of a deposit alone whose key no validator has. So whoever makes a record says which of those are valid;
-where nothing is said, none is. Then such a deposit leaves the queue and adds no validator; every figure of the validators that the
-state has is the same either way, since a new one joins behind them and takes no part in the steps that follow but for itself."""
+Python's library. It is read of a deposit alone whose key no validator has. Where nothing is said it is taken as valid, and the key
+becomes a validator; whoever knows better names those that are not. Every figure of the validators that the state has is the same
+either way, since a new one joins behind them and takes no part in the steps that follow but for itself."""
 from array import array
 from typing import Any, NamedTuple
-
-from .errors import Bad
 
 COMPOUNDING = 0x02
 QUEUES = ("deposit_balance_to_consume", "exit_balance_to_consume", "earliest_exit_epoch", "eth1_deposit_index",
@@ -34,6 +32,17 @@ class Electra(NamedTuple):
     deposit_requests_start_index: int
     deposits: Any
     consolidations: Any
+    new_keys: tuple = ()  # the keys that no validator has, in the order of their numbers
+    places: tuple = ()  # the deposits' keys, in the queue's order
+
+    def joined(self, count, after):
+        """The keys of the validators from number `count` up to `after`, which deposits made: in the order of their first valid deposits."""
+        found = {}
+        for at in range(0, len(self.deposits), 5):
+            key, _, _, _, valid = self.deposits[at : at + 5]
+            if key >= count and valid:
+                found.setdefault(key, self.new_keys[key - count])
+        return list(found.values())[: after - count]
 
 
 def compounding(credentials):
@@ -43,18 +52,18 @@ def compounding(credentials):
     return memoryview(made).cast("Q")
 
 
-def record(keys, credentials, queues, valid=()):
-    """The parts of an Electra record. `valid` has the places, in the queue, of the deposits whose signature is known to be valid."""
+def record(keys, credentials, queues, invalid=None):
+    """The parts of an Electra record. `invalid(keys)` gives the places, in the queue, of the deposits whose signature is known not to be
+    valid."""
     numbers, pending, consolidations = queues
     named = keys.find({deposit.key for deposit in pending})
     unknown, deposits = {}, array("Q")
-    for place in valid:
-        if not 0 <= place < len(pending):
-            raise Bad(f"deposit {place} is said to be valid, and the queue has {len(pending)}")
+    wrong = invalid([deposit.key for deposit in pending]) if invalid else ()
     for place, deposit in enumerate(pending):
         key = named.get(deposit.key)
         if key is None:
             key = keys.count + unknown.setdefault(deposit.key, len(unknown))
-        deposits.extend((key, int(deposit.credentials == COMPOUNDING), deposit.amount, deposit.slot, int(place in valid)))
+        deposits.extend((key, int(deposit.credentials == COMPOUNDING), deposit.amount, deposit.slot, int(place not in wrong)))
     pairs = memoryview(bytes(consolidations)).cast("Q")
-    return Electra(compounding(credentials), *(numbers[name] for name in QUEUES), deposits, pairs)
+    return Electra(compounding(credentials), *(numbers[name] for name in QUEUES), deposits, pairs,
+                   tuple(unknown), tuple(deposit.key for deposit in pending))

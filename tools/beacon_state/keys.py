@@ -1,6 +1,23 @@
 """The public keys of a state's validators."""
 
 
+class Extended:
+    """The keys of a state's validators, and behind them those of the validators that its close made."""
+
+    def __init__(self, keys, joined):
+        self.keys, self.joined, self.count = keys, list(joined), keys.count + len(joined)
+
+    def __getitem__(self, index):
+        return self.joined[index - self.keys.count] if index >= self.keys.count else self.keys[index]
+
+    def find(self, wanted):
+        found = self.keys.find(wanted)
+        for place, key in enumerate(self.joined):
+            if key in wanted:
+                found.setdefault(key, self.keys.count + place)
+        return found
+
+
 class Keys:
     """`count` entries of `size` bytes, each beginning with a key of 48 bytes."""
 

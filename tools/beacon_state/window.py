@@ -6,7 +6,7 @@ import re
 
 from .errors import Bad
 
-CHUNK = 2**20
+CHUNK = 2**17  # larger ones cost new memory again and again
 LONGEST_VALUE = 2**26
 SPACE = re.compile(r"[ \t\n\r]*").match
 
@@ -30,7 +30,7 @@ class Window:
     def __init__(self, read, sink=None):
         self.read, self.sink = read, sink
         self.text, self.base, self.at, self.begin, self.sent = "", 0, 0, 0, 0
-        self.passed, self.ended = [], False
+        self.passed, self.ended, self.odd = [], False, 0  # odd: up to where bulk.py has found what is not plain
         self.field, self.index = "", None
 
     def bad(self, what, path="", at=None):

@@ -2,10 +2,11 @@
 
 Opening balance + what closes gave - what they took + what blocks did between closes + what happened in epochs that were not given
 = closing balance, of each validator and in total."""
+from itertools import zip_longest
 from typing import NamedTuple
 
 from ..errors import Bad
-from .epoch import GIVEN, RULES, TAKEN, status
+from .epoch import ALL, ELECTRA, GIVEN, RULES, TAKEN, status
 
 
 class Gap(NamedTuple):
@@ -39,7 +40,12 @@ class Row(NamedTuple):
 
 def net_of(amounts):
     """What the rules gave less what they took."""
-    return sum(n if name in GIVEN else -n for name, n in zip(RULES, amounts))
+    return sum(n if name in GIVEN else -n for name, n in zip(ALL, amounts))
+
+
+def added(one, other):
+    """Amounts of nine rules or of twelve, together."""
+    return tuple(a + b for a, b in zip_longest(one, other, fillvalue=0))
 
 
 def gap_between(before, after):
@@ -77,12 +83,18 @@ class Account:
     def last(self):
         return self.epochs[-1]
 
+    @property
+    def rules(self):
+        """The names of the amounts: Electra's three among them where one of the closes is Electra's or Fulu's."""
+        return ALL if any(ELECTRA[0] in epoch.columns for epoch in self.epochs) else RULES
+
     def by_epoch(self):
         """The rows of each epoch in turn. The opening balance is what the close before left, carried forward."""
         left, before = {}, None
         for epoch in self.epochs:
             gap = before is not None and gap_between(before, epoch.number)
-            columns, rules = epoch.columns, [epoch.columns[name] for name in RULES]
+            columns, none = epoch.columns, [0] * len(epoch.chosen)
+            rules = [columns.get(name, none) for name in self.rules]
             for place, index in enumerate(epoch.chosen):
                 opened, closed = columns["opening_balance"][place], columns["closing_balance"][place]
                 # one that has joined since had nothing: its deposit is what blocks did
@@ -102,7 +114,7 @@ class Account:
         for row in self.by_epoch():
             was = sums.get(row.index)
             if was is not None:
-                amounts = tuple(a + b for a, b in zip(was.amounts, row.amounts))
+                amounts = added(was.amounts, row.amounts)
                 row = row._replace(first=was.first, opening_balance=was.opening_balance, amounts=amounts, blocks=was.blocks + row.blocks,
                                    gaps=was.gaps + row.gaps)
             sums[row.index] = row
@@ -115,7 +127,7 @@ class Totals:
 
     def __init__(self):
         self.count = self.opening_balance = self.closing_balance = self.blocks = self.gaps = 0
-        self.amounts = (0,) * len(RULES)
+        self.amounts = (0,) * len(RULES)  # grows by Electra's three where a row has them
 
     def over(self, rows):
         for row in rows:
@@ -124,7 +136,7 @@ class Totals:
             self.closing_balance += row.closing_balance
             self.blocks += row.blocks
             self.gaps += row.gaps
-            self.amounts = tuple(a + b for a, b in zip(self.amounts, row.amounts))
+            self.amounts = added(self.amounts, row.amounts)
             yield row
 
     @property
@@ -133,8 +145,8 @@ class Totals:
 
     @property
     def given(self):
-        return sum(n for name, n in zip(RULES, self.amounts) if name in GIVEN)
+        return sum(n for name, n in zip(ALL, self.amounts) if name in GIVEN)
 
     @property
     def taken(self):
-        return sum(n for name, n in zip(RULES, self.amounts) if name in TAKEN)
+        return sum(n for name, n in zip(ALL, self.amounts) if name in TAKEN)

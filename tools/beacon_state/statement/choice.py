@@ -15,14 +15,14 @@ MOST = 2**24
 class Choice:
     """All validators where no word was given."""
 
-    def __init__(self, words=()):
-        self.all, self.spans, self.keys = not words, [], {}
+    def __init__(self, words=(), named="--validators"):
+        self.all, self.spans, self.keys, self.named = not words, [], {}, named
         for word in words:
             for one in filter(None, word.split(",")):
                 if not self.take(one):
                     self.take_file(one)
         if not self.all and not self.spans and not self.keys:
-            raise Stopped("--validators names none")
+            raise Stopped(f"{named} names none")
 
     def take(self, word):
         if NUMBER(word):
@@ -35,7 +35,7 @@ class Choice:
         else:
             return False
         if last < first or last >= MOST:
-            raise Stopped(f"--validators {word}: numbers from 0 to {MOST - 1} are wanted, the smaller one first")
+            raise Stopped(f"{self.named} {word}: numbers from 0 to {MOST - 1} are wanted, the smaller one first")
         self.spans.append((first, last))
         return True
 
@@ -59,11 +59,25 @@ class Choice:
             found.update(range(first, min(last + 1, count)))
         return sorted(found)
 
-    def test_found(self, count):
-        """Refuses a choice of which some are in no record, the last of which has so many validators."""
+    def has(self, index, key):
+        """Whether a validator, None where it is none yet, or its key is chosen."""
+        return self.all or key in self.keys or index is not None and any(first <= index <= last for first, last in self.spans)
+
+    def places(self, keys):
+        """Of a list of keys, the places that are chosen, by their number or by the key that stands there."""
+        for first, last in self.spans:
+            if last >= len(keys):
+                raise Bad(f"{self.named}: there is no deposit {max(first, len(keys))}: the queue has {len(keys)}")
+        for key in self.keys:
+            if key not in keys:
+                raise Bad(f"{self.named}: no deposit of the queue has the public key 0x{key.hex()}")
+        return {place for place, key in enumerate(keys) if not self.all and self.has(place, key)}
+
+    def test_found(self, count, pending=()):
+        """Refuses a choice of which some are in no record, the last of which has so many validators and these keys in its queue."""
         for first, last in self.spans:
             if last >= count:
                 raise Bad(f"--validators: there is no validator {max(first, count)}: the record has {count}")
         for key, index in self.keys.items():
-            if index is None:
+            if index is None and key not in pending:
                 raise Bad(f"--validators: no validator has the public key 0x{key.hex()}")

@@ -8,11 +8,12 @@ from altair_close import _layout
 from altair_close._command import said
 from altair_close._errors import Bad as Named
 
-from .. import record_file, settings as settings_of
+from .. import electra, record_file, settings as settings_of
 from ..closing import test_closable
-from ..containers import FORKS
+from ..containers import FORKS, from_on
 from ..errors import Bad, Stopped
 from ..files import settings_file, source, target, whole
+from ..forks import title
 from ..opening import beginning, is_record, state_of
 from . import page, plain
 from .account import Account, test_follows
@@ -20,7 +21,7 @@ from .choice import Choice
 from .epoch import Opening, close, test_open
 from .node import Node
 from .statement import Statement
-from .waiting import exits, waits
+from .waiting import exits, pending, waits
 
 HELP = """A statement of one close, or of a run of closes.
 
@@ -35,8 +36,11 @@ For each validator it says the public key, the status, the opening and the closi
 change, in Gwei and ETH. Several states, in order, make one statement: sums by validator, and what blocks did between a closing and the
 next opening (proposals, sync committees, withdrawals, deposits) as one figure; epochs that are left out are named.
 
-For each that waits for activation it says how many are ahead, the number of closes that demand 3 promises, and the date; with
---exit, the exit epoch that an order would get now.
+For each that waits for activation it says how many are ahead, the number of closes that demand 3 promises, and the date; from Electra
+on the same for a deposit in the queue; with --exit, the exit epoch that an order would get now.
+
+From Electra on deposits make validators. Whether a deposit's signature is valid is not checked: one of a key that no validator has
+is taken as valid, and the statement says so, unless --invalid-deposits names it.
 
 A record file names no fork: it is closed as Altair, or by --fork. An epoch that is closed already is refused.
 
@@ -59,6 +63,8 @@ def arguments():
     add("--force", action="store_true", help="replace FILE where it is there already")
     add("--by-epoch", action="store_true", help="of a run, a line for each validator and epoch, in place of the sums")
     add("--exit", action="append", default=[], metavar="INDEX", help="also say what an order to leave would get now; may be given again")
+    add("--invalid-deposits", action="append", default=[], metavar="WHICH",
+        help="pending deposits whose signature is not valid: places in the queue from 0 on, ranges, public keys, or a file of them")
     add("--node", metavar="URL", help="a beacon node, as http://127.0.0.1:5052")
     add("--epoch", metavar="EPOCH", help="the epoch, or the range of epochs, whose states the node is asked for")
     add("--preset", choices=list(settings_of.PRESETS), help="the network's preset, with its own config (mainnet; with --node its own)")
@@ -114,11 +120,19 @@ def opening_of(name, file, settings, given):
     test_closable(state.fork)
     numbers = settings_of.of_record(settings)
     clock = altair.Clock(state.number("genesis_time"), settings["SECONDS_PER_SLOT"], settings["SLOTS_PER_EPOCH"])
-    return Opening(name, state.fork, state.record(numbers), settings, clock, state.keys(), state.root("genesis_validators_root"))
+    keys, more = state.keys(), None
+    if from_on(state.fork, "electra"):
+        invalid = Choice(given.invalid_deposits, "--invalid-deposits")
+        more = electra.record(keys, state.credentials(), state.queues(), invalid.places)
+    elif given.invalid_deposits:
+        raise Stopped("--invalid-deposits: a state before Electra has no pending deposits")
+    return Opening(name, state.fork, state.record(numbers), settings, clock, keys, state.root("genesis_validators_root"), more)
 
 
 def opening_of_record(name, record, settings, given):
     fork = given.fork or "altair"
+    if from_on(fork, "electra"):
+        raise Bad(f"a record file has no place for {title(fork)}'s queues: give the state")
     test_closable(fork)
     clock = None
     if given.genesis_time is not None or record.settings in (settings_of.of_record(settings_of.MAINNET, each) for each in FORKS[:2]):
@@ -160,13 +174,13 @@ def made(given):
                 test_follows(account.last, opening)
             if not given.anyway:
                 test_open(opening)
-            chosen = choice.of(opening.record.validators, opening.keys, name)
-            epoch, after = close(opening, chosen)
+            epoch, after = close(opening, lambda count, keys: choice.of(count, keys, name))
             noted(opening)
         account.add(epoch)
-        keys = opening.keys if opening.keys is not None else keys
-    choice.test_found(account.last.validators)
-    return Statement(account, list(waits(after, account.last.chosen)), list(exits(after, asked)), given.by_epoch, keys)
+        keys = after.keys if after.keys is not None else keys
+    choice.test_found(account.last.validators, opening.electra.places if opening.electra else ())
+    return Statement(account, list(waits(after, account.last.chosen)), list(exits(after, asked)), given.by_epoch, keys,
+                     list(pending(after, choice.has)))
 
 
 def test_words(given, form):

@@ -7,11 +7,15 @@ import altair_close as altair
 
 from .. import closing
 from ..errors import Bad
+from ..keys import Extended
 
 FAR = altair.FAR_FUTURE_EPOCH
+# what a close books by rule; Electra's three stand behind Altair's nine
 RULES = altair.Amounts._fields
-GIVEN = tuple(name for name in RULES if name.endswith("_reward"))
-TAKEN = tuple(name for name in RULES if name.endswith("_taken"))
+ELECTRA = ("deposited", "consolidated_out", "consolidated_in")
+ALL = (*RULES, *ELECTRA)
+TAKEN = tuple(name for name in ALL if name.endswith(("_taken", "_out")))
+GIVEN = tuple(name for name in ALL if name not in TAKEN)
 KEPT = {"effective_balance": 0, "slashed": 1, "activation_eligibility_epoch": 2, "activation_epoch": 3, "exit_epoch": 4,
         "withdrawable_epoch": 5, "closing_balance": 6}
 
@@ -26,6 +30,7 @@ class Opening(NamedTuple):
     clock: Optional[altair.Clock]
     keys: Any = None
     network: bytes = b""
+    electra: Any = None  # the parts that Electra's record has beside Altair's
 
     @property
     def rules(self):
@@ -50,6 +55,7 @@ class Epoch(NamedTuple):
     columns: dict
     finality: altair.Finality
     validators: int
+    joined: int = 0  # how many of them deposits made, in this close
 
     def dates(self):
         """The first and the last second, or None."""
@@ -57,12 +63,15 @@ class Epoch(NamedTuple):
 
 
 class After(NamedTuple):
-    """What the last close left, for what comes next."""
+    """What the last close left, for what comes next: `queue` is the exit queue's pair, from Electra on the two numbers of its churn, and
+    `deposits` the pending ones."""
 
     opening: Opening
     finality: altair.Finality
     registry: Any
-    queue: altair.ExitQueue
+    queue: Any
+    deposits: Any = ()
+    keys: Any = None
 
 
 def dated(second, seconds=True):
@@ -71,38 +80,45 @@ def dated(second, seconds=True):
 
 
 def column(numbers, width, place, chosen):
-    """One number of each chosen validator."""
+    """One number of each chosen validator; 0 of one that the numbers do not reach."""
     if chosen is None:
         made = array("Q")
         made.frombytes(numbers[place::width].tobytes())
         return made
-    return array("Q", [numbers[width * index + place] for index in chosen])
+    return array("Q", [numbers[width * index + place] if width * index < len(numbers) else 0 for index in chosen])
 
 
-def close(opening, chosen):
-    """The Epoch of an opening and what it left. Refused where the library refuses."""
-    record = opening.record
+def close(opening, choose):
+    """The Epoch of an opening and what it left. `choose(count, keys)` says which of so many validators are kept, None for all. Refused where
+    the library refuses."""
+    record, of_electra, keys = opening.record, opening.electra, opening.keys
     try:
-        closed = closing.close(record, opening.fork, opening.settings)
+        closed = closing.electra_close(record, of_electra, opening.settings) if of_electra else closing.close(record, opening.fork, opening.settings)
     except altair.Refused as refused:
         raise Bad(f"{opening.name}: {refused}") from None
     before, after, amounts = (closing.numbers(part) for part in (record.registry, closed.registry, closed.amounts))
+    rules, count = ALL if of_electra else RULES, len(after) // 10
+    if of_electra:
+        keys = Extended(keys, of_electra.joined(record.validators, count))
+    chosen = choose(count, keys)
+    # a validator that deposits made had nothing
     columns = {"opening_balance": column(before, 10, 6, chosen)}
-    for place, name in enumerate(RULES):
-        columns[name] = column(amounts, len(RULES), place, chosen)
+    columns["opening_balance"].extend([0] * (count - record.validators) if chosen is None else ())
+    for place, name in enumerate(rules):
+        columns[name] = column(amounts, len(rules), place, chosen)
     for name, place in KEPT.items():
         columns[name] = column(after, 10, place, chosen)
-    count = record.validators
     made = Epoch(opening.name, opening.fork, opening.epoch, record.slot, opening.rules.slots_per_epoch, opening.clock, opening.network,
-                 range(count) if chosen is None else chosen, columns, closed.finality, count)
-    return made, After(opening, closed.finality, after, closed.queue)
+                 range(count) if chosen is None else chosen, columns, closed.finality, count, count - record.validators)
+    left = (closed.churn, closed.deposits, keys) if of_electra else (closed.queue, (), keys)
+    return made, After(opening, closed.finality, after, *left)
 
 
 def test_open(opening):
     """Refuses a record that has been closed already: demand 3 is about closes of later epochs. An epoch's close alone sets these."""
     record, epoch = opening.record, opening.epoch
     numbers, lookahead = closing.numbers(record.registry), opening.rules.max_seed_lookahead
-    largest = lambda place: max((n for n in numbers[place::10].tolist() if n != FAR), default=0)
+    largest = lambda place: max(set(numbers[place::10].tolist()) - {FAR}, default=0)
     flagged = lambda place: any(numbers[place::10].tobytes())
     justified = int.from_bytes(record.checkpoints[40:48], "little")
     why = ""

@@ -6,9 +6,9 @@ from ..forks import title
 from . import chart
 from .account import Totals, net_of
 from .amounts import eth
-from .epoch import RULES, dated
-from .plain import exit_words, extra_words, wait_words
-from .statement import BOUND, EARLIEST
+from .epoch import ALL, RULES, dated
+from .plain import exit_words, extra_words, pending_words, wait_words
+from .statement import BOUND, EARLIEST, PENDING, taken_as_valid
 
 MOST = 2000  # validators: more make no page that is read
 SHOWN = ("source", "target", "head", "inactivity", "slashing")
@@ -18,6 +18,8 @@ MEANING = {
     "head": "voting for the right head block, in time",
     "inactivity": "absence while the network does not finalize",
     "slashing": "penalty of a slashed validator, by how much was slashed with it",
+    "deposits": "deposits that the close applied",
+    "consolidations": "balance of a validator that leaves, moved to another",
     "blocks": "what blocks did between two closes: proposals, sync committees, withdrawals, deposits",
     "gaps": "epochs of which no state was given: closes and blocks together",
 }
@@ -67,6 +69,9 @@ def by_rule(amounts):
     for name, amount in zip(RULES, amounts):
         rule, kind = name.split("_")
         found[rule][kind == "taken"] += amount
+    if len(amounts) == len(ALL):
+        deposited, out, into = amounts[-3:]
+        found.update(deposits=[deposited, 0], consolidations=[into, out])
     return found
 
 
@@ -88,6 +93,8 @@ def page(statement):
     yield f'<p class="soft">{escape(period)} · {escape(statement.forks())} rules · {units}</p>\n'
     if statement.gaps():
         yield f'<p class="down">{escape(statement.gaps().capitalize())}.</p>\n'
+    if taken_as_valid(statement):
+        yield f'<p class="soft">{escape(taken_as_valid(statement))}.</p>\n'
     yield tiles(totals)
     yield '<h2>What was given and taken, by rule</h2>\n<div class="two">'
     yield f"<figure>{chart.rules(bars(rules, totals, statement))}"
@@ -168,7 +175,7 @@ def validators_table(statement, rows, totals):
             + "".join(f"<th>{rule}</th>" for rule in rules) + "<th>net</th></tr>")
     lines = "\n".join(validator_line(statement, row, kept, more) for row in rows)
     foot = '<td class="left">together</td>' + figures(totals, kept, more)
-    empty = [rule for rule in SHOWN if rule not in kept]
+    empty = [rule for rule in by_rule(totals.amounts) if rule not in kept]
     note = f'\n<p class="soft">Nobody was given or charged anything for {" or ".join(empty)}.</p>' if empty else ""
     body = f"<thead>{head}</thead><tbody>\n{lines}\n</tbody><tfoot><tr>{foot}</tr></tfoot>"
     return f'<div class="wide"><table id="validators">{body}</table></div>{note}'
@@ -190,13 +197,14 @@ def figures(of, kept, more):
 
 def later(statement):
     """Who waits, and what an order to leave would get."""
-    for heading, note, lines in (
-        ("Waiting for activation", BOUND, [(wait.index, wait_words(wait)) for wait in statement.waits]),
-        ("An order to leave, given now", EARLIEST, [(one.index, exit_words(one)) for one in statement.exits]),
+    for heading, note, first, lines in (
+        ("Waiting for activation", BOUND, "index", [(wait.index, wait_words(wait)) for wait in statement.waits]),
+        ("Pending deposits", PENDING, "public key", [(f'<span class="key">{one.pubkey}</span>', pending_words(one)) for one in statement.pending]),
+        ("An order to leave, given now", EARLIEST, "index", [(one.index, exit_words(one)) for one in statement.exits]),
     ):
         if lines:
             body = "".join(f'<tr><td>{index}</td><td class="left">{escape(words)}</td></tr>' for index, words in lines)
-            head = '<tr><th>index</th><th class="left">what is promised</th></tr>'
+            head = f'<tr><th>{first}</th><th class="left">what is promised</th></tr>'
             table = f"<table><thead>{head}</thead><tbody>{body}</tbody></table>"
             yield f'<h2>{heading}</h2>\n<p class="soft">{note.capitalize()}.</p>\n<div class="wide">{table}</div>\n'
 

@@ -4,8 +4,8 @@ import json
 from ..forks import title
 from .account import Totals
 from .amounts import UNITS, eth, signed
-from .epoch import RULES, dated
-from .statement import BOUND, EARLIEST
+from .epoch import ALL, RULES, dated
+from .statement import BOUND, EARLIEST, PENDING, taken_as_valid
 
 MEASURED = 1000  # rows whose width decides that of the columns
 
@@ -22,6 +22,8 @@ def text(statement):
                f"justified {justified}, finalized {finalized}\n")
     if statement.gaps():
         yield statement.gaps() + "\n"
+    if taken_as_valid(statement):
+        yield taken_as_valid(statement) + "\n"
     yield f"{UNITS}; opening balance + rewards - taken{extra_words(statement)} = closing balance; "
     yield f"status at {'the epoch behind each' if statement.by_epoch else f'epoch {statement.last.number + 1}'}\n\n"
     totals = Totals()
@@ -30,7 +32,8 @@ def text(statement):
 
 
 def extra_words(statement):
-    return (" + blocks" if len(statement.epochs) > 1 else "") + (" + gaps" if statement.account.gaps else "")
+    electra = " + deposited - consolidated_out + consolidated_in" if len(statement.account.rules) == len(ALL) else ""
+    return electra + (" + blocks" if len(statement.epochs) > 1 else "") + (" + gaps" if statement.account.gaps else "")
 
 
 def columns(statement):
@@ -40,7 +43,7 @@ def columns(statement):
         more.append(("blocks", "Gwei", lambda row: signed(row.blocks)))
     if statement.account.gaps:
         more.append(("gaps", "Gwei", lambda row: signed(row.gaps)))
-    rules = [(name, "Gwei", lambda row, k=k: row.amounts[k]) for k, name in enumerate(RULES)]
+    rules = [(name, "Gwei", lambda row, k=k: row.amounts[k]) for k, name in enumerate(statement.account.rules)]
     return [
         *([("epoch", "", lambda row: row.last)] if statement.by_epoch else []),
         ("index", "", lambda row: row.index),
@@ -79,8 +82,8 @@ def table(statement, totals):
 
 
 def total(totals, name, unit, shown):
-    if name in RULES:
-        return str(totals.amounts[RULES.index(name)])
+    if name in ALL:
+        return str(totals.amounts[ALL.index(name)] if totals.count else 0)
     found = {"index": "total", "opening_balance": totals.opening_balance, "closing_balance": totals.closing_balance,
              "net_change": totals.net, "blocks": totals.blocks, "gaps": totals.gaps}.get(name, "")
     if isinstance(found, str):
@@ -93,6 +96,10 @@ def waiting(statement):
         yield f"\nwaiting for activation ({BOUND})\n"
         for wait in statement.waits:
             yield f"{wait.index}: {wait_words(wait)}\n"
+    if statement.pending:
+        yield f"\npending deposits ({PENDING})\n"
+        for one in statement.pending:
+            yield f"{one.pubkey}: {pending_words(one)}\n"
     if statement.exits:
         yield f"\nwhat an order to leave would get now ({EARLIEST})\n"
         for one in statement.exits:
@@ -112,6 +119,17 @@ def wait_words(wait):
     return f"{wait.ahead} ahead, activated within {closes}: active from epoch {wait.latest}{at_date(wait.date)} at the latest"
 
 
+def pending_words(one):
+    """Of a deposit in the queue."""
+    of = f"{eth(one.amount)} ETH, {one.ahead} ahead, {eth(one.sum)} ETH with its own"
+    if one.closes is None:
+        return f"{of}: {one.why}"
+    closes = "1 further close" if one.closes == 1 else f"{one.closes} further closes"
+    if one.why:
+        return f"{of}: within {closes}, {one.why}"
+    return f"{of}: within {closes}, before epoch {one.latest}{at_date(one.date)}"
+
+
 def exit_words(one):
     if one.why:
         return one.why
@@ -121,7 +139,7 @@ def exit_words(one):
 
 def csv(statement):
     names = ["first_epoch", "last_epoch", "first_second", "last_second", "index", "pubkey", "status", "opening_balance_gwei",
-             *(f"{name}_gwei" for name in RULES), "blocks_gwei", "gaps_gwei", "closing_balance_gwei", "net_change_gwei",
+             *(f"{name}_gwei" for name in statement.account.rules), "blocks_gwei", "gaps_gwei", "closing_balance_gwei", "net_change_gwei",
              "effective_balance_gwei", "opening_balance_eth", "closing_balance_eth", "net_change_eth", "waits_ahead", "waits_closes",
              "active_by_epoch", "active_by"]
     yield ",".join(names) + "\n"
@@ -149,6 +167,9 @@ def json_of(statement):
     if not statement.by_epoch:
         yield ',\n "totals": ' + json.dumps({**balances(totals), **amounts_json(totals.amounts)})
     yield ',\n "waiting": ' + json.dumps([tuple_json(wait) for wait in statement.waits])
+    if len(statement.account.rules) == len(ALL):
+        yield ',\n "pending_deposits": ' + json.dumps([tuple_json(one) for one in statement.pending])
+        yield ',\n "note": ' + json.dumps(taken_as_valid(statement))
     yield ',\n "exits": ' + json.dumps([tuple_json(one) for one in statement.exits]) + "}\n"
 
 
@@ -174,7 +195,11 @@ def amounts_json(amounts):
     for name, amount in zip(RULES, amounts):
         rule, kind = name.split("_")
         nets[rule] += amount if kind == "reward" else -amount
-    return {"rewards": {rule: str(net) for rule, net in nets.items()}, "amounts": {name: str(n) for name, n in zip(RULES, amounts)}}
+    found = {"rewards": {rule: str(net) for rule, net in nets.items()}, "amounts": {name: str(n) for name, n in zip(ALL, amounts)}}
+    if len(amounts) == len(ALL):
+        deposited, out, into = amounts[-3:]
+        found.update(deposits=str(deposited), consolidations=str(into - out))
+    return found
 
 
 def row_json(statement, row):

@@ -12,6 +12,7 @@ class Statement(NamedTuple):
     exits: list
     by_epoch: bool
     keys: Any  # of the last state, or None
+    pending: list = []  # deposits that the last close left in the queue
 
     @property
     def epochs(self):
@@ -50,6 +51,17 @@ class Statement(NamedTuple):
         return f"no state was given of {missing}: what changed there, closes and blocks together, is the figure 'gaps'"
 
 
+def taken_as_valid(statement):
+    """What is said of the validators that deposits made; '' where there are none."""
+    joined = sum(epoch.joined for epoch in statement.epochs)
+    if not joined:
+        return ""
+    made = "1 validator was made by a deposit" if joined == 1 else f"{joined} validators were made by deposits"
+    return f"{made}; signatures of deposits are not checked here, and were taken as valid but for those that --invalid-deposits named"
+
+
+PENDING = ("bounds, not forecasts: applied or postponed after at most so many further accepted closes, where finality does not go back and others "
+           "only add deposits at the end; a new key's signature is not checked here")
 BOUND = ("bounds, not forecasts: activation comes after at most so many further accepted closes, whatever others do meanwhile "
          "(demand 3), and often earlier; the date supposes a close in every epoch")
 EARLIEST = "an order that comes behind others gets a later epoch"

@@ -24,6 +24,23 @@ class Wait(NamedTuple):
     why: str = ""
 
 
+class Pending(NamedTuple):
+    """A deposit that the last close left in the queue (document 03, F-3): how many are ahead of it (k), their amounts with its own (K), and
+    floor(k / p) + max(1, ceil(K / c)), the number of further closes after which it has been applied or postponed; `latest` is the epoch that
+    begins behind them. `why` says what that waits for, or why there is no such number."""
+
+    place: int
+    pubkey: str
+    amount: int
+    slot: int
+    ahead: int
+    sum: int
+    closes: Optional[int] = None
+    latest: Optional[int] = None
+    date: Optional[str] = None
+    why: str = ""
+
+
 class Exit(NamedTuple):
     """What an order to leave would get now: the exit epoch, the withdrawable epoch and their dates."""
 
@@ -99,6 +116,49 @@ def smallest_limit(opening):
     return settings
 
 
+def least_limits(settings):
+    """p and c of the claim on deposits: the most deposits a close takes, and the smallest churn limit that the settings allow."""
+    increment = settings["EFFECTIVE_BALANCE_INCREMENT"]
+    least = settings["MIN_PER_EPOCH_CHURN_LIMIT_ELECTRA"] // increment * increment if increment else 0
+    return settings["MAX_PENDING_DEPOSITS_PER_EPOCH"], min(least, settings["MAX_PER_EPOCH_ACTIVATION_EXIT_CHURN_LIMIT"])
+
+
+def pending(after, is_chosen):
+    """A Pending for each deposit of the closing queue whose key, or validator's number, is chosen: at most MOST of them."""
+    opening, queue = after.opening, after.deposits
+    if not opening.electra or not len(queue):
+        return
+    known, slots = opening.record.validators, opening.rules.slots_per_epoch
+    p, c = least_limits(opening.settings)
+    finalized = after.finality.finalized_checkpoint.epoch
+    bridge = opening.electra.eth1_deposit_index < opening.electra.deposit_requests_start_index
+    summed = latest_slot = done = 0
+    any_request = False
+    for place in range(len(queue) // 5):
+        key, _, amount, slot, _ = queue[5 * place : 5 * place + 5]
+        summed, latest_slot, any_request = summed + amount, max(latest_slot, slot), any_request or slot > 0
+        pubkey = opening.keys[key] if key < known else opening.electra.new_keys[key - known]
+        if not is_chosen(key if key < known else None, pubkey):
+            continue
+        done += 1
+        if done > MOST:
+            return
+        found = Pending(place, "0x" + pubkey.hex(), amount, slot, place, summed)
+        if p == 0 or c == 0:
+            yield found._replace(why="no number of closes will do: a limit of the settings is 0")
+        elif bridge and any_request:
+            yield found._replace(why="the bridge's deposits come first: none that came by a request is taken until they are all there")
+        else:
+            closes = place // p + max(1, -(-summed // c))
+            wanted = -(-latest_slot // slots)  # the first epoch whose start slot is not below
+            if wanted > finalized:
+                why = f"counted from the close that finds epoch {wanted} finalized; epoch {finalized} is now"
+                yield found._replace(closes=closes, why=why)
+            else:
+                latest = opening.epoch + closes + 1
+                yield found._replace(closes=closes, latest=latest, date=date_of(opening.clock, latest))
+
+
 def exits(after, asked):
     """An Exit for each that is asked for, each as if its order were the only one, taken in the epoch that follows the close."""
     opening, numbers = after.opening, after.registry
@@ -106,8 +166,8 @@ def exits(after, asked):
     epoch = opening.epoch + 1
     slot = altair.compute_start_slot_at_epoch(opening.rules, epoch)
     for index in asked:
-        if index >= opening.record.validators:
-            raise Bad(f"--exit {index}: there is no such validator: the record has {opening.record.validators}")
+        if index >= len(numbers) // 10:
+            raise Bad(f"--exit {index}: there is no such validator: the record has {len(numbers) // 10}")
         row = numbers[10 * index : 10 * index + 10].tolist()
         if row[altair.EXIT_EPOCH] != FAR:
             yield Exit(index, why=f"it leaves already, at epoch {row[altair.EXIT_EPOCH]}")
@@ -116,8 +176,6 @@ def exits(after, asked):
         elif epoch < row[altair.ACTIVATION_EPOCH] + period:
             first = row[altair.ACTIVATION_EPOCH] + period
             yield Exit(index, why=f"it has not been active for {period} epochs: an order is taken from epoch {first} on")
-        elif from_on(opening.fork, "electra"):
-            yield Exit(index, why=f"Electra's exit leaf is {MISSING}")
         else:
             yield ordered(after, slot, index, row)
 
@@ -126,7 +184,11 @@ def ordered(after, slot, index, row):
     """In the closed registry itself, without a copy of it: the validator's numbers are put back afterwards."""
     opening, numbers = after.opening, after.registry
     try:
-        altair.initiate_validator_exit(opening.rules, slot, index, after.queue, numbers, out=numbers)
+        if opening.electra:  # by balance
+            rules = closing.electra_rules(opening.record, opening.settings)
+            altair.electra_initiate_validator_exit(rules, slot, index, after.queue, numbers, out=numbers)
+        else:
+            altair.initiate_validator_exit(opening.rules, slot, index, after.queue, numbers, out=numbers)
         leaves, withdrawable = numbers[10 * index + altair.EXIT_EPOCH], numbers[10 * index + altair.WITHDRAWABLE_EPOCH]
     except altair.Refused as refused:
         return Exit(index, why=str(refused))
