@@ -4,6 +4,8 @@ use mathlib.Core.Bool.{Bool, true, false, cond}
 use mathlib.Core.List.{List}
 use Prim.Native.Nat.{ℕ}
 use Rattle.definitions.specs.declared.Settings.{Settings}
+use Rattle.definitions.specs.declared.ActivationLimit.{ActivationLimit}
+use Rattle.definitions.specs.declared.ActivationLimit.the-variants.{Churn, AtMost}
 use Rattle.definitions.specs.declared.Bellatrix.{Bellatrix}
 use Rattle.definitions.specs.declared.Rules.{Rules}
 use Rattle.definitions.specs.Record.{Validator, BeaconState}
@@ -13,9 +15,11 @@ use Rattle.definitions.specs.Document.Phase0.EpochProcessing as phase0
 use Rattle.definitions.specs.Document.Altair.Helpers as helpers
 use Rattle.definitions.specs.Document.Altair.EpochProcessing as altair
 use Rattle.definitions.specs.Document.Bellatrix as bellatrix
+use Rattle.definitions.specs.Document.Capella as capella
+use Rattle.definitions.specs.Document.Deneb as deneb
 use Rattle.definitions.specs.Document.ByFork.{documentUnder}
 use Rattle.definitions.specs.Close.{Step, justificationStep, inactivityStep, rewardsStep, registryStep, slashingsStep, effectiveBalancesStep, slashingsResetStep, participationFlagsStep}
-use Rattle.agreement.specs.Agreement.{documentStep, bellatrixStep, InPlace, Under}
+use Rattle.agreement.specs.Agreement.{limitedRegistry, limitedDocumentStep, limitedBellatrixStep, limitedDocument, CapellaIsBellatrix, documentStep, bellatrixStep, InPlace, Under}
 
 -- each function reads none of the two numbers of the settings: what it computes is the same
 module _ (s : Settings) (b : Bellatrix) where
@@ -35,9 +39,10 @@ module _ (s : Settings) (b : Bellatrix) where
   unfolding altair.«process_rewards_and_penalties» helpers.«get_flag_index_deltas» helpers.flagIndexDeltas helpers.«get_base_reward» helpers.«get_base_reward_per_increment» helpers.«get_unslashed_participating_indices» helpers.«get_inactivity_penalty_deltas» helpers.inactivityPenaltyDeltas «get_current_epoch» «get_previous_epoch» «compute_epoch_at_slot» «get_total_balance» «get_total_active_balance» phase0.«is_in_inactivity_leak» phase0.«get_finality_delay»
   rewards quotient st = refl
 
-  registry : (st : BeaconState) → phase0.«process_registry_updates» s st ≡ phase0.«process_registry_updates» (inPlace b s) st
-  unfolding phase0.«process_registry_updates» phase0.updateRegistryAt phase0.queueEligible phase0.isEjected «is_eligible_for_activation_queue» «initiate_validator_exit» «get_validator_churn_limit» «compute_activation_exit_epoch» «get_current_epoch» «compute_epoch_at_slot»
-  registry st = refl
+  registry : (l : ActivationLimit) (st : BeaconState) → limitedRegistry l s st ≡ limitedRegistry l (inPlace b s) st
+  unfolding phase0.«process_registry_updates» deneb.«process_registry_updates» deneb.«get_validator_activation_churn_limit» phase0.updateRegistryAt phase0.queueEligible phase0.isEjected «is_eligible_for_activation_queue» «initiate_validator_exit» «get_validator_churn_limit» «compute_activation_exit_epoch» «get_current_epoch» «compute_epoch_at_slot»
+  registry Churn st = refl
+  registry (AtMost maximum) st = refl
 
   slashings : (multiplier : ℕ) (st : BeaconState) → altair.«process_slashings» s multiplier st ≡ altair.«process_slashings» (inPlace b s) multiplier st
   unfolding altair.«process_slashings» altair.slash «get_current_epoch» «compute_epoch_at_slot» «get_total_balance» «get_total_active_balance»
@@ -56,24 +61,28 @@ module _ (s : Settings) (b : Bellatrix) where
   unfolding bellatrix.«process_rewards_and_penalties» bellatrix.«get_inactivity_penalty_deltas» altair.«process_rewards_and_penalties»
   own-rewards st = refl
 
-  steps : (st : BeaconState) (k : Step) → bellatrixStep s b st k ≡ documentStep (inPlace b s) st k
+  steps : (l : ActivationLimit) (st : BeaconState) (k : Step) → limitedBellatrixStep l s b st k ≡ limitedDocumentStep l (inPlace b s) st k
   unfolding bellatrix.«process_slashings»
-  steps st justificationStep = justification st
-  steps st inactivityStep = inactivity st
-  steps st rewardsStep = own-rewards st ∙ rewards _ st
-  steps st registryStep = registry st
-  steps st slashingsStep = slashings _ st
-  steps st effectiveBalancesStep = effective-balances st
-  steps st slashingsResetStep = slashings-reset st
-  steps st participationFlagsStep = refl
+  steps l st justificationStep = justification st
+  steps l st inactivityStep = inactivity st
+  steps l st rewardsStep = own-rewards st ∙ rewards _ st
+  steps l st registryStep = registry l st
+  steps l st slashingsStep = slashings _ st
+  steps l st effectiveBalancesStep = effective-balances st
+  steps l st slashingsResetStep = slashings-reset st
+  steps l st participationFlagsStep = refl
 
   epoch : (st : BeaconState) → bellatrix.«process_epoch» s b st ≡ altair.«process_epoch» (inPlace b s) st
   unfolding bellatrix.«process_epoch» bellatrix.«process_slashings» altair.«process_epoch»
-  epoch st = simp (own-rewards, justification, inactivity, rewards, registry, slashings, effective-balances, slashings-reset)
+  epoch st = simp (own-rewards, justification, inactivity, rewards, registry Churn, slashings, effective-balances, slashings-reset)
+
+  deneb-epoch : (maximum : ℕ) (st : BeaconState) → deneb.«process_epoch» s b maximum st ≡ limitedDocument (AtMost maximum) (inPlace b s) st
+  unfolding deneb.«process_epoch» bellatrix.«process_slashings»
+  deneb-epoch maximum st = simp (own-rewards, justification, inactivity, rewards, registry (AtMost maximum), slashings, effective-balances, slashings-reset)
 
   pub in-place : InPlace s b
   unfolding bellatrix.«get_inactivity_penalty_deltas»
-  in-place = record { epoch = epoch; steps = steps; leaf = λ stateSlot vs. penalty-deltas _ stateSlot vs }
+  in-place = record { epoch = epoch; steps = steps; deneb = deneb-epoch; leaf = λ stateSlot vs. penalty-deltas _ stateSlot vs }
 
 pub under : (r : Rules) → Under r
 unfolding documentUnder settingsUnder
@@ -88,4 +97,8 @@ under r = record { epoch = λ st. epoch-by (isAltair r) st; steps = λ st k. ste
 
     step-by : (t : Bool) (st : BeaconState) (k : Step) → cond t (documentStep s st k) (bellatrixStep s (r .bellatrix) st k) ≡ documentStep (cond t s (inPlace (r .bellatrix) s)) st k
     step-by true st k = refl
-    step-by false st k = in-place s (r .bellatrix) .steps st k
+    step-by false st k = in-place s (r .bellatrix) .steps Churn st k
+
+pub capella-is-bellatrix : CapellaIsBellatrix
+unfolding capella.«process_epoch» bellatrix.«process_epoch»
+capella-is-bellatrix s b st = refl

@@ -3,11 +3,12 @@ use mathlib.Core.Bool.{Bool, true, false, cond, _||_}
 use Prim.Native.Nat.{_+_, _*_, _/_}
 use lib.Dec.{ltb}
 use Rattle.definitions.specs.declared.Settings.{Settings}
+use Rattle.definitions.specs.declared.ActivationLimit.{ActivationLimit}
 use Rattle.definitions.specs.Record.{Validator, BeaconState}
 use Rattle.definitions.specs.Checked.{Checked, value}
 use Rattle.definitions.specs.Document.Phase0.EpochProcessing as document
 use Rattle.definitions.specs.Rust.Phase0.EpochProcessing as rust
-use Rattle.definitions.specs.Close.{step, effectiveBalancesStep}
+use Rattle.definitions.specs.Close.{limitedStep, effectiveBalancesStep}
 use Rattle.agreement.proofs.Agrees.{Agrees, Overflow, value-agrees, bind-agrees, add64-agrees, mul64-agrees, map-agrees}
 
 -- a second test that is evaluated only where the first failed
@@ -23,7 +24,7 @@ effective-balance s v =
     let high = ltb (v .«effective_balance» + increment * s .«hysteresis_upward_multiplier») (v .balance) in
     bind-agrees _ (add64-agrees _ _) (or-agrees low high _ _ (bind-agrees _ (add64-agrees _ _) value-agrees))
 
-pub effective-balances : (s : Settings) (st : BeaconState) → Agrees Overflow (step s st effectiveBalancesStep) (document.«process_effective_balance_updates» s st)
-unfolding step rust.«process_effective_balance_updates» document.«process_effective_balance_updates»
-effective-balances s st =
+pub effective-balances : (l : ActivationLimit) (s : Settings) (st : BeaconState) → Agrees Overflow (limitedStep l s st effectiveBalancesStep) (document.«process_effective_balance_updates» s st)
+unfolding limitedStep rust.«process_effective_balance_updates» document.«process_effective_balance_updates»
+effective-balances l s st =
     bind-agrees _ (bind-agrees _ (mul64-agrees _ _) (bind-agrees _ (mul64-agrees _ _) (map-agrees (effective-balance s) _))) value-agrees

@@ -6,6 +6,7 @@ use mathlib.Core.Logic.{inr}
 use Prim.Native.Nat.{ℕ, _+_, _*_}
 use lib.Dec.{leb, ltb}
 use Rattle.definitions.specs.declared.Settings.{Settings}
+use Rattle.definitions.specs.declared.ActivationLimit.{ActivationLimit}
 use Rattle.definitions.specs.declared.Finality.{Finality}
 use Rattle.definitions.specs.Record.{BeaconState}
 use Rattle.definitions.specs.Updates.{withFinality}
@@ -16,7 +17,7 @@ use Rattle.definitions.specs.Document.Altair.EpochProcessing as document
 use Rattle.definitions.specs.Rust.Phase0.Helpers as rustHelpers
 use Rattle.definitions.specs.Rust.Phase0.EpochProcessing as rustEpoch
 use Rattle.definitions.specs.Rust.Altair.EpochProcessing as rust
-use Rattle.definitions.specs.Close.{step, justificationStep}
+use Rattle.definitions.specs.Close.{limitedStep, justificationStep}
 use Rattle.agreement.proofs.Agrees.{Agrees, Overflow, OverflowOrNoRoot, or-more, value-agrees, equal-agrees, refused-agrees, bind-agrees, cond-agrees, either-agrees, add64-agrees, mul64-agrees}
 use Rattle.agreement.proofs.Helpers.{start-slot, total-balance, total-active-balance}
 
@@ -59,9 +60,9 @@ kept : (t : Bool) (f : Finality) (st : BeaconState) → cond t st (withFinality 
 kept true f st = refl
 kept false f st = refl
 
-pub justification : (s : Settings) (st : BeaconState) → Agrees OverflowOrNoRoot (step s st justificationStep) (document.«process_justification_and_finalization» s st)
-unfolding step rust.«process_justification_and_finalization» document.«process_justification_and_finalization»
-justification s st =
+pub justification : (l : ActivationLimit) (s : Settings) (st : BeaconState) → Agrees OverflowOrNoRoot (limitedStep l s st justificationStep) (document.«process_justification_and_finalization» s st)
+unfolding limitedStep rust.«process_justification_and_finalization» document.«process_justification_and_finalization»
+justification l s st =
     let early = leb (documentHelpers.«get_current_epoch» s (st .finality .slot)) 1 in
     bind-agrees _
     (cond-agrees early value-agrees

@@ -4,6 +4,8 @@ use Prim.Native.Nat.{ℕ}
 use lib.Dec.{leb, eqb}
 use lib.ListN.{getD, set}
 use Rattle.definitions.specs.declared.Settings.{Settings}
+use Rattle.definitions.specs.declared.ActivationLimit.{ActivationLimit}
+use Rattle.definitions.specs.declared.ActivationLimit.the-variants.{Churn, AtMost}
 use Rattle.definitions.specs.Lists.{maximum}
 use Rattle.definitions.specs.Record.{Validator, BeaconState, «FAR_FUTURE_EPOCH», nobody}
 use Rattle.definitions.specs.Document.Phase0.Helpers as documentHelpers
@@ -12,7 +14,9 @@ use Rattle.definitions.specs.Document.Phase0.EpochProcessing as document
 use Rattle.definitions.specs.Document.Phase0.EpochProcessing.{queueEligible, isEjected}
 use Rattle.definitions.specs.Rust.Phase0.Helpers as rustHelpers
 use Rattle.definitions.specs.Rust.Phase0.EpochProcessing as rust
-use Rattle.definitions.specs.Close.{step, registryStep}
+use Rattle.definitions.specs.Close.{limitedStep, registryStep}
+use Rattle.definitions.specs.Document.Deneb as deneb
+use Rattle.agreement.specs.Agreement.{limitedRegistry}
 use Rattle.agreement.proofs.Agrees.{Agrees, Overflow, value-agrees, bind-agrees, cond-agrees, add64-agrees, fold-agrees}
 use Rattle.agreement.proofs.Helpers.{activation-exit-epoch}
 
@@ -34,9 +38,11 @@ registry-at s stateSlot vs index =
     let queued = set vs index (queueEligible s currentEpoch (getD vs index nobody)) in
     cond-agrees (isEjected s currentEpoch (getD queued index nobody)) (initiate-exit s stateSlot queued index) value-agrees
 
-pub registry : (s : Settings) (st : BeaconState) → Agrees Overflow (step s st registryStep) (document.«process_registry_updates» s st)
-unfolding step rust.«process_registry_updates» document.«process_registry_updates»
-registry s st =
-    bind-agrees _
-    (bind-agrees _ (fold-agrees (registry-at s _) _ _) (bind-agrees _ (activation-exit-epoch s _) value-agrees))
-    value-agrees
+-- under either limit: phase0's, or Deneb's
+pub registry : (l : ActivationLimit) (s : Settings) (st : BeaconState) → Agrees Overflow (limitedStep l s st registryStep) (limitedRegistry l s st)
+unfolding limitedStep rust.limitedRegistryUpdates document.«process_registry_updates» deneb.«process_registry_updates» deneb.«get_validator_activation_churn_limit»
+registry l s st = by l
+  where
+    by : (l : ActivationLimit) → Agrees Overflow (limitedStep l s st registryStep) (limitedRegistry l s st)
+    by Churn = bind-agrees _ (bind-agrees _ (fold-agrees (registry-at s _) _ _) (bind-agrees _ (activation-exit-epoch s _) value-agrees)) value-agrees
+    by (AtMost maximum) = bind-agrees _ (bind-agrees _ (fold-agrees (registry-at s _) _ _) (bind-agrees _ (activation-exit-epoch s _) value-agrees)) value-agrees

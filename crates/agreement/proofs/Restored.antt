@@ -11,7 +11,7 @@ use Rattle.definitions.specs.Checked.{Checked, Refusal, badShape, badSettings, 
 use Rattle.definitions.specs.Refusals.{inOrder, afterTests, closingBuffer}
 use Rattle.definitions.specs.Raised.{raisedUnlessRefused}
 use Rattle.definitions.specs.Rules.{settingsUnder}
-use Rattle.definitions.specs.Close.{Call, close, closed, closeTests, stateOf, «process_epoch»}
+use Rattle.definitions.specs.Close.{Call, close, closed, closeTests, limitedTests, stateOf, «process_epoch»}
 use Rattle.laws.proofs.Tests.{tested}
 use Rattle.agreement.specs.Restored.{OneOf, Accepted, Untouched, Opening, Restored, StepBuffer}
 use Rattle.agreement.proofs.Refused.{work-refused}
@@ -83,7 +83,7 @@ data Row (c : Call) : Type 0 where
   restores : OneOf (close c .refusal) (4 ∷ 5 ∷ []) → Opening c → Row c
 
 row : (c : Call) (t : Checked (Unit {0})) (w : Checked BeaconState) → closeTests c ≡ t → «process_epoch» (settingsUnder (c .rules)) (stateOf c) ≡ w → Row c
-unfolding close closed afterTests bind closeTests
+unfolding close closed afterTests bind limitedTests
 row c (refused r) w t p = touchesNothing (rw t (tests-number _ _ _ r t)) (untouched c r t)
 row c (value u) (refused r) t p = restores (rw (t, p) (work-number r (work-refused c r p))) (opening c r t p)
 row c (value u) (value st) t p = closes (rw (t, p)) (accepted c st t p)

@@ -5,6 +5,7 @@ use mathlib.Core.List.{List, [], _∷_, map, foldl, zipWith}
 use Prim.Native.Nat.{ℕ}
 use lib.Dec.{eqb}
 use Rattle.definitions.specs.declared.Settings.{Settings}
+use Rattle.definitions.specs.declared.ActivationLimit.{ActivationLimit}
 use Rattle.definitions.specs.declared.Deltas.{Deltas}
 use Rattle.definitions.specs.Record.{Validator, BeaconState}
 use Rattle.definitions.specs.Document.Phase0.Helpers.{«get_current_epoch», «get_previous_epoch»}
@@ -12,7 +13,7 @@ use Rattle.definitions.specs.Document.Altair.Helpers.{flagIndexDeltas, inactivi
 use Rattle.definitions.specs.Document.Altair.EpochProcessing as document
 use Rattle.definitions.specs.Rust.Altair.EpochProcessing as rust
 use Rattle.definitions.specs.Rust.Altair.Helpers.{FlagTotals}
-use Rattle.definitions.specs.Close.{step, rewardsStep}
+use Rattle.definitions.specs.Close.{limitedStep, rewardsStep}
 use Rattle.agreement.proofs.Agrees.{Agrees, Overflow, value-agrees, equal-agrees, bind-agrees, cond-agrees, map-agrees, fold-agrees}
 use Rattle.agreement.proofs.Helpers.{increase-balance, kept-validators}
 use Rattle.agreement.proofs.Deltas.{totalsOf, flag-totals, flag-deltas, inactivity-deltas}
@@ -62,9 +63,9 @@ rewards-one s st v =
     let flag = flag-deltas s (st .finality .slot) (st .finality .«finalized_checkpoint» .epoch) (st .validators) in
     bind-agrees _ (bind-agrees _ (flag 0 v) (bind-agrees _ (flag 1 v) (bind-agrees _ (flag 2 v) (bind-agrees _ (inactivity-deltas s _ _ v) value-agrees)))) (fold-agrees apply-delta v _)
 
-pub rewards : (s : Settings) (st : BeaconState) → Agrees Overflow (step s st rewardsStep) (document.«process_rewards_and_penalties» s (s .«inactivity_penalty_quotient_altair») st)
-unfolding step rust.«process_rewards_and_penalties» document.«process_rewards_and_penalties» «get_flag_index_deltas» «get_inactivity_penalty_deltas»
-rewards s st =
+pub rewards : (l : ActivationLimit) (s : Settings) (st : BeaconState) → Agrees Overflow (limitedStep l s st rewardsStep) (document.«process_rewards_and_penalties» s (s .«inactivity_penalty_quotient_altair») st)
+unfolding limitedStep rust.«process_rewards_and_penalties» document.«process_rewards_and_penalties» «get_flag_index_deltas» «get_inactivity_penalty_deltas»
+rewards l s st =
     let genesis = eqb («get_current_epoch» s (st .finality .slot)) 0 in
     rw (by-validator s st)
     (bind-agrees _

@@ -3,11 +3,12 @@ use mathlib.Core.Bool.{Bool, true, false, cond, _&&_}
 use Prim.Native.Nat.{ℕ, _+_, _/_}
 use lib.Dec.{eqb}
 use Rattle.definitions.specs.declared.Settings.{Settings}
+use Rattle.definitions.specs.declared.ActivationLimit.{ActivationLimit}
 use Rattle.definitions.specs.Record.{Validator, BeaconState, isSlashed}
 use Rattle.definitions.specs.Checked.{Checked, value}
 use Rattle.definitions.specs.Document.Altair.EpochProcessing as document
 use Rattle.definitions.specs.Rust.Altair.EpochProcessing as rust
-use Rattle.definitions.specs.Close.{step, slashingsStep}
+use Rattle.definitions.specs.Close.{limitedStep, slashingsStep}
 use Rattle.agreement.proofs.Agrees.{Agrees, Overflow, value-agrees, bind-agrees, cond-agrees, add64-agrees, mul64-agrees, sum64-agrees, map-agrees}
 use Rattle.agreement.proofs.Helpers.{total-active-balance}
 
@@ -28,9 +29,9 @@ slash s epoch total adjusted v =
     (bind-agrees _ (bind-agrees _ (mul64-agrees _ _) (mul64-agrees _ _)) value-agrees)
     value-agrees)
 
-pub slashings : (s : Settings) (st : BeaconState) → Agrees Overflow (step s st slashingsStep) (document.«process_slashings» s (s .«proportional_slashing_multiplier_altair») st)
-unfolding step rust.«process_slashings» document.«process_slashings»
-slashings s st =
+pub slashings : (l : ActivationLimit) (s : Settings) (st : BeaconState) → Agrees Overflow (limitedStep l s st slashingsStep) (document.«process_slashings» s (s .«proportional_slashing_multiplier_altair») st)
+unfolding limitedStep rust.«process_slashings» document.«process_slashings»
+slashings l s st =
     bind-agrees _
     (bind-agrees _ (total-active-balance s _ _)
     (bind-agrees _ (sum64-agrees _)

@@ -6,6 +6,7 @@ use mathlib.Core.Logic.{_⊎_, inl, inr, ⊎-elim}
 use Prim.Native.Nat.{ℕ, _+_, _-_, _*_, _/_, max}
 use lib.Dec.{leb, ltb, eqb}
 use lib.ListN.{getD}
+use Rattle.definitions.specs.declared.ActivationLimit.the-variants.{Churn}
 use Rattle.definitions.specs.declared.Settings.{Settings}
 use Rattle.definitions.specs.Record.{Validator, «FAR_FUTURE_EPOCH», isSlashed, nobody}
 use Rattle.definitions.specs.Rules.{inPlace}
@@ -205,8 +206,8 @@ plain r = ⊎-elim (λ e. inl e) (λ e. inr (e .0))
 kept-step : (r : ElectraRules) (st : ElectraState) (k : Step) → Agrees OverflowOrNoRoot (evaluated.electraStep r st (kept k)) (documentStep r st (kept k))
 unfolding evaluated.electraStep
 kept-step r st k =
-    rw (in-place (r .settings) (r .bellatrix) .steps (st .altair) k)
-    (bind-agrees _ (weaken plain (each-step (inPlace (r .bellatrix) (r .settings)) (st .altair) k)) value-agrees)
+    rw (in-place (r .settings) (r .bellatrix) .steps Churn (st .altair) k)
+    (bind-agrees _ (weaken plain (each-step Churn (inPlace (r .bellatrix) (r .settings)) (st .altair) k)) value-agrees)
 
 pub electra-step : (r : ElectraRules) (st : ElectraState) (k : ElectraStep) → Agrees OverflowOrNoRoot (evaluated.electraStep r st k) (documentStep r st k)
 unfolding evaluated.electraStep

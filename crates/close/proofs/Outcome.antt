@@ -3,6 +3,7 @@ use mathlib.Core.Path.{_≡_, refl, sym, ap, _∙_, subst}
 use mathlib.Core.List.{List}
 use Prim.Native.Nat.{ℕ}
 use Rattle.definitions.specs.declared.Settings.{Settings}
+use Rattle.definitions.specs.declared.ActivationLimit.the-variants.{Churn}
 use Rattle.definitions.specs.declared.Rules.{Rules}
 use Rattle.definitions.specs.declared.Raised.{Raised}
 use Rattle.definitions.specs.declared.CloseAnswer.{CloseAnswer}
@@ -37,10 +38,10 @@ module _ (c : Call) {x : ℕ} (e : x ≡ codeOf (closeTests c)) where
       same-outcome (rw (p .is) (p .number)) (rw (p .is)) (rw (p .is) none) (rw (p .is)) (rw (p .is))
 
   -- none did
-  pub steps-closed : x ≡ 0 → {s : Settings} → settingsUnder (c .rules) ≡ s → {registry slashings : List ℕ} {r : CloseAnswer} → StepsClosed s (stateOf c) (c .registry) (c .closingRegistry) (c .closingSlashings) registry slashings r → outcome r registry slashings ≡ close c
+  pub steps-closed : x ≡ 0 → {s : Settings} → settingsUnder (c .rules) ≡ s → {registry slashings : List ℕ} {r : CloseAnswer} → StepsClosed Churn s (stateOf c) (c .registry) (c .closingRegistry) (c .closingSlashings) registry slashings r → outcome r registry slashings ≡ close c
   unfolding close closed afterTests bind
   steps-closed z under {registry} {slashings} {r} by-settings =
       let t = passed (closeTests c) e z in
-      let w = subst (λ u. StepsClosed u (stateOf c) (c .registry) (c .closingRegistry) (c .closingSlashings) registry slashings r) (sym under) by-settings in
+      let w = subst (λ u. StepsClosed Churn u (stateOf c) (c .registry) (c .closingRegistry) (c .closingSlashings) registry slashings r) (sym under) by-settings in
       let work = «process_epoch» (settingsUnder (c .rules)) (stateOf c) in
       same-outcome (rw t (w .code)) (rw t (w .finality)) (rw t (w .raised ∙ ap (raisedUnlessRefused work) (raised-under (c .rules) (c .finality .slot) (decode (c .registry))))) (rw t (w .registry)) (rw t (w .slashings))

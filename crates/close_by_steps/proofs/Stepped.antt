@@ -9,6 +9,7 @@ use borrow.Author.Tests.{eq-eqb, ne-eqb, eqb-true, le-leb, lt-leb}
 use lib.Dec.{eqb}
 use lib.ListN.{length, replicate}
 use Rattle.definitions.specs.declared.Settings.{Settings}
+use Rattle.definitions.specs.declared.ActivationLimit.the-variants.{Churn}
 use Rattle.definitions.specs.declared.Finality.{Finality}
 use Rattle.definitions.specs.declared.FullAnswer.{FullAnswer}
 use Rattle.definitions.specs.Lists.{all, every}
@@ -20,17 +21,17 @@ use Rattle.definitions.specs.Refusals.{inOrder, settingsShaped, goodSettings, g
 use Rattle.definitions.specs.Rust.Altair.EpochProcessing.{«process_justification_and_finalization»}
 use Rattle.definitions.specs.Rust.Phase0.Helpers.{«compute_epoch_at_slot», «get_current_epoch», «get_previous_epoch»}
 use Rattle.definitions.specs.Rust.Altair.Helpers.{«get_unslashed_participating_indices»}
-use Rattle.definitions.specs.Close.{step, Call, closeTests}
+use Rattle.definitions.specs.Close.{step, limitedStep, Call, closeTests, limitedTests}
 use Rattle.definitions_close.specs.Amounts.{amountsShaped}
 use Rattle.definitions_close.specs.FinalizingTest.{finalizingTest}
-use Rattle.definitions_close.specs.FullClose.{FullCall, fullTests, settingsOf}
+use Rattle.definitions_close.specs.FullClose.{FullCall, fullTests, limitedFullTests, settingsOf}
 use Rattle.definitions_close.specs.declared.Running.{Running}
 use Rattle.definitions_close.specs.CloseBySteps.{StepCall, StepOutcome, inTurn, soFar, found, stepTests, stepAfter, stepped, amountsBy, steppedAmounts, endedBy, goesOn, runningAfter, unwritten, stepInTurn, closeStep}
 use Rattle.laws.proofs.Checked.{not-value, bound, checked-value}
 use Rattle.laws.proofs.Encode.{encode-decode}
 use Rattle.laws.proofs.Rules.{by-fork}
 use Rattle.refusals.proofs.Answers.{passed}
-use Rattle.close.specs.Worked.{recordTests}
+use Rattle.close.specs.Worked.{recordTests, limitedRecordTests}
 use Rattle.close.proofs.Lent.{lent}
 use Rattle.laws_close.proofs.Passed.{full-passed}
 use Rattle.definitions_close.specs.declared.RunningAnswer.{RunningAnswer}
@@ -47,14 +48,14 @@ shaped-bind true e = e
 shaped-bind false e = absurd (not-value e)
 
 parts : (c : FullCall) → fullTests c ≡ value tt → (closeTests (c .call) ≡ value tt) × (queueTest (c .queue) (decode (c .call .registry)) ≡ value tt)
-unfolding fullTests
+unfolding limitedFullTests
 parts c t =
     let w = shaped-bind (amountsShaped (c .call .registry) (c .amounts)) t in
     let b = bound (closeTests (c .call)) (λ _. queueTest (c .queue) (decode (c .call .registry))) w in
     (b .gave, b .then)
 
 record-code : (c : Call) → closeTests c ≡ value tt → codeOf (recordTests c) ≡ 0
-unfolding closeTests recordTests
+unfolding limitedTests limitedRecordTests
 record-code c t = record-fewer _ _ (goodFinality (c .finality) ∷ []) (goodRegistry (c .registry) ∷ []) t
 
 pair-is : (c : FullCall) → queueTest (c .queue) (decode (c .call .registry)) ≡ value tt → c .queue ≡ queueOf (decode (c .call .registry))
@@ -70,7 +71,7 @@ ready c {x} e z =
     let t = passed (fullTests c) e z in
     let p = full-passed c t in
     let b = parts c t in
-    let k = lent (c .call) {x = 0} (sym (record-code (c .call) (b .0))) refl in
+    let k = lent Churn (c .call) {x = 0} (sym (record-code (c .call) (b .0))) refl in
     let roots : rootsShaped (settingsOf c) (c .call .roots) ≡ true = by-fork (c .call .rules) (λ t. rootsShaped t (c .call .roots) ≡ true) (p .roots) (p .roots) in
     record {
       opening = k .opening;
@@ -99,11 +100,11 @@ module _ (c : FullCall) (number : ℕ) (a : FullAnswer) (k : ℕ) where
   m = «process_justification_and_finalization» (settingsOf c) (c .call .roots) (c .call .finality) (decode (c .call .registry))
 
   first-value : {g : Finality} → m ≡ value g → fullTests c ≡ value tt → length (c .call .registry) ≡ 10 * (length (c .call .registry) / 10) → c .queue ≡ queueOf (decode (c .call .registry)) → firstBy (settingsOf c) (c .call .finality) (c .queue) (c .call .registry) (c .call .slashings) (c .amounts) (value g) ≡ stepInTurn (stepCalled number begun c)
-  unfolding stepInTurn stepTests found stepped steppedAmounts runningAfter afterTests closingBuffer bind step amountsBy firstBy goesOn
+  unfolding stepInTurn stepTests found stepped steppedAmounts runningAfter afterTests closingBuffer bind limitedStep amountsBy firstBy goesOn
   first-value {g} e t long q = rw (t, e, encode-decode (length (c .call .registry) / 10) (c .call .registry) long, raised-under c, test-under c g, q)
 
   first-refused : {r : Refusal} → m ≡ refused r → fullTests c ≡ value tt → firstBy (settingsOf c) (c .call .finality) (c .queue) (c .call .registry) (c .call .slashings) (c .amounts) (refused r) ≡ stepInTurn (stepCalled number begun c)
-  unfolding stepInTurn stepTests found stepped steppedAmounts runningAfter afterTests closingBuffer bind step amountsBy firstBy endedBy
+  unfolding stepInTurn stepTests found stepped steppedAmounts runningAfter afterTests closingBuffer bind limitedStep amountsBy firstBy endedBy
   first-refused e t = rw (t, e)
 
   first-at : fullTests c ≡ value tt → length (c .call .registry) ≡ 10 * (length (c .call .registry) / 10) → c .queue ≡ queueOf (decode (c .call .registry)) → firstBy (settingsOf c) (c .call .finality) (c .queue) (c .call .registry) (c .call .slashings) (c .amounts) m ≡ stepInTurn (stepCalled number begun c)

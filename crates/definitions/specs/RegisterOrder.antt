@@ -6,6 +6,8 @@ use Prim.Native.Nat.{ℕ, zero, suc, _/_}
 use lib.Dec.{leb, ltb}
 use lib.ListN.{length, getD}
 use Rattle.definitions.specs.declared.Settings.{Settings}
+use Rattle.definitions.specs.declared.ActivationLimit.{ActivationLimit}
+use Rattle.definitions.specs.declared.ActivationLimit.the-variants.{Churn}
 use Rattle.definitions.specs.Lists.{filter, range}
 use Rattle.definitions.specs.Record.{Validator, nobody}
 use Rattle.definitions.specs.Updates.{withActivation}
@@ -14,7 +16,7 @@ use Rattle.definitions.specs.Refusals.{inOrder, isSmall, settingsShaped,
 use Rattle.definitions.specs.Document.Phase0.Helpers.{«is_eligible_for_activation»}
 use Rattle.definitions.specs.Document.Phase0.EpochProcessing.{queuesBefore}
 use Rattle.definitions.specs.Rust.Phase0.Helpers.{«compute_activation_exit_epoch», «get_current_epoch», «get_validator_churn_limit»}
-use Rattle.definitions.specs.Rust.Phase0.EpochProcessing.{updateRegistryAt}
+use Rattle.definitions.specs.Rust.Phase0.EpochProcessing.{updateRegistryAt, activationLimit}
 
 -- how many of those eligible for activation queue before the validator at i
 unfoldable pub ahead : ℕ → List Validator → ℕ → ℕ
@@ -37,11 +39,14 @@ unfoldable pub activated : ℕ → ℕ → ℕ → ℕ → List Validator → Li
 activated epoch limit finalizedEpoch stop vs = mapBelow stop (activatedAt epoch limit finalizedEpoch vs) vs
 
 -- "The registry step with a stop": "from that validator number up activation epochs stay, all else is as without a stop"
-unfoldable pub registryUpdatesTo : ℕ → Settings → ℕ → ℕ → List Validator → Checked (List Validator)
-registryUpdatesTo stop s stateSlot finalizedEpoch vs =
+unfoldable pub limitedUpdatesTo : ActivationLimit → ℕ → Settings → ℕ → ℕ → List Validator → Checked (List Validator)
+limitedUpdatesTo limit stop s stateSlot finalizedEpoch vs =
     bind (foldChecked (updateRegistryAt s stateSlot) vs (range 0 (length vs))) (λ queued.
     bind («compute_activation_exit_epoch» s («get_current_epoch» s stateSlot)) (λ epoch.
-    value (activated epoch («get_validator_churn_limit» s stateSlot queued) finalizedEpoch stop queued)))
+    value (activated epoch (activationLimit limit («get_validator_churn_limit» s stateSlot queued)) finalizedEpoch stop queued)))
+
+abbrev pub registryUpdatesTo : ℕ → Settings → ℕ → ℕ → List Validator → Checked (List Validator)
+registryUpdatesTo stop s stateSlot finalizedEpoch vs = limitedUpdatesTo Churn stop s stateSlot finalizedEpoch vs
 
 -- the registry step's tests, and "above N it is refusal 1"
 unfoldable pub registryToTests : ℕ → Settings → ℕ → ℕ → List ℕ → List ℕ → Checked (Unit {0})

@@ -50,6 +50,12 @@ pub struct Settings {
     pub churn_limit_quotient: u64,
 }
 
+// How many of the activation queue an epoch lets in: as many as may exit, or (Deneb, EIP-7514) of these at most so many.
+pub enum ActivationLimit {
+    Churn,
+    AtMost(u64),
+}
+
 // An epoch and the root of its first block: phase0/operations.rs.
 #[repr(C)]
 pub struct Checkpoint {

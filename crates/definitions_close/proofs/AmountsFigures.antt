@@ -15,11 +15,11 @@ use Rattle.definitions.specs.Document.Phase0.Helpers.{«integer_squareroot», r
 use Rattle.definitions.specs.Document.Phase0.Helpers as document
 use Rattle.definitions.specs.Document.Phase0.EpochProcessing.{justifiedBits, finalizedBy, weighed, queueEligible, isEjected, activationQueue, dequeued}
 use Rattle.definitions.specs.Rust.Phase0.Helpers.{«is_active_validator», «compute_epoch_at_slot», «compute_activation_exit_epoch», «get_current_epoch», «get_previous_epoch», «compute_start_slot_at_epoch», «get_block_root», «get_block_root_at_slot», «get_active_validator_indices», «get_validator_churn_limit», «get_total_balance», «get_total_active_balance», «increase_balance», «decrease_balance»}
-use Rattle.definitions.specs.Rust.Phase0.EpochProcessing.{isJustified, rootWhere, «weigh_justification_and_finalization», «get_finality_delay», «is_in_inactivity_leak», isEligible, updateRegistryAt, «process_registry_updates»}
+use Rattle.definitions.specs.Rust.Phase0.EpochProcessing.{isJustified, rootWhere, «weigh_justification_and_finalization», «get_finality_delay», «is_in_inactivity_leak», isEligible, updateRegistryAt, limitedRegistryUpdates}
 use Rattle.definitions.specs.Rust.Altair.Helpers.{«has_flag», isUnslashedParticipating, «get_unslashed_participating_indices», «get_base_reward_per_increment», «get_base_reward», flagTotals, hitDeltas, missDeltas, flagIndexDeltas, inactivityPenaltyDeltas}
 use Rattle.definitions.specs.Rust.Altair.EpochProcessing.{movedScore, recoveredScore, updateInactivityScore, «process_inactivity_updates», applyDelta, allDeltas, rewardAndPenalize, «process_rewards_and_penalties», isSlashingDue, slashingPenalty, «process_justification_and_finalization»}
-use Rattle.definitions.specs.Close.{step, closeUpTo}
-use Rattle.definitions_close.specs.Amounts.{booked, bookedByRewards, takenFrom, takenBySlashings, nines, amounts}
+use Rattle.definitions.specs.Close.{limitedStep, limitedUpTo}
+use Rattle.definitions_close.specs.Amounts.{booked, bookedByRewards, takenFrom, takenBySlashings, nines, amounts, limitedAmounts}
 use Rattle.definitions_close.specs.FinalizingTest.{lastTest, finalizingTest}
 
 -- effective balance 32×10^9, and this balance and these flags of both epochs; 1 is source, 2 target, 4 head
@@ -118,7 +118,7 @@ pub record Figures : Type 0 where
   pub refused-test : finalizingTest mainnet (worked .finality) (refused overflow) ≡ 0
 
 pub figures : Figures
-unfolding «integer_squareroot» rootWithin «get_total_active_balance» «get_total_balance» sum64 sum filter range insert sorted maximum bind add64 sub64 mul64 mapChecked foldChecked «get_active_validator_indices» «is_active_validator» «get_current_epoch» «get_previous_epoch» «compute_epoch_at_slot» «compute_activation_exit_epoch» «get_base_reward_per_increment» «get_base_reward» flagTotals flagIndexDeltas hitDeltas missDeltas isEligible isUnslashedParticipating «get_unslashed_participating_indices» «has_flag» «is_in_inactivity_leak» «get_finality_delay» «process_rewards_and_penalties» allDeltas rewardAndPenalize inactivityPenaltyDeltas applyDelta «increase_balance» «decrease_balance» movedScore recoveredScore updateInactivityScore «process_inactivity_updates» isSlashingDue slashingPenalty isJustified «get_block_root_at_slot» document.«get_block_root_at_slot» «get_block_root» «compute_start_slot_at_epoch» «process_justification_and_finalization» «weigh_justification_and_finalization» rootWhere weighed justifiedBits finalizedBy «process_registry_updates» updateRegistryAt queueEligible isEjected «is_eligible_for_activation_queue» «is_eligible_for_activation» «get_validator_churn_limit» activationQueue dequeued step closeUpTo booked bookedByRewards takenFrom takenBySlashings nines amounts lastTest finalizingTest
+unfolding «integer_squareroot» rootWithin «get_total_active_balance» «get_total_balance» sum64 sum filter range insert sorted maximum bind add64 sub64 mul64 mapChecked foldChecked «get_active_validator_indices» «is_active_validator» «get_current_epoch» «get_previous_epoch» «compute_epoch_at_slot» «compute_activation_exit_epoch» «get_base_reward_per_increment» «get_base_reward» flagTotals flagIndexDeltas hitDeltas missDeltas isEligible isUnslashedParticipating «get_unslashed_participating_indices» «has_flag» «is_in_inactivity_leak» «get_finality_delay» «process_rewards_and_penalties» allDeltas rewardAndPenalize inactivityPenaltyDeltas applyDelta «increase_balance» «decrease_balance» movedScore recoveredScore updateInactivityScore «process_inactivity_updates» isSlashingDue slashingPenalty isJustified «get_block_root_at_slot» document.«get_block_root_at_slot» «get_block_root» «compute_start_slot_at_epoch» «process_justification_and_finalization» «weigh_justification_and_finalization» rootWhere weighed justifiedBits finalizedBy limitedRegistryUpdates updateRegistryAt queueEligible isEjected «is_eligible_for_activation_queue» «is_eligible_for_activation» «get_validator_churn_limit» activationQueue dequeued limitedStep limitedUpTo booked bookedByRewards takenFrom takenBySlashings nines limitedAmounts lastTest finalizingTest
 figures =
     record {
       worked-record = refl;

@@ -7,17 +7,20 @@ use lib.Dec.{eqb}
 use lib.ListN.{length, replicate}
 use Rattle.definitions.specs.declared.Settings.{Settings}
 use Rattle.definitions.specs.declared.Deltas.{Deltas}
+use Rattle.definitions.specs.declared.ActivationLimit.{ActivationLimit}
+use Rattle.definitions.specs.declared.ActivationLimit.the-variants.{Churn}
 use Rattle.definitions.specs.Record.{Validator, BeaconState, «GENESIS_EPOCH»}
 use Rattle.definitions.specs.Checked.{Checked, value, bind, mul64, sum64, mapChecked}
 use Rattle.definitions.specs.Refusals.{lengthIs, closingBuffer}
 use Rattle.definitions.specs.Rust.Phase0.Helpers.{«get_current_epoch», «get_previous_epoch», «get_total_active_balance»}
 use Rattle.definitions.specs.Rust.Altair.Helpers.{«TIMELY_SOURCE_FLAG_INDEX», «TIMELY_TARGET_FLAG_INDEX», «TIMELY_HEAD_FLAG_INDEX», flagTotals}
 use Rattle.definitions.specs.Rust.Altair.EpochProcessing.{allDeltas, isSlashingDue, slashingPenalty}
-use Rattle.definitions.specs.Close.{finalizedEpochOf, closeUpTo, «process_epoch»}
+use Rattle.definitions.specs.Close.{finalizedEpochOf, limitedUpTo, limitedEpoch}
 
 -- Rewards and penalties
 
--- of the pairs that `rewardAndPenalize` applies: from a balance on, each reward and the "amount really taken" after it: "An amount cut off at balance 0 is given as cut."
+-- of the pairs that `rewardAndPenalize` applies: from a balance on, each reward and the "amount really taken" after it: "An amount cut off at balance 0
+-- is given as cut."
 unfoldable pub booked : ℕ → List Deltas → List ℕ
 booked balance [] = []
 booked balance (d ∷ ds) =
@@ -61,21 +64,27 @@ nines (eight ∷ eights) [] = []
 nines [] ninths = []
 
 -- the rewards step is the third, and slashings the fifth: each as it finds the state
-unfoldable pub amounts : Settings → BeaconState → Checked (List ℕ)
-amounts s st =
+unfoldable pub limitedAmounts : ActivationLimit → Settings → BeaconState → Checked (List ℕ)
+limitedAmounts limit s st =
     let quotient = s .«inactivity_penalty_quotient_altair» in
     let multiplier = s .«proportional_slashing_multiplier_altair» in
-    bind (closeUpTo 2 s st) (λ scored.
+    bind (limitedUpTo limit 2 s st) (λ scored.
     bind (bookedByRewards s quotient (scored .finality .slot) (finalizedEpochOf scored) (scored .validators)) (λ eights.
-    bind (closeUpTo 4 s st) (λ updated.
+    bind (limitedUpTo limit 4 s st) (λ updated.
     bind (takenBySlashings s multiplier (updated .finality .slot) (updated .slashings) (updated .validators)) (λ ninths.
     value (nines eights ninths)))))
+
+abbrev pub amounts : Settings → BeaconState → Checked (List ℕ)
+amounts s st = limitedAmounts Churn s st
 
 -- "A list of the wrong length gets refusal 1;"
 abbrev pub amountsShaped : List ℕ → List ℕ → Bool
 amountsShaped registry lent = lengthIs (9 * (length registry / 10)) lent
 
 -- "refusals 4 and 5 leave zeros in it": the list after a close of which `tests` is the answer of tests 1 to 3, which leave it untouched
-unfoldable pub closingAmounts : Checked (Unit {0}) → Settings → BeaconState → List ℕ → List ℕ
-closingAmounts tests s st lent =
-    closingBuffer (λ filled. filled) tests (bind («process_epoch» s st) (λ _. amounts s st)) (replicate (length lent) 0) lent
+unfoldable pub limitedClosingAmounts : ActivationLimit → Checked (Unit {0}) → Settings → BeaconState → List ℕ → List ℕ
+limitedClosingAmounts limit tests s st lent =
+    closingBuffer (λ filled. filled) tests (bind (limitedEpoch limit s st) (λ _. limitedAmounts limit s st)) (replicate (length lent) 0) lent
+
+abbrev pub closingAmounts : Checked (Unit {0}) → Settings → BeaconState → List ℕ → List ℕ
+closingAmounts tests s st lent = limitedClosingAmounts Churn tests s st lent

@@ -7,14 +7,16 @@ use Rattle.definitions.specs.declared.Settings.{Settings}
 use Rattle.definitions.specs.declared.Finality.{Finality}
 use Rattle.definitions.specs.declared.Raised.{Raised}
 use Rattle.definitions.specs.declared.ExitQueue.{ExitQueue}
+use Rattle.definitions.specs.declared.ActivationLimit.{ActivationLimit}
+use Rattle.definitions.specs.declared.ActivationLimit.the-variants.{Churn}
 use Rattle.definitions.specs.Record.{BeaconState, encode, decode}
 use Rattle.definitions.specs.Checked.{Checked, value, refused, badShape, bind, codeOf, settle}
 use Rattle.definitions.specs.Refusals.{afterTests, closingBuffer}
 use Rattle.definitions.specs.Rules.{settingsUnder}
 use Rattle.definitions.specs.Raised.{raisedTotals, raisedUnlessRefused}
 use Rattle.definitions.specs.ExitQueue.{queueOf, queueTest}
-use Rattle.definitions.specs.Close.{Call, stateOf, closeTests, «process_epoch»}
-use Rattle.definitions_close.specs.Amounts.{amountsShaped, closingAmounts}
+use Rattle.definitions.specs.Close.{Call, stateOf, limitedTests, limitedEpoch}
+use Rattle.definitions_close.specs.Amounts.{amountsShaped, limitedClosingAmounts}
 use Rattle.definitions_close.specs.FinalizingTest.{finalizingTest}
 
 -- All that a close is handed: what `close` is, the pair beside the finality, and a list of any contents for the amounts
@@ -24,17 +26,23 @@ pub record FullCall : Type 0 where
   pub amounts : List ℕ
 
 -- 1, 2, 3 and then 8: R-8, "tested after 3, nothing written"; R-4, "A list of the wrong length gets refusal 1"
-unfoldable pub fullTests : FullCall → Checked (Unit {0})
-fullTests c =
-    let others = bind (closeTests (c .call)) (λ _. queueTest (c .queue) (decode (c .call .registry))) in
+unfoldable pub limitedFullTests : ActivationLimit → FullCall → Checked (Unit {0})
+limitedFullTests limit c =
+    let others = bind (limitedTests limit (c .call)) (λ _. queueTest (c .queue) (decode (c .call .registry))) in
     cond (amountsShaped (c .call .registry) (c .amounts)) others (refused badShape)
+
+abbrev pub fullTests : FullCall → Checked (Unit {0})
+fullTests c = limitedFullTests Churn c
 
 abbrev pub settingsOf : FullCall → Settings
 settingsOf c = settingsUnder (c .call .rules)
 
 -- the closed state, or the refusal
-unfoldable pub fullyClosed : FullCall → Checked BeaconState
-fullyClosed c = afterTests (fullTests c) («process_epoch» (settingsOf c) (stateOf (c .call)))
+unfoldable pub limitedFullyClosed : ActivationLimit → FullCall → Checked BeaconState
+limitedFullyClosed limit c = afterTests (limitedFullTests limit c) (limitedEpoch limit (settingsOf c) (stateOf (c .call)))
+
+abbrev pub fullyClosed : FullCall → Checked BeaconState
+fullyClosed c = limitedFullyClosed Churn c
 
 -- the pair goes in and comes back: on refusal the opening's
 unfoldable pub closingQueue : Checked BeaconState → ExitQueue → ExitQueue
@@ -52,19 +60,23 @@ pub record FullOutcome : Type 0 where
   pub closingSlashings : List ℕ
   pub amounts : List ℕ
 
-unfoldable pub fullClose : FullCall → FullOutcome
-fullClose c =
+unfoldable pub limitedFullClose : ActivationLimit → FullCall → FullOutcome
+limitedFullClose limit c =
     let s = settingsOf c in
     let opening = stateOf (c .call) in
-    let tests = fullTests c in
-    let work = «process_epoch» s opening in
+    let closed = limitedFullyClosed limit c in
+    let tests = limitedFullTests limit c in
+    let work = limitedEpoch limit s opening in
     record {
-      refusal = codeOf (fullyClosed c);
-      finality = settle (fullyClosed c) opening .finality;
-      queue = closingQueue (fullyClosed c) (c .queue);
-      raised = raisedUnlessRefused (fullyClosed c) (raisedTotals (c .call .rules .settings) (opening .finality .slot) (opening .validators));
-      test = finalizingTest (c .call .rules .settings) (opening .finality) (bind (fullyClosed c) (λ after. value (after .finality)));
+      refusal = codeOf closed;
+      finality = settle closed opening .finality;
+      queue = closingQueue closed (c .queue);
+      raised = raisedUnlessRefused closed (raisedTotals (c .call .rules .settings) (opening .finality .slot) (opening .validators));
+      test = finalizingTest (c .call .rules .settings) (opening .finality) (bind closed (λ after. value (after .finality)));
       closingRegistry = closingBuffer (λ st. encode (st .validators)) tests work (c .call .registry) (c .call .closingRegistry);
       closingSlashings = closingBuffer (λ st. st .slashings) tests work (c .call .slashings) (c .call .closingSlashings);
-      amounts = closingAmounts tests s opening (c .amounts);
+      amounts = limitedClosingAmounts limit tests s opening (c .amounts);
     }
+
+abbrev pub fullClose : FullCall → FullOutcome
+fullClose c = limitedFullClose Churn c

@@ -39,7 +39,8 @@ abbrev pub queueAnswer : Checked (List Validator) → ExitQueue → QueueAnswer
 queueAnswer m before = record { refusal = codeOf m; queue = queueAfter m before }
 
 -- a call that tests, works on a register and is lent the pair: the answer, and what the buffer holds `after`
-pub record QueueCloses (tests : Checked (Unit {0})) (work : Checked (List Validator)) (queue : ExitQueue) (opening closing after : List ℕ) (r : QueueAnswer) : Type 0 where
+pub record QueueCloses (tests : Checked (Unit {0})) (work : Checked (List Validator)) (queue : ExitQueue) (opening closing after : List ℕ)
+    (r : QueueAnswer) : Type 0 where
   pub answer : r ≡ queueAnswer (afterTests tests work) queue
   pub buffer : after ≡ closingBuffer encode tests work opening closing
 

@@ -40,7 +40,7 @@ closeCame (othersStay, bySteps b) =
 closeCame (othersStay, onShelf f) = closeBy othersStay (whole (fileCame f)) (outcomeOf (fileCame f))
 
 -- the close as the statement sees it
-callOf : CloseCame → store.AnyClose
+pub callOf : CloseCame → store.AnyClose
 callOf (wholly c) = store.wholly (called c)
 callOf (bySteps b) =
     let s = b .steps in
@@ -59,7 +59,7 @@ callOf (onShelf f) = store.onShelf (fileCame f) (file-defined f)
 callsOf : List (Bool × CloseCame) → List (Bool × store.AnyClose)
 callsOf calls = map (λ c. (c .0, callOf (c .1))) calls
 
-same-one : (c : Bool × CloseCame) → closeCame c ≡ closeOf (c .0, callOf (c .1))
+pub same-one : (c : Bool × CloseCame) → closeCame c ≡ closeOf (c .0, callOf (c .1))
 unfolding callOf
 same-one (w, wholly c) = ap (λ (o : FullOutcome). closeWith w (called c) o) (c .holds)
 same-one (w, bySteps b) = refl

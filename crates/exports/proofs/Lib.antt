@@ -11,3 +11,4 @@ pub mod Demand3
 pub mod ExitEpochs
 pub mod Demand2
 pub mod ElectraCalls
+pub mod DenebCalls

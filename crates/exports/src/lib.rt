@@ -1,10 +1,11 @@
 // The static library's functions, for C and for whatever calls C: numbers, slices and #[repr(C)] structs. Each is one of the library's own
-// functions, under the prefix altair_ or electra_ and with that function's contract; an enum comes back as a number beside its value (crate plain).
+// functions, under the prefix altair_, deneb_ or electra_ and with that function's contract; an enum comes back as a number beside its value (crate plain).
 // Nothing is demanded of the caller.
 ghost use mathlib.Core.Path.{_≡_};
 ghost use Rattle.exports.specs.Version.{version};
 
 mod altair_helpers;
+mod deneb_calls;
 mod electra;
 mod epoch_processing;
 mod exit_orders;

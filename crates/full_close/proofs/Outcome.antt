@@ -3,6 +3,7 @@ use mathlib.Core.Path.{_≡_, refl, sym, ap, subst, _∙_}
 use mathlib.Core.List.{List}
 use Prim.Native.Nat.{ℕ}
 use Rattle.definitions.specs.declared.Settings.{Settings}
+use Rattle.definitions.specs.declared.ActivationLimit.{ActivationLimit}
 use Rattle.definitions.specs.declared.Rules.{Rules}
 use Rattle.definitions.specs.declared.Finality.{Finality}
 use Rattle.definitions.specs.declared.FullAnswer.{FullAnswer}
@@ -12,10 +13,10 @@ use Rattle.definitions.specs.Raised.{raisedUnlessRefused}
 use Rattle.definitions.specs.Record.{decode}
 use Rattle.definitions.specs.Rules.{settingsUnder}
 use Rattle.definitions.specs.Rust.Phase0.Helpers.{«compute_epoch_at_slot», «get_current_epoch»}
-use Rattle.definitions.specs.Close.{stateOf, «process_epoch»}
-use Rattle.definitions_close.specs.Amounts.{closingAmounts}
+use Rattle.definitions.specs.Close.{stateOf, limitedEpoch}
+use Rattle.definitions_close.specs.Amounts.{limitedClosingAmounts}
 use Rattle.definitions_close.specs.FinalizingTest.{finalizingTest}
-use Rattle.definitions_close.specs.FullClose.{FullCall, FullOutcome, fullTests, fullyClosed, closingQueue, fullClose}
+use Rattle.definitions_close.specs.FullClose.{FullCall, FullOutcome, limitedFullTests, limitedFullyClosed, closingQueue, limitedFullClose}
 use Rattle.laws.proofs.Rules.{by-fork}
 use Rattle.refusals.proofs.Answers.{passed}
 use Rattle.registry_close.proofs.Worked.{code-refused}
@@ -34,22 +35,22 @@ unfolding finalizingTest «get_current_epoch» «compute_epoch_at_slot»
 test-under r old (value f) = by-fork r (λ t. finalizingTest t old (value f) ≡ finalizingTest (r .settings) old (value f)) refl refl
 test-under r old (refused p) = refl
 
-module _ (c : FullCall) {x : ℕ} (e : x ≡ codeOf (fullTests c)) where
+module _ (by : ActivationLimit) (c : FullCall) {x : ℕ} (e : x ≡ codeOf (limitedFullTests by c)) where
   -- a test refused
-  pub full-tests-refused : (x ≡ 0 → ⊥) → {answer : FullAnswer} → answer ≡ unclosed x (c .call .finality) (c .queue) → fullOutcome answer (c .call .closingRegistry) (c .call .closingSlashings) (c .amounts) ≡ fullClose c
-  unfolding fullClose fullyClosed afterTests bind closingBuffer closingAmounts closingQueue finalizingTest raisedUnlessRefused
+  pub full-tests-refused : (x ≡ 0 → ⊥) → {answer : FullAnswer} → answer ≡ unclosed x (c .call .finality) (c .queue) → fullOutcome answer (c .call .closingRegistry) (c .call .closingSlashings) (c .amounts) ≡ limitedFullClose by c
+  unfolding limitedFullClose limitedFullyClosed afterTests bind closingBuffer limitedClosingAmounts closingQueue finalizingTest raisedUnlessRefused
   full-tests-refused n {answer} is =
-      let p = code-refused (fullTests c) e n in
+      let p = code-refused (limitedFullTests by c) e n in
       same-outcome (rw (p .is) (ap (λ (a : FullAnswer). a .refusal) is ∙ p .number)) (rw (p .is) (ap (λ (a : FullAnswer). a .finality) is)) (rw (p .is) (ap (λ (a : FullAnswer). a .queue) is)) (rw (p .is) (ap (λ (a : FullAnswer). a .raised) is)) (rw (p .is) (ap (λ (a : FullAnswer). a .test) is)) (rw (p .is)) (rw (p .is)) (rw (p .is))
 
   -- none did
-  pub full-steps-closed : x ≡ 0 → {s : Settings} → settingsUnder (c .call .rules) ≡ s → {registry slashings amounts : List ℕ} {r : FullAnswer} → FullWorked s (stateOf (c .call)) (c .queue) (c .call .registry) (c .call .closingRegistry) (c .call .closingSlashings) (c .amounts) registry slashings amounts r → fullOutcome r registry slashings amounts ≡ fullClose c
-  unfolding fullClose fullyClosed afterTests bind
+  pub full-steps-closed : x ≡ 0 → {s : Settings} → settingsUnder (c .call .rules) ≡ s → {registry slashings amounts : List ℕ} {r : FullAnswer} → FullWorked by s (stateOf (c .call)) (c .queue) (c .call .registry) (c .call .closingRegistry) (c .call .closingSlashings) (c .amounts) registry slashings amounts r → fullOutcome r registry slashings amounts ≡ limitedFullClose by c
+  unfolding limitedFullClose limitedFullyClosed afterTests bind
   full-steps-closed z under {registry} {slashings} {amounts} {r} by-settings =
-      let t = passed (fullTests c) e z in
+      let t = passed (limitedFullTests by c) e z in
       let st = stateOf (c .call) in
-      let w = subst (λ u. FullWorked u st (c .queue) (c .call .registry) (c .call .closingRegistry) (c .call .closingSlashings) (c .amounts) registry slashings amounts r) (sym under) by-settings in
-      let work = «process_epoch» (settingsUnder (c .call .rules)) st in
+      let w = subst (λ u. FullWorked by u st (c .queue) (c .call .registry) (c .call .closingRegistry) (c .call .closingSlashings) (c .amounts) registry slashings amounts r) (sym under) by-settings in
+      let work = limitedEpoch by (settingsUnder (c .call .rules)) st in
       same-outcome (rw t (w .code)) (rw t (w .finality)) (rw t (w .queue))
       (rw t (w .raised ∙ ap (raisedUnlessRefused work) (raised-under (c .call .rules) (c .call .finality .slot) (decode (c .call .registry)))))
       (rw t (w .test ∙ test-under (c .call .rules) (c .call .finality) (bind work (λ after. value (after .finality)))))

@@ -13,6 +13,7 @@ pub mod Steps
 pub mod Registry
 pub mod EightSteps
 pub mod WholeClose
+pub mod Limited
 pub mod Computing
 pub mod Follow
 pub mod Small

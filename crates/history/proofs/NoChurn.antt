@@ -9,6 +9,7 @@ use native.Mathlib.Omega.{arith}
 use borrow.Author.Tests.{lt-leb, le-ltb}
 use lib.Dec.{T, ltb}
 use lib.ListN.{length, replicate}
+use Rattle.definitions.specs.declared.ActivationLimit.the-variants.{Churn}
 use Rattle.definitions.specs.declared.Settings.{Settings}
 use Rattle.definitions.specs.Lists.{filter}
 use Rattle.definitions.specs.Record.{Validator, BeaconState, «FAR_FUTURE_EPOCH», decode}
@@ -53,7 +54,7 @@ close-inactive : {i : ℕ} (c : Bool × Call) → c .1 .rules .settings .«min_p
 unfolding «get_current_epoch» «compute_epoch_at_slot»
 close-inactive {i} (w, c) z t a = record { there = omega (arith, a .there, n); none = λ j l. none j (omega (arith, l, n)) }
   where
-    x : Eight (settingsUnder (c .rules)) (c .finality) (decode (c .registry)) (closed (w, c) .returned .finality) (closed (w, c) .returned .validators)
+    x : Eight Churn (settingsUnder (c .rules)) (c .finality) (decode (c .registry)) (closed (w, c) .returned .finality) (closed (w, c) .returned .validators)
     x = closed-eight c t
 
     n : length (closed (w, c) .returned .validators) ≡ length (decode (c .registry))

@@ -9,6 +9,8 @@ use native.Mathlib.Omega.{arith}
 use lib.Dec.{T, eqb, eqb→eq}
 use lib.ListN.{length, getD, set, length-set}
 use lib.Seq.{getD-set-same, getD-set-other}
+use Rattle.definitions.specs.declared.ActivationLimit.{ActivationLimit}
+use Rattle.definitions.specs.declared.ActivationLimit.the-variants.{Churn, AtMost}
 use Rattle.definitions.specs.declared.Settings.{Settings}
 use Rattle.definitions.specs.Lists.{range}
 use Rattle.definitions.specs.Record.{Validator, nobody, «FAR_FUTURE_EPOCH»}
@@ -17,7 +19,7 @@ use Rattle.definitions.specs.Checked.{value, foldChecked}
 use Rattle.definitions.specs.Document.Phase0.Helpers.{«is_eligible_for_activation_queue»}
 use Rattle.definitions.specs.Document.Phase0.EpochProcessing.{queueEligible, isEjected, dequeued}
 use Rattle.definitions.specs.Rust.Phase0.Helpers.{«compute_activation_exit_epoch», «get_current_epoch», «get_validator_churn_limit», «initiate_validator_exit»}
-use Rattle.definitions.specs.Rust.Phase0.EpochProcessing.{updateRegistryAt, «process_registry_updates»}
+use Rattle.definitions.specs.Rust.Phase0.EpochProcessing.{updateRegistryAt, activationLimit, limitedRegistryUpdates}
 use Rattle.laws.proofs.Checked.{value-same, bound, add64-value}
 use Rattle.laws.proofs.Frame.Registry.{exit-writes}
 use Rattle.history.proofs.Waiting.{eligibilityAt, activationAt}
@@ -141,30 +143,35 @@ visited s stateSlot (suc n) k vs {ws} l p =
             subst (λ (y : ℕ). Marked e y (eligibilityAt ws i)) (t .others i x) (v .from i (omega (arith, a, t .number)) (omega arith))
 
 -- the step: the loop to `queue`, then the activations
-pub record Updated (s : Settings) (stateSlot finalizedEpoch : ℕ) (vs ws : List Validator) : Type 0 where
+pub record Updated (limit : ActivationLimit) (s : Settings) (stateSlot finalizedEpoch : ℕ) (vs ws : List Validator) : Type 0 where
   pub queue : List Validator
   pub visits : Visited («get_current_epoch» s stateSlot) 0 vs queue
-  pub activates : dequeued («get_current_epoch» s stateSlot + 1 + s .«max_seed_lookahead») («get_validator_churn_limit» s stateSlot queue) finalizedEpoch queue ≡ ws
+  pub activates : dequeued («get_current_epoch» s stateSlot + 1 + s .«max_seed_lookahead») (activationLimit limit («get_validator_churn_limit» s stateSlot queue)) finalizedEpoch queue ≡ ws
 
-pub registry-updates : (s : Settings) (stateSlot finalizedEpoch : ℕ) (vs : List Validator) {ws : List Validator} → «process_registry_updates» s stateSlot finalizedEpoch vs ≡ value ws → Updated s stateSlot finalizedEpoch vs ws
-unfolding «process_registry_updates» «compute_activation_exit_epoch»
-registry-updates s stateSlot finalizedEpoch vs p =
+pub registry-updates : (limit : ActivationLimit) (s : Settings) (stateSlot finalizedEpoch : ℕ) (vs : List Validator) {ws : List Validator} → limitedRegistryUpdates limit s stateSlot finalizedEpoch vs ≡ value ws → Updated limit s stateSlot finalizedEpoch vs ws
+unfolding limitedRegistryUpdates «compute_activation_exit_epoch»
+registry-updates limit s stateSlot finalizedEpoch vs p =
     let a = bound _ _ p in
     let b = bound _ _ (a .then) in
     let c = bound _ _ (b .gave) in
     record {
       queue = a .first;
       visits = visited s stateSlot (length vs) 0 vs (omega arith) (a .gave);
-      activates = ap (λ (to : ℕ). dequeued to («get_validator_churn_limit» s stateSlot (a .first)) finalizedEpoch (a .first)) (ap (λ (x : ℕ). x + s .«max_seed_lookahead») (add64-value _ _ (c .gave)) ∙ add64-value _ _ (c .then)) ∙ value-same (b .then);
+      activates = ap (λ (to : ℕ). dequeued to (activationLimit limit («get_validator_churn_limit» s stateSlot (a .first))) finalizedEpoch (a .first)) (ap (λ (x : ℕ). x + s .«max_seed_lookahead») (add64-value _ _ (c .gave)) ∙ add64-value _ _ (c .then)) ∙ value-same (b .then);
     }
 
 pub churn-enough : (s : Settings) (stateSlot : ℕ) (vs : List Validator) → s .«min_per_epoch_churn_limit» ≤ «get_validator_churn_limit» s stateSlot vs
 unfolding «get_validator_churn_limit»
 churn-enough s stateSlot vs = le-max-left _ _
 
+-- a smaller churn limit lets in no more
+pub limit-grows : (limit : ActivationLimit) {a b : ℕ} → a ≤ b → activationLimit limit a ≤ activationLimit limit b
+limit-grows Churn h = h
+limit-grows (AtMost maximum) h = omega (arith, h)
+
 -- the registry over the whole close: steps that spare it, the registry step, and steps that spare it
-pub registered : {s : Settings} {stateSlot f : ℕ} {vs us ws xs : List Validator} → Spared vs us → (b : Updated s stateSlot f us ws) → Spared ws xs → Registered («get_current_epoch» s stateSlot) («get_current_epoch» s stateSlot + 1 + s .«max_seed_lookahead») («get_validator_churn_limit» s stateSlot (b .queue)) f vs (b .queue) xs
-registered {s} {stateSlot} {f} {vs} {us} {ws} {xs} a b c =
+pub registered : {limit : ActivationLimit} {s : Settings} {stateSlot f : ℕ} {vs us ws xs : List Validator} → Spared vs us → (b : Updated limit s stateSlot f us ws) → Spared ws xs → Registered («get_current_epoch» s stateSlot) («get_current_epoch» s stateSlot + 1 + s .«max_seed_lookahead») (activationLimit limit («get_validator_churn_limit» s stateSlot (b .queue))) f vs (b .queue) xs
+registered {limit} {s} {stateSlot} {f} {vs} {us} {ws} {xs} a b c =
     record {
       queue-number = n;
       queue-eligibility = λ i l. subst (λ (x : ℕ). Marked e x (eligibilityAt queue i)) (spared-eligibility a i) (b .visits .from i (omega (arith, l, spared-number a)) (omega arith));
@@ -184,7 +191,7 @@ registered {s} {stateSlot} {f} {vs} {us} {ws} {xs} a b c =
     queue = b .queue
 
     churn : ℕ
-    churn = «get_validator_churn_limit» s stateSlot queue
+    churn = activationLimit limit («get_validator_churn_limit» s stateSlot queue)
 
     n : length queue ≡ length vs
     n = b .visits .number ∙ spared-number a

@@ -8,6 +8,7 @@ use native.Mathlib.Omega.{arith}
 use borrow.Author.Tests.{ltb-true}
 use lib.Dec.{T, eqb, eqb→eq}
 use lib.ListN.{length, replicate}
+use Rattle.definitions.specs.declared.ActivationLimit.the-variants.{Churn}
 use Rattle.definitions.specs.declared.Settings.{Settings}
 use Rattle.definitions.specs.Lists.{filter}
 use Rattle.definitions.specs.Record.{BeaconState, encode, decode}
@@ -73,9 +74,9 @@ accepted-close c t = accepted-as c (given (closed c) t .1)
 -- The interface
 
 -- the eight steps took the opening to the record returned
-pub closed-eight : (c : Call) → T (eqb (close c .refusal) 0) → Eight (settingsUnder (c .rules)) (c .finality) (decode (c .registry)) (close c .finality) (decode (close c .closingRegistry))
+pub closed-eight : (c : Call) → T (eqb (close c .refusal) 0) → Eight Churn (settingsUnder (c .rules)) (c .finality) (decode (c .registry)) (close c .finality) (decode (close c .closingRegistry))
 closed-eight c t =
-    subst₂ (Eight (settingsUnder (c .rules)) (c .finality) (decode (c .registry))) (sym (a .finality)) (sym (ap decode (a .registry) ∙ decode-encode (a .state .validators))) (eight (settingsUnder (c .rules)) (stateOf c) (a .worked))
+    subst₂ (Eight Churn (settingsUnder (c .rules)) (c .finality) (decode (c .registry))) (sym (a .finality)) (sym (ap decode (a .registry) ∙ decode-encode (a .state .validators))) (eight Churn (settingsUnder (c .rules)) (stateOf c) (a .worked))
   where
     a : Accepted c
     a = accepted-close c t
@@ -113,7 +114,7 @@ close-shaped (w, c) t =
     a : Accepted c
     a = accepted-close c t
 
-    x : Eight (settingsUnder (c .rules)) (c .finality) (decode (c .registry)) (close c .finality) (decode (close c .closingRegistry))
+    x : Eight Churn (settingsUnder (c .rules)) (c .finality) (decode (c .registry)) (close c .finality) (decode (close c .closingRegistry))
     x = closed-eight c t
 
 -- Demand 3

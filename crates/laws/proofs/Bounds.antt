@@ -18,7 +18,7 @@ use Rattle.definitions.specs.Rules.{settingsUnder, rulesShaped, goodRules, rewa
 use Rattle.definitions.specs.Document.Phase0.Helpers as document
 use Rattle.definitions.specs.Document.Phase0.Helpers.{«compute_epoch_at_slot», «get_current_epoch», «get_previous_epoch»}
 use Rattle.definitions.specs.Rust.Phase0.Helpers as rust
-use Rattle.definitions.specs.Close.{Call, closeTests}
+use Rattle.definitions.specs.Close.{Call, closeTests, limitedTests}
 use Rattle.laws.proofs.Rules.{shaped-under, good-under}
 use Rattle.laws.specs.Bounds.{Passed, FinalityPassed, TestsPassed, RulesPassed, Bounds, Given}
 use Rattle.laws.proofs.Fits.{add64-fits, mul64-fits}
@@ -130,7 +130,7 @@ rules-slot : (r : Rules) (stateSlot : ℕ) → rulesShaped r ≡ true → goodRu
 rules-slot r stateSlot shaped good small = record { shaped = shaped-under r shaped; good = good-under r good; small = small }
 
 pub close-passed : (c : Call) → closeTests c ≡ value tt → FinalityPassed (settingsUnder (c .rules)) (c .finality)
-unfolding closeTests
+unfolding limitedTests
 close-passed c h =
     let p = in-order-value _ _ _ h in
     finality-passed (settingsUnder (c .rules)) (c .finality) (shaped-under (c .rules) (p .shaped 0)) (good-under (c .rules) (p .settings 0)) (p .recorded 0)

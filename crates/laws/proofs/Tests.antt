@@ -5,7 +5,7 @@ use mathlib.Core.List.{List, [], _∷_, _++_}
 use Prim.Native.Nat.{ℕ, zero, suc, _-_, _<_, min}
 use native.Mathlib.Omega.{arith}
 use borrow.Author.Tests.{ltb-true, ltb-false}
-use lib.Dec.{T, ltb}
+use lib.Dec.{T, ltb, eqb}
 use lib.ListN.{length, getD}
 use Rattle.definitions.specs.Lists.{all, every}
 use Rattle.definitions.specs.Checked.{Checked, value, refused, badShape, badSettings, badRecord, codeOf}
@@ -103,6 +103,31 @@ in-order shaped settings recorded e =
 
 pub in-order-value : (shaped settings recorded : List Bool) {u : Unit {0}} → inOrder shaped settings recorded ≡ value u → InOrder shaped settings recorded
 in-order-value shaped settings recorded e = in-order shaped settings recorded (ap codeOf e)
+
+-- Tests of 2 made after others: x is the number that the others gave
+pub settings-tested : (shaped settings more recorded : List Bool) {x : ℕ} → x ≡ codeOf (inOrder shaped settings recorded) → cond (eqb x 1) 1 (cond (every more) x 2) ≡ codeOf (inOrder shaped (settings ++ more) recorded)
+unfolding inOrder
+settings-tested shaped settings more recorded e = rw (every-append settings more, e) (go (every shaped) (every settings) (every recorded) (every more))
+  where
+    go : (a b c d : Bool) → cond (eqb (numbered a b c) 1) 1 (cond d (numbered a b c) 2) ≡ numbered a (b && d) c
+    go true true true true = refl
+    go true true true false = refl
+    go true true false true = refl
+    go true true false false = refl
+    go true false c true = refl
+    go true false c false = refl
+    go false b c d = refl
+
+-- fewer pass where more do
+pub settings-fewer : (shaped settings more recorded : List Bool) {u : Unit {0}} → inOrder shaped (settings ++ more) recorded ≡ value u → inOrder shaped settings recorded ≡ value u
+unfolding inOrder
+settings-fewer shaped settings more recorded {u} e = go (every shaped) (every settings) (every recorded) (every more) (rw (every-append settings more) at e)
+  where
+    go : (a b c d : Bool) → tested a (b && d) c ≡ value u → tested a b c ≡ value u
+    go true true c true e = e
+    go true true c false e = absurd (omega (arith, ap codeOf e))
+    go true false c d e = e
+    go false b c d e = e
 
 -- Tests of 3 made after others. `x` is the number that the others gave.
 

@@ -4,12 +4,13 @@ use mathlib.Core.Path.{_≡_}
 use mathlib.Core.List.{[], map}
 use Prim.Native.Nat.{ℕ}
 use Rattle.definitions.specs.declared.Settings.{Settings}
+use Rattle.definitions.specs.declared.ActivationLimit.{ActivationLimit}
 use Rattle.definitions.specs.declared.Checkpoint.{Checkpoint}
 use Rattle.definitions.specs.declared.Finality.{Finality}
 use Rattle.definitions.specs.Record.{Validator, BeaconState}
 use Rattle.definitions.specs.Updates.{withEffectiveBalance, withEligibility, withActivation, withExit, withBalance, withScore, withParticipation, withValidators, withFinality, withSlashings}
 use Rattle.definitions.specs.Checked.{value}
-use Rattle.definitions.specs.Close.{Step, justificationStep, inactivityStep, rewardsStep, registryStep, slashingsStep, effectiveBalancesStep, slashingsResetStep, participationFlagsStep, step}
+use Rattle.definitions.specs.Close.{Step, justificationStep, inactivityStep, rewardsStep, registryStep, slashingsStep, effectiveBalancesStep, slashingsResetStep, participationFlagsStep, limitedStep}
 
 -- each validator without some of its fields
 abbrev pub each : (Validator → Validator) → BeaconState → BeaconState
@@ -44,5 +45,6 @@ but effectiveBalancesStep st = each (withEffectiveBalance 0) st
 but slashingsResetStep st = withSlashings (map (λ (x : ℕ). 0) (st .slashings)) st
 but participationFlagsStep st = each (withParticipation 0 0) st
 
-abbrev pub Frames : Type 0
-Frames = (s : Settings) (k : Step) (a b : BeaconState) → step s a k ≡ value b → but k b ≡ but k a
+-- whatever the limit of activations
+abbrev pub Frames : ActivationLimit → Type 0
+Frames limit = (s : Settings) (k : Step) (a b : BeaconState) → limitedStep limit s a k ≡ value b → but k b ≡ but k a

@@ -9,6 +9,8 @@ use borrow.Author.Tests.{lt-ltb, le-leb, eqb-false}
 use lib.Dec.{leb, eqb}
 use lib.ListN.{length, length-map}
 use Rattle.definitions.specs.declared.Settings.{Settings}
+use Rattle.definitions.specs.declared.ActivationLimit.{ActivationLimit}
+use Rattle.definitions.specs.declared.ActivationLimit.the-variants.{Churn}
 use Rattle.definitions.specs.declared.Checkpoint.{Checkpoint}
 use Rattle.definitions.specs.declared.Finality.{Finality}
 use Rattle.definitions.specs.Lists.{all, every}
@@ -21,13 +23,13 @@ use Rattle.definitions.specs.Document.Altair.EpochProcessing.{rotateParticipati
 use Rattle.definitions.specs.Rust.Phase0.Helpers.{«compute_epoch_at_slot», «get_current_epoch», «get_previous_epoch»}
 use Rattle.definitions.specs.Rust.Phase0.EpochProcessing.{«weigh_justification_and_finalization»}
 use Rattle.definitions.specs.Rust.Altair.EpochProcessing.{«process_justification_and_finalization», «process_participation_flag_updates»}
-use Rattle.definitions.specs.Close.{Step, justificationStep, inactivityStep, rewardsStep, registryStep, slashingsStep, effectiveBalancesStep, slashingsResetStep, participationFlagsStep, step}
+use Rattle.definitions.specs.Close.{Step, justificationStep, inactivityStep, rewardsStep, registryStep, slashingsStep, effectiveBalancesStep, slashingsResetStep, participationFlagsStep, step, limitedStep}
 use Rattle.laws.proofs.Checked.{value-same, bound}
 use Rattle.refusals.proofs.Laws.{GoodFinality, good-finality, good-validator}
 use Rattle.laws.proofs.Tests.{both}
 use Rattle.laws.specs.Frames.{each, withoutEpochs}
 use Rattle.laws.proofs.Frame.Entries.{told}
-use Rattle.laws.proofs.Frame.Frames.{frames}
+use Rattle.laws.proofs.Frame.Frames.{limited-frames}
 use Rattle.laws.proofs.Tests.{either}
 
 -- Finality
@@ -162,9 +164,9 @@ rotated-good (v ∷ vs) h =
     let g = good-validator v (b .0) in
     rw (le-leb (v .slashed) 1 (g .slashed), le-leb (v .«current_epoch_participation») 255 (g .current)) (rotated-good vs (b .1))
 
-pub kept-step : (s : Settings) (k : Step) (a b : BeaconState) → step s a k ≡ value b → Kept a b
-unfolding step goodValidator «process_participation_flag_updates» every
-kept-step s justificationStep a b p =
+pub limited-kept : (by : ActivationLimit) (s : Settings) (k : Step) (a b : BeaconState) → limitedStep by s a k ≡ value b → Kept a b
+unfolding limitedStep goodValidator «process_participation_flag_updates» every
+limited-kept by s justificationStep a b p =
     let h = bound _ _ p in
     let e = value-same (h .then) in
     record {
@@ -174,13 +176,13 @@ kept-step s justificationStep a b p =
       slashings = ap (λ (st : BeaconState). length (st .slashings)) (sym e);
       roots = ap (λ (st : BeaconState). st .«block_roots») (sym e);
     }
-kept-step s inactivityStep a b p = by-fields (withScore 0) (λ v. refl) a b (frames s inactivityStep a b p)
-kept-step s rewardsStep a b p = by-fields (withBalance 0) (λ v. refl) a b (frames s rewardsStep a b p)
-kept-step s registryStep a b p = by-fields withoutEpochs (λ v. refl) a b (frames s registryStep a b p)
-kept-step s slashingsStep a b p = by-fields (withBalance 0) (λ v. refl) a b (frames s slashingsStep a b p)
-kept-step s effectiveBalancesStep a b p = by-fields (withEffectiveBalance 0) (λ v. refl) a b (frames s effectiveBalancesStep a b p)
-kept-step s slashingsResetStep a b p =
-    let h = frames s slashingsResetStep a b p in
+limited-kept by s inactivityStep a b p = by-fields (withScore 0) (λ v. refl) a b (limited-frames by s inactivityStep a b p)
+limited-kept by s rewardsStep a b p = by-fields (withBalance 0) (λ v. refl) a b (limited-frames by s rewardsStep a b p)
+limited-kept by s registryStep a b p = by-fields withoutEpochs (λ v. refl) a b (limited-frames by s registryStep a b p)
+limited-kept by s slashingsStep a b p = by-fields (withBalance 0) (λ v. refl) a b (limited-frames by s slashingsStep a b p)
+limited-kept by s effectiveBalancesStep a b p = by-fields (withEffectiveBalance 0) (λ v. refl) a b (limited-frames by s effectiveBalancesStep a b p)
+limited-kept by s slashingsResetStep a b p =
+    let h = limited-frames by s slashingsResetStep a b p in
     record {
       finality = λ g. ap (λ (st : BeaconState). goodFinality (st .finality)) h ∙ g;
       validators = λ g. ap (λ (st : BeaconState). all goodValidator (st .validators)) h ∙ g;
@@ -188,8 +190,8 @@ kept-step s slashingsResetStep a b p =
       slashings = sym (length-map (b .slashings) (λ (x : ℕ). 0)) ∙ ap (λ (st : BeaconState). length (st .slashings)) h ∙ length-map (a .slashings) (λ (x : ℕ). 0);
       roots = ap (λ (st : BeaconState). st .«block_roots») h;
     }
-kept-step s participationFlagsStep a b p =
-    let h = frames s participationFlagsStep a b p in
+limited-kept by s participationFlagsStep a b p =
+    let h = limited-frames by s participationFlagsStep a b p in
     let e = value-same p in
     record {
       finality = λ g. ap (λ (st : BeaconState). goodFinality (st .finality)) h ∙ g;
@@ -198,3 +200,7 @@ kept-step s participationFlagsStep a b p =
       slashings = ap (λ (st : BeaconState). length (st .slashings)) h;
       roots = ap (λ (st : BeaconState). st .«block_roots») h;
     }
+
+-- before Deneb
+pub kept-step : (s : Settings) (k : Step) (a b : BeaconState) → step s a k ≡ value b → Kept a b
+kept-step = limited-kept Churn

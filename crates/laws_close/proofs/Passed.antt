@@ -4,14 +4,16 @@ use mathlib.Core.Bool.{Bool, true, false, cond}
 use Prim.Native.Nat.{_*_, _/_}
 use borrow.Author.Tests.{eqb-true}
 use lib.ListN.{length}
+use Rattle.definitions.specs.declared.ActivationLimit.{ActivationLimit}
+use Rattle.definitions.specs.declared.ActivationLimit.the-variants.{Churn}
 use Rattle.definitions.specs.Lists.{all}
 use Rattle.definitions.specs.Record.{decode}
 use Rattle.definitions.specs.Checked.{Checked, value, refused, badShape}
 use Rattle.definitions.specs.Refusals.{rootsShaped, slashingsShaped, registryShaped, goodFinality, goodValidator, goodRegistry}
 use Rattle.definitions.specs.Rules.{rulesShaped, goodRules}
-use Rattle.definitions.specs.Close.{closeTests}
+use Rattle.definitions.specs.Close.{limitedTests}
 use Rattle.definitions_close.specs.Amounts.{amountsShaped}
-use Rattle.definitions_close.specs.FullClose.{FullCall, fullTests}
+use Rattle.definitions_close.specs.FullClose.{FullCall, fullTests, limitedFullTests}
 use Rattle.laws.proofs.Checked.{not-value, bound}
 use Rattle.refusals.proofs.Laws.{RegistryShape, registry-shaped}
 use Rattle.laws.proofs.Tests.{in-order-value}
@@ -27,9 +29,9 @@ pub record Passed (c : FullCall) : Type 0 where
   pub validators : all goodValidator (decode (c .call .registry)) ≡ true
   pub amounts : length (c .amounts) ≡ 9 * (length (c .call .registry) / 10)
 
-close-passed : (c : FullCall) → length (c .amounts) ≡ 9 * (length (c .call .registry) / 10) → closeTests (c .call) ≡ value tt → Passed c
-unfolding closeTests goodRegistry
-close-passed c l p =
+close-passed : (by : ActivationLimit) (c : FullCall) → length (c .amounts) ≡ 9 * (length (c .call .registry) / 10) → limitedTests by (c .call) ≡ value tt → Passed c
+unfolding limitedTests goodRegistry
+close-passed by c l p =
     let t = in-order-value _ _ _ p in
     record {
       rules = t .shaped 0;
@@ -47,9 +49,13 @@ where-shaped : (t : Bool) {m : Checked (Unit {0})} → cond t m (refused badShap
 where-shaped true p = (refl, p)
 where-shaped false p = absurd (not-value p)
 
-pub full-passed : (c : FullCall) → fullTests c ≡ value tt → Passed c
-unfolding fullTests
-full-passed c p =
+pub limited-passed : (by : ActivationLimit) (c : FullCall) → limitedFullTests by c ≡ value tt → Passed c
+unfolding limitedFullTests
+limited-passed by c p =
     let a = where-shaped (amountsShaped (c .call .registry) (c .amounts)) p in
-    let b = bound (closeTests (c .call)) _ (a .1) in
-    close-passed c (eqb-true (length (c .amounts)) (9 * (length (c .call .registry) / 10)) (a .0)) (b .gave)
+    let b = bound (limitedTests by (c .call)) _ (a .1) in
+    close-passed by c (eqb-true (length (c .amounts)) (9 * (length (c .call .registry) / 10)) (a .0)) (b .gave)
+
+-- before Deneb
+pub full-passed : (c : FullCall) → fullTests c ≡ value tt → Passed c
+full-passed = limited-passed Churn

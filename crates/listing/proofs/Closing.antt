@@ -4,7 +4,7 @@ use mathlib.Core.Path.{_≡_, _∙_}
 use Prim.Native.Nat.{ℕ}
 use lib.ListN.{length}
 use Rattle.definitions_file.specs.File.{Contents}
-use Rattle.definitions.specs.Close.{closeTests, closed, close}
+use Rattle.definitions.specs.Close.{closeTests, limitedTests, closed, close}
 use Rattle.definitions_file.specs.Listing.{callOf}
 use Rattle.refusals.proofs.Answers.{same-buffer}
 
@@ -12,7 +12,7 @@ use Rattle.refusals.proofs.Answers.{same-buffer}
 
 module _ (c : Contents) (xs ys : List ℕ) (us vs : List ℕ) (l : length xs ≡ length us) (m : length ys ≡ length vs) where
   same-tests : closeTests (callOf c xs ys) ≡ closeTests (callOf c us vs)
-  unfolding closeTests
+  unfolding limitedTests
   same-tests = rw (l, m)
 
   pub same-refusal : close (callOf c xs ys) .refusal ≡ close (callOf c us vs) .refusal

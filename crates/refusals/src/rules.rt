@@ -1,9 +1,12 @@
-// Rules: the tests that fork and pair add to those of the settings, and the settings that the steps go by.
+// Rules: the tests that fork, pair and limit of activations add to those of the settings, and the settings that the steps go by.
 ghost use mathlib.Core.Path.{_≡_};
 ghost use Rattle.definitions.specs.Rules.{settingsUnder, goodBellatrix, altairRules};
-ghost use Rattle.refusals.specs.Refusal.{rulesRefusal};
+ghost use Rattle.definitions.specs.Lists.{every};
+ghost use Rattle.definitions.specs.Close.{goodLimit};
+ghost use Rattle.refusals.specs.Refusal.{rulesRefusal, limitRefusal};
 use crate::all_pass;
 use crate::is_small;
+use definitions::ActivationLimit;
 use definitions::Bellatrix;
 use definitions::Rules;
 use definitions::Settings;
@@ -35,6 +38,28 @@ pub fn rules_refusal(rules: Rules, by_settings: u64) -> u64
         return 2;
     }
     by_settings
+}
+
+fn good_limit(limit: ActivationLimit) -> bool
+    ensures { λ r. ⌜ r ≡ every (goodLimit limit) ⌝ }
+{
+    match limit {
+        ActivationLimit::Churn => true,
+        ActivationLimit::AtMost(maximum) => is_small(maximum),
+    }
+}
+
+// The same once those by the rules have answered: Deneb's number is tested with 2.
+pub fn limit_refusal(limit: ActivationLimit, by_rules: u64) -> u64
+    ensures { λ r. ⌜ r ≡ limitRefusal limit «by_rules» ⌝ }
+{
+    if by_rules == 1 {
+        return 1;
+    }
+    if !good_limit(limit) {
+        return 2;
+    }
+    by_rules
 }
 
 // Under fork 1 the pair stands in the places of the Altair two.

@@ -105,12 +105,12 @@ module _ (s : Settings) (epoch least churn f : ℕ) (vs : List Validator) {ws : 
   }
 
 -- The code's ways through the turns and the activation, once the loop has left ys and answered r
-module _ (stop : ℕ) (s : Settings) (epoch limit f : ℕ) (xs : List ℕ) {ys : List ℕ} {r : ℕ} (h : Ran (foldChecked (updateAt s epoch (leastExit s epoch) limit) (decode xs) (range 0 (length (decode xs)))) ys r) where
-  pub updates-stop : {zs : List ℕ} → (r ≡ 0 → ⊥) → Ran (updatesBy stop s epoch limit f (decode xs)) zs r
+module _ (stop : ℕ) (s : Settings) (epoch limit most f : ℕ) (xs : List ℕ) {ys : List ℕ} {r : ℕ} (h : Ran (foldChecked (updateAt s epoch (leastExit s epoch) limit) (decode xs) (range 0 (length (decode xs)))) ys r) where
+  pub updates-stop : {zs : List ℕ} → (r ≡ 0 → ⊥) → Ran (updatesBy stop s epoch limit most f (decode xs)) zs r
   unfolding updatesBy
   updates-stop z = ran-stop h _ z
 
-  pub updates-end : {zs : List ℕ} {bound quota : ℕ} → r ≡ 0 → CutAt limit f (eligibleNow s epoch (decode xs)) bound quota → zs ≡ encode (admitted (leastExit s epoch) f bound quota stop (decode ys)) → Ran (updatesBy stop s epoch limit f (decode xs)) zs 0
+  pub updates-end : {zs : List ℕ} {bound quota : ℕ} → r ≡ 0 → CutAt most f (eligibleNow s epoch (decode xs)) bound quota → zs ≡ encode (admitted (leastExit s epoch) f bound quota stop (decode ys)) → Ran (updatesBy stop s epoch limit most f (decode xs)) zs 0
   unfolding updatesBy activated
   updates-end {zs} {bound} {quota} z c e =
       let cut = cut-cuts (cut-turned s epoch (leastExit s epoch) limit f (decode xs) (ran-gave h z) c) in

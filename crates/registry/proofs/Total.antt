@@ -8,6 +8,7 @@ use borrow.Author.Tests.{lt-leb, eqb-true}
 use lib.Dec.{leb, ltb, eqb}
 use lib.ListN.{length}
 use Rattle.definitions.specs.declared.Settings.{Settings}
+use Rattle.definitions.specs.declared.ActivationLimit.{ActivationLimit}
 use Rattle.definitions.specs.Lists.{filter, range}
 use Rattle.definitions.specs.Record.{Validator, «FAR_FUTURE_EPOCH»}
 use Rattle.definitions.specs.Updates.{withActivation}
@@ -15,7 +16,7 @@ use Rattle.definitions.specs.Checked.{value, bind, sum64, foldChecked}
 use Rattle.definitions.specs.Document.Phase0.Helpers.{«is_active_validator», «is_eligible_for_activation», «get_active_validator_indices»}
 use Rattle.definitions.specs.Document.Phase0.EpochProcessing.{dequeued}
 use Rattle.definitions.specs.Rust.Phase0.Helpers.{«get_current_epoch», «get_total_balance», «get_total_active_balance», «get_validator_churn_limit»}
-use Rattle.definitions.specs.Rust.Phase0.EpochProcessing.{updateRegistryAt, «process_registry_updates»}
+use Rattle.definitions.specs.Rust.Phase0.EpochProcessing.{updateRegistryAt, activationLimit, limitedRegistryUpdates}
 use Rattle.laws.proofs.Checked.{bound, value-same}
 use Rattle.laws.proofs.Tests.{both}
 use Rattle.laws.specs.Queue.{ahead, mapBelow, activatedAt, activated}
@@ -70,13 +71,13 @@ module _ (s : Settings) (stateSlot finalizedEpoch : ℕ) (p : Epochs s stateSlot
       ap (activeOf s stateSlot) (dequeued-is (leastExit s epochNow) limit finalizedEpoch vs)
       ∙ below-kept _ _ (length vs) _ vs (activated-active epochNow (leastExit s epochNow) limit finalizedEpoch vs l far) (activated-balance epochNow (leastExit s epochNow) limit finalizedEpoch vs)
 
-  pub total-kept : (vs : List Validator) {ws : List Validator} → «process_registry_updates» s stateSlot finalizedEpoch vs ≡ value ws → «get_total_active_balance» s stateSlot ws ≡ «get_total_active_balance» s stateSlot vs
-  unfolding «process_registry_updates» «get_total_active_balance» «get_total_balance» «get_active_validator_indices» bind
-  total-kept vs {ws} q =
+  pub total-kept : (by : ActivationLimit) (vs : List Validator) {ws : List Validator} → limitedRegistryUpdates by s stateSlot finalizedEpoch vs ≡ value ws → «get_total_active_balance» s stateSlot ws ≡ «get_total_active_balance» s stateSlot vs
+  unfolding limitedRegistryUpdates «get_total_active_balance» «get_total_balance» «get_active_validator_indices» bind
+  total-kept by vs {ws} q =
       let limit = «get_validator_churn_limit» s stateSlot vs in
-      let e : bind (foldChecked (updateRegistryAt s stateSlot) vs (range 0 (length vs))) (λ queued. value (dequeued (leastExit s epochNow) («get_validator_churn_limit» s stateSlot queued) finalizedEpoch queued)) ≡ value ws = rw (p .least) at q in
-      let a = bound (foldChecked (updateRegistryAt s stateSlot) vs (range 0 (length vs))) (λ queued. value (dequeued (leastExit s epochNow) («get_validator_churn_limit» s stateSlot queued) finalizedEpoch queued)) e in
+      let e : bind (foldChecked (updateRegistryAt s stateSlot) vs (range 0 (length vs))) (λ queued. value (dequeued (leastExit s epochNow) (activationLimit by («get_validator_churn_limit» s stateSlot queued)) finalizedEpoch queued)) ≡ value ws = rw (p .least) at q in
+      let a = bound (foldChecked (updateRegistryAt s stateSlot) vs (range 0 (length vs))) (λ queued. value (dequeued (leastExit s epochNow) (activationLimit by («get_validator_churn_limit» s stateSlot queued)) finalizedEpoch queued)) e in
       let loop : foldChecked (updateAt s epochNow (leastExit s epochNow) limit) vs (range 0 (length vs)) ≡ value (a .first) = sym (updates-by-numbers s stateSlot (p .least) (p .small) (omega arith) vs refl (range 0 (length vs))) ∙ a .gave in
-      let last : ws ≡ dequeued (leastExit s epochNow) («get_validator_churn_limit» s stateSlot (a .first)) finalizedEpoch (a .first) = sym (value-same (a .then)) in
+      let last : ws ≡ dequeued (leastExit s epochNow) (activationLimit by («get_validator_churn_limit» s stateSlot (a .first))) finalizedEpoch (a .first) = sym (value-same (a .then)) in
       let kept = ap (activeOf s stateSlot) last ∙ active-dequeued _ (a .first) ∙ active-kept s stateSlot (p .least) (p .small) (omega arith) limit vs (range 0 (length vs)) loop in
       ap (λ (xs : List ℕ). bind (sum64 xs) (λ total. value (Prim.Native.Nat.max (s .«effective_balance_increment») total))) kept

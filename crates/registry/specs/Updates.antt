@@ -29,8 +29,8 @@ turnBy s epoch limit q v =
     let queued = queueEligible s epoch v in
     cond (isEjected s epoch queued) (exitBy limit (s .«min_validator_withdrawability_delay») q queued) (value queued)
 
--- the step with a stop, by these numbers: every turn, then activation below the stop
-unfoldable pub updatesBy : ℕ → Settings → ℕ → ℕ → ℕ → List Validator → Checked (List Validator)
-updatesBy stop s epoch limit finalizedEpoch vs =
+-- the step with a stop, by these numbers and `most`, the limit of activations: every turn, then activation below the stop
+unfoldable pub updatesBy : ℕ → Settings → ℕ → ℕ → ℕ → ℕ → List Validator → Checked (List Validator)
+updatesBy stop s epoch limit most finalizedEpoch vs =
     bind (foldChecked (updateAt s epoch (leastExit s epoch) limit) vs (range 0 (length vs))) (λ queued.
-    value (activated (leastExit s epoch) limit finalizedEpoch stop queued))
+    value (activated (leastExit s epoch) most finalizedEpoch stop queued))

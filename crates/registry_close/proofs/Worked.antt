@@ -5,6 +5,7 @@ use mathlib.Core.List.{List}
 use Prim.Native.Nat.{ℕ, _^_, _<_}
 use borrow.Author.Tests.{ne-eqb}
 use Rattle.definitions.specs.declared.Settings.{Settings}
+use Rattle.definitions.specs.declared.ActivationLimit.{ActivationLimit}
 use Rattle.definitions.specs.declared.Finality.{Finality}
 use Rattle.definitions.specs.declared.Raised.{Raised}
 use Rattle.definitions.specs.declared.CloseAnswer.{CloseAnswer}
@@ -15,7 +16,7 @@ use Rattle.definitions.specs.Raised.{noneRaised, raisedTotals, raisedUnlessRefu
 use Rattle.definitions.specs.Refusals.{goodFinality}
 use Rattle.definitions.specs.Rust.Phase0.EpochProcessing.{resetSlashings}
 use Rattle.definitions.specs.Rust.Altair.EpochProcessing.{«process_justification_and_finalization»}
-use Rattle.definitions.specs.Close.{«process_epoch»}
+use Rattle.definitions.specs.Close.{limitedEpoch}
 use Rattle.laws.proofs.Checked.{number-not-zero, not-value, value-same}
 use Rattle.laws.specs.Ran.{Ran}
 use Rattle.laws.proofs.Loops.Ran.{ran-gave}
@@ -25,7 +26,7 @@ use Rattle.laws.proofs.Moved.{FinalizedMoved, Moved}
 use Rattle.laws.proofs.Checkpoints.{justification-moves}
 use Rattle.write_steps.specs.RegistrySteps.{registrySteps}
 use Rattle.totals.specs.Flags.{answerWith}
-use Rattle.registry_close.specs.Worked.{stateNow, Worked}
+use Rattle.registry_close.specs.Worked.{stateNow, LimitedWorked}
 use Rattle.registry_close.proofs.Steps.{justification-refused, reset, eight-steps}
 
 -- refused by number q
@@ -70,14 +71,14 @@ module _ (f : Finality) (raised : Raised) where
 
 -- the steps are refused, or give `after`
 
-stopped : (s : Settings) (st : BeaconState) {registry slashings : List ℕ} {r : CloseAnswer} → Refused («process_epoch» s st) (r .refusal) → r .finality ≡ st .finality → r .raised ≡ noneRaised → Worked s st registry slashings r
+stopped : (by : ActivationLimit) (s : Settings) (st : BeaconState) {registry slashings : List ℕ} {r : CloseAnswer} → Refused (limitedEpoch by s st) (r .refusal) → r .finality ≡ st .finality → r .raised ≡ noneRaised → LimitedWorked by s st registry slashings r
 unfolding raisedUnlessRefused
-stopped s st p e n =
+stopped by s st p e n =
     record { code = rw (p .is) (p .number); finality = rw (p .is) e; raised = rw (p .is) n; held = λ after v. absurd (not-value (sym (p .is) ∙ v)) }
 
-done : (s : Settings) (st after : BeaconState) {registry slashings : List ℕ} {r : CloseAnswer} → «process_epoch» s st ≡ value after → r .refusal ≡ 0 → r .finality ≡ after .finality → r .raised ≡ raisedTotals s (st .finality .slot) (st .validators) → registry ≡ encode (after .validators) → slashings ≡ after .slashings → Worked s st registry slashings r
+done : (by : ActivationLimit) (s : Settings) (st after : BeaconState) {registry slashings : List ℕ} {r : CloseAnswer} → limitedEpoch by s st ≡ value after → r .refusal ≡ 0 → r .finality ≡ after .finality → r .raised ≡ raisedTotals s (st .finality .slot) (st .validators) → registry ≡ encode (after .validators) → slashings ≡ after .slashings → LimitedWorked by s st registry slashings r
 unfolding raisedUnlessRefused
-done s st after e z f n a b =
+done by s st after e z f n a b =
     record {
       code = rw e z;
       finality = rw e f;
@@ -91,7 +92,7 @@ still g (Moved.weighed a b (FinalizedMoved.same c)) = rw c (g .finalized)
 still g (Moved.weighed a b (FinalizedMoved.fromPrevious c k l)) = rw c (g .previous)
 still g (Moved.weighed a b (FinalizedMoved.fromCurrent c k l)) = rw c (g .current)
 
-module _ (s : Settings) (f : Finality) (xs slashings roots : List ℕ) {r : CloseAnswer} (h : r ≡ closeAnswerFor («process_justification_and_finalization» s roots f (decode xs)) f (raisedTotals s (f .slot) (decode xs))) where
+module _ (by : ActivationLimit) (s : Settings) (f : Finality) (xs slashings roots : List ℕ) {r : CloseAnswer} (h : r ≡ closeAnswerFor («process_justification_and_finalization» s roots f (decode xs)) f (raisedTotals s (f .slot) (decode xs))) where
   -- the slot stays
   pub slot-kept : r .refusal ≡ 0 → r .finality .slot ≡ f .slot
   slot-kept z = justification-moves s roots f (decode xs) (gave f _ _ h z) .slot
@@ -101,23 +102,23 @@ module _ (s : Settings) (f : Finality) (xs slashings roots : List ℕ) {r : Clos
   finalized-small z e = still (good-finality f e) (justification-moves s roots f (decode xs) (gave f _ _ h z) .moved)
 
   -- justification is refused
-  pub worked-unjustified : {ys zs : List ℕ} → (r .refusal ≡ 0 → ⊥) → Worked s (stateNow f xs slashings roots) ys zs r
+  pub worked-unjustified : {ys zs : List ℕ} → (r .refusal ≡ 0 → ⊥) → LimitedWorked by s (stateNow f xs slashings roots) ys zs r
   worked-unjustified z =
       let m = «process_justification_and_finalization» s roots f (decode xs) in
-      stopped s _ (justification-refused s (stateNow f xs slashings roots) (code-refused m (refusal-is h) z)) (kept f _ m h z .0) (kept f _ m h z .1)
+      stopped by s _ (justification-refused by s (stateNow f xs slashings roots) (code-refused m (refusal-is h) z)) (kept f _ m h z .0) (kept f _ m h z .1)
 
-  module _ (z : r .refusal ≡ 0) {left : List ℕ} {q : ℕ} (ran : Ran (registrySteps s (r .finality .slot) (r .finality .«finalized_checkpoint» .epoch) slashings (decode xs)) left q) where
+  module _ (z : r .refusal ≡ 0) {left : List ℕ} {q : ℕ} (ran : Ran (registrySteps by s (r .finality .slot) (r .finality .«finalized_checkpoint» .epoch) slashings (decode xs)) left q) where
     -- one of the six steps over the registry is
-    pub worked-refused : {ys zs : List ℕ} (raised : Raised) {answer : CloseAnswer} → (q ≡ 0 → ⊥) → answer ≡ answerWith q f raised → Worked s (stateNow f xs slashings roots) ys zs answer
+    pub worked-refused : {ys zs : List ℕ} (raised : Raised) {answer : CloseAnswer} → (q ≡ 0 → ⊥) → answer ≡ answerWith q f raised → LimitedWorked by s (stateNow f xs slashings roots) ys zs answer
     unfolding answerWith
     worked-refused raised y e =
-        let stops = bind-refused _ (eight-steps s (stateNow f xs slashings roots) (gave f _ _ h z)) (code-refused _ (ran .code) y) in
-        stopped s _ (rw e stops) (finality-is e) (raised-is e ∙ rw (ne-eqb q 0 y))
+        let stops = bind-refused _ (eight-steps by s (stateNow f xs slashings roots) (gave f _ _ h z)) (code-refused _ (ran .code) y) in
+        stopped by s _ (rw e stops) (finality-is e) (raised-is e ∙ rw (ne-eqb q 0 y))
 
     -- none is: an answer of number 0 with what justification gave
-    pub worked-done : {zs : List ℕ} {answer : CloseAnswer} → q ≡ 0 → zs ≡ resetSlashings s (r .finality .slot) slashings → answer .refusal ≡ 0 → answer .finality ≡ r .finality → answer .raised ≡ r .raised → Worked s (stateNow f xs slashings roots) left zs answer
+    pub worked-done : {zs : List ℕ} {answer : CloseAnswer} → q ≡ 0 → zs ≡ resetSlashings s (r .finality .slot) slashings → answer .refusal ≡ 0 → answer .finality ≡ r .finality → answer .raised ≡ r .raised → LimitedWorked by s (stateNow f xs slashings roots) left zs answer
     unfolding bind
     worked-done y a number same flags =
         let w = ran-gave ran y in
-        done s _ (withValidators (decode left) (reset s (stateNow (r .finality) xs slashings roots)))
-        (eight-steps s (stateNow f xs slashings roots) (gave f _ _ h z) ∙ rw w) number same (flags ∙ gave-raised f _ _ h z) (ran .held _ w) a
+        done by s _ (withValidators (decode left) (reset s (stateNow (r .finality) xs slashings roots)))
+        (eight-steps by s (stateNow f xs slashings roots) (gave f _ _ h z) ∙ rw w) number same (flags ∙ gave-raised f _ _ h z) (ran .held _ w) a

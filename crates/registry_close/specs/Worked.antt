@@ -6,6 +6,8 @@ use Prim.Native.Nat.{ℕ, _*_, _/_}
 use lib.Dec.{eqb}
 use lib.ListN.{length}
 use Rattle.definitions.specs.declared.Settings.{Settings}
+use Rattle.definitions.specs.declared.ActivationLimit.{ActivationLimit}
+use Rattle.definitions.specs.declared.ActivationLimit.the-variants.{Churn}
 use Rattle.definitions.specs.declared.Finality.{Finality}
 use Rattle.definitions.specs.declared.TotalAnswer.{TotalAnswer}
 use Rattle.definitions.specs.declared.TotalAnswer.the-variants.{Value, Refused}
@@ -15,7 +17,7 @@ use Rattle.definitions.specs.Checked.{value, codeOf, settle}
 use Rattle.definitions.specs.Raised.{raisedTotals, raisedUnlessRefused}
 use Rattle.definitions.specs.Refusals.{goodFinality}
 use Rattle.definitions.specs.LeafRefusals.{weighTests}
-use Rattle.definitions.specs.Close.{«process_epoch»}
+use Rattle.definitions.specs.Close.{limitedEpoch}
 use Rattle.laws.specs.Bounds.{Passed}
 use Rattle.totals.specs.Totals.{totalFrom}
 
@@ -37,8 +39,12 @@ pub record Tested (s : Settings) (f : Finality) (xs ys zs : List ℕ) : Type 0 w
 
 -- The eight steps on the state `before`: the answer, and what registry and slashings hold where they are not refused. The caller puts the
 -- opening back where they are.
-pub record Worked (s : Settings) (before : BeaconState) (registry slashings : List ℕ) (r : CloseAnswer) : Type 0 where
-  pub code : r .refusal ≡ codeOf («process_epoch» s before)
-  pub finality : r .finality ≡ settle («process_epoch» s before) before .finality
-  pub raised : r .raised ≡ raisedUnlessRefused («process_epoch» s before) (raisedTotals s (before .finality .slot) (before .validators))
-  pub held : (after : BeaconState) → «process_epoch» s before ≡ value after → (registry ≡ encode (after .validators)) × (slashings ≡ after .slashings)
+pub record LimitedWorked (limit : ActivationLimit) (s : Settings) (before : BeaconState) (registry slashings : List ℕ) (r : CloseAnswer) : Type 0 where
+  pub code : r .refusal ≡ codeOf (limitedEpoch limit s before)
+  pub finality : r .finality ≡ settle (limitedEpoch limit s before) before .finality
+  pub raised : r .raised ≡ raisedUnlessRefused (limitedEpoch limit s before) (raisedTotals s (before .finality .slot) (before .validators))
+  pub held : (after : BeaconState) → limitedEpoch limit s before ≡ value after → (registry ≡ encode (after .validators)) × (slashings ≡ after .slashings)
+
+-- before Deneb
+abbrev pub Worked : Settings → BeaconState → List ℕ → List ℕ → CloseAnswer → Type 0
+Worked s before registry slashings r = LimitedWorked Churn s before registry slashings r

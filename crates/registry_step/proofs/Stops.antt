@@ -5,6 +5,7 @@ use Prim.Native.Nat.{ℕ, _/_}
 use native.Mathlib.Omega.{arith}
 use lib.ListN.{length}
 use Rattle.definitions.specs.declared.Settings.{Settings}
+use Rattle.definitions.specs.declared.ActivationLimit.the-variants.{Churn}
 use Rattle.definitions.specs.declared.ExitQueue.{ExitQueue}
 use Rattle.definitions.specs.declared.QueueAnswer.{QueueAnswer}
 use Rattle.definitions.specs.Record.{Validator, decode}
@@ -33,7 +34,7 @@ module _ (s : Settings) (stateSlot finalizedEpoch : ℕ) (queue : ExitQueue) (op
       let q = queue-passed (registryTests s stateSlot finalizedEpoch opening closing) queue opening {x = 0} (ap codeOf (sym t)) refl in
       let p = registry-passed s stateSlot finalizedEpoch opening closing (ap codeOf (sym (q .before))) refl in
       ap (λ (k : ℕ). registryUpdatesTo k s stateSlot finalizedEpoch (decode opening)) (sym (length-decode n opening (p .opened .shape .long)))
-      ∙ stopped s stateSlot finalizedEpoch (decode opening) .whole
+      ∙ stopped Churn s stateSlot finalizedEpoch (decode opening) .whole
 
   pub closes-whole : {after : List ℕ} {r : QueueAnswer} → QueueCloses (registryToQueueTests n s stateSlot finalizedEpoch queue opening closing) (registryUpdatesTo n s stateSlot finalizedEpoch (decode opening)) queue opening closing after r → QueueCloses (registryQueueTests s stateSlot finalizedEpoch queue opening closing) («process_registry_updates» s stateSlot finalizedEpoch (decode opening)) queue opening closing after r
   closes-whole h =

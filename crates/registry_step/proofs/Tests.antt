@@ -7,12 +7,13 @@ use Prim.Native.Nat.{ℕ, _*_, _/_, _^_, _≤_, _<_}
 use borrow.Author.Tests.{leb-true, eqb-true}
 use lib.ListN.{length}
 use Rattle.definitions.specs.declared.Settings.{Settings}
+use Rattle.definitions.specs.declared.ActivationLimit.{ActivationLimit}
 use Rattle.definitions.specs.declared.ExitQueue.{ExitQueue}
 use Rattle.definitions.specs.declared.QueueAnswer.{QueueAnswer}
 use Rattle.definitions.specs.Record.{Validator, encode, decode}
 use Rattle.definitions.specs.Checked.{Checked, value, codeOf}
 use Rattle.definitions.specs.Refusals.{goodSettings}
-use Rattle.definitions.specs.RegisterOrder.{registryToTests, registryUpdatesTo}
+use Rattle.definitions.specs.RegisterOrder.{registryToTests, limitedUpdatesTo}
 use Rattle.definitions.specs.ExitQueue.{queueOf}
 use Rattle.definitions_close.specs.QueueCalls.{registryToQueueTests, QueueCloses}
 use Rattle.laws.proofs.Tests.{in-order}
@@ -38,7 +39,7 @@ pub record StepPassed (stop : ℕ) (s : Settings) (stateSlot finalizedEpoch : �
   pub same : length closing ≡ length opening
   pub stops : stop ≤ length opening / 10
 
-module _ (stop : ℕ) (s : Settings) (stateSlot finalizedEpoch : ℕ) (queue : ExitQueue) (opening closing : List ℕ) where
+module _ (by : ActivationLimit) (stop : ℕ) (s : Settings) (stateSlot finalizedEpoch : ℕ) (queue : ExitQueue) (opening closing : List ℕ) where
   abbrev first : Checked (Unit {0})
   first = firstTests stop s stateSlot finalizedEpoch opening closing
 
@@ -46,7 +47,7 @@ module _ (stop : ℕ) (s : Settings) (stateSlot finalizedEpoch : ℕ) (queue : E
   tests = registryToQueueTests stop s stateSlot finalizedEpoch queue opening closing
 
   abbrev step : Checked (List Validator)
-  step = registryUpdatesTo stop s stateSlot finalizedEpoch (decode opening)
+  step = limitedUpdatesTo by stop s stateSlot finalizedEpoch (decode opening)
 
   -- refused by x, with nothing written
   pub turned-away : {x : ℕ} → x ≡ codeOf tests → (x ≡ 0 → ⊥) → QueueCloses tests step queue opening closing closing (record { refusal = x; queue = queue })

@@ -1,2 +1,3 @@
--- The step's tests as the code groups them.
+-- The step's tests as the code groups them, and the step by its numbers.
 pub mod First
+pub mod Cut

@@ -10,18 +10,19 @@ ghost use Rattle.definitions.specs.Lists.{range};
 ghost use Rattle.definitions.specs.Record.{decode};
 ghost use Rattle.definitions.specs.Checked.{value, foldChecked, codeOf};
 ghost use Rattle.definitions.specs.Refusals.{goodSettings};
-ghost use Rattle.definitions.specs.RegisterOrder.{registryUpdatesTo};
+ghost use Rattle.definitions.specs.RegisterOrder.{registryUpdatesTo, limitedUpdatesTo};
 ghost use Rattle.definitions.specs.ExitQueue.{queueOf};
 ghost use Rattle.definitions.specs.Rust.Phase0.Helpers.{«get_current_epoch», «get_previous_epoch»};
 ghost use Rattle.definitions.specs.Rust.Phase0.EpochProcessing.{«process_registry_updates»};
 ghost use Rattle.definitions_close.specs.QueueCalls.{registryToQueueTests, registryQueueTests, QueueCloses};
 ghost use Rattle.laws.specs.Ran.{Ran};
-ghost use Rattle.laws.specs.Cut.{CutAt, eligibleNow};
 ghost use Rattle.selection.specs.Keep.{Blank};
 ghost use Rattle.exit_queue.specs.Queue.{Tracks};
-ghost use Rattle.registry.specs.Updates.{leastExit, updateAt, updatesBy};
+ghost use Rattle.registry.specs.Updates.{leastExit, updateAt};
 ghost use Rattle.survey.specs.Found.{Finds};
 ghost use Rattle.registry_step.specs.First.{firstTests};
+ghost use Rattle.registry_step.specs.Cut.{UpdatesUnder};
+use definitions::ActivationLimit;
 use definitions::ExitQueue;
 use definitions::FAR_FUTURE_EPOCH;
 use definitions::QueueAnswer;
@@ -42,6 +43,7 @@ use selection::Cut;
 use selection::queue_cut::cut_queue;
 use survey::Findings;
 use survey::survey_registry;
+use totals::activation_limit;
 use totals::churn_by;
 use validator_exit::queue_tests::found_refusal;
 
@@ -87,8 +89,8 @@ pub fn update_by(
     requires { ⌜ (length (now registry) ≡ 10 * (length (now registry) / 10)) × (epoch < 2 ^ 48) × (s .«max_seed_lookahead» < 2 ^ 48) ⌝ }
     requires { ⌜ stop ≤ length (now registry) / 10 ⌝ }
     requires { ⌜ Tracks (leastExit s epoch) (decode (now registry)) queue ⌝ }
-    requires { ⌜ CutAt limit «finalized_epoch» (eligibleNow s epoch (decode (now registry))) (cut .bound) (cut .quota) ⌝ }
-    ensures { λ r. ⌜ Ran (updatesBy stop s epoch limit «finalized_epoch» (decode (now (registry .entry)))) (now (registry .exit)) r ⌝ }
+    ensures { λ r. ⌜
+        UpdatesUnder stop s epoch limit «finalized_epoch» (decode (now (registry .entry))) (cut .bound) (cut .quota) (now (registry .exit)) r ⌝ }
 {
     let n = registry.len() / 10;
     let least = epoch + 1 + s.max_seed_lookahead;
@@ -108,8 +110,9 @@ pub fn update_by(
     0
 }
 
-// On the closing registry, a copy of the opening one, from what the survey found.
+// On the closing registry, a copy of the opening one, from what the survey found. Ejections keep the churn limit.
 fn update_registry(
+    limit: ActivationLimit,
     stop: usize,
     s: Settings,
     state_slot: u64,
@@ -126,18 +129,20 @@ fn update_registry(
     requires { ⌜ stop ≤ length (now opening) / 10 ⌝ }
     requires { ⌜ queue ≡ queueOf (decode (now opening)) ⌝ }
     requires { ⌜ Finds s («get_current_epoch» s «state_slot») («get_previous_epoch» s «state_slot») (now opening) (now kept) found ⌝ }
-    ensures { λ r. ⌜ Ran (registryUpdatesTo stop s «state_slot» «finalized_epoch» (decode (now (opening .entry)))) (now (closing .exit)) r ⌝ }
+    ensures { λ r. ⌜ Ran (limitedUpdatesTo limit stop s «state_slot» «finalized_epoch» (decode (now (opening .entry)))) (now (closing .exit)) r ⌝ }
 {
     let epoch = current_epoch(s, state_slot);
-    let limit = churn_by(s, found.active);
-    let cut = cut_queue(s, epoch, opening, kept, finalized_epoch, limit);
+    let churn = churn_by(s, found.active);
+    let most = activation_limit(limit, churn);
+    let cut = cut_queue(s, epoch, opening, kept, finalized_epoch, most);
     let least = epoch + 1 + s.max_seed_lookahead;
     let start = start_pair(queue, least);
-    update_by(stop, s, epoch, limit, start, cut, finalized_epoch, closing)
+    update_by(stop, s, epoch, churn, start, cut, finalized_epoch, closing)
 }
 
 // Once the tests have passed: the opening is put back on refusal, with the pair handed in.
 fn run_step(
+    limit: ActivationLimit,
     stop: usize,
     s: Settings,
     state_slot: u64,
@@ -155,11 +160,12 @@ fn run_step(
     requires { ⌜ queue ≡ queueOf (decode (now opening)) ⌝ }
     requires { ⌜ Finds s («get_current_epoch» s «state_slot») («get_previous_epoch» s «state_slot») (now opening) (now kept) found ⌝ }
     ensures { λ r. ⌜
-        QueueCloses (value tt) (registryUpdatesTo stop s «state_slot» «finalized_epoch» (decode (now (opening .entry)))) queue (now (opening .entry))
+        QueueCloses (value tt) (limitedUpdatesTo limit stop s «state_slot» «finalized_epoch» (decode (now (opening .entry)))) queue (now (opening .entry))
         (now (closing .entry)) (now (closing .exit)) r ⌝ }
 {
     copy(opening, closing);
     let done = update_registry(
+        limit,
         stop,
         s,
         state_slot,
@@ -185,7 +191,7 @@ fn run_step(
 }
 
 // Tests 1 and 2, and 3 but for the registry's entries, which the survey tests.
-fn step_tests(
+pub fn step_tests(
     stop: usize,
     s: Settings,
     state_slot: u64,
@@ -208,7 +214,8 @@ fn step_tests(
 }
 
 // The rest of the tests, from the survey, and the step.
-fn step_surveyed(
+pub fn step_surveyed(
+    limit: ActivationLimit,
     stop: usize,
     s: Settings,
     state_slot: u64,
@@ -223,7 +230,7 @@ fn step_surveyed(
     ensures { λ r. ⌜
         QueueCloses
         (registryToQueueTests stop s «state_slot» «finalized_epoch» queue (now (opening .entry)) (now (closing .entry)))
-        (registryUpdatesTo stop s «state_slot» «finalized_epoch» (decode (now (opening .entry))))
+        (limitedUpdatesTo limit stop s «state_slot» «finalized_epoch» (decode (now (opening .entry))))
         queue (now (opening .entry)) (now (closing .entry)) (now (closing .exit)) r ⌝ }
 {
     let epoch = current_epoch(s, state_slot);
@@ -238,6 +245,7 @@ fn step_surveyed(
         };
     }
     run_step(
+        limit,
         stop,
         s,
         state_slot,
@@ -275,6 +283,7 @@ pub fn process_registry_updates_to(
     }
     let mut kept = [FAR_FUTURE_EPOCH; 64];
     step_surveyed(
+        ActivationLimit::Churn,
         stop,
         s,
         state_slot,

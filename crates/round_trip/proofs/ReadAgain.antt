@@ -13,7 +13,7 @@ use Rattle.definitions.specs.Checked.{value, foldChecked}
 use Rattle.definitions.specs.Refusals.{goodValidator, goodRegistry, closingBuffer}
 use Rattle.definitions.specs.Rules.{settingsUnder}
 use Rattle.definitions.specs.ExitQueue.{queueOf, isQueueOf}
-use Rattle.definitions.specs.Close.{Step, step, closeUpTo, «process_epoch»}
+use Rattle.definitions.specs.Close.{Step, step, limitedUpTo, «process_epoch», limitedEpoch}
 use Rattle.definitions_file.specs.File.{Contents, contentsOf, fileOf, writeTests}
 use Rattle.definitions_file.specs.ClosedFile.{rulesIn, stateIn, fileTests, work, closedContents, partFor}
 use Rattle.laws.proofs.Checked.{bound, value-same}
@@ -45,7 +45,7 @@ kept-steps s (k ∷ ks) a b e =
     }
 
 kept-all : (s : Settings) (a b : BeaconState) → «process_epoch» s a ≡ value b → Kept a b
-unfolding «process_epoch» closeUpTo
+unfolding limitedEpoch limitedUpTo
 kept-all s a b e = kept-steps s _ a b e
 
 module _ (fork : ℕ) (pair : Bellatrix) (file : List ℕ) (after : BeaconState) (e : fileTests fork pair file ≡ value tt) (w : work fork pair file ≡ value after) where

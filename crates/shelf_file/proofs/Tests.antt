@@ -7,7 +7,9 @@ use native.Mathlib.Omega.{arith}
 use borrow.Author.Tests.{le-leb, eq-eqb, eqb-true}
 use lib.Dec.{leb, eqb}
 use lib.ListN.{length}
+use Rattle.definitions.specs.declared.ActivationLimit.the-variants.{Churn}
 use Rattle.definitions.specs.declared.Settings.{Settings}
+use Rattle.definitions.specs.declared.ActivationLimit.the-variants.{Churn}
 use Rattle.definitions.specs.declared.Finality.{Finality}
 use Rattle.definitions.specs.declared.CloseAnswer.{CloseAnswer}
 use Rattle.definitions.specs.declared.Bellatrix.{Bellatrix}
@@ -30,7 +32,7 @@ use Rattle.laws_file.proofs.Tests.{queue-passed}
 use Rattle.laws_file.proofs.Passed.{Passed, Accepted, accepted, length-registry, length-slashings}
 use Rattle.close.specs.Called.{called}
 use Rattle.registry_close.specs.Worked.{stateNow, Tested, Worked}
-use Rattle.close.specs.Worked.{recordTests}
+use Rattle.close.specs.Worked.{recordTests, limitedRecordTests}
 use Rattle.laws.proofs.Loops.Ran.{code-value}
 use Rattle.laws.proofs.Encode.{decode-encode}
 use Rattle.record_file.specs.Sized.{Sized}
@@ -138,7 +140,7 @@ module _ (fork : ℕ) (pair : Bellatrix) (file : List ℕ) where
     call = called r (c .finality) (c .registry) (c .slashings) (c .roots) (c .registry) (c .slashings)
 
     record-passes : 0 ≡ codeOf (recordTests call)
-    unfolding recordTests rulesShaped settingsShaped registryShaped inOrder every
+    unfolding limitedRecordTests rulesShaped settingsShaped registryShaped inOrder every
     record-passes =
         let p = passes in
         let g = p .accepts .good in
@@ -161,7 +163,7 @@ module _ (fork : ℕ) (pair : Bellatrix) (file : List ℕ) where
 
     -- what the steps rely on
     pub steps-tested : Tested (settingsUnder r) (c .finality) (c .registry) (c .slashings) (c .roots)
-    steps-tested = lent call record-passes refl .opening
+    steps-tested = lent Churn call record-passes refl .opening
 
     module _ {x : ℕ} (w : x ≡ codeOf (work fork pair file)) where
       answer-is : x ≡ answerFor fork pair file

@@ -2,6 +2,7 @@
 ghost use mathlib.Core.Path.{_≡_};
 ghost use Rattle.definitions_close.specs.StoreClose.{storeClose};
 ghost use Rattle.definitions_close.specs.Calls.{lent, fullOutcome, storeCalled};
+use definitions::ActivationLimit;
 use definitions::ExitQueue;
 use definitions::Finality;
 use definitions::FullAnswer;
@@ -48,6 +49,7 @@ pub fn store_close(
         };
     }
     full_close(
+        ActivationLimit::Churn,
         found.rules,
         finality,
         queue,

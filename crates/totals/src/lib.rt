@@ -14,6 +14,7 @@ ghost use Rattle.definitions.specs.Raised.{totalWithRaised, SaysTotal};
 ghost use Rattle.definitions.specs.Refusals.{afterTests};
 ghost use Rattle.definitions.specs.LeafRefusals.{slotRegistryTests, participationTests};
 ghost use Rattle.definitions.specs.Rust.Phase0.Helpers.{«get_current_epoch», «get_active_validator_indices», «get_total_balance», «get_validator_churn_limit»};
+ghost use Rattle.definitions.specs.Rust.Phase0.EpochProcessing.{activationLimit};
 ghost use Rattle.definitions.specs.Rust.Altair.Helpers.{isUnslashedParticipating, «get_unslashed_participating_indices»};
 ghost use Rattle.definitions.specs.Close.{charged};
 ghost use Rattle.totals.specs.Members.{isMember, flagOf};
@@ -22,6 +23,8 @@ ghost use Rattle.totals.specs.Totals.{totalFrom, balanceFor};
 pub mod raising;
 
 use arithmetic::max;
+use arithmetic::min;
+use definitions::ActivationLimit;
 use definitions::EFFECTIVE_BALANCE;
 use definitions::Number;
 use definitions::Settings;
@@ -263,6 +266,16 @@ pub fn churn_by(s: Settings, active: u64) -> u64
     ensures { λ r. ⌜ r ≡ max (s .«min_per_epoch_churn_limit») (active / s .«churn_limit_quotient») ⌝ }
 {
     max(s.min_per_epoch_churn_limit, active / s.churn_limit_quotient)
+}
+
+// How many may be activated where `churn` may exit: from Deneb on at most its own number.
+pub fn activation_limit(limit: ActivationLimit, churn: u64) -> u64
+    ensures { λ r. ⌜ r ≡ activationLimit limit churn ⌝ }
+{
+    match limit {
+        ActivationLimit::Churn => churn,
+        ActivationLimit::AtMost(maximum) => min(maximum, churn),
+    }
 }
 
 pub fn churn_limit(s: Settings, state_slot: u64, registry: &[u64]) -> u64

@@ -8,11 +8,12 @@ use native.Mathlib.Omega.{arith}
 use borrow.Author.Tests.{lt-ltb, eq-eqb, ne-eqb, eqb-true, ltb-true}
 use lib.Dec.{ltb, eqb}
 use Rattle.definitions.specs.declared.Settings.{Settings}
+use Rattle.definitions.specs.declared.ActivationLimit.{ActivationLimit}
 use Rattle.definitions.specs.Lists.{sum, filter}
 use Rattle.definitions.specs.Record.{Validator, «GENESIS_EPOCH»}
 use Rattle.definitions.specs.Checked.{overflow, Checked, value, refused, bind, mul64, sum64, mapChecked}
 use Rattle.definitions.specs.Rust.Phase0.Helpers.{«is_active_validator», «get_current_epoch», «get_previous_epoch», «get_active_validator_indices», «get_total_balance», «get_total_active_balance»}
-use Rattle.definitions.specs.Rust.Phase0.EpochProcessing.{«is_in_inactivity_leak», «process_registry_updates», «process_effective_balance_updates»}
+use Rattle.definitions.specs.Rust.Phase0.EpochProcessing.{«is_in_inactivity_leak», limitedRegistryUpdates, «process_effective_balance_updates»}
 use Rattle.definitions.specs.Rust.Altair.Helpers.{«TIMELY_SOURCE_FLAG_INDEX», «TIMELY_TARGET_FLAG_INDEX», «TIMELY_HEAD_FLAG_INDEX», FlagTotals, flagTotals, isUnslashedParticipating, «get_unslashed_participating_indices»}
 use Rattle.definitions.specs.Rust.Altair.EpochProcessing.{updateInactivityScore, rewardAndPenalize, «process_inactivity_updates», «process_rewards_and_penalties», «process_slashings»}
 use Rattle.laws.proofs.Checked.{not-value, value-same, bound}
@@ -187,21 +188,21 @@ adjusted-any multiplier total other ys e =
     let b = bound (mul64 (a .first) multiplier) (λ product. value (min product total)) (a .then) in
     record { gift = min (b .first) other; gave = bind-value (λ slashed. bind (mul64 slashed multiplier) (λ product. value (min product other))) (a .gave) ∙ bind-value (λ product. value (min product other)) (b .gave) }
 
-module _ (s : Settings) (slot fin : ℕ) (ep : Epochs s slot) (ys : List ℕ) where
-  pub accepted : (vs : List Validator) {ws : List Validator} → registrySteps s slot fin ys vs ≡ value ws → Accepted s slot fin ys vs
+module _ (by : ActivationLimit) (s : Settings) (slot fin : ℕ) (ep : Epochs s slot) (ys : List ℕ) where
+  pub accepted : (vs : List Validator) {ws : List Validator} → registrySteps by s slot fin ys vs ≡ value ws → Accepted s slot fin ys vs
   unfolding registrySteps «get_total_active_balance» «get_active_validator_indices» «is_active_validator» isUnslashedParticipating
   accepted vs h =
       let quotient = s .«inactivity_penalty_quotient_altair» in
       let now = «get_current_epoch» s slot in
       let a = bound («process_inactivity_updates» s slot fin vs) _ h in
       let b = bound («process_rewards_and_penalties» s quotient slot fin (a .first)) _ (a .then) in
-      let c = bound («process_registry_updates» s slot fin (b .first)) _ (b .then) in
+      let c = bound (limitedRegistryUpdates by s slot fin (b .first)) _ (b .then) in
       let d = bound («process_slashings» s (s .«proportional_slashing_multiplier_altair») slot ys (c .first)) _ (c .then) in
       let e = bound («process_effective_balance_updates» s (d .first)) _ (d .then) in
       let total = bound («get_total_active_balance» s slot (c .first)) _ (sym (slashings-by s (s .«proportional_slashing_multiplier_altair») slot ys (c .first)) ∙ d .gave) in
       let adjusted = bound (adjustedBalance (s .«proportional_slashing_multiplier_altair») (total .first) ys) _ (total .then) in
       let thresholds = bound (thresholdsOf s) _ (sym (updates-by s (d .first)) ∙ e .gave) in
-      let paid : Gave (balanceOf (activeAt now) (b .first)) = total-gave s _ (sym (total-kept s slot fin ep (b .first) (c .gave)) ∙ total .gave) in
+      let paid : Gave (balanceOf (activeAt now) (b .first)) = total-gave s _ (sym (total-kept s slot fin ep by (b .first) (c .gave)) ∙ total .gave) in
       let scored : Gave (balanceOf (activeAt now) (a .first)) = same-sum (activeAt now) (a .first) (b .first) (rewards-keep (weight (activeAt now)) (λ v. refl) s quotient slot fin (a .first) (b .gave)) paid in
       let active : Gave (balanceOf (activeAt now) vs) = same-sum (activeAt now) vs (a .first) (scores-keep (weight (activeAt now)) (λ v. refl) s slot fin vs (a .gave)) scored in
       go (eqb now 0) refl vs (a .first) (b .first) (a .gave) (b .gave) active
@@ -239,9 +240,9 @@ module _ (s : Settings) (slot fin : ℕ) (ep : Epochs s slot) (ys : List ℕ) wh
           }
 
   -- so that what is not accepted is refused by 5
-  pub not-accepted : (vs : List Validator) → (Accepted s slot fin ys vs → ⊥) → registrySteps s slot fin ys vs ≡ refused overflow
-  not-accepted vs n = go (registrySteps s slot fin ys vs) refl
+  pub not-accepted : (vs : List Validator) → (Accepted s slot fin ys vs → ⊥) → registrySteps by s slot fin ys vs ≡ refused overflow
+  not-accepted vs n = go (registrySteps by s slot fin ys vs) refl
     where
-      go : (m : Checked (List Validator)) → registrySteps s slot fin ys vs ≡ m → m ≡ refused overflow
+      go : (m : Checked (List Validator)) → registrySteps by s slot fin ys vs ≡ m → m ≡ refused overflow
       go (value ws) e = absurd (n (accepted vs e))
-      go (refused p) e = ap refused (only-steps s slot fin ys vs .why p e)
+      go (refused p) e = ap refused (only-steps s slot by fin ys vs .why p e)

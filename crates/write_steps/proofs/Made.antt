@@ -14,7 +14,6 @@ use Rattle.definitions.specs.Checked.{value}
 use Rattle.definitions.specs.Rust.Phase0.Helpers.{«get_current_epoch», «get_previous_epoch», «get_validator_churn_limit»}
 use Rattle.laws.proofs.Checked.{bound, not-value}
 use Rattle.laws.proofs.Encode.{length-decode}
-use Rattle.laws.specs.Cut.{CutAt, eligibleNow}
 use Rattle.definitions.specs.declared.ExitQueue.{ExitQueue}
 use Rattle.exit_queue.specs.Queue.{Tracks, startPair}
 use Rattle.exit_queue.proofs.Tracks.{tracks-few, tracks-start}
@@ -55,14 +54,13 @@ module _ {s : Settings} {current previous : ℕ} {xs kept : List ℕ} {r : Findi
       rw (zero-over (h .active) (g .active), zero-over (h .source) (g .source), zero-over (h .target) (g .target), zero-over (h .head) (g .head), zero-over (h .«current_target») (g .«current_target»))
 
 -- what the steps ask for, where no sum has gone over
-pub found-all : (s : Settings) (slot fin : ℕ) → Epochs s slot → (xs : List ℕ) {kept : List ℕ} {r : Findings} → Finds s («get_current_epoch» s slot) («get_previous_epoch» s slot) xs kept r → allFit (r .over) ≡ true → {t : Totals} → t ≡ raisedTo (s .«effective_balance_increment») (r .sums) → {limit : ℕ} → limit ≡ max (s .«min_per_epoch_churn_limit») (r .active / s .«churn_limit_quotient») → {q : ExitQueue} → q ≡ startPair (leastExit s («get_current_epoch» s slot)) (r .queue) → {bound quota : ℕ} → CutAt limit fin (eligibleNow s («get_current_epoch» s slot) (decode xs)) bound quota → Found s slot fin (decode xs) t limit q bound quota
+pub found-all : (s : Settings) (slot : ℕ) → Epochs s slot → (xs : List ℕ) {kept : List ℕ} {r : Findings} → Finds s («get_current_epoch» s slot) («get_previous_epoch» s slot) xs kept r → allFit (r .over) ≡ true → {t : Totals} → t ≡ raisedTo (s .«effective_balance_increment») (r .sums) → {limit : ℕ} → limit ≡ max (s .«min_per_epoch_churn_limit») (r .active / s .«churn_limit_quotient») → {q : ExitQueue} → q ≡ startPair (leastExit s («get_current_epoch» s slot)) (r .queue) → Found s slot (decode xs) t limit q
 unfolding «get_validator_churn_limit»
-found-all s slot fin ep xs h fit t l q cut =
+found-all s slot ep xs h fit t l q =
     record {
       totals = rw t (raised-totals s (plain-sums h fit));
       churn = sym (l ∙ ap (λ (n : ℕ). max (s .«min_per_epoch_churn_limit») (n / s .«churn_limit_quotient»)) (h .number));
       queue = rw q (tracks-start (ep .fits) (h .queue));
-      cut = cut;
     }
 
 -- The plan, or that there is none

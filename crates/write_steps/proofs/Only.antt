@@ -6,12 +6,13 @@ use Prim.Native.Nat.{ℕ}
 use lib.Dec.{leb, ltb, eqb}
 use lib.ListN.{length, getD, set}
 use Rattle.definitions.specs.declared.Settings.{Settings}
+use Rattle.definitions.specs.declared.ActivationLimit.{ActivationLimit}
 use Rattle.definitions.specs.Lists.{maximum, range}
 use Rattle.definitions.specs.Record.{Validator, «FAR_FUTURE_EPOCH», «GENESIS_EPOCH», nobody, isSlashed}
 use Rattle.definitions.specs.Checked.{Checked, value, refused, foldChecked}
 use Rattle.definitions.specs.Document.Phase0.Helpers.{exitEpochs, exitQueueChurn}
 use Rattle.definitions.specs.Document.Phase0.EpochProcessing.{queueEligible, isEjected}
-use Rattle.definitions.specs.Rust.Phase0.EpochProcessing.{isEligible, updateRegistryAt, «process_registry_updates», updateEffectiveBalance, «process_effective_balance_updates»}
+use Rattle.definitions.specs.Rust.Phase0.EpochProcessing.{isEligible, updateRegistryAt, limitedRegistryUpdates, updateEffectiveBalance, «process_effective_balance_updates»}
 use Rattle.definitions.specs.Rust.Phase0.Helpers.{«get_current_epoch», «get_total_active_balance», «get_validator_churn_limit», «compute_activation_exit_epoch», exitQueueEpoch, «initiate_validator_exit»}
 use Rattle.definitions.specs.Rust.Altair.Helpers.{FlagTotals, flagTotals}
 use Rattle.definitions.specs.Rust.Altair.EpochProcessing.{updateInactivityScore, rewardAndPenalize, isSlashingDue, slash, «process_inactivity_updates», «process_rewards_and_penalties», «process_slashings»}
@@ -119,9 +120,9 @@ module _ (s : Settings) (slot : ℕ) where
   unfolding «get_total_active_balance»
   only-active vs = only-total s _
 
-  only-registry : (fin : ℕ) (vs : List Validator) → OnlyOverflow («process_registry_updates» s slot fin vs)
-  unfolding «process_registry_updates»
-  only-registry fin vs =
+  only-registry : (by : ActivationLimit) (fin : ℕ) (vs : List Validator) → OnlyOverflow (limitedRegistryUpdates by s slot fin vs)
+  unfolding limitedRegistryUpdates
+  only-registry by fin vs =
       only-bind (only-fold only-at vs (range 0 (length vs))) (λ queued. only-bind (only-activation present) (λ epoch. only-value _))
 
   only-totals : (fin : ℕ) (vs : List Validator) (index : ℕ) → OnlyOverflow (flagTotals s slot fin vs index)
@@ -151,11 +152,11 @@ module _ (s : Settings) (slot : ℕ) where
   unfolding «process_effective_balance_updates»
   only-balances vs = only-bind (only-mul64 _ _) (λ downward. only-bind (only-mul64 _ _) (λ upward. only-map (only-update s downward upward) vs))
 
-  pub only-steps : (fin : ℕ) (ys : List ℕ) (vs : List Validator) → OnlyOverflow (registrySteps s slot fin ys vs)
+  pub only-steps : (by : ActivationLimit) (fin : ℕ) (ys : List ℕ) (vs : List Validator) → OnlyOverflow (registrySteps by s slot fin ys vs)
   unfolding registrySteps
-  only-steps fin ys vs =
+  only-steps by fin ys vs =
       only-bind (only-inactivity fin vs) (λ scored.
       only-bind (only-rewards _ fin scored) (λ paid.
-      only-bind (only-registry fin paid) (λ updated.
+      only-bind (only-registry by fin paid) (λ updated.
       only-bind (only-slashings _ ys updated) (λ slashed.
       only-bind (only-balances slashed) (λ balanced. only-value _)))))

@@ -27,7 +27,7 @@ use Rattle.write_steps.proofs.Seen.{seen, seenNow, opening-seen, cut-ke
 use Rattle.write_steps.proofs.Tracked.{pay-tracked}
 use Rattle.laws.proofs.Frame.Entries.{kept-map}
 
-module _ (s : Settings) (p : Plan) (t : Course) (quota : ℕ) (vs : List Validator) (cut : CutAt (t .limit) (t .«finalized_epoch») (eligibleNow s (p .shared .«current_epoch») vs) (t .bound) quota) where
+module _ (s : Settings) (p : Plan) (t : Course) (most quota : ℕ) (vs : List Validator) (cut : CutAt most (t .«finalized_epoch») (eligibleNow s (p .shared .«current_epoch») vs) (t .bound) quota) where
   abbrev f : ℕ
   f = t .«finalized_epoch»
 
@@ -36,11 +36,11 @@ module _ (s : Settings) (p : Plan) (t : Course) (quota : ℕ) (vs : List Validat
 
   -- the document's sorted queue
   abbrev lets : List Validator → List Validator
-  lets queued = dequeued (t .«activation_epoch») (t .limit) f queued
+  lets queued = dequeued (t .«activation_epoch») most f queued
 
   let-in : (queued : List Validator) → map (seen f) queued ≡ map (seenNow s epoch f) vs → admits s p t quota queued ≡ lets queued
   let-in queued e =
-      cut-kept queued cut (e ∙ opening-seen s epoch f vs) .same (t .«activation_epoch») (length queued) ∙ sym (dequeued-is (t .«activation_epoch») (t .limit) f queued)
+      cut-kept queued cut (e ∙ opening-seen s epoch f vs) .same (t .«activation_epoch») (length queued) ∙ sym (dequeued-is (t .«activation_epoch») most f queued)
 
   later : (q : ExitQueue) (paid : List Validator) → map (seenNow s epoch f) paid ≡ map (seenNow s epoch f) vs → dropped (sweep (last (moveWith s epoch t) (lastBy s p)) (q, quota) paid) ≡ bind (dropped (turns s p t q paid)) (λ queued. mapChecked (lastBy s p) (lets queued))
   unfolding bind

@@ -6,12 +6,14 @@ use Prim.Native.Nat.{ℕ, _*_, _/_}
 use lib.Dec.{eqb}
 use lib.ListN.{length}
 use Rattle.definitions.specs.declared.Settings.{Settings}
+use Rattle.definitions.specs.declared.ActivationLimit.{ActivationLimit}
 use Rattle.definitions.specs.declared.Number.{Number}
 use Rattle.definitions.specs.Record.{Validator, decode}
 use Rattle.definitions.specs.Checked.{Checked, value, refused, numberOf, overflow}
 use Rattle.definitions.specs.Rust.Phase0.Helpers.{«get_current_epoch», «get_previous_epoch», «get_validator_churn_limit»}
-use Rattle.definitions.specs.Rust.Phase0.EpochProcessing.{«is_in_inactivity_leak»}
+use Rattle.definitions.specs.Rust.Phase0.EpochProcessing.{«is_in_inactivity_leak», activationLimit}
 use Rattle.laws.specs.Cut.{CutAt, eligibleNow}
+use Rattle.laws.specs.Ran.{Ran}
 use Rattle.definitions.specs.declared.ExitQueue.{ExitQueue}
 use Rattle.exit_queue.specs.Queue.{Tracks}
 use Rattle.registry.specs.Updates.{leastExit}
@@ -23,6 +25,7 @@ use Rattle.balances.specs.Thresholds.{thresholdsOf}
 use Rattle.write_turn.specs.declared.Plan.{Plan}
 use Rattle.write_turn.specs.Planned.{Planned}
 use Rattle.write_pass.specs.Filled.{Filled}
+use Rattle.write_steps.specs.RegistrySteps.{registrySteps}
 use Rattle.write_steps.specs.declared.PlanAnswer.{PlanAnswer}
 use Rattle.write_steps.specs.declared.PlanAnswer.the-variants.{Value, Refused}
 
@@ -70,12 +73,16 @@ pub record Plans (s : Settings) (slot finalizedEpoch : ℕ) (t : Totals) (slashi
   pub number : (q : ℕ) → r ≡ Refused q → q ≡ numberOf overflow
   pub none : (q : ℕ) → r ≡ Refused q → Lacks s slot finalizedEpoch t slashings
 
--- What the steps ask of the whole registry, found before them
-pub record Found (s : Settings) (slot finalizedEpoch : ℕ) (vs : List Validator) (t : Totals) (limit : ℕ) (q : ExitQueue) (bound quota : ℕ) : Type 0 where
+-- What the steps ask of the whole registry, found before them, but for the cut of the activation queue
+pub record Found (s : Settings) (slot : ℕ) (vs : List Validator) (t : Totals) (limit : ℕ) (q : ExitQueue) : Type 0 where
   pub totals : TotalsOf s («get_current_epoch» s slot) («get_previous_epoch» s slot) vs t
   pub churn : «get_validator_churn_limit» s slot vs ≡ limit
   pub queue : Tracks (leastExit s («get_current_epoch» s slot)) vs q
-  pub cut : CutAt limit finalizedEpoch (eligibleNow s («get_current_epoch» s slot) vs) bound quota
+
+-- They ran, under every limit of activations whose cut this is: they ask nothing else of it
+pub record RanUnder (s : Settings) (slot finalizedEpoch : ℕ) (slashings : List ℕ) (vs : List Validator) (limit bound quota : ℕ) (xs : List ℕ) (r : ℕ) : Type 0 where
+  pub under : (by : ActivationLimit) → CutAt (activationLimit by limit) finalizedEpoch (eligibleNow s («get_current_epoch» s slot) vs) bound quota
+      → Ran (registrySteps by s slot finalizedEpoch slashings vs) xs r
 
 -- What is booked: by the plan that the opening's totals make
 pub record BookedBy (s : Settings) (slot finalizedEpoch : ℕ) (slashings opening closing xs : List ℕ) : Type 0 where

@@ -1,6 +1,7 @@
 use mathlib.Core.Path.{sym, _∙_}
 use native.Mathlib.Omega.{arith}
 use borrow.Author.Needs.{needs}
+use Rattle.definitions.specs.declared.ActivationLimit.the-variants.{Churn}
 use Rattle.selection.proofs.Picking.{blank-length, blank-part}
 use Rattle.close.proofs.Lent.{lent, record-refused}
 use Rattle.close.proofs.Outcome.{tests-refused}
@@ -8,12 +9,12 @@ use Rattle.close.proofs.close.Statement.{statement}
 use Rattle.close.proofs.close.Tie as tie
 
 returns : tie.Need-returns
-returns c = tests-refused _ (record-refused _ (c .before .before .record-tests .ensures) (c .before .if1 .taken)) (c .before .if1 .taken) (c .none-raised .ensures)
+returns c = tests-refused _ (record-refused Churn _ (c .before .before .record-tests .ensures) (c .before .if1 .taken)) (c .before .if1 .taken) (c .none-raised .ensures)
 
 close-tested-requires : tie.Need-close-tested-requires
 close-tested-requires c κs =
     let u = c .before .before .before in
-    let p = lent _ (u .before .before .record-tests .ensures) (u .before .if1 .left) in
+    let p = lent Churn _ (u .before .before .record-tests .ensures) (u .before .if1 .left) in
     (rw (u .settings-under .ensures) (p .opening), ((p .closingRegistry, p .closingSlashings), (blank-length 64 64 (omega arith), blank-part 64 64 (omega arith) (omega arith))))
 
 returns-2 : tie.Need-returns-2

@@ -2,6 +2,7 @@ use mathlib.Core.Path.{_≡_, refl, sym}
 use native.Mathlib.Omega.{arith}
 use borrow.Author.Needs.{needs}
 use Rattle.definitions.specs.declared.Rules.{Rules}
+use Rattle.definitions.specs.declared.ActivationLimit.the-variants.{Churn}
 use Rattle.definitions.specs.Close.{Call, closeTests}
 use Rattle.definitions.specs.Checked.{codeOf}
 use Rattle.refusals.proofs.Laws.{small, good-settings}
@@ -25,7 +26,7 @@ abbrev start : tie.After-survey-registry → tie.Start
 start c = c .before .before .before .before .before .before .before .before .before .before
 
 tested : (r : Rules) (c : tie.After-survey-registry) → codeOf (recordTests (call r (start c))) ≡ 0 → c .survey-registry .result .refusal ≡ codeOf (closeTests (call r (start c)))
-tested r c z = entries-tested (call r (start c)) (sym z) refl (c .survey-registry .ensures .tested)
+tested r c z = entries-tested Churn (call r (start c)) (sym z) refl (c .survey-registry .ensures .tested)
 
 current-epoch-requires : tie.Need-current-epoch-requires
 current-epoch-requires c κs =

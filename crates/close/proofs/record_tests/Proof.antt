@@ -1,11 +1,11 @@
 use borrow.Author.Needs.{needs}
 use Rattle.refusals.proofs.rules.Tests.{rules-tested}
-use Rattle.close.specs.Worked.{recordTests}
+use Rattle.close.specs.Worked.{limitedRecordTests}
 use Rattle.close.proofs.record_tests.Statement.{statement}
 use Rattle.close.proofs.record_tests.Tie as tie
 
 returns : tie.Need-returns
-unfolding recordTests
+unfolding limitedRecordTests
 returns c =
     let finality = c .before .before .before in
     let settings = finality .before .before in

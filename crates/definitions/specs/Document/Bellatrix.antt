@@ -29,6 +29,7 @@ unfoldable pub «process_rewards_and_penalties» : Settings → Bellatrix → Be
 unfoldable pub «process_slashings» : Settings → Bellatrix → BeaconState → BeaconState
 «process_slashings» s b st = altair′.«process_slashings» s (b .«proportional_slashing_multiplier_bellatrix») st
 
+-- altair, process_epoch, with the two functions that Bellatrix changes; bellatrix has no text of its own for it
 unfoldable pub «process_epoch» : Settings → Bellatrix → BeaconState → BeaconState
 «process_epoch» s b st =
     let justified = «process_justification_and_finalization» s st in

@@ -8,6 +8,7 @@ use borrow.Author.Tests.{eqb-true, eq-eqb, ne-eqb}
 use lib.Dec.{eqb}
 use lib.ListN.{length, getD, take, drop, replicate}
 use Rattle.definitions.specs.declared.Settings.{Settings}
+use Rattle.definitions.specs.declared.ActivationLimit.{ActivationLimit}
 use Rattle.definitions.specs.declared.Number.{Number}
 use Rattle.definitions.specs.Record.{Validator, decode, nobody}
 use Rattle.definitions.specs.Checked.{Checked, value, bind, mapChecked}
@@ -41,12 +42,12 @@ use Rattle.write_steps.proofs.Steps.{pays}
 use Rattle.full_close.specs.StepAmounts.{stepAmounts}
 use Rattle.full_close.proofs.Booking.Way.{way, updated-long}
 
-module _ {s : Settings} {slot fin : ℕ} {ys : List ℕ} {vs ws : List Validator} (w : Way s slot fin ys vs ws) where
+module _ {by : ActivationLimit} {s : Settings} {slot fin : ℕ} {ys : List ℕ} {vs ws : List Validator} (w : Way by s slot fin ys vs ws) where
   -- the nine numbers of the steps
   abbrev pub nineLists : List ℕ
   nineLists = nines (by-rewards w .eights) (by-slashings w .ninths)
 
-  pub step-amounts : stepAmounts s slot fin ys vs ≡ value nineLists
+  pub step-amounts : stepAmounts by s slot fin ys vs ≡ value nineLists
   unfolding stepAmounts
   step-amounts = bind-value _ (w .scores) ∙ bind-value _ (by-rewards w .are) ∙ bind-value _ (w .pays) ∙ bind-value _ (w .registers) ∙ bind-value _ (by-slashings w .are)
 
@@ -133,16 +134,16 @@ module _ {s : Settings} {slot fin : ℕ} {ys : List ℕ} {vs ws : List Validator
     nine-long i = omega arith
 
     -- a list that has the nine numbers of each
-    pub filled : (n : ℕ) → length vs ≡ n → {xs : List ℕ} → length xs ≡ 9 * n → ((i : ℕ) → i < n → nineAt xs i ≡ nineBy s plan (getD vs i nobody) (getD ws i nobody)) → stepAmounts s slot fin ys vs ≡ value xs
+    pub filled : (n : ℕ) → length vs ≡ n → {xs : List ℕ} → length xs ≡ 9 * n → ((i : ℕ) → i < n → nineAt xs i ≡ nineBy s plan (getD vs i nobody) (getD ws i nobody)) → stepAmounts by s slot fin ys vs ≡ value xs
     filled n e {xs} long nine =
         step-amounts
         ∙ ap value (sym (nine-ext n xs nineLists long (nines-long (by-rewards w .eights) (by-slashings w .ninths) eights ∙ ap (λ (k : ℕ). 9 * k) (by-rewards w .long ∙ scored-long ∙ e))
         (λ i l. ap (λ (k : ℕ). take k (drop (9 * i) xs)) (sym (nine-long i)) ∙ nine i l ∙ nine-is i (omega (arith, l, e)))))
 
 -- By a plan as the code has it
-pub steps-booked : (s : Settings) (slot fin : ℕ) (ys opening closing : List ℕ) → Epochs s slot → length opening ≡ 10 * (length opening / 10) → registrySteps s slot fin ys (decode opening) ≡ value (decode closing) → {xs : List ℕ} → BookedBy s slot fin ys opening closing xs → stepAmounts s slot fin ys (decode opening) ≡ value xs
-steps-booked s slot fin ys opening closing ep long gave {xs} h =
-    let by = h .planned in
+pub steps-booked : (by : ActivationLimit) (s : Settings) (slot fin : ℕ) (ys opening closing : List ℕ) → Epochs s slot → length opening ≡ 10 * (length opening / 10) → registrySteps by s slot fin ys (decode opening) ≡ value (decode closing) → {xs : List ℕ} → BookedBy s slot fin ys opening closing xs → stepAmounts by s slot fin ys (decode opening) ≡ value xs
+steps-booked by s slot fin ys opening closing ep long gave {xs} h =
+    let made = h .planned in
     let p = h .plan in
-    filled (way s slot fin ys (decode opening) gave) ep (h .summed) (by .leaking) (by .leak) (p .shared .«per_increment») (p .shared .denominator) (p .product) (by .adjusted) (by .thresholds) (length opening / 10) (length-decode (length opening / 10) opening long) (h .filled .long)
-    (subst (λ (k : Plan). Filled s k opening closing xs) (by .makes .is) (h .filled) .nine)
+    filled (way by s slot fin ys (decode opening) gave) ep (h .summed) (made .leaking) (made .leak) (p .shared .«per_increment») (p .shared .denominator) (p .product) (made .adjusted) (made .thresholds) (length opening / 10) (length-decode (length opening / 10) opening long) (h .filled .long)
+    (subst (λ (k : Plan). Filled s k opening closing xs) (made .makes .is) (h .filled) .nine)

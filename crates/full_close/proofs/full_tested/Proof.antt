@@ -3,11 +3,11 @@ use native.Mathlib.Omega.{arith}
 use borrow.Author.Needs.{needs}
 use Rattle.definitions.specs.declared.Rules.{Rules}
 use Rattle.definitions.specs.Checked.{codeOf}
-use Rattle.definitions_close.specs.FullClose.{FullCall, fullTests}
+use Rattle.definitions_close.specs.FullClose.{FullCall, limitedFullTests}
 use Rattle.refusals.proofs.Laws.{small, good-settings}
 use Rattle.registry.proofs.Epochs.{Epochs, epochs}
 use Rattle.exit_queue.proofs.QueueOf.{tracks-is}
-use Rattle.close.specs.Worked.{recordTests}
+use Rattle.close.specs.Worked.{limitedRecordTests}
 use Rattle.close.proofs.Lent.{entries-tested}
 use Rattle.full_close.specs.Called.{fullCalled}
 use Rattle.full_close.proofs.Tests.{queue-tested}
@@ -26,11 +26,11 @@ ep c = let p = c .pre .0 .settings in epochs (c .args .s) (c .args .finality .sl
 abbrev start : tie.After-first-refusal → tie.Start
 start c = c .before .before .before .before .before .before .before .before .before .before .before .before .before .before .before .before
 
-tested : (r : Rules) (c : tie.After-first-refusal) → codeOf (recordTests (call r (start c) .call)) ≡ 0 → c .first-refusal .result ≡ codeOf (fullTests (call r (start c)))
+tested : (r : Rules) (c : tie.After-first-refusal) → codeOf (limitedRecordTests (start c .args .limit) (call r (start c) .call)) ≡ 0 → c .first-refusal .result ≡ codeOf (limitedFullTests (start c .args .limit) (call r (start c)))
 tested r c z =
     let at-survey-registry = c .before .before .before .before .before in
     let found = at-survey-registry .survey-registry .ensures in
-    queue-tested (call r (start c)) (start c .pre .1 .0 .2) (entries-tested (call r (start c) .call) (sym z) refl (found .tested)) (tracks-is (found .queue)) (c .before .queue-refusal .ensures) (c .first-refusal .ensures)
+    queue-tested (start c .args .limit) (call r (start c)) (start c .pre .1 .0 .2) (entries-tested (start c .args .limit) (call r (start c) .call) (sym z) refl (found .tested)) (tracks-is (found .queue)) (c .before .queue-refusal .ensures) (c .first-refusal .ensures)
 
 current-epoch-requires : tie.Need-current-epoch-requires
 current-epoch-requires c κs =
@@ -50,7 +50,7 @@ survey-registry-requires c κs =
 returns : tie.Need-returns
 returns c =
     let at-first-refusal = c .before .before in
-    record { under = λ r u z. full-tests-refused (call r (start at-first-refusal)) (tested r at-first-refusal z) (c .before .if1 .taken) (c .unclosed .ensures) }
+    record { under = λ r u z. full-tests-refused _ (call r (start at-first-refusal)) (tested r at-first-refusal z) (c .before .if1 .taken) (c .unclosed .ensures) }
 
 full-surveyed-requires : tie.Need-full-surveyed-requires
 full-surveyed-requires c κs =
@@ -66,7 +66,7 @@ returns-2 c =
     let at-full-surveyed : tie.After-full-surveyed = search needs in
     let at-else1 = at-full-surveyed .before .before .before .before .before in
     let at-first-refusal = at-else1 .before in
-    record { under = λ r u z. full-steps-closed (call r (start at-first-refusal)) (tested r at-first-refusal z) (omega (arith, at-else1 .if1 .left)) u (at-full-surveyed .full-surveyed .ensures) }
+    record { under = λ r u z. full-steps-closed _ (call r (start at-first-refusal)) (tested r at-first-refusal z) (omega (arith, at-else1 .if1 .left)) u (at-full-surveyed .full-surveyed .ensures) }
 
 pub full-tested-spec : {M : Type 1} → statement M
 full-tested-spec =

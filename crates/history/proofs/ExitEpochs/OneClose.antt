@@ -6,6 +6,8 @@ use mathlib.Core.List.{List, [], _∷_, map}
 use Prim.Native.Nat.{ℕ}
 use lib.Dec.{T, eqb, eqb→eq}
 use lib.ListN.{length, getD, set}
+use Rattle.definitions.specs.declared.ActivationLimit.{ActivationLimit}
+use Rattle.definitions.specs.declared.ActivationLimit.the-variants.{Churn}
 use Rattle.definitions.specs.declared.Settings.{Settings}
 use Rattle.definitions.specs.Lists.{range}
 use Rattle.definitions.specs.Record.{Validator, BeaconState, nobody, encode, decode, «FAR_FUTURE_EPOCH» as FAR}
@@ -14,7 +16,7 @@ use Rattle.definitions.specs.Refusals.{afterTests, closingBuffer}
 use Rattle.definitions.specs.LeafRefusals.{exitTests}
 use Rattle.definitions.specs.Document.Phase0.EpochProcessing.{queueEligible, isEjected}
 use Rattle.definitions.specs.Rust.Phase0.Helpers.{«is_active_validator», «get_current_epoch», «initiate_validator_exit»}
-use Rattle.definitions.specs.Rust.Phase0.EpochProcessing.{updateRegistryAt, «process_registry_updates»}
+use Rattle.definitions.specs.Rust.Phase0.EpochProcessing.{updateRegistryAt, activationLimit, limitedRegistryUpdates}
 use Rattle.definitions.specs.Close.{Call, stateOf, finalizedEpochOf, close}
 use Rattle.laws.proofs.Checked.{bound, value-same, number-not-zero}
 use Rattle.laws.proofs.Encode.{decode-encode}
@@ -68,23 +70,23 @@ module _ (s : Settings) (slot limit : ℕ) where
       let t = turn vs i e (a .gave) in
       made-both t (turns is (a .first) (t .stays) (a .then))
 
-  registry-exits : (finalizedEpoch : ℕ) (vs : List Validator) {ws : List Validator} → limitOf s slot vs ≡ limit → «process_registry_updates» s slot finalizedEpoch vs ≡ value ws → Exits (limit ∷ []) vs ws
-  unfolding «process_registry_updates»
-  registry-exits finalizedEpoch vs {ws} e p =
+  registry-exits : (l : ActivationLimit) (finalizedEpoch : ℕ) (vs : List Validator) {ws : List Validator} → limitOf s slot vs ≡ limit → limitedRegistryUpdates l s slot finalizedEpoch vs ≡ value ws → Exits (limit ∷ []) vs ws
+  unfolding limitedRegistryUpdates
+  registry-exits l finalizedEpoch vs {ws} e p =
       let a = bound _ _ p in
       let b = bound _ _ (a .then) in
       then (turns (range 0 (length vs)) vs e (a .gave) .exits)
-      (kept (ap (map exitOf) (sym (value-same (b .then))) ∙ dequeued-writes exitOf (λ x v. refl) (b .first) (limitOf s slot (a .first)) finalizedEpoch (a .first)))
+      (kept (ap (map exitOf) (sym (value-same (b .then))) ∙ dequeued-writes exitOf (λ x v. refl) (b .first) (activationLimit l (limitOf s slot (a .first))) finalizedEpoch (a .first)))
 
 -- The eight steps
 
-eight-exits : (s : Settings) (a e : BeaconState) → Parts s a e → Exits (limitOf s (a .finality .slot) (a .validators) ∷ []) (a .validators) (e .validators)
+pub eight-exits : (l : ActivationLimit) (s : Settings) (a e : BeaconState) → Parts l s a e → Exits (limitOf s (a .finality .slot) (a .validators) ∷ []) (a .validators) (e .validators)
 unfolding «is_active_validator»
-eight-exits s a e p =
+eight-exits l s a e p =
     then (kept (still-told exitOf (λ v. refl) (handed-still p)))
     (then
-    (registry-exits s slot (limitOf s slot (a .validators)) f (p .rewarded .validators) (limit-by s slot (a .validators) (p .rewarded .validators) (still-told (active s slot) (λ v. refl) (handed-still p)))
-    (subst (λ (x : ℕ). «process_registry_updates» s x f (p .rewarded .validators) ≡ value (p .registered .validators)) (same-slot p) (p .registers .gave)))
+    (registry-exits s slot (limitOf s slot (a .validators)) l f (p .rewarded .validators) (limit-by s slot (a .validators) (p .rewarded .validators) (still-told (active s slot) (λ v. refl) (handed-still p)))
+    (subst (λ (x : ℕ). limitedRegistryUpdates l s x f (p .rewarded .validators) ≡ value (p .registered .validators)) (same-slot p) (p .registers .gave)))
     (kept (still-told exitOf (λ v. refl) (p .ends .validators))))
   where
     slot : ℕ
@@ -96,7 +98,7 @@ eight-exits s a e p =
 close-exits : (c : Call) → T (eqb (close c .refusal) 0) → Exits (limitOf (settingsOf c) (c .finality .slot) (decode (c .registry)) ∷ []) (decode (c .registry)) (decode (close c .closingRegistry))
 close-exits c t =
     subst (Exits (limitOf (settingsOf c) (c .finality .slot) (decode (c .registry)) ∷ []) (decode (c .registry))) (sym (ap decode (a .registry) ∙ decode-encode (a .state .validators)))
-    (eight-exits (settingsOf c) (stateOf c) (a .state) (parts (settingsOf c) (stateOf c) (a .worked)))
+    (eight-exits Churn (settingsOf c) (stateOf c) (a .state) (parts Churn (settingsOf c) (stateOf c) (a .worked)))
   where
     a : Accepted c
     a = accepted-close c t

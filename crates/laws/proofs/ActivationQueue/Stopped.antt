@@ -9,6 +9,7 @@ use lib.Dec.{ltb, eqb}
 use lib.ListN.{length, getD, set, length-map}
 use lib.Seq.{map-set-same}
 use Rattle.definitions.specs.declared.Settings.{Settings}
+use Rattle.definitions.specs.declared.ActivationLimit.{ActivationLimit}
 use Rattle.definitions.specs.Lists.{range}
 use Rattle.definitions.specs.Record.{Validator, nobody, «FAR_FUTURE_EPOCH»}
 use Rattle.definitions.specs.Updates.{withEligibility, withActivation, withExit}
@@ -16,8 +17,8 @@ use Rattle.definitions.specs.Checked.{Checked, value, refused, bind, foldChecke
 use Rattle.definitions.specs.Document.Phase0.Helpers.{«is_eligible_for_activation_queue», «is_eligible_for_activation»}
 use Rattle.definitions.specs.Document.Phase0.EpochProcessing.{queueEligible, isEjected, dequeued}
 use Rattle.definitions.specs.Rust.Phase0.Helpers.{«compute_activation_exit_epoch», «get_current_epoch», «get_validator_churn_limit», «initiate_validator_exit»}
-use Rattle.definitions.specs.Rust.Phase0.EpochProcessing.{updateRegistryAt, «process_registry_updates»}
-use Rattle.definitions.specs.RegisterOrder.{registryUpdatesTo}
+use Rattle.definitions.specs.Rust.Phase0.EpochProcessing.{updateRegistryAt, activationLimit, limitedRegistryUpdates}
+use Rattle.definitions.specs.RegisterOrder.{limitedUpdatesTo}
 use Rattle.laws.proofs.Checked.{value-same, bound}
 use Rattle.laws.specs.Queue.{ahead, mapBelow, activatedAt, activated}
 use Rattle.laws.specs.Stopped.{keptFrom, Stopped}
@@ -95,16 +96,16 @@ below-kept zero f h (v ∷ vs) (u ∷ us) e =
     ap₂ _∷_ (sym (h 0 u) ∙ ap (λ (x : ℕ). withActivation x (f 0 u)) same) (below-kept zero (λ i. f (suc i)) (λ i. h (suc i)) vs us cc)
 below-kept (suc stop) f h (v ∷ vs) (u ∷ us) e = ap (λ (t : List Validator). f 0 u ∷ t) (below-kept stop (λ i. f (suc i)) (λ i. h (suc i)) vs us cc)
 
-module _ (s : Settings) (stateSlot finalizedEpoch : ℕ) (vs : List Validator) where
+module _ (limit : ActivationLimit) (s : Settings) (stateSlot finalizedEpoch : ℕ) (vs : List Validator) where
   abbrev turns : Checked (List Validator)
   turns = foldChecked (updateRegistryAt s stateSlot) vs (range 0 (length vs))
 
   abbrev limitOf : List Validator → ℕ
-  limitOf queued = «get_validator_churn_limit» s stateSlot queued
+  limitOf queued = activationLimit limit («get_validator_churn_limit» s stateSlot queued)
 
   -- after the turns and the epoch: what g makes of the registry is what k makes of the step's
-  same-after : (g : ℕ → List Validator → List Validator) (k : List Validator → List Validator) → ((epoch : ℕ) (queued : List Validator) → map activation queued ≡ map activation vs → g epoch queued ≡ k (dequeued epoch (limitOf queued) finalizedEpoch queued)) → bind turns (λ queued. bind («compute_activation_exit_epoch» s («get_current_epoch» s stateSlot)) (λ epoch. value (g epoch queued))) ≡ bind («process_registry_updates» s stateSlot finalizedEpoch vs) (λ ws. value (k ws))
-  unfolding «process_registry_updates» bind
+  same-after : (g : ℕ → List Validator → List Validator) (k : List Validator → List Validator) → ((epoch : ℕ) (queued : List Validator) → map activation queued ≡ map activation vs → g epoch queued ≡ k (dequeued epoch (limitOf queued) finalizedEpoch queued)) → bind turns (λ queued. bind («compute_activation_exit_epoch» s («get_current_epoch» s stateSlot)) (λ epoch. value (g epoch queued))) ≡ bind (limitedRegistryUpdates limit s stateSlot finalizedEpoch vs) (λ ws. value (k ws))
+  unfolding limitedRegistryUpdates bind
   same-after g k h = go turns refl («compute_activation_exit_epoch» s («get_current_epoch» s stateSlot))
     where
       go : (m : Checked (List Validator)) → turns ≡ m → (e : Checked ℕ) → bind m (λ queued. bind e (λ epoch. value (g epoch queued))) ≡ bind (bind m (λ queued. bind e (λ epoch. value (dequeued epoch (limitOf queued) finalizedEpoch queued)))) (λ ws. value (k ws))
@@ -117,11 +118,11 @@ module _ (s : Settings) (stateSlot finalizedEpoch : ℕ) (vs : List Validator) w
   bind-same (value a) = refl
   bind-same (refused r) = refl
 
-  pub stopped : Stopped s stateSlot finalizedEpoch vs
-  unfolding registryUpdatesTo activated
+  pub stopped : Stopped limit s stateSlot finalizedEpoch vs
+  unfolding limitedUpdatesTo activated
   stopped =
       record {
-        whole = same-after (λ epoch queued. activated epoch (limitOf queued) finalizedEpoch (length vs) queued) (λ ws. ws) whole ∙ bind-same («process_registry_updates» s stateSlot finalizedEpoch vs);
+        whole = same-after (λ epoch queued. activated epoch (limitOf queued) finalizedEpoch (length vs) queued) (λ ws. ws) whole ∙ bind-same (limitedRegistryUpdates limit s stateSlot finalizedEpoch vs);
         stopped = λ stop. same-after (λ epoch queued. activated epoch (limitOf queued) finalizedEpoch stop queued) (keptFrom stop vs) (stops stop);
       }
     where

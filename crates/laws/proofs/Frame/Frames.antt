@@ -5,6 +5,8 @@ use Prim.Native.Nat.{ℕ, _+_, min}
 use lib.Dec.{leb, eqb}
 use lib.Seq.{map-set-same}
 use Rattle.definitions.specs.declared.Settings.{Settings}
+use Rattle.definitions.specs.declared.ActivationLimit.{ActivationLimit}
+use Rattle.definitions.specs.declared.ActivationLimit.the-variants.{Churn}
 use Rattle.definitions.specs.declared.Finality.{Finality}
 use Rattle.definitions.specs.Record.{Validator, BeaconState, «GENESIS_EPOCH»}
 use Rattle.definitions.specs.Updates.{withBalance, withEffectiveBalance, withScore, withParticipation, withValidators, withFinality, withSlashings}
@@ -14,7 +16,7 @@ use Rattle.definitions.specs.Document.Altair.EpochProcessing.{rotateParticipati
 use Rattle.definitions.specs.Rust.Phase0.Helpers.{«get_current_epoch»}
 use Rattle.definitions.specs.Rust.Phase0.EpochProcessing.{«weigh_justification_and_finalization», updateEffectiveBalance, «process_effective_balance_updates», resetSlashings}
 use Rattle.definitions.specs.Rust.Altair.EpochProcessing.{«process_justification_and_finalization», «process_inactivity_updates», «process_rewards_and_penalties», slash, «process_slashings», «process_participation_flag_updates»}
-use Rattle.definitions.specs.Close.{justificationStep, inactivityStep, rewardsStep, registryStep, slashingsStep, effectiveBalancesStep, slashingsResetStep, participationFlagsStep, step, onValidators}
+use Rattle.definitions.specs.Close.{justificationStep, inactivityStep, rewardsStep, registryStep, slashingsStep, effectiveBalancesStep, slashingsResetStep, participationFlagsStep, limitedStep, onValidators}
 use Rattle.laws.proofs.Checked.{value-same, bound}
 use Rattle.laws.specs.Frames.{each, slotAlone, withoutEpochs, but, Frames}
 use Rattle.laws.proofs.Frame.Entries.{kept-map, score-writes, reward-writes, slash-writes, effective-writes}
@@ -101,15 +103,19 @@ on-validators f a b h p =
     let c = bound _ _ p in
     ap (each f) (sym (value-same (c .then))) ∙ ap (λ (vs : List Validator). withValidators vs a) (h (c .first) (c .gave))
 
-pub frames : Frames
-unfolding step
-frames s justificationStep a b p =
+pub limited-frames : (limit : ActivationLimit) → Frames limit
+unfolding limitedStep
+limited-frames limit s justificationStep a b p =
     let c = bound _ _ p in
     ap (but justificationStep) (sym (value-same (c .then))) ∙ ap (λ (f : Finality). withFinality f a) (justification-writes s _ _ _ (c .gave))
-frames s inactivityStep a b p = on-validators (withScore 0) a b (λ ws q. inactivity-writes s _ _ _ q) p
-frames s rewardsStep a b p = on-validators (withBalance 0) a b (λ ws q. rewards-write s _ _ _ _ q) p
-frames s registryStep a b p = on-validators withoutEpochs a b (λ ws q. registry-writes s _ _ _ q) p
-frames s slashingsStep a b p = on-validators (withBalance 0) a b (λ ws q. slashings-write s _ _ _ _ q) p
-frames s effectiveBalancesStep a b p = on-validators (withEffectiveBalance 0) a b (λ ws q. effective-balances-write s _ q) p
-frames s slashingsResetStep a b p = ap (but slashingsResetStep) (sym (value-same p)) ∙ ap (λ (xs : List ℕ). withSlashings xs a) (reset-writes s _ _)
-frames s participationFlagsStep a b p = ap (but participationFlagsStep) (sym (value-same p)) ∙ ap (λ (vs : List Validator). withValidators vs a) (rotation-writes _)
+limited-frames limit s inactivityStep a b p = on-validators (withScore 0) a b (λ ws q. inactivity-writes s _ _ _ q) p
+limited-frames limit s rewardsStep a b p = on-validators (withBalance 0) a b (λ ws q. rewards-write s _ _ _ _ q) p
+limited-frames limit s registryStep a b p = on-validators withoutEpochs a b (λ ws q. registry-writes limit s _ _ _ q) p
+limited-frames limit s slashingsStep a b p = on-validators (withBalance 0) a b (λ ws q. slashings-write s _ _ _ _ q) p
+limited-frames limit s effectiveBalancesStep a b p = on-validators (withEffectiveBalance 0) a b (λ ws q. effective-balances-write s _ q) p
+limited-frames limit s slashingsResetStep a b p = ap (but slashingsResetStep) (sym (value-same p)) ∙ ap (λ (xs : List ℕ). withSlashings xs a) (reset-writes s _ _)
+limited-frames limit s participationFlagsStep a b p = ap (but participationFlagsStep) (sym (value-same p)) ∙ ap (λ (vs : List Validator). withValidators vs a) (rotation-writes _)
+
+-- before Deneb
+pub frames : Frames Churn
+frames = limited-frames Churn

@@ -7,6 +7,7 @@ use lib.Dec.{eqb}
 use lib.ListN.{length, getD, set, take}
 use lib.Seq.{map-set-same}
 use Rattle.definitions.specs.declared.Settings.{Settings}
+use Rattle.definitions.specs.declared.ActivationLimit.{ActivationLimit}
 use Rattle.definitions.specs.Lists.{range}
 use Rattle.definitions.specs.Record.{Validator, nobody, «FAR_FUTURE_EPOCH»}
 use Rattle.definitions.specs.Updates.{withEligibility, withActivation, withExit}
@@ -14,7 +15,7 @@ use Rattle.definitions.specs.Checked.{value, foldChecked}
 use Rattle.definitions.specs.Document.Phase0.Helpers.{«is_eligible_for_activation_queue»}
 use Rattle.definitions.specs.Document.Phase0.EpochProcessing.{queueEligible, isEjected, activationQueue, activateAt, dequeued}
 use Rattle.definitions.specs.Rust.Phase0.Helpers.{«get_current_epoch», «get_validator_churn_limit», «initiate_validator_exit»}
-use Rattle.definitions.specs.Rust.Phase0.EpochProcessing.{updateRegistryAt, «process_registry_updates»}
+use Rattle.definitions.specs.Rust.Phase0.EpochProcessing.{updateRegistryAt, activationLimit, limitedRegistryUpdates}
 use Rattle.laws.proofs.Checked.{value-same, bound}
 use Rattle.laws.specs.Frames.{withoutEpochs}
 use Rattle.laws.proofs.Tests.{either}
@@ -76,11 +77,11 @@ unfolding foldChecked
 turns-write s stateSlot [] vs p = same-value rest p
 turns-write s stateSlot (i ∷ is) vs p = let a = bound _ _ p in turns-write s stateSlot is (a .first) (a .then) ∙ turn-writes s stateSlot vs i (a .gave)
 
-pub registry-writes : (s : Settings) (stateSlot finalizedEpoch : ℕ) (vs : List Validator) {ws : List Validator} → «process_registry_updates» s stateSlot finalizedEpoch vs ≡ value ws → map rest ws ≡ map rest vs
-unfolding «process_registry_updates»
-registry-writes s stateSlot finalizedEpoch vs p =
+pub registry-writes : (limit : ActivationLimit) (s : Settings) (stateSlot finalizedEpoch : ℕ) (vs : List Validator) {ws : List Validator} → limitedRegistryUpdates limit s stateSlot finalizedEpoch vs ≡ value ws → map rest ws ≡ map rest vs
+unfolding limitedRegistryUpdates
+registry-writes limit s stateSlot finalizedEpoch vs p =
     let a = bound _ _ p in
     let b = bound _ _ (a .then) in
     same-value rest (b .then)
-    ∙ dequeued-writes rest (λ e v. refl) (b .first) («get_validator_churn_limit» s stateSlot (a .first)) finalizedEpoch (a .first)
+    ∙ dequeued-writes rest (λ e v. refl) (b .first) (activationLimit limit («get_validator_churn_limit» s stateSlot (a .first))) finalizedEpoch (a .first)
     ∙ turns-write s stateSlot (range 0 (length vs)) vs (a .gave)

@@ -7,6 +7,7 @@ use native.Mathlib.Omega.{arith}
 use lib.Dec.{eqb, ltb}
 use lib.ListN.{length, getD, set, take, length-set, length-map}
 use Rattle.definitions.specs.declared.Settings.{Settings}
+use Rattle.definitions.specs.declared.ActivationLimit.{ActivationLimit}
 use Rattle.definitions.specs.Lists.{range}
 use Rattle.definitions.specs.Record.{Validator, «FAR_FUTURE_EPOCH», «GENESIS_EPOCH», nobody}
 use Rattle.definitions.specs.Updates.{withScore, withEligibility, withExit, withEffectiveBalance, withActivation}
@@ -15,7 +16,7 @@ use Rattle.definitions.specs.Document.Phase0.Helpers.{«is_eligible_for_activat
 use Rattle.definitions.specs.Document.Phase0.EpochProcessing.{queueEligible, isEjected, activationQueue, activateAt, dequeued, roundedBalance}
 use Rattle.definitions.specs.Document.Altair.EpochProcessing.{rotateParticipation}
 use Rattle.definitions.specs.Rust.Phase0.Helpers.{«compute_activation_exit_epoch», «get_current_epoch», «get_previous_epoch», «get_validator_churn_limit», exitQueueEpoch, «initiate_validator_exit»}
-use Rattle.definitions.specs.Rust.Phase0.EpochProcessing.{isEligible, «is_in_inactivity_leak», updateRegistryAt, «process_registry_updates», updateEffectiveBalance, «process_effective_balance_updates»}
+use Rattle.definitions.specs.Rust.Phase0.EpochProcessing.{isEligible, «is_in_inactivity_leak», updateRegistryAt, activationLimit, limitedRegistryUpdates, updateEffectiveBalance, «process_effective_balance_updates»}
 use Rattle.definitions.specs.Rust.Altair.Helpers.{isUnslashedParticipating}
 use Rattle.definitions.specs.Rust.Altair.EpochProcessing.{movedScore, recoveredScore, updateInactivityScore, «process_inactivity_updates», «process_participation_flag_updates»}
 use Rattle.laws.proofs.Checked.{value-same, bound}
@@ -124,13 +125,13 @@ activated-kept epoch vs [] = kept-same refl
 activated-kept epoch vs (i ∷ is) =
     kept-then (kept-set vs i (withActivation epoch (getD vs i nobody)) refl) (activated-kept epoch (activateAt epoch vs i) is)
 
-pub registry-kept : (s : Settings) (slot fin : ℕ) (vs : List Validator) {ws : List Validator} → «process_registry_updates» s slot fin vs ≡ value ws → Kept vs ws
-unfolding «process_registry_updates» dequeued
-registry-kept s slot fin vs e =
+pub registry-kept : (by : ActivationLimit) (s : Settings) (slot fin : ℕ) (vs : List Validator) {ws : List Validator} → limitedRegistryUpdates by s slot fin vs ≡ value ws → Kept vs ws
+unfolding limitedRegistryUpdates dequeued
+registry-kept by s slot fin vs e =
     let a = bound (foldChecked (updateRegistryAt s slot) vs (range 0 (length vs))) _ e in
     let b = bound («compute_activation_exit_epoch» s («get_current_epoch» s slot)) _ (a .then) in
     kept-then (updates-kept s slot vs (range 0 (length vs)) (a .gave))
-    (kept-then (activated-kept (b .first) (a .first) (take («get_validator_churn_limit» s slot (a .first)) (activationQueue fin (a .first)))) (kept-same (value-same (b .then))))
+    (kept-then (activated-kept (b .first) (a .first) (take (activationLimit by («get_validator_churn_limit» s slot (a .first))) (activationQueue fin (a .first)))) (kept-same (value-same (b .then))))
 
 -- Effective balances and flags
 

@@ -5,15 +5,16 @@ use Prim.Native.Nat.{ℕ, _+_, _-_, _*_, _<_}
 use native.Mathlib.Omega.{arith}
 use lib.ListN.{length, getD}
 use Rattle.definitions.specs.declared.Settings.{Settings}
+use Rattle.definitions.specs.declared.ActivationLimit.{ActivationLimit}
 use Rattle.definitions.specs.declared.Finality.{Finality}
 use Rattle.definitions.specs.Record.{Validator, BeaconState}
 use Rattle.definitions.specs.Updates.{withValidators, withFinality}
 use Rattle.definitions.specs.Checked.{value}
-use Rattle.definitions.specs.Rust.Phase0.EpochProcessing.{«process_registry_updates», «process_effective_balance_updates»}
+use Rattle.definitions.specs.Rust.Phase0.EpochProcessing.{limitedRegistryUpdates, «process_effective_balance_updates»}
 use Rattle.definitions.specs.Rust.Altair.EpochProcessing.{«process_inactivity_updates», «process_rewards_and_penalties», «process_slashings», «process_participation_flag_updates»}
-use Rattle.definitions.specs.Close.{closeUpTo}
+use Rattle.definitions.specs.Close.{limitedUpTo}
 use Rattle.arithmetic.proofs.Laws.{bind-value}
-use Rattle.definitions_close.specs.Amounts.{nines, amounts}
+use Rattle.definitions_close.specs.Amounts.{nines, limitedAmounts}
 use Rattle.laws_close.specs.Nine.{nineOf, rewardsIn, takenIn, balanceAt}
 use Rattle.laws_close.proofs.Amounts.Nines.{Eights, nine-at, nines-long, front, last}
 use Rattle.laws_close.proofs.Amounts.Kept.{Kept, kept-then, kept-same, scores-kept, registry-kept, effective-kept, rotation-kept}
@@ -21,7 +22,7 @@ use Rattle.laws_close.proofs.Amounts.Rewarded.{Rewarded, rewarded}
 use Rattle.laws_close.proofs.Amounts.Slashed.{Slashed, slashed}
 
 -- The registry between the steps
-pub record Way (s : Settings) (slot fin : ℕ) (slashings : List ℕ) (vs ws : List Validator) : Type 0 where
+pub record Way (by : ActivationLimit) (s : Settings) (slot fin : ℕ) (slashings : List ℕ) (vs ws : List Validator) : Type 0 where
   pub scored : List Validator
   pub paid : List Validator
   pub updated : List Validator
@@ -29,13 +30,13 @@ pub record Way (s : Settings) (slot fin : ℕ) (slashings : List ℕ) (vs ws : L
   pub balanced : List Validator
   pub scores : «process_inactivity_updates» s slot fin vs ≡ value scored
   pub pays : «process_rewards_and_penalties» s (s .«inactivity_penalty_quotient_altair») slot fin scored ≡ value paid
-  pub registers : «process_registry_updates» s slot fin paid ≡ value updated
+  pub registers : limitedRegistryUpdates by s slot fin paid ≡ value updated
   pub slashes : «process_slashings» s (s .«proportional_slashing_multiplier_altair») slot slashings updated ≡ value lessened
   pub balances : «process_effective_balance_updates» s lessened ≡ value balanced
   pub rotates : «process_participation_flag_updates» balanced ≡ ws
 
 -- The amounts by it
-module _ {s : Settings} {slot fin : ℕ} {slashings : List ℕ} {vs ws : List Validator} (w : Way s slot fin slashings vs ws) where
+module _ {by : ActivationLimit} {s : Settings} {slot fin : ℕ} {slashings : List ℕ} {vs ws : List Validator} (w : Way by s slot fin slashings vs ws) where
   pub by-rewards : Rewarded s (s .«inactivity_penalty_quotient_altair») slot fin (w .scored) (w .paid)
   by-rewards = rewarded s _ slot fin (w .scored) (w .pays)
 
@@ -46,7 +47,7 @@ module _ {s : Settings} {slot fin : ℕ} {slashings : List ℕ} {vs ws : List Va
   k = scores-kept s slot fin vs (w .scores)
 
   u : Kept (w .paid) (w .updated)
-  u = registry-kept s slot fin (w .paid) (w .registers)
+  u = registry-kept by s slot fin (w .paid) (w .registers)
 
   b : Kept (w .lessened) ws
   b = kept-then (effective-kept s (w .lessened) (w .balances)) (kept-then (rotation-kept (w .balanced)) (kept-same (w .rotates)))
@@ -96,6 +97,6 @@ module _ {s : Settings} {slot fin : ℕ} {slashings : List ℕ} {vs ws : List Va
         rw (filled-nine, at 0 (omega arith), at 1 (omega arith), at 2 (omega arith), at 3 (omega arith), at 4 (omega arith), at 5 (omega arith), at 6 (omega arith), at 7 (omega arith), ninth)
         (omega (arith, k .balance i l, by-rewards .equal i in-scored, u .balance i in-paid, by-slashings .equal i in-updated, b .balance i in-lessened))
 
-pub amounts-by : (s : Settings) (st : BeaconState) (f : Finality) {ws : List Validator} (w : Way s (f .slot) (f .«finalized_checkpoint» .epoch) (st .slashings) (st .validators) ws) → closeUpTo 2 s st ≡ value (withValidators (w .scored) (withFinality f st)) → closeUpTo 4 s st ≡ value (withValidators (w .updated) (withFinality f st)) → amounts s st ≡ value (filled w)
-unfolding amounts filled
-amounts-by s st f w two four = bind-value _ two ∙ bind-value _ (by-rewards w .are) ∙ bind-value _ four ∙ bind-value _ (by-slashings w .are)
+pub amounts-by : (by : ActivationLimit) (s : Settings) (st : BeaconState) (f : Finality) {ws : List Validator} (w : Way by s (f .slot) (f .«finalized_checkpoint» .epoch) (st .slashings) (st .validators) ws) → limitedUpTo by 2 s st ≡ value (withValidators (w .scored) (withFinality f st)) → limitedUpTo by 4 s st ≡ value (withValidators (w .updated) (withFinality f st)) → limitedAmounts by s st ≡ value (filled w)
+unfolding limitedAmounts filled
+amounts-by by s st f w two four = bind-value _ two ∙ bind-value _ (by-rewards w .are) ∙ bind-value _ four ∙ bind-value _ (by-slashings w .are)

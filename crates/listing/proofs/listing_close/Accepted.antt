@@ -10,7 +10,7 @@ use Rattle.definitions.specs.Record.{decode}
 use Rattle.definitions.specs.declared.Raised.{Raised}
 use Rattle.definitions.specs.Checked.{Checked, value, refused, codeOf}
 use Rattle.definitions.specs.Raised.{raisedTotals, raisedUnlessRefused}
-use Rattle.definitions.specs.Close.{Call, closeTests, closed, close}
+use Rattle.definitions.specs.Close.{Call, closeTests, limitedTests, closed, close}
 use Rattle.laws.proofs.Checked.{number-not-zero}
 use Rattle.laws.proofs.Tests.{both, in-order}
 use Rattle.refusals.proofs.Laws.{good-settings}
@@ -30,7 +30,7 @@ pub record Accepted (c : Call) : Type 0 where
   pub raised : close c .raised ≡ raisedTotals (c .rules .settings) (c .finality .slot) (decode (c .registry))
 
 pub accepted : (c : Call) → close c .refusal ≡ 0 → Accepted c
-unfolding close closed closeTests goodRules
+unfolding close closed limitedTests goodRules
 accepted c e =
     let s = c .rules .settings in
     let p = in-order _ _ _ (tested (closeTests c) _ e) in

@@ -7,7 +7,7 @@ use borrow.Author.Tests.{eq-eqb, ne-eqb}
 use lib.ListN.{length}
 use Rattle.definitions.specs.declared.CloseAnswer.{CloseAnswer}
 use Rattle.definitions_file.specs.File.{Contents}
-use Rattle.definitions.specs.Close.{Outcome, closeTests, closed, close}
+use Rattle.definitions.specs.Close.{Outcome, closeTests, limitedTests, closed, close}
 use Rattle.close.specs.Called.{outcome}
 use Rattle.fields.specs.Put.{Put}
 use Rattle.definitions_file.specs.Listing.{callOf, closing}
@@ -19,7 +19,7 @@ use Rattle.refusals.proofs.Answers.{same-buffer}
 
 module _ (c : Contents) (xs ys : List ℕ) (l : length xs ≡ length (c .registry)) (m : length ys ≡ length (c .slashings)) where
   same-tests : closeTests (callOf c xs ys) ≡ closeTests (closing c)
-  unfolding closeTests
+  unfolding limitedTests
   same-tests = rw (l, m)
 
   same-raised : close (callOf c xs ys) .raised ≡ close (closing c) .raised

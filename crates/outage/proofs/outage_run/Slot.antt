@@ -11,7 +11,7 @@ use Rattle.definitions.specs.Checked.{Checked, value, refused, foldChecked, cod
 use Rattle.definitions.specs.Refusals.{afterTests}
 use Rattle.definitions.specs.Rules.{settingsUnder}
 use Rattle.definitions_file.specs.File.{Contents}
-use Rattle.definitions.specs.Close.{Step, Call, stateOf, step, closeUpTo, «process_epoch», closeTests, closed, close}
+use Rattle.definitions.specs.Close.{Step, Call, stateOf, step, limitedUpTo, limitedEpoch, closeTests, limitedTests, closed, close}
 use Rattle.laws.proofs.Checked.{bound, number-not-zero, value-same}
 use Rattle.laws.proofs.Tests.{in-order}
 use Rattle.refusals.proofs.Laws.{good-finality}
@@ -29,11 +29,11 @@ slot-steps s (k ∷ ks) st after e =
     slot-steps s ks _ after (b .then) ∙ slot-step s k st _ (b .gave)
 
 slot-kept : (c : Call) (after : BeaconState) → closed c ≡ value after → after .finality .slot ≡ c .finality .slot
-unfolding closed afterTests «process_epoch» closeUpTo
+unfolding closed afterTests limitedEpoch limitedUpTo
 slot-kept c after e = slot-steps (settingsUnder (c .rules)) _ (stateOf c) after (bound (closeTests c) _ e .then)
 
 slot-small : (c : Call) → close c .refusal ≡ 0 → c .finality .slot < 2 ^ 48
-unfolding close closed closeTests
+unfolding close closed limitedTests
 slot-small c e =
     let p = in-order _ _ _ (tested (closeTests c) _ e) in
     good-finality (c .finality) (p .recorded 0) .slot

@@ -1,6 +1,6 @@
 use native.Mathlib.Omega.{arith}
 use borrow.Author.Needs.{needs}
-use Rattle.definitions.specs.RegisterOrder.{registryUpdatesTo}
+use Rattle.definitions.specs.RegisterOrder.{limitedUpdatesTo}
 use Rattle.registry_step.proofs.Run.{run-restored, run-done}
 use Rattle.registry_step.proofs.run_step.Statement.{statement}
 use Rattle.registry_step.proofs.run_step.Tie as tie
@@ -18,7 +18,7 @@ returns c =
     let at-update-registry = at-then1 .before .before .before in
     let at-start = at-update-registry .before .before .before .before .before .before .before .before .before in
     let a = at-start .args in
-    run-restored (registryUpdatesTo (a .stop) (a .s) (a .state-slot) (a .finalized-epoch)) _ (at-update-registry .update-registry .ensures) (λ z. omega (arith, z, at-then1 .if1 .taken)) (at-copy2 .copy2 .ensures)
+    run-restored (limitedUpdatesTo (a .limit) (a .stop) (a .s) (a .state-slot) (a .finalized-epoch)) _ (at-update-registry .update-registry .ensures) (λ z. omega (arith, z, at-then1 .if1 .taken)) (at-copy2 .copy2 .ensures)
 
 returns-2 : tie.Need-returns-2
 returns-2 c =
@@ -26,7 +26,7 @@ returns-2 c =
     let at-update-registry = at-else1 .before .before .before in
     let at-start = at-update-registry .before .before .before .before .before .before .before .before .before in
     let a = at-start .args in
-    run-done (registryUpdatesTo (a .stop) (a .s) (a .state-slot) (a .finalized-epoch)) _ (at-update-registry .update-registry .ensures) (omega (arith, at-else1 .if1 .left)) (c .queue-of .ensures)
+    run-done (limitedUpdatesTo (a .limit) (a .stop) (a .s) (a .state-slot) (a .finalized-epoch)) _ (at-update-registry .update-registry .ensures) (omega (arith, at-else1 .if1 .left)) (c .queue-of .ensures)
 
 pub run-step-spec : {M : Type 1} → statement M
 run-step-spec =

@@ -8,7 +8,7 @@ use Rattle.registry_step.proofs.step_surveyed.Tie as tie
 
 -- the first tests had passed
 abbrev tested : (c : tie.Start) → StepPassed (c .args .stop) (c .args .s) (c .args .state-slot) (c .args .finalized-epoch) (c .args .opening .now) (c .args .closing .now)
-tested c = let a = c .args in step-passed (a .stop) (a .s) (a .state-slot) (a .finalized-epoch) (a .queue) (a .opening .now) (a .closing .now) (sym (c .pre .0)) refl
+tested c = let a = c .args in step-passed (a .limit) (a .stop) (a .s) (a .state-slot) (a .finalized-epoch) (a .queue) (a .opening .now) (a .closing .now) (sym (c .pre .0)) refl
 
 current-epoch-requires : tie.Need-current-epoch-requires
 current-epoch-requires c κs = tested (c .before .before .before) .positive .«slots_per_epoch»
@@ -29,8 +29,8 @@ returns c =
     let see = i .before .before .before .before .before in
     let s = see .before .before .before .before .before .before .before in
     let a = s .args in
-    let e = found-tests (a .stop) (a .s) (a .state-slot) (a .finalized-epoch) (a .queue) (a .opening .now) (a .closing .now) (sym (s .pre .0)) refl (see .survey-registry .ensures) (i .before .found-refusal .ensures) in
-    turned-away (a .stop) (a .s) (a .state-slot) (a .finalized-epoch) (a .queue) (a .opening .now) (a .closing .now) e (i .if1 .taken)
+    let e = found-tests (a .limit) (a .stop) (a .s) (a .state-slot) (a .finalized-epoch) (a .queue) (a .opening .now) (a .closing .now) (sym (s .pre .0)) refl (see .survey-registry .ensures) (i .before .found-refusal .ensures) in
+    turned-away (a .limit) (a .stop) (a .s) (a .state-slot) (a .finalized-epoch) (a .queue) (a .opening .now) (a .closing .now) e (i .if1 .taken)
 
 run-step-requires : tie.Need-run-step-requires
 run-step-requires c κs =
@@ -41,9 +41,9 @@ run-step-requires c κs =
     let at-current-epoch = at-previous-epoch .before in
     let at-start = at-current-epoch .before .before .before .before in
     let a = at-start .args in
-    let e = found-tests (a .stop) (a .s) (a .state-slot) (a .finalized-epoch) (a .queue) (a .opening .now) (a .closing .now) (sym (at-start .pre .0)) refl (at-survey-registry .survey-registry .ensures) (at-found-refusal .found-refusal .ensures) in
+    let e = found-tests (a .limit) (a .stop) (a .s) (a .state-slot) (a .finalized-epoch) (a .queue) (a .opening .now) (a .closing .now) (sym (at-start .pre .0)) refl (at-survey-registry .survey-registry .ensures) (at-found-refusal .found-refusal .ensures) in
     let p = tested at-start in
-    (p .good, ((p .slot, p .finalized), ((p .long, p .same), (p .stops, (true-pair (a .stop) (a .s) (a .state-slot) (a .finalized-epoch) (a .queue) (a .opening .now) (a .closing .now) e (at-else1 .if1 .left), rw (← at-current-epoch .current-epoch .ensures, ← at-previous-epoch .previous-epoch .ensures) (at-survey-registry .survey-registry .ensures))))))
+    (p .good, ((p .slot, p .finalized), ((p .long, p .same), (p .stops, (true-pair (a .limit) (a .stop) (a .s) (a .state-slot) (a .finalized-epoch) (a .queue) (a .opening .now) (a .closing .now) e (at-else1 .if1 .left), rw (← at-current-epoch .current-epoch .ensures, ← at-previous-epoch .previous-epoch .ensures) (at-survey-registry .survey-registry .ensures))))))
 
 returns-2 : tie.Need-returns-2
 returns-2 c =
@@ -53,8 +53,8 @@ returns-2 c =
     let at-survey-registry = at-found-refusal .before .before .before .before in
     let at-start = at-survey-registry .before .before .before .before .before .before .before in
     let a = at-start .args in
-    let e = found-tests (a .stop) (a .s) (a .state-slot) (a .finalized-epoch) (a .queue) (a .opening .now) (a .closing .now) (sym (at-start .pre .0)) refl (at-survey-registry .survey-registry .ensures) (at-found-refusal .found-refusal .ensures) in
-    step-ran (a .stop) (a .s) (a .state-slot) (a .finalized-epoch) (a .queue) (a .opening .now) (a .closing .now) e (at-else1 .if1 .left) (at-run-step .run-step .ensures)
+    let e = found-tests (a .limit) (a .stop) (a .s) (a .state-slot) (a .finalized-epoch) (a .queue) (a .opening .now) (a .closing .now) (sym (at-start .pre .0)) refl (at-survey-registry .survey-registry .ensures) (at-found-refusal .found-refusal .ensures) in
+    step-ran (a .limit) (a .stop) (a .s) (a .state-slot) (a .finalized-epoch) (a .queue) (a .opening .now) (a .closing .now) e (at-else1 .if1 .left) (at-run-step .run-step .ensures)
 
 pub step-surveyed-spec : {M : Type 1} → statement M
 step-surveyed-spec =

@@ -4,10 +4,10 @@ use Rattle.registry_step.proofs.update_by.Statement.{statement}
 use Rattle.registry_step.proofs.update_by.Tie as tie
 
 returns : tie.Need-returns
-returns c = updates-stop _ _ _ _ _ _ (c .before .before .before .update-all .ensures) (c .if1 .taken)
+returns c = record { under = λ most cut. updates-stop _ _ _ _ most _ _ (c .before .before .before .update-all .ensures) (c .if1 .taken) }
 
 returns-2 : tie.Need-returns-2
-returns-2 c = let i = c .before .before .before .before in let u = i .before .before .before in updates-end _ _ _ _ _ _ (u .update-all .ensures) (i .if1 .left) (u .before .before .before .before .pre .1 .1 .1) (c .before .before .admit-below .ensures)
+returns-2 c = let i = c .before .before .before .before in let u = i .before .before .before in record { under = λ most cut. updates-end _ _ _ _ most _ _ (u .update-all .ensures) (i .if1 .left) cut (c .before .before .admit-below .ensures) }
 
 pub update-by-spec : {M : Type 1} → statement M
 update-by-spec =

@@ -8,8 +8,8 @@ use lib.ListN.{length, getD, replicate, length-replicate, length-map}
 use Rattle.definitions.specs.declared.Settings.{Settings}
 use Rattle.definitions.specs.Record.{Validator, BeaconState}
 use Rattle.definitions.specs.Checked.{value, bind, foldChecked, settle}
-use Rattle.definitions.specs.Close.{Step, justificationStep, inactivityStep, rewardsStep, registryStep, slashingsStep, effectiveBalancesStep, slashingsResetStep, participationFlagsStep, step, stateOf, finalizedEpochOf, closeUpTo, «process_epoch»}
-use Rattle.definitions_close.specs.Amounts.{nines, amounts as amountsOf}
+use Rattle.definitions.specs.Close.{Step, justificationStep, inactivityStep, rewardsStep, registryStep, slashingsStep, effectiveBalancesStep, slashingsResetStep, participationFlagsStep, step, limitedStep, stateOf, finalizedEpochOf, closeUpTo, limitedUpTo, «process_epoch», limitedEpoch}
+use Rattle.definitions_close.specs.Amounts.{nines, amounts as amountsOf, limitedAmounts}
 use Rattle.definitions_close.specs.FullClose.{FullCall, settingsOf}
 use Rattle.definitions_close.specs.CloseBySteps.{stepAfter, eights, amountsBy}
 use Rattle.laws.proofs.Checked.{value-same, bound}
@@ -33,13 +33,13 @@ amounts-turn c n e = rw (add-one n, e)
 -- what the two steps book
 module _ (s : Settings) (a b : BeaconState) where
   pub books : step s a rewardsStep ≡ value b → Rewarded s (s .«inactivity_penalty_quotient_altair») (a .finality .slot) (finalizedEpochOf a) (a .validators) (b .validators)
-  unfolding step
+  unfolding limitedStep
   books p =
       let h = bound _ _ p in
       rw (ap (λ (st : BeaconState). st .validators) (sym (value-same (h .then)))) (rewarded s _ _ _ _ (h .gave))
 
   pub takes : step s a slashingsStep ≡ value b → Slashed s (s .«proportional_slashing_multiplier_altair») (a .finality .slot) (a .slashings) (a .validators) (b .validators)
-  unfolding step
+  unfolding limitedStep
   takes p =
       let h = bound _ _ p in
       rw (ap (λ (st : BeaconState). st .validators) (sym (value-same (h .then)))) (slashed s _ _ _ _ (h .gave))
@@ -83,7 +83,7 @@ record Chain (s : Settings) (a0 a8 : BeaconState) : Type 0 where
   s8 : step s a7 participationFlagsStep ≡ value a8
 
 chain : (s : Settings) (a : BeaconState) {e : BeaconState} → «process_epoch» s a ≡ value e → Chain s a e
-unfolding «process_epoch» closeUpTo foldChecked
+unfolding limitedEpoch limitedUpTo foldChecked
 chain s a p =
     let b1 = bound _ _ p in
     let b2 = bound _ _ (b1 .then) in
@@ -112,7 +112,7 @@ chain s a p =
     }
 
 pub amounts-end : (c : FullCall) {closing : BeaconState} → «process_epoch» (settingsOf c) (stateOf (c .call)) ≡ value closing → amountsOf (settingsOf c) (stateOf (c .call)) ≡ value (amountsAt c 8)
-unfolding closeUpTo foldChecked bind amountsAt amountsBy amountsOf
+unfolding limitedUpTo foldChecked bind amountsAt amountsBy limitedAmounts
 amounts-end c {closing} p =
     let s = settingsOf c in
     let w = chain s (stateOf (c .call)) p in

@@ -13,9 +13,9 @@ use Rattle.definitions.specs.Record.{BeaconState}
 use Rattle.definitions.specs.Checked.{Checked, value, refused, bind}
 use Rattle.definitions.specs.Refusals.{afterTests, closingBuffer}
 use Rattle.definitions.specs.Raised.{raisedUnlessRefused}
-use Rattle.definitions.specs.Close.{stateOf, «process_epoch»}
-use Rattle.definitions_close.specs.Amounts.{closingAmounts}
-use Rattle.definitions_close.specs.FullClose.{FullCall, settingsOf, fullyClosed, closingQueue, fullClose}
+use Rattle.definitions.specs.Close.{stateOf, «process_epoch», limitedEpoch}
+use Rattle.definitions_close.specs.Amounts.{limitedClosingAmounts}
+use Rattle.definitions_close.specs.FullClose.{FullCall, settingsOf, fullyClosed, limitedFullyClosed, closingQueue, fullClose, limitedFullClose}
 use Rattle.definitions_close.specs.declared.Running.{Running}
 use Rattle.definitions_close.specs.CloseBySteps.{hasEnded, inTurn, unwritten, closeStep}
 use Rattle.definitions_close.specs.Orders.{Order, ordersIn, OrderCall, takesOrders, ordersShaped, room, withOrders, appended, takeOrder, ninthTests, carriesOut, ninthInTurn, carryOut}
@@ -146,15 +146,15 @@ with-later false o os later = refl
 -- What the eighth leaves
 
 accepted : (c : FullCall) (st : BeaconState) → UnderWay c 8 st → fullyClosed c ≡ value st
-unfolding fullyClosed afterTests bind «process_epoch»
+unfolding limitedFullyClosed afterTests bind limitedEpoch
 accepted c st u = rw (u .tested, u .went)
 
 pub worked : (c : FullCall) (st : BeaconState) → UnderWay c 8 st → «process_epoch» (settingsOf c) (stateOf (c .call)) ≡ value st
-unfolding «process_epoch»
+unfolding limitedEpoch
 worked c st u = u .went
 
 pub onward-gives : (c : FullCall) (st : BeaconState) (count : ℕ) (orders : List ℕ) → UnderWay c 8 st → Gives (fullClose c) (deskAt c 8 st count orders)
-unfolding fullClose closingAmounts closingBuffer closingQueue raisedUnlessRefused bind
+unfolding limitedFullClose limitedClosingAmounts closingBuffer closingQueue raisedUnlessRefused bind
 onward-gives c st count orders u =
     let p = u .tested in
     let q = worked c st u in

@@ -13,7 +13,7 @@ use Rattle.definitions.specs.Raised.{noneRaised}
 use Rattle.definitions.specs.ExitQueue.{queueOf, isQueueOf, queueTest}
 use Rattle.definitions_close.specs.Amounts.{booked, bookedByRewards, takenFrom, takenBySlashings, nines}
 use Rattle.definitions_close.specs.FinalizingTest.{lastTest, finalizingTest}
-use Rattle.definitions_close.specs.FullClose.{FullCall, fullTests}
+use Rattle.definitions_close.specs.FullClose.{FullCall, limitedFullTests}
 use Rattle.definitions_close.specs.CloseBySteps.{found, stepTests, stepped, eights, amountsBy, steppedAmounts, endedBy, goesOn, runningAfter, unwritten, stepInTurn, closeStep}
 use Rattle.definitions_close.specs.Orders.{ordersIn, appended, takeOrder, mayExit, isDue, «process_voluntary_exit», carriedOut, answersTo, NinthOutcome, ninthTests, carriesOut, ninthInTurn, carryOut}
 use Rattle.history.proofs.Computing.{computing}
@@ -117,7 +117,7 @@ record Figures : Type 0 where
   same : acts whole desk all .closingRegistry ≡ ninth .closingRegistry
 
 figures : Figures
-unfolding computing queueOf isQueueOf queueTest booked bookedByRewards takenFrom takenBySlashings nines lastTest finalizingTest fullTests found stepTests stepped eights amountsBy steppedAmounts endedBy goesOn runningAfter unwritten stepInTurn closeStep ordersIn appended takeOrder mayExit isDue «process_voluntary_exit» carriedOut answersTo ninthTests carriesOut ninthInTurn carryOut act acts
+unfolding computing queueOf isQueueOf queueTest booked bookedByRewards takenFrom takenBySlashings nines lastTest finalizingTest limitedFullTests found stepTests stepped eights amountsBy steppedAmounts endedBy goesOn runningAfter unwritten stepInTurn closeStep ordersIn appended takeOrder mayExit isDue «process_voluntary_exit» carriedOut answersTo ninthTests carriesOut ninthInTurn carryOut act acts
 figures = record { count = refl; amounts = refl; done = refl; register = refl; answers = refl; queue = refl; ended = refl; same = refl }
 
 pub example : BySteps

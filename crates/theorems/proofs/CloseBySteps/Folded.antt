@@ -9,21 +9,21 @@ use lib.Seq.{take-suc, drop-cons}
 use Rattle.definitions.specs.declared.Settings.{Settings}
 use Rattle.definitions.specs.Record.{BeaconState}
 use Rattle.definitions.specs.Checked.{Refusal, value, refused, bind, foldChecked}
-use Rattle.definitions.specs.Close.{Step, justificationStep, inactivityStep, rewardsStep, registryStep, slashingsStep, effectiveBalancesStep, slashingsResetStep, participationFlagsStep, steps, step, closeUpTo, «process_epoch»}
+use Rattle.definitions.specs.Close.{Step, justificationStep, inactivityStep, rewardsStep, registryStep, slashingsStep, effectiveBalancesStep, slashingsResetStep, participationFlagsStep, steps, step, closeUpTo, limitedUpTo, «process_epoch», limitedEpoch}
 use Rattle.definitions_close.specs.CloseBySteps.{stepAfter}
 use Rattle.laws.proofs.Frame.Frames.{frames}
 use Rattle.laws.proofs.Loops.Iterated.{foldChecked-append}
 
 module _ (s : Settings) (st : BeaconState) (n : ℕ) (l : n < 8) {at : BeaconState} (e : closeUpTo n s st ≡ value at) where
   pub one-more : {next : BeaconState} → step s at (stepAfter n) ≡ value next → closeUpTo (n + 1) s st ≡ value next
-  unfolding closeUpTo foldChecked bind
+  unfolding limitedUpTo foldChecked bind
   one-more q =
       ap (foldChecked (step s) st) (ap (λ (k : ℕ). take k steps) (add-one n) ∙ take-suc steps n participationFlagsStep l)
       ∙ foldChecked-append (step s) st (take n steps) (stepAfter n ∷ [])
       ∙ rw (e, q)
 
   pub stopped : {r : Refusal} → step s at (stepAfter n) ≡ refused r → «process_epoch» s st ≡ refused r
-  unfolding «process_epoch» closeUpTo foldChecked bind
+  unfolding limitedEpoch limitedUpTo foldChecked bind
   stopped q =
       ap (foldChecked (step s) st) (sym (take-append-drop n steps) ∙ ap (λ (ks : List Step). take n steps ++ ks) (drop-cons steps n participationFlagsStep l))
       ∙ foldChecked-append (step s) st (take n steps) (stepAfter n ∷ drop (suc n) steps)

@@ -14,8 +14,8 @@ use Rattle.definitions.specs.Checked.{value, bind}
 use Rattle.definitions.specs.Refusals.{inOrder, registryShaped, goodFinality, goodValidator, goodRegistry}
 use Rattle.definitions.specs.Rules.{goodRules}
 use Rattle.definitions.specs.ExitQueue.{queueOf, isQueueOf, queueTest}
-use Rattle.definitions.specs.Close.{Step, step, stateOf, closeTests}
-use Rattle.definitions_close.specs.FullClose.{FullCall, fullTests}
+use Rattle.definitions.specs.Close.{Step, step, stateOf, closeTests, limitedTests}
+use Rattle.definitions_close.specs.FullClose.{FullCall, fullTests, limitedFullTests}
 use Rattle.laws.proofs.Encode.{length-encode, decode-encode, length-decode}
 use Rattle.laws_close.proofs.Kept.{kept-step}
 use Rattle.laws_close.proofs.Passed.{Passed}
@@ -78,11 +78,11 @@ long-as c st p h = omega (arith, length-encode (st .validators), h .many, p .reg
 
 module _ (c : FullCall) (st : BeaconState) (xs : List ℕ) (p : Passed c) (h : Sound c st) where
   close-again : closeTests (recordAt c st xs .call) ≡ value tt
-  unfolding closeTests inOrder goodRegistry every
+  unfolding limitedTests inOrder goodRegistry every
   close-again =
       rw (p .rules, shaped-as (c .call .registry) (encode (st .validators)) (long-as c st p h) ∙ p .registryShape, p .roots, ap (λ (n : ℕ). eqb n (c .call .rules .settings .«epochs_per_slashings_vector»)) (h .slashings) ∙ p .slashings, eq-eqb (length (c .call .registry)) (length (encode (st .validators))) (sym (long-as c st p h)), eq-eqb (length (c .call .slashings)) (length (st .slashings)) (sym (h .slashings)), p .goodRules, h .finality, decode-encode (st .validators), h .validators)
 
   pub tested-again : length xs ≡ length (c .amounts) → fullTests (recordAt c st xs) ≡ value tt
-  unfolding fullTests bind queueTest isQueueOf
+  unfolding limitedFullTests bind queueTest isQueueOf
   tested-again l =
       rw (eq-eqb (length xs) (9 * (length (encode (st .validators)) / 10)) (l ∙ p .amounts ∙ ap (λ (n : ℕ). 9 * (n / 10)) (sym (long-as c st p h))), close-again, decode-encode (st .validators), eq-eqb (queueOf (st .validators) .«last_epoch») _ refl, eq-eqb (queueOf (st .validators) .number) _ refl)

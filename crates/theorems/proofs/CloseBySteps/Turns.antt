@@ -14,10 +14,10 @@ use Rattle.definitions.specs.Checked.{Refusal, numberOf, Checked, value, refuse
 use Rattle.definitions.specs.Refusals.{afterTests, closingBuffer}
 use Rattle.definitions.specs.Raised.{noneRaised, raisedTotals, raisedUnlessRefused}
 use Rattle.definitions.specs.ExitQueue.{queueOf}
-use Rattle.definitions.specs.Close.{step, stateOf, closeUpTo, «process_epoch»}
-use Rattle.definitions_close.specs.Amounts.{closingAmounts}
+use Rattle.definitions.specs.Close.{step, stateOf, closeUpTo, limitedUpTo, «process_epoch»}
+use Rattle.definitions_close.specs.Amounts.{limitedClosingAmounts}
 use Rattle.definitions_close.specs.FinalizingTest.{finalizingTest}
-use Rattle.definitions_close.specs.FullClose.{FullCall, fullTests, settingsOf, fullyClosed, closingQueue, fullClose}
+use Rattle.definitions_close.specs.FullClose.{FullCall, fullTests, settingsOf, fullyClosed, limitedFullyClosed, closingQueue, fullClose, limitedFullClose}
 use Rattle.definitions_close.specs.declared.Running.{Running}
 use Rattle.definitions_close.specs.CloseBySteps.{StepCall, StepOutcome, isFirst, inTurn, found, stepTests, stepAfter, stepped, amountsBy, steppedAmounts, endedBy, goesOn, runningAfter, stepInTurn, closeStep}
 use Rattle.definitions_close.specs.Orders.{Order, ordersIn}
@@ -56,11 +56,11 @@ turned-down x p f = rw (p, f)
 -- Where the whole close is refused
 
 refused-by : (c : FullCall) {r : Refusal} → fullTests c ≡ value tt → «process_epoch» (settingsOf c) (stateOf (c .call)) ≡ refused r → fullyClosed c ≡ refused r
-unfolding fullyClosed afterTests bind
+unfolding limitedFullyClosed afterTests bind
 refused-by c p q = rw (p, q)
 
 refused-in-tests : (c : FullCall) {r : Refusal} → fullTests c ≡ refused r → fullyClosed c ≡ refused r
-unfolding fullyClosed afterTests bind
+unfolding limitedFullyClosed afterTests bind
 refused-in-tests c p = rw p
 
 -- the desk is left as the whole close leaves what it was lent
@@ -85,7 +85,7 @@ module _ (c : FullCall) (orders : List ℕ) (count : ℕ) {r : Refusal} (p : ful
       }
 
   stopped-so : Stopped c stoppedDesk
-  unfolding fullClose closingAmounts closingBuffer closingQueue raisedUnlessRefused finalizingTest bind
+  unfolding limitedFullClose limitedClosingAmounts closingBuffer closingQueue raisedUnlessRefused finalizingTest bind
   stopped-so =
       let e = refused-by c p q in
       record {
@@ -117,7 +117,7 @@ module _ (c : FullCall) (orders : List ℕ) {r : Refusal} (p : fullTests c ≡ r
       }
 
   stopped-first : Stopped c untouchedDesk
-  unfolding fullClose closingAmounts closingBuffer closingQueue raisedUnlessRefused finalizingTest bind
+  unfolding limitedFullClose limitedClosingAmounts closingBuffer closingQueue raisedUnlessRefused finalizingTest bind
   stopped-first =
       let e = refused-in-tests c p in
       record {
@@ -212,7 +212,7 @@ module _ (c : FullCall) (a : FullAnswer) (count : ℕ) (orders : List ℕ) where
   first-work e = e
 
   none-done : closeUpTo 0 (settingsOf c) (stateOf (c .call)) ≡ value (stateOf (c .call))
-  unfolding closeUpTo foldChecked
+  unfolding limitedUpTo foldChecked
   none-done = refl
 
   first-onward : (st : BeaconState) → fullTests c ≡ value tt → step (settingsOf c) (stateOf (c .call)) (stepAfter 0) ≡ value st → act c (notBegun c a count orders) (stepping 1) ≡ deskAt c 1 st 0 orders

@@ -3,24 +3,27 @@ use mathlib.Core.Path.{_≡_, _∙_}
 use mathlib.Core.List.{List}
 use Prim.Native.Nat.{ℕ}
 use lib.Dec.{eqb}
+use Rattle.definitions.specs.declared.ActivationLimit.{ActivationLimit}
+use Rattle.definitions.specs.declared.ActivationLimit.the-variants.{Churn, AtMost}
 use Rattle.definitions.specs.declared.Settings.{Settings}
 use Rattle.definitions.specs.Record.{Validator, BeaconState}
 use Rattle.definitions.specs.Checked.{Refusal, value}
-use Rattle.definitions.specs.Rules.{settingsUnder}
+use Rattle.definitions.specs.Rules.{settingsUnder, inPlace}
 use Rattle.definitions.specs.Document.Phase0.Helpers.{«compute_activation_exit_epoch», «get_current_epoch», «get_previous_epoch», «get_total_balance», «get_total_active_balance»}
 use Rattle.definitions.specs.Document.Phase0.EpochProcessing as documentEpoch
 use Rattle.definitions.specs.Document.Phase0.EpochProcessing.{isEligible, «is_in_inactivity_leak»}
 use Rattle.definitions.specs.Document.Altair.Helpers as documentHelpers
 use Rattle.definitions.specs.Document.Altair.Helpers.{isUnslashedParticipating, «get_unslashed_participating_indices», «get_flag_index_deltas», «get_inactivity_penalty_deltas»}
 use Rattle.definitions.specs.Document.Altair.EpochProcessing as document
+use Rattle.definitions.specs.Document.Deneb as deneb
 use Rattle.definitions.specs.Rust.Altair.Helpers as rustHelpers
 use Rattle.definitions.specs.Rust.Altair.EpochProcessing as rust
 use Rattle.definitions.specs.Close.{Step, justificationStep, inactivityStep, rewardsStep, registryStep, slashingsStep, effectiveBalancesStep, slashingsResetStep, participationFlagsStep, steps}
-use Rattle.agreement.specs.Agreement.{documentStep}
+use Rattle.agreement.specs.Agreement.{limitedRegistry, limitedDocumentStep, limitedDocument}
 use Rattle.theorems.specs.Completeness.ListByList as byLists
 use Rattle.theorems.specs.Completeness.DocumentIn64Bits as in64
 use Rattle.theorems.specs.Completeness.DocumentIn64Bits.{FlagTotals}
-use Rattle.theorems.specs.Completeness.Complete.{StepAgreesIn64Bits, CloseAgreesIn64Bits}
+use Rattle.theorems.specs.Completeness.Complete.{StepAgreesIn64Bits, CloseAgreesIn64Bits, DenebAgreesIn64Bits}
 use Rattle.laws.proofs.Checked.{foldChecked-value}
 use Rattle.agreement.proofs.Agrees.{Agrees, Overflow, OverflowOrNoRoot, value-agrees, equal-agrees, bind-agrees, cond-agrees, add64-agrees, mul64-agrees, map-agrees, fold-agrees}
 use Rattle.agreement.proofs.Helpers.{activation-exit-epoch, total-balance, total-active-balance, leak, kept-validators}
@@ -29,7 +32,7 @@ use Rattle.agreement.proofs.Rewards.{apply-delta}
 use Rattle.agreement.proofs.Registry.{registry-at}
 use Rattle.agreement.proofs.EffectiveBalances.{effective-balance}
 use Rattle.agreement.proofs.Justification.{justification}
-use Rattle.agreement.proofs.Bellatrix.{under}
+use Rattle.agreement.proofs.Bellatrix.{in-place, under}
 use Rattle.theorems.proofs.Completeness.Laws.{zip-agrees}
 use Rattle.agreement.proofs.Slashings.{slashings}
 use Rattle.agreement.proofs.Close.{slashings-reset, participation-flags}
@@ -44,9 +47,9 @@ score s stateSlot finalizedEpoch v =
     (bind-agrees _ (cond-agrees hit value-agrees (add64-agrees _ _)) (bind-agrees _ (leak s _ _) value-agrees))
     value-agrees
 
-inactivity : (s : Settings) (st : BeaconState) → Agrees Overflow (in64.step s st inactivityStep) (document.«process_inactivity_updates» s st)
-unfolding in64.step in64.«process_inactivity_updates» document.«process_inactivity_updates»
-inactivity s st =
+inactivity : (l : ActivationLimit) (s : Settings) (st : BeaconState) → Agrees Overflow (in64.limitedStep l s st inactivityStep) (document.«process_inactivity_updates» s st)
+unfolding in64.limitedStep in64.«process_inactivity_updates» document.«process_inactivity_updates»
+inactivity l s st =
     let genesis = eqb («get_current_epoch» s (st .finality .slot)) 0 in
     bind-agrees _ (cond-agrees genesis value-agrees (map-agrees (score s _ _) _)) (equal-agrees (kept-validators genesis _ st))
 
@@ -87,9 +90,9 @@ unfolding in64.«get_flag_index_deltas» «get_flag_index_deltas»
 flag-list s stateSlot finalizedEpoch vs flagIndex =
     bind-agrees _ (flag-totals s _ _ _) (map-agrees (delta-of-one s stateSlot finalizedEpoch vs flagIndex) vs)
 
-rewards : (s : Settings) (st : BeaconState) → Agrees Overflow (in64.step s st rewardsStep) (document.«process_rewards_and_penalties» s (s .«inactivity_penalty_quotient_altair») st)
-unfolding in64.step in64.«process_rewards_and_penalties» byLists.«get_inactivity_penalty_deltas» rustHelpers.«get_inactivity_penalty_deltas» document.«process_rewards_and_penalties» «get_inactivity_penalty_deltas» document.applyDeltas
-rewards s st =
+rewards : (l : ActivationLimit) (s : Settings) (st : BeaconState) → Agrees Overflow (in64.limitedStep l s st rewardsStep) (document.«process_rewards_and_penalties» s (s .«inactivity_penalty_quotient_altair») st)
+unfolding in64.limitedStep in64.«process_rewards_and_penalties» byLists.«get_inactivity_penalty_deltas» rustHelpers.«get_inactivity_penalty_deltas» document.«process_rewards_and_penalties» «get_inactivity_penalty_deltas» document.applyDeltas
+rewards l s st =
     let genesis = eqb («get_current_epoch» s (st .finality .slot)) 0 in
     bind-agrees _
     (cond-agrees genesis value-agrees
@@ -105,10 +108,10 @@ activate : (s : Settings) (stateSlot : ℕ) (vs : List Validator) (index : ℕ) 
 unfolding in64.activateAt
 activate s stateSlot vs index = bind-agrees _ (activation-exit-epoch s _) value-agrees
 
-registry : (s : Settings) (st : BeaconState) → Agrees Overflow (in64.step s st registryStep) (documentEpoch.«process_registry_updates» s st)
-unfolding in64.step in64.«process_registry_updates» documentEpoch.«process_registry_updates» documentEpoch.dequeued
-registry s st =
-    bind-agrees _ (bind-agrees _ (fold-agrees (registry-at s _) _ _) (fold-agrees (activate s _) _ _)) value-agrees
+registry : (l : ActivationLimit) (s : Settings) (st : BeaconState) → Agrees Overflow (in64.limitedStep l s st registryStep) (limitedRegistry l s st)
+unfolding in64.limitedStep in64.limitedRegistryUpdates documentEpoch.«process_registry_updates» documentEpoch.dequeued deneb.«process_registry_updates» deneb.«get_validator_activation_churn_limit»
+registry Churn s st = bind-agrees _ (bind-agrees _ (fold-agrees (registry-at s _) _ _) (fold-agrees (activate s _) _ _)) value-agrees
+registry (AtMost maximum) s st = bind-agrees _ (bind-agrees _ (fold-agrees (registry-at s _) _ _) (fold-agrees (activate s _) _ _)) value-agrees
 
 -- Effective balances
 
@@ -116,9 +119,9 @@ balance : (s : Settings) (v : Validator) → Agrees Overflow (in64.updateEffecti
 unfolding in64.updateEffectiveBalance
 balance s v = bind-agrees _ (mul64-agrees _ _) (bind-agrees _ (mul64-agrees _ _) (effective-balance s v))
 
-effective-balances : (s : Settings) (st : BeaconState) → Agrees Overflow (in64.step s st effectiveBalancesStep) (documentEpoch.«process_effective_balance_updates» s st)
-unfolding in64.step in64.«process_effective_balance_updates» documentEpoch.«process_effective_balance_updates»
-effective-balances s st = bind-agrees _ (map-agrees (balance s) _) value-agrees
+effective-balances : (l : ActivationLimit) (s : Settings) (st : BeaconState) → Agrees Overflow (in64.limitedStep l s st effectiveBalancesStep) (documentEpoch.«process_effective_balance_updates» s st)
+unfolding in64.limitedStep in64.«process_effective_balance_updates» documentEpoch.«process_effective_balance_updates»
+effective-balances l s st = bind-agrees _ (map-agrees (balance s) _) value-agrees
 
 -- Every step
 
@@ -133,30 +136,34 @@ StepAnswers effectiveBalancesStep = Overflow
 StepAnswers slashingsResetStep = Overflow
 StepAnswers participationFlagsStep = Overflow
 
-pub each-step : (s : Settings) (st : BeaconState) (k : Step) → Agrees (StepAnswers k) (in64.step s st k) (documentStep s st k)
-unfolding in64.step
-each-step s st justificationStep = justification s st
-each-step s st inactivityStep = inactivity s st
-each-step s st rewardsStep = rewards s st
-each-step s st registryStep = registry s st
-each-step s st slashingsStep = slashings s st
-each-step s st effectiveBalancesStep = effective-balances s st
-each-step s st slashingsResetStep = slashings-reset s st
-each-step s st participationFlagsStep = participation-flags s st
+pub each-step : (l : ActivationLimit) (s : Settings) (st : BeaconState) (k : Step) → Agrees (StepAnswers k) (in64.limitedStep l s st k) (limitedDocumentStep l s st k)
+unfolding in64.limitedStep
+each-step l s st justificationStep = justification l s st
+each-step l s st inactivityStep = inactivity l s st
+each-step l s st rewardsStep = rewards l s st
+each-step l s st registryStep = registry l s st
+each-step l s st slashingsStep = slashings l s st
+each-step l s st effectiveBalancesStep = effective-balances l s st
+each-step l s st slashingsResetStep = slashings-reset l s st
+each-step l s st participationFlagsStep = participation-flags l s st
 
--- of Altair's text with any settings
+-- of Altair's text with any settings and limit
 
-pub step-given : (s : Settings) (st st′ : BeaconState) (k : Step) → in64.step s st k ≡ value st′ → documentStep s st k ≡ st′
-step-given s st st′ k e = each-step s st k .same st′ e
+pub step-given : (l : ActivationLimit) (s : Settings) (st st′ : BeaconState) (k : Step) → in64.limitedStep l s st k ≡ value st′ → limitedDocumentStep l s st k ≡ st′
+step-given l s st st′ k e = each-step l s st k .same st′ e
 
-pub close-given : (s : Settings) (st st′ : BeaconState) → in64.«process_epoch» s st ≡ value st′ → document.«process_epoch» s st ≡ st′
-unfolding in64.«process_epoch» document.«process_epoch»
-close-given s st st′ e = foldChecked-value (in64.step s) (documentStep s) (λ before k after. step-given s before after k) st steps e
+pub close-given : (l : ActivationLimit) (s : Settings) (st st′ : BeaconState) → in64.limitedEpoch l s st ≡ value st′ → limitedDocument l s st ≡ st′
+unfolding in64.limitedEpoch
+close-given l s st st′ e = foldChecked-value (in64.limitedStep l s) (limitedDocumentStep l s) (λ before k after. step-given l s before after k) st steps e
 
--- of either fork's
+-- of either fork's, and Deneb's
 
 pub step-agrees-in-64-bits : StepAgreesIn64Bits
-step-agrees-in-64-bits r st st′ k e = under r .steps st k ∙ step-given (settingsUnder r) st st′ k e
+step-agrees-in-64-bits r st st′ k e = under r .steps st k ∙ step-given Churn (settingsUnder r) st st′ k e
 
 pub close-agrees-in-64-bits : CloseAgreesIn64Bits
-close-agrees-in-64-bits r st st′ e = under r .epoch st ∙ close-given (settingsUnder r) st st′ e
+unfolding document.«process_epoch»
+close-agrees-in-64-bits r st st′ e = under r .epoch st ∙ close-given Churn (settingsUnder r) st st′ e
+
+pub deneb-agrees-in-64-bits : DenebAgreesIn64Bits
+deneb-agrees-in-64-bits s b maximum st st′ e = in-place s b .deneb maximum st ∙ close-given (AtMost maximum) (inPlace b s) st st′ e

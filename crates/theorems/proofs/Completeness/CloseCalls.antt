@@ -1,6 +1,7 @@
 -- Demand 2 of a call of the close.
 use mathlib.Core.Path.{_≡_, refl, sym, ap, _∙_}
 use mathlib.Core.Logic.{_⊎_, inl, inr, ⊎-elim}
+use Rattle.definitions.specs.declared.ActivationLimit.the-variants.{Churn}
 use Rattle.definitions.specs.Record.{BeaconState}
 use Rattle.definitions.specs.Checked.{Refusal, Checked, value, refused, bind}
 use Rattle.definitions.specs.Refusals.{afterTests, closingBuffer}
@@ -34,11 +35,11 @@ pub after-refusal : (r : Refusal) (c : Call) (m n : Checked BeaconState) → out
 unfolding afterTests bind closingBuffer raisedUnlessRefused
 after-refusal r c m n = refl
 
-close-complete : (c : Call) (t : Checked (Unit {0})) → closeTests c ≡ t → (close c ≡ outcomeBy (closeTests c) c (in64.«process_epoch» (settingsUnder (c .rules)) (stateOf c))) ⊎ ((closeTests c ≡ value tt) × CloseParts (settingsUnder (c .rules)) (stateOf c))
+close-complete : (c : Call) (t : Checked (Unit {0})) → closeTests c ≡ t → (close c ≡ outcomeBy (closeTests c) c (in64.«process_epoch» (settingsUnder (c .rules)) (stateOf c))) ⊎ ((closeTests c ≡ value tt) × CloseParts Churn (settingsUnder (c .rules)) (stateOf c))
 unfolding close closed
 close-complete c (refused r) t = inl (rw t (after-refusal r c _ _))
 close-complete c (value u) t =
-    ⊎-elim (λ e. inl (ap (outcomeBy (closeTests c) c) e)) (λ p. inr (t, p)) (complete-close (settingsUnder (c .rules)) (stateOf c) (close-passed c t .passed))
+    ⊎-elim (λ e. inl (ap (outcomeBy (closeTests c) c) e)) (λ p. inr (t, p)) (complete-close Churn (settingsUnder (c .rules)) (stateOf c) (close-passed c t .passed))
 
 pub close-call : (c : Call) → CloseCall c (close c)
 close-call c = record { accepted = document-closed c; complete = close-complete c (closeTests c) refl }

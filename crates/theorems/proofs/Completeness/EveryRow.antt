@@ -4,6 +4,7 @@ use mathlib.Core.List.{List}
 use mathlib.Core.Logic.{_⊎_, ⊎-elim}
 use Prim.Native.Nat.{ℕ}
 use lib.ListN.{length}
+use Rattle.definitions.specs.declared.ActivationLimit.{ActivationLimit}
 use Rattle.definitions.specs.declared.Settings.{Settings}
 use Rattle.definitions.specs.Record.{Validator, BeaconState}
 use Rattle.definitions.specs.Checked.{Checked, value, foldChecked}
@@ -29,29 +30,29 @@ every-leaf-row s stateSlot finalizedEpoch vs flagIndex v =
       parts = λ d l e. parted (complete-leaf s stateSlot finalizedEpoch vs flagIndex v) (λ g. not-refused (sym g ∙ delta-refused s stateSlot finalizedEpoch (l .ahead) vs flagIndex v)) e;
     }
 
-none-after : (s : Settings) (st st′ : BeaconState) (k : Step) → Rust.step s st k ≡ value st′ → Row s st effectiveBalancesStep → Row s st′ effectiveBalancesStep
-none-after s st st′ k e (noValidators n p) = noValidators (empty (st′ .validators) (kept-step s st st′ k e .validators .many ∙ ap length n)) p
+none-after : (l : ActivationLimit) (s : Settings) (st st′ : BeaconState) (k : Step) → Rust.limitedStep l s st k ≡ value st′ → Row s st effectiveBalancesStep → Row s st′ effectiveBalancesStep
+none-after l s st st′ k e (noValidators n p) = noValidators (empty (st′ .validators) (kept-step l s st st′ k e .validators .many ∙ ap length n)) p
 
-close-refuses : (s : Settings) (st st′ : BeaconState) → CloseRow s st → Rust.«process_epoch» s st ≡ value st′ → ⊥
-unfolding Rust.«process_epoch» Rust.closeUpTo foldChecked
-close-refuses s st st′ (atInactivity justified e row) g =
-    let one = bound (Rust.step s st justificationStep) _ g in
-    let two = bound (Rust.step s (one .first) inactivityStep) _ (one .then) in
+close-refuses : (l : ActivationLimit) (s : Settings) (st st′ : BeaconState) → CloseRow s st → Rust.limitedEpoch l s st ≡ value st′ → ⊥
+unfolding Rust.limitedEpoch Rust.limitedUpTo foldChecked Rust.limitedStep
+close-refuses l s st st′ (atInactivity justified e row) g =
+    let one = bound (Rust.limitedStep l s st justificationStep) _ g in
+    let two = bound (Rust.limitedStep l s (one .first) inactivityStep) _ (one .then) in
     let same : one .first ≡ justified = value-same (sym (one .gave) ∙ e) in
-    not-refused (sym (subst (λ (x : BeaconState). Rust.step s x inactivityStep ≡ value (two .first)) same (two .gave)) ∙ every-row s justified .refuses inactivityStep row)
-close-refuses s st st′ (atEffectiveBalances row) g =
-    let one = bound (Rust.step s st justificationStep) _ g in
-    let two = bound (Rust.step s (one .first) inactivityStep) _ (one .then) in
-    let three = bound (Rust.step s (two .first) rewardsStep) _ (two .then) in
-    let four = bound (Rust.step s (three .first) registryStep) _ (three .then) in
-    let five = bound (Rust.step s (four .first) slashingsStep) _ (four .then) in
-    let six = bound (Rust.step s (five .first) effectiveBalancesStep) _ (five .then) in
-    let there = none-after s _ _ slashingsStep (five .gave) (none-after s _ _ registryStep (four .gave) (none-after s _ _ rewardsStep (three .gave) (none-after s _ _ inactivityStep (two .gave) (none-after s _ _ justificationStep (one .gave) row)))) in
-    not-refused (sym (six .gave) ∙ every-row s (five .first) .refuses effectiveBalancesStep there)
+    not-refused (sym (subst (λ (x : BeaconState). Rust.limitedStep l s x inactivityStep ≡ value (two .first)) same (two .gave)) ∙ every-row l s justified .refuses inactivityStep row)
+close-refuses l s st st′ (atEffectiveBalances row) g =
+    let one = bound (Rust.limitedStep l s st justificationStep) _ g in
+    let two = bound (Rust.limitedStep l s (one .first) inactivityStep) _ (one .then) in
+    let three = bound (Rust.limitedStep l s (two .first) rewardsStep) _ (two .then) in
+    let four = bound (Rust.limitedStep l s (three .first) registryStep) _ (three .then) in
+    let five = bound (Rust.limitedStep l s (four .first) slashingsStep) _ (four .then) in
+    let six = bound (Rust.limitedStep l s (five .first) effectiveBalancesStep) _ (five .then) in
+    let there = none-after l s _ _ slashingsStep (five .gave) (none-after l s _ _ registryStep (four .gave) (none-after l s _ _ rewardsStep (three .gave) (none-after l s _ _ inactivityStep (two .gave) (none-after l s _ _ justificationStep (one .gave) row)))) in
+    not-refused (sym (six .gave) ∙ every-row l s (five .first) .refuses effectiveBalancesStep there)
 
-pub every-close-row : (s : Settings) (st : BeaconState) → EveryCloseRow s st
-every-close-row s st =
+pub every-close-row : (l : ActivationLimit) (s : Settings) (st : BeaconState) → EveryCloseRow l s st
+every-close-row l s st =
     record {
-      refuses = close-refuses s st;
-      parts = λ st′ p l e. parted (complete-close s st p) (close-refuses s st st′ l) e;
+      refuses = close-refuses l s st;
+      parts = λ st′ p row e. parted (complete-close l s st p) (close-refuses l s st st′ row) e;
     }

@@ -6,6 +6,8 @@ use Prim.Native.Nat.{ℕ, suc}
 use native.Mathlib.Omega.{arith}
 use lib.Dec.{eqb, leb}
 use lib.ListN.{length, getD, set, take, length-map, length-set}
+use Rattle.definitions.specs.declared.ActivationLimit.{ActivationLimit}
+use Rattle.definitions.specs.declared.ActivationLimit.the-variants.{Churn, AtMost}
 use Rattle.definitions.specs.declared.Settings.{Settings}
 use Rattle.definitions.specs.declared.Finality.{Finality}
 use Rattle.definitions.specs.declared.Deltas.{Deltas}
@@ -18,9 +20,10 @@ use Rattle.definitions.specs.Document.Phase0.EpochProcessing as documentEpoch
 use Rattle.definitions.specs.Document.Phase0.EpochProcessing.{queueEligible, isEjected, activationQueue, dequeued}
 use Rattle.definitions.specs.Document.Altair.Helpers.{flagIndexDeltas, inactivityPenaltyDeltas, «get_flag_index_deltas», «get_inactivity_penalty_deltas»}
 use Rattle.definitions.specs.Document.Altair.EpochProcessing as document
+use Rattle.definitions.specs.Document.Deneb as deneb
 use Rattle.definitions.specs.Close as Rust
 use Rattle.definitions.specs.Close.{finalizedEpochOf, Step, justificationStep, inactivityStep, rewardsStep, registryStep, slashingsStep, effectiveBalancesStep, slashingsResetStep, participationFlagsStep}
-use Rattle.agreement.specs.Agreement.{documentStep}
+use Rattle.agreement.specs.Agreement.{limitedRegistry, limitedDocumentStep}
 use Rattle.agreement.proofs.Close.{each-step}
 
 pub record AsMany (vs ws : List Validator) : Type 0 where
@@ -87,21 +90,24 @@ kept-unless : (t : Bool) {st st′ : BeaconState} → Kept st st′ → Kept st 
 kept-unless true h = record { slot = refl; validators = record { many = refl } }
 kept-unless false h = h
 
-kept : (s : Settings) (st : BeaconState) (k : Step) → Kept st (documentStep s st k)
-unfolding document.«process_justification_and_finalization» documentEpoch.«weigh_justification_and_finalization» documentEpoch.weighed document.«process_inactivity_updates» document.«process_rewards_and_penalties» «get_flag_index_deltas» «get_inactivity_penalty_deltas» documentEpoch.«process_registry_updates» document.«process_slashings» documentEpoch.«process_effective_balance_updates» documentEpoch.«process_slashings_reset» document.«process_participation_flag_updates»
-kept s st justificationStep = kept-unless (leb («get_current_epoch» s (st .finality .slot)) 1) (kept-finality st _ refl)
-kept s st inactivityStep = kept-unless (eqb («get_current_epoch» s (st .finality .slot)) 0) (kept-with st (map-many _ _))
-kept s st rewardsStep =
+kept : (l : ActivationLimit) (s : Settings) (st : BeaconState) (k : Step) → Kept st (limitedDocumentStep l s st k)
+unfolding document.«process_justification_and_finalization» documentEpoch.«weigh_justification_and_finalization» documentEpoch.weighed document.«process_inactivity_updates» document.«process_rewards_and_penalties» «get_flag_index_deltas» «get_inactivity_penalty_deltas» documentEpoch.«process_registry_updates» deneb.«process_registry_updates» document.«process_slashings» documentEpoch.«process_effective_balance_updates» documentEpoch.«process_slashings_reset» document.«process_participation_flag_updates»
+kept l s st justificationStep = kept-unless (leb («get_current_epoch» s (st .finality .slot)) 1) (kept-finality st _ refl)
+kept l s st inactivityStep = kept-unless (eqb («get_current_epoch» s (st .finality .slot)) 0) (kept-with st (map-many _ _))
+kept l s st rewardsStep =
     let flag = flagIndexDeltas s (st .finality .slot) (finalizedEpochOf st) (st .validators) in
     let inactivity = inactivityPenaltyDeltas s (s .«inactivity_penalty_quotient_altair») (st .finality .slot) in
     kept-unless (eqb («get_current_epoch» s (st .finality .slot)) 0)
     (kept-with st (deltas-many (st .validators) (st .validators) (flag 0 ∷ flag 1 ∷ flag 2 ∷ inactivity ∷ []) (record { many = refl })))
-kept s st registryStep =
-    kept-with st (as-many (dequeued-many _ _ _ _) (fold-many (registry-many s (st .finality .slot)) (st .validators) (range 0 (length (st .validators)))))
-kept s st slashingsStep = kept-with st (map-many _ _)
-kept s st effectiveBalancesStep = kept-with st (map-many _ _)
-kept s st slashingsResetStep = record { slot = refl; validators = record { many = refl } }
-kept s st participationFlagsStep = kept-with st (map-many _ _)
+kept l s st registryStep = kept-registry l
+  where
+    kept-registry : (l : ActivationLimit) → Kept st (limitedRegistry l s st)
+    kept-registry Churn = kept-with st (as-many (dequeued-many _ _ _ _) (fold-many (registry-many s (st .finality .slot)) (st .validators) (range 0 (length (st .validators)))))
+    kept-registry (AtMost maximum) = kept-with st (as-many (dequeued-many _ _ _ _) (fold-many (registry-many s (st .finality .slot)) (st .validators) (range 0 (length (st .validators)))))
+kept l s st slashingsStep = kept-with st (map-many _ _)
+kept l s st effectiveBalancesStep = kept-with st (map-many _ _)
+kept l s st slashingsResetStep = record { slot = refl; validators = record { many = refl } }
+kept l s st participationFlagsStep = kept-with st (map-many _ _)
 
-pub kept-step : (s : Settings) (st st′ : BeaconState) (k : Step) → Rust.step s st k ≡ value st′ → Kept st st′
-kept-step s st st′ k e = rw (each-step s st k .same st′ e) at (kept s st k)
+pub kept-step : (l : ActivationLimit) (s : Settings) (st st′ : BeaconState) (k : Step) → Rust.limitedStep l s st k ≡ value st′ → Kept st st′
+kept-step l s st st′ k e = rw (each-step l s st k .same st′ e) at (kept l s st k)

@@ -5,6 +5,7 @@ use mathlib.Core.List.{[], _∷_, List}
 use mathlib.Core.Logic.{inl, inr}
 use Prim.Native.Nat.{ℕ}
 use native.Mathlib.Omega.{arith}
+use Rattle.definitions.specs.declared.ActivationLimit.the-variants.{Churn}
 use Rattle.definitions.specs.declared.Settings.{Settings}
 use Rattle.definitions.specs.declared.Finality.{Finality}
 use Rattle.definitions.specs.declared.CloseAnswer.{CloseAnswer}
@@ -15,7 +16,7 @@ use Rattle.definitions.specs.Checked.{Refusal, badFile, wrongQueue, Checked, va
 use Rattle.definitions.specs.Raised.{raisedTotals, raisedUnlessRefused, closeAnswerFor}
 use Rattle.definitions.specs.Refusals.{inOrder, afterTests, justificationTests}
 use Rattle.definitions.specs.Rust.Altair.EpochProcessing as rust
-use Rattle.definitions.specs.Close.{justificationStep, step}
+use Rattle.definitions.specs.Close.{justificationStep, step, limitedStep}
 use Rattle.definitions.specs.ExitQueue.{isQueueOf, queueTest}
 use Rattle.definitions_file.specs.File.{Contents, contentsOf, queueIn, goodHeader, writeTests, readTests, readFile, read}
 use Rattle.laws.proofs.Tests.{tested}
@@ -53,11 +54,11 @@ module _ (s : Settings) (st : BeaconState) (registry : List ℕ) where
   same-finality (refused r) = refl
 
   in-64-bits : answerOf (afterTests tests work) ≡ justificationIn64Bits s st registry
-  unfolding in64.step step
+  unfolding in64.limitedStep limitedStep
   in-64-bits = ap (λ (m : Checked Finality). answerOf (afterTests tests m)) (same-finality work)
 
   answered : (t : Checked (Unit {0})) (w : Checked Finality) → tests ≡ t → work ≡ w → (answer : CloseAnswer) → answer ≡ justificationIn64Bits s st registry → answer ≡ answerOf (afterTests t w) → JustificationCall s st registry answer
-  unfolding afterTests bind raisedUnlessRefused justificationTests step
+  unfolding afterTests bind raisedUnlessRefused justificationTests limitedStep
   answered (refused q) w t g answer k e =
       let n : OneOf (answer .refusal) (1 ∷ 2 ∷ 3 ∷ []) = rw e (tests-number _ _ _ q t) in
       record {
@@ -67,7 +68,7 @@ module _ (s : Settings) (st : BeaconState) (registry : List ℕ) where
         complete = k;
       }
   answered (value u) (refused q) t g answer k e =
-      let n : OneOf (answer .refusal) (4 ∷ 5 ∷ []) = rw e (work-number q (justification s st .only q (rw g))) in
+      let n : OneOf (answer .refusal) (4 ∷ 5 ∷ []) = rw e (work-number q (justification Churn s st .only q (rw g))) in
       record {
         number = inr (one-right (answer .refusal) (1 ∷ 2 ∷ 3 ∷ []) (4 ∷ 5 ∷ []) n);
         accepted = λ z. absurd (omega (arith, high (answer .refusal) n));
@@ -77,7 +78,7 @@ module _ (s : Settings) (st : BeaconState) (registry : List ℕ) where
   answered (value u) (value f) t g answer k e =
       record {
         number = inl (rw e);
-        accepted = λ _. (rw e (sym (ap (λ (after : BeaconState). after .finality) (justification s st .same (withFinality f st) (rw g)))), rw e);
+        accepted = λ _. (rw e (sym (ap (λ (after : BeaconState). after .finality) (justification Churn s st .same (withFinality f st) (rw g)))), rw e);
         refused = λ o. absurd (not-zero (answer .refusal) o (rw e));
         complete = k;
       }

@@ -21,7 +21,7 @@ use Rattle.definitions.specs.Rust.Altair.Helpers as rustAltair
 use Rattle.definitions.specs.Rust.Altair.Helpers.{flagTotals, «get_base_reward», «get_base_reward_per_increment», missDeltas, inactivityPenaltyDeltas}
 use Rattle.definitions.specs.Rust.Altair.EpochProcessing as rust
 use Rattle.definitions.specs.Close as Rust
-use Rattle.definitions.specs.Close.{stateOf, closeTests}
+use Rattle.definitions.specs.Close.{stateOf, limitedTests}
 use Rattle.theorems.specs.Completeness.ListByList as byLists
 use Rattle.theorems.specs.Completeness.DocumentIn64Bits as in64
 use Rattle.theorems.specs.Completeness.ListByList.{zipChecked}
@@ -39,7 +39,7 @@ is-ahead-under registry = record { started = omega arith; ahead = omega arith }
 
 -- what is computed below
 unfoldable evaluated : Unit {0}
-unfolding closeTests settingsUnder rulesShaped goodBellatrix goodRules inOrder settingsShaped registryShaped goodSettings goodFinality goodRegistry goodValidator decode decodeFirst zipWith all filter sum range sorted bind add64 sub64 mul64 sum64 mapChecked foldChecked «compute_epoch_at_slot» «get_current_epoch» «get_previous_epoch» «is_active_validator» «get_active_validator_indices» «get_validator_churn_limit» «integer_squareroot» rootWithin «decrease_balance» isUnslashedParticipating «has_flag» «get_unslashed_participating_indices» «get_flag_index_deltas» «get_inactivity_penalty_deltas» documentHelpers.«compute_activation_exit_epoch» documentHelpers.«get_total_active_balance» documentHelpers.«get_total_balance» documentHelpers.«increase_balance» documentAltair.flagIndexDeltas documentAltair.«get_base_reward» documentAltair.«get_base_reward_per_increment» documentAltair.inactivityPenaltyDeltas documentEpoch.isEligible documentEpoch.«is_in_inactivity_leak» documentEpoch.«get_finality_delay» documentEpoch.activationQueue documentEpoch.dequeued documentEpoch.«process_registry_updates» documentEpoch.«process_effective_balance_updates» documentEpoch.«process_slashings_reset» documentEpoch.resetSlashings document.«process_justification_and_finalization» document.«process_inactivity_updates» document.«process_rewards_and_penalties» document.applyDeltas document.applyDelta document.«process_slashings» document.«process_participation_flag_updates» document.«process_epoch» rustHelpers.«compute_activation_exit_epoch» rustHelpers.«get_total_active_balance» rustHelpers.«get_total_balance» rustHelpers.«increase_balance» rustEpoch.«is_in_inactivity_leak» rustEpoch.«get_finality_delay» rustEpoch.«process_registry_updates» rustEpoch.«process_effective_balance_updates» flagTotals «get_base_reward» «get_base_reward_per_increment» missDeltas inactivityPenaltyDeltas rust.movedScore rust.applyDelta rust.«process_justification_and_finalization» rust.«process_inactivity_updates» rust.«process_rewards_and_penalties» rust.«process_slashings» rust.«process_participation_flag_updates» Rust.step Rust.closeUpTo Rust.«process_epoch» zipChecked in64.updateInactivityScore in64.«process_inactivity_updates» in64.flagTotals in64.flagIndexDeltas in64.«get_flag_index_deltas» in64.«process_rewards_and_penalties» byLists.«get_inactivity_penalty_deltas» rustAltair.«get_inactivity_penalty_deltas» in64.«process_registry_updates» in64.«process_effective_balance_updates» in64.step in64.«process_epoch» every rustAltair.«get_flag_index_deltas» rustAltair.flagIndexDeltas in64.deltasOfOne
+unfolding limitedTests settingsUnder rulesShaped goodBellatrix goodRules inOrder settingsShaped registryShaped goodSettings goodFinality goodRegistry goodValidator decode decodeFirst zipWith all filter sum range sorted bind add64 sub64 mul64 sum64 mapChecked foldChecked «compute_epoch_at_slot» «get_current_epoch» «get_previous_epoch» «is_active_validator» «get_active_validator_indices» «get_validator_churn_limit» «integer_squareroot» rootWithin «decrease_balance» isUnslashedParticipating «has_flag» «get_unslashed_participating_indices» «get_flag_index_deltas» «get_inactivity_penalty_deltas» documentHelpers.«compute_activation_exit_epoch» documentHelpers.«get_total_active_balance» documentHelpers.«get_total_balance» documentHelpers.«increase_balance» documentAltair.flagIndexDeltas documentAltair.«get_base_reward» documentAltair.«get_base_reward_per_increment» documentAltair.inactivityPenaltyDeltas documentEpoch.isEligible documentEpoch.«is_in_inactivity_leak» documentEpoch.«get_finality_delay» documentEpoch.activationQueue documentEpoch.dequeued documentEpoch.«process_registry_updates» documentEpoch.«process_effective_balance_updates» documentEpoch.«process_slashings_reset» documentEpoch.resetSlashings document.«process_justification_and_finalization» document.«process_inactivity_updates» document.«process_rewards_and_penalties» document.applyDeltas document.applyDelta document.«process_slashings» document.«process_participation_flag_updates» document.«process_epoch» rustHelpers.«compute_activation_exit_epoch» rustHelpers.«get_total_active_balance» rustHelpers.«get_total_balance» rustHelpers.«increase_balance» rustEpoch.«is_in_inactivity_leak» rustEpoch.«get_finality_delay» rustEpoch.limitedRegistryUpdates rustEpoch.«process_effective_balance_updates» flagTotals «get_base_reward» «get_base_reward_per_increment» missDeltas inactivityPenaltyDeltas rust.movedScore rust.applyDelta rust.«process_justification_and_finalization» rust.«process_inactivity_updates» rust.«process_rewards_and_penalties» rust.«process_slashings» rust.«process_participation_flag_updates» Rust.limitedStep Rust.limitedUpTo Rust.limitedEpoch zipChecked in64.updateInactivityScore in64.«process_inactivity_updates» in64.flagTotals in64.flagIndexDeltas in64.«get_flag_index_deltas» in64.«process_rewards_and_penalties» byLists.«get_inactivity_penalty_deltas» rustAltair.«get_inactivity_penalty_deltas» in64.limitedRegistryUpdates in64.«process_effective_balance_updates» in64.limitedStep in64.limitedEpoch every rustAltair.«get_flag_index_deltas» rustAltair.flagIndexDeltas in64.deltasOfOne
 evaluated = tt
 
 altair : Parting (λ c. c)

@@ -5,6 +5,8 @@ use mathlib.Core.List.{List, [], _∷_}
 use mathlib.Core.Logic.{_⊎_, inl, inr, ⊎-elim}
 use Prim.Native.Nat.{ℕ}
 use native.Mathlib.Omega.{arith}
+use Rattle.definitions.specs.declared.ActivationLimit.{ActivationLimit}
+use Rattle.definitions.specs.declared.ActivationLimit.the-variants.{Churn}
 use Rattle.definitions.specs.declared.Settings.{Settings}
 use Rattle.definitions.specs.declared.Rules.{Rules}
 use Rattle.definitions.specs.Lists.{every}
@@ -16,13 +18,13 @@ use Rattle.definitions.specs.Rules.{settingsUnder, rewardsTests, slashingsTests
 use Rattle.definitions.specs.RegisterOrder.{registryToTests}
 use Rattle.definitions.specs.Rust.Phase0.EpochProcessing.{«process_registry_updates», resetSlashings}
 use Rattle.definitions.specs.Rust.Altair.EpochProcessing as rust
-use Rattle.definitions.specs.Close.{onValidators, finalizedEpochOf, Step, inactivityStep, rewardsStep, registryStep, slashingsStep, effectiveBalancesStep, slashingsResetStep, participationFlagsStep, step}
+use Rattle.definitions.specs.Close.{onValidators, finalizedEpochOf, Step, inactivityStep, rewardsStep, registryStep, slashingsStep, effectiveBalancesStep, slashingsResetStep, participationFlagsStep, step, limitedStep}
 use Rattle.agreement.specs.Agreement.{documentStep}
 use Rattle.laws.specs.Bounds.{Passed}
 use Rattle.agreement.specs.Restored.{OneOf}
 use Rattle.definitions.specs.Closes.{Closes}
 use Rattle.theorems.specs.Completeness.DocumentIn64Bits as in64
-use Rattle.theorems.specs.Completeness.Calls.{registryOf, slashingsOf, ByNumber, StepCall, StepCalls, RulesCalls, stoppedOf, StoppedCalls}
+use Rattle.theorems.specs.Completeness.Calls.{LimitedStepCall, registryOf, slashingsOf, ByNumber, StepCall, StepCalls, RulesCalls, stoppedOf, StoppedCalls}
 use Rattle.laws.proofs.Tests.{tested, in-order-value}
 use Rattle.laws.specs.Stopped.{keptFrom}
 use Rattle.laws.proofs.ActivationQueue.Stopped.{stopped}
@@ -106,16 +108,16 @@ one-or-three a d q e = go (every a) (every d) e
     go true true e = absurd (not-refused e)
 
 -- a step over the registry
-on-registry : (st : BeaconState) (tests : Checked (Unit {0})) (work : Checked (List Validator)) {opening closing after : List ℕ} {r : ℕ} → Closes encode tests work opening closing after r → Closes registryOf tests (onValidators st work) opening closing after r
+pub on-registry : (st : BeaconState) (tests : Checked (Unit {0})) (work : Checked (List Validator)) {opening closing after : List ℕ} {r : ℕ} → Closes encode tests work opening closing after r → Closes registryOf tests (onValidators st work) opening closing after r
 on-registry st tests work h = widen encode registryOf (λ vs. withValidators vs st) (λ vs. refl) tests work h
 
-module _ (s : Settings) (st : BeaconState) (contents : BeaconState → List ℕ) {opening closing after : List ℕ} {r : ℕ} where
+module _ (l : ActivationLimit) (s : Settings) (st : BeaconState) (contents : BeaconState → List ℕ) {opening closing after : List ℕ} {r : ℕ} where
   -- which refuses with 5 alone
-  step-call : (k : Step) (a b d : List Bool) {document : BeaconState} → Agrees Overflow (step s st k) document → (k ≡ registryStep → inOrder a b d ≡ value tt → Passed s (st .finality .slot)) → Closes contents (inOrder a b d) (step s st k) opening closing after r → StepCall s document st k contents (0 ∷ 1 ∷ 2 ∷ 3 ∷ 5 ∷ []) (inOrder a b d) opening closing after r
+  pub step-call : (k : Step) (a b d : List Bool) {document : BeaconState} → Agrees Overflow (limitedStep l s st k) document → (k ≡ registryStep → inOrder a b d ≡ value tt → Passed s (st .finality .slot)) → Closes contents (inOrder a b d) (limitedStep l s st k) opening closing after r → LimitedStepCall l s document st k contents (0 ∷ 1 ∷ 2 ∷ 3 ∷ 5 ∷ []) (inOrder a b d) opening closing after r
   step-call k a b d h p c =
       record {
-        byNumber = by-number contents (inl refl) five (inOrder a b d) (step s st k) (three a b d) h c;
-        complete = step-complete contents (inOrder a b d) (step s st k) (in64.step s st k) (λ t. complete-step s st k (λ e. p e t)) c;
+        byNumber = by-number contents (inl refl) five (inOrder a b d) (limitedStep l s st k) (three a b d) h c;
+        complete = step-complete contents (inOrder a b d) (limitedStep l s st k) (in64.limitedStep l s st k) (λ t. complete-step l s st k (λ e. p e t)) c;
       }
 
 -- registry alone asks for the bounds, and this step is another
@@ -131,41 +133,41 @@ three-alone a b d q e = let n = tests-number a b d q e in (inr n, n)
 
 module _ (s : Settings) (st : BeaconState) {closing after : List ℕ} {r : ℕ} where
   reset-call : let tests = slashingsResetTests s (st .finality .slot) (st .slashings) closing in Closes (λ xs. xs) tests (value (resetSlashings s (st .finality .slot) (st .slashings))) (st .slashings) closing after r → StepCall s (documentStep s st slashingsResetStep) st slashingsResetStep slashingsOf (0 ∷ 1 ∷ 2 ∷ 3 ∷ []) tests (st .slashings) closing after r
-  unfolding slashingsResetTests step in64.step bind
+  unfolding slashingsResetTests limitedStep in64.limitedStep bind
   reset-call h =
       let w = widen (λ xs. xs) slashingsOf (λ xs. withSlashings xs st) (λ xs. refl) _ _ h in
       record {
-        byNumber = by-number slashingsOf (inl refl) (never (0 ∷ 1 ∷ 2 ∷ 3 ∷ [])) _ _ (three-alone _ _ _) (slashings-reset s st) w;
+        byNumber = by-number slashingsOf (inl refl) (never (0 ∷ 1 ∷ 2 ∷ 3 ∷ [])) _ _ (three-alone _ _ _) (slashings-reset Churn s st) w;
         complete = inl w;
       }
 
   flags-call : {opening : List ℕ} → decode opening ≡ st .validators → let tests = rotationTests opening closing in Closes encode tests (value (rust.«process_participation_flag_updates» (decode opening))) opening closing after r → StepCall s (documentStep s st participationFlagsStep) st participationFlagsStep registryOf (0 ∷ 1 ∷ 3 ∷ []) tests opening closing after r
-  unfolding rotationTests step in64.step bind
+  unfolding rotationTests limitedStep in64.limitedStep bind
   flags-call e h =
       let w = on-registry st _ _ (rw e at h) in
       record {
-        byNumber = by-number registryOf (inl refl) (never (0 ∷ 1 ∷ 3 ∷ [])) _ _ (one-or-three _ _) (participation-flags s st) w;
+        byNumber = by-number registryOf (inl refl) (never (0 ∷ 1 ∷ 3 ∷ [])) _ _ (one-or-three _ _) (participation-flags Churn s st) w;
         complete = inl w;
       }
 
 pub step-calls : (s : Settings) (st : BeaconState) (opening closing after : List ℕ) (r : ℕ) → StepCalls s st opening closing after r
-unfolding registryTests effectiveBalanceTests step
+unfolding registryTests effectiveBalanceTests limitedStep
 step-calls s st opening closing after r =
     record {
-      inactivity = λ e h. step-call s st registryOf inactivityStep _ _ _ (inactivity s st) (λ _ t. tests-passed s .registry (st .finality .slot) (finalizedEpochOf st) opening closing t .0) (on-registry st _ _ (rw e at h));
-      registry = λ e h. step-call s st registryOf registryStep _ _ _ (registry s st) (λ _ t. tests-passed s .registry (st .finality .slot) (finalizedEpochOf st) opening closing t .0) (on-registry st _ _ (rw e at h));
-      effectiveBalances = λ e h. step-call s st registryOf effectiveBalancesStep _ _ _ (effective-balances s st) (λ k _. other k) (on-registry st _ _ (rw e at h));
+      inactivity = λ e h. step-call Churn s st registryOf inactivityStep _ _ _ (inactivity Churn s st) (λ _ t. tests-passed s .registry (st .finality .slot) (finalizedEpochOf st) opening closing t .0) (on-registry st _ _ (rw e at h));
+      registry = λ e h. step-call Churn s st registryOf registryStep _ _ _ (registry Churn s st) (λ _ t. tests-passed s .registry (st .finality .slot) (finalizedEpochOf st) opening closing t .0) (on-registry st _ _ (rw e at h));
+      effectiveBalances = λ e h. step-call Churn s st registryOf effectiveBalancesStep _ _ _ (effective-balances Churn s st) (λ k _. other k) (on-registry st _ _ (rw e at h));
       slashingsReset = reset-call s st;
       participationFlags = flags-call s st;
     }
 
 pub rules-calls : (r : Rules) (st : BeaconState) (opening closing after : List ℕ) (n : ℕ) → RulesCalls r st opening closing after n
-unfolding rewardsTests slashingsTests step
+unfolding rewardsTests slashingsTests limitedStep
 rules-calls r st opening closing after n =
     let s = settingsUnder r in
     record {
-      rewards = λ e h. rw (under r .steps st rewardsStep) (step-call s st registryOf rewardsStep _ _ _ (rewards s st) (λ _ t. rules-passed r .rewards (st .finality .slot) (finalizedEpochOf st) opening closing t .0) (on-registry st _ _ (rw e at h)));
-      slashings = λ e h. rw (under r .steps st slashingsStep) (step-call s st registryOf slashingsStep _ _ _ (slashings s st) (λ _ t. rules-passed r .slashings (st .finality .slot) (st .slashings) opening closing t) (on-registry st _ _ (rw e at h)));
+      rewards = λ e h. rw (under r .steps st rewardsStep) (step-call Churn s st registryOf rewardsStep _ _ _ (rewards Churn s st) (λ _ t. rules-passed r .rewards (st .finality .slot) (finalizedEpochOf st) opening closing t .0) (on-registry st _ _ (rw e at h)));
+      slashings = λ e h. rw (under r .steps st slashingsStep) (step-call Churn s st registryOf slashingsStep _ _ _ (slashings Churn s st) (λ _ t. rules-passed r .slashings (st .finality .slot) (st .slashings) opening closing t) (on-registry st _ _ (rw e at h)));
     }
 
 -- The registry step with a stop
@@ -178,12 +180,12 @@ inside contents k (value u) (refused q) h = record { number = h .number; buffer 
 inside contents k (value u) (value a) h = record { number = h .number; buffer = h .buffer }
 
 pub stopped-calls : StoppedCalls
-unfolding registryToTests registryTests step
+unfolding registryToTests registryTests limitedStep
 stopped-calls stop s st opening closing after r e h =
     let slot = st .finality .slot in
     let finalized = finalizedEpochOf st in
     let vs = st .validators in
-    let told = stopped s slot finalized vs .stopped stop in
+    let told = stopped Churn s slot finalized vs .stopped stop in
     let kept = inside encode (keptFrom stop vs) _ («process_registry_updates» s slot finalized vs) (rw told at (rw e at h)) in
-    step-call s st (stoppedOf stop vs) registryStep _ _ _ (registry s st) (λ _ t. let p = in-order-value _ _ _ t in record { shaped = p .shaped 0; good = p .settings 0; small = p .recorded 0 })
+    step-call Churn s st (stoppedOf stop vs) registryStep _ _ _ (registry Churn s st) (λ _ t. let p = in-order-value _ _ _ t in record { shaped = p .shaped 0; good = p .settings 0; small = p .recorded 0 })
     (widen (λ ws. encode (keptFrom stop vs ws)) (stoppedOf stop vs) (λ ws. withValidators ws st) (λ ws. refl) _ _ kept)

@@ -24,7 +24,7 @@ use Rattle.definitions.specs.Rules.{settingsUnder, altairRules, rulesShaped, go
 use Rattle.definitions.specs.Document.Phase0.Helpers.{«is_eligible_for_activation», «get_current_epoch», «compute_epoch_at_slot»}
 use Rattle.definitions.specs.Document.Phase0.EpochProcessing.{activationQueue, dequeued}
 use Rattle.definitions.specs.RegisterOrder.{ahead, mapBelow, activatedAt, activated}
-use Rattle.definitions.specs.Close.{Call, stateOf, step, closeTests, closed, close}
+use Rattle.definitions.specs.Close.{Call, stateOf, limitedStep, limitedTests, closed, close}
 use Rattle.agreement.specs.Restored.{OneOf, Opening}
 use Rattle.theorems.specs.Completeness.Records.{least, callOf}
 use Rattle.theorems.specs.Completeness.DocumentIn64Bits as in64
@@ -51,7 +51,7 @@ badBits =
     }
 
 pub not-restored-on-three : ((c : Call) → OneOf (close c .refusal) (3 ∷ 4 ∷ 5 ∷ []) → Opening c) → ⊥
-unfolding close closed closeTests settingsUnder rulesShaped goodRules afterTests closingBuffer bind inOrder settingsShaped registryShaped goodSettings goodFinality goodRegistry decode decodeFirst all every
+unfolding close closed limitedTests settingsUnder rulesShaped goodRules afterTests closingBuffer bind inOrder settingsShaped registryShaped goodSettings goodFinality goodRegistry decode decodeFirst all every
 not-restored-on-three h = let e : _≡_ {A = ℕ} 1 0 = ap (λ xs. getD xs 0 0) (h badBits (inl refl) .slashings) in omega arith
 
 -- those with fewer than `limit` eligible ones of smaller numbers
@@ -102,7 +102,7 @@ refusing n st = record { refusal = n; finality = st .finality; raised = noneRais
 pub not-refusing-all :
     (n : ℕ) → (n ≡ 0 → ⊥)
     → ((s : Settings) (st : BeaconState) (registry : List ℕ) → decode registry ≡ st .validators → JustificationTold s st registry (refusing n st)) → ⊥
-unfolding decode decodeFirst bind afterTests step in64.step «process_justification_and_finalization» justificationTests settingsUnder rulesShaped goodRules inOrder settingsShaped registryShaped goodSettings goodFinality goodRegistry all every «get_current_epoch» «compute_epoch_at_slot»
+unfolding decode decodeFirst bind afterTests limitedStep in64.limitedStep «process_justification_and_finalization» justificationTests settingsUnder rulesShaped goodRules inOrder settingsShaped registryShaped goodSettings goodFinality goodRegistry all every «get_current_epoch» «compute_epoch_at_slot»
 not-refusing-all n z h =
     let c = callOf (least 1 0 0) [] 0 0 in
     z (ap (λ (a : CloseAnswer). a .refusal) (h (least 1 0 0) (stateOf c) [] refl .call .complete))

@@ -15,11 +15,11 @@ use Rattle.history.proofs.WholeClose.{close-shaped, stays-least}
 use Rattle.history.proofs.EveryList.{claim}
 use Rattle.theorems.specs.FullClose.ByNumber.{plainOutcome}
 use Rattle.theorems.specs.FullClose.Demand3.{fullCloseOf, FullDemand3}
-use Rattle.theorems.proofs.FullClose.ByNumber.{full-by-number}
+use Rattle.theorems.proofs.FullClose.ByNumber.{lent-same, full-by-number}
 
 -- accepted, it gives what `close` gives
 pub accepted-same : (c : FullCall) → T (eqb (fullClose c .refusal) 0) → plainOutcome (fullClose c) ≡ close (c .call)
-accepted-same c t = full-by-number c .accepted (eqb→eq (fullClose c .refusal) 0 t) .same
+accepted-same c t = lent-same c (full-by-number c .accepted (eqb→eq (fullClose c .refusal) 0 t) .lent)
 
 -- the interface, from the close of the same outcome
 shaped-as : (w : Bool) (c : FullCall) (o : Outcome) → o ≡ close (c .call) → Shaped (event (record { call = c .call; outcome = o; othersStay = w }))

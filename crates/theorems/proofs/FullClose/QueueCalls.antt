@@ -61,7 +61,7 @@ wrong-pair tests work {queue} {opening} t f h =
       untouched = h .buffer;
     }
 
-with-queue : (tests : Checked (Unit {0})) (work : Checked (List Validator)) {queue : ExitQueue} {opening closing after : List ℕ} {r : QueueAnswer} {Rest : ℕ → Type 0} → (Closes encode tests work opening closing after (r .refusal) → Rest (r .refusal)) → QueueCloses (thenQueue tests queue opening) work queue opening closing after r → QueueCall Rest tests queue opening closing after r
+pub with-queue : (tests : Checked (Unit {0})) (work : Checked (List Validator)) {queue : ExitQueue} {opening closing after : List ℕ} {r : QueueAnswer} {Rest : ℕ → Type 0} → (Closes encode tests work opening closing after (r .refusal) → Rest (r .refusal)) → QueueCloses (thenQueue tests queue opening) work queue opening closing after r → QueueCall Rest tests queue opening closing after r
 unfolding thenQueue bind queueTest
 with-queue (refused p) work k h = record { pair = turned p work h; rest = inr (k (closes-of h)) }
 with-queue (value u) work {queue} {opening} {closing} {after} {r} {Rest} k h = go (isQueueOf queue (decode opening)) refl h

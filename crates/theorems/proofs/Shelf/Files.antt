@@ -7,6 +7,7 @@ use Prim.Native.Nat.{ℕ, _≤_}
 use native.Mathlib.Omega.{arith}
 use borrow.Author.Tests.{eqb-true}
 use lib.Dec.{eqb}
+use Rattle.definitions.specs.declared.ActivationLimit.the-variants.{Churn}
 use Rattle.definitions.specs.declared.Settings.{Settings}
 use Rattle.definitions.specs.Record.{BeaconState}
 use Rattle.definitions.specs.Checked.{Refusal, badFile, Checked, value, refused, bind, numberOf}
@@ -62,12 +63,12 @@ data Tested (f : OnShelf) : Type 0 where
 tested : (f : OnShelf) → Tested f
 tested f = go (onShelf f) refl
   where
-    by : (p : onShelf f ≡ true) → Tests (whole f) → Tested f
+    by : (p : onShelf f ≡ true) → Tests Churn (whole f) → Tested f
     by p (passed l t) = passes p (sym (same f p) ∙ t)
     by p (turned r n t) = refuses r (inr n) (sym (same f p) ∙ t)
 
     go : (b : Bool) → onShelf f ≡ b → Tested f
-    go true p = by p (tests (whole f))
+    go true p = by p (tests Churn (whole f))
     go false p = refuses badFile (inl refl) (six-tests f p)
 
 on-shelf : (f : OnShelf) → fileTests (f .fork) (f .pair) (f .file) ≡ value tt → onShelf f ≡ true
@@ -79,13 +80,13 @@ on-shelf f t = go (onShelf f) refl
 
 -- and so the tests of the close passed
 close-tested : (f : OnShelf) → fileTests (f .fork) (f .pair) (f .file) ≡ value tt → closeTests (whole f .call) ≡ value tt
-close-tested f t = go (tests (whole f))
+close-tested f t = go (tests Churn (whole f))
   where
     all : fullTests (whole f) ≡ value tt
     all = same f (on-shelf f t) ∙ t
 
-    go : Tests (whole f) → closeTests (whole f .call) ≡ value tt
-    go (passed l e) = sym (lent-tests (whole f) l) ∙ all
+    go : Tests Churn (whole f) → closeTests (whole f .call) ≡ value tt
+    go (passed l e) = sym (lent-tests Churn (whole f) l) ∙ all
     go (turned r n e) = absurd (not-value (sym e ∙ all))
 
 -- Numbers
@@ -209,5 +210,5 @@ file-calls f d =
       byNumber = from-row f d (row f d (tested f) _ refl);
       accepted = document f d (tested f) _ refl;
       complete = step-complete (closedFile (f .file)) _ (done f d) (in64.«process_epoch» (s f d) (stateIn (f .file)))
-          (λ t. complete-close (s f d) (stateIn (f .file)) (close-passed (whole f .call) (close-tested f t) .passed)) (as-closes f d);
+          (λ t. complete-close Churn (s f d) (stateIn (f .file)) (close-passed (whole f .call) (close-tested f t) .passed)) (as-closes f d);
     }

@@ -17,7 +17,7 @@ use Rattle.definitions.specs.Document.Phase0.EpochProcessing.{bit, justifiedBit
 use Rattle.definitions.specs.Rust.Phase0.Helpers.{«get_current_epoch», «get_block_root»}
 use Rattle.definitions.specs.Rust.Phase0.EpochProcessing.{rootWhere, «weigh_justification_and_finalization»}
 use Rattle.definitions.specs.Rust.Altair.EpochProcessing.{«process_justification_and_finalization»}
-use Rattle.definitions.specs.Close.{Step, justificationStep, inactivityStep, rewardsStep, registryStep, slashingsStep, effectiveBalancesStep, slashingsResetStep, participationFlagsStep, step, closeUpTo, «process_epoch»}
+use Rattle.definitions.specs.Close.{Step, justificationStep, inactivityStep, rewardsStep, registryStep, slashingsStep, effectiveBalancesStep, slashingsResetStep, participationFlagsStep, step, limitedStep, limitedUpTo, «process_epoch», limitedEpoch}
 use Rattle.laws.proofs.Checked.{value-same, bound}
 use Rattle.laws.proofs.Tests.{either}
 use Rattle.laws.proofs.Frame.Frames.{frames}
@@ -85,7 +85,7 @@ module _ (s : Settings) (roots : List ℕ) (l : length roots ≡ 32 * s .«slots
       e
 
 whole-step : (s : Settings) (k : Step) (a b : BeaconState) → length (a .«block_roots») ≡ 32 * s .«slots_per_historical_root» → 0 < s .«slots_per_historical_root» → step s a k ≡ value b → Rooted (a .finality) → Rooted (b .finality)
-unfolding step
+unfolding limitedStep
 whole-step s justificationStep a b l p e h =
     let j = bound _ _ e in
     subst (λ (st : BeaconState). Rooted (st .finality)) (value-same (j .then)) (justified-whole s (a .«block_roots») l p (a .finality) (a .validators) (j .gave) h)
@@ -105,5 +105,5 @@ whole-steps s (k ∷ ks) a l p e h =
     whole-steps s ks (t .first) (ap length (kept-step s k a (t .first) (t .gave) .roots) ∙ l) p (t .then) (whole-step s k a (t .first) l p (t .gave) h)
 
 pub closed-whole : (s : Settings) (a b : BeaconState) → length (a .«block_roots») ≡ 32 * s .«slots_per_historical_root» → 0 < s .«slots_per_historical_root» → «process_epoch» s a ≡ value b → Rooted (a .finality) → Rooted (b .finality)
-unfolding «process_epoch» closeUpTo
+unfolding limitedEpoch limitedUpTo
 closed-whole s a b l p e h = whole-steps s _ a l p e h

@@ -13,10 +13,10 @@ use Rattle.definitions.specs.Record.{BeaconState, encode}
 use Rattle.definitions.specs.Checked.{Checked, value, refused, bind, codeOf, settle}
 use Rattle.definitions.specs.Refusals.{inOrder, isVectorLength, settingsShaped, registryShaped, afterTests, closingBuffer}
 use Rattle.definitions.specs.Rules.{rulesShaped}
-use Rattle.definitions.specs.Close.{closeTests, stateOf}
+use Rattle.definitions.specs.Close.{limitedTests, stateOf}
 use Rattle.definitions_file.specs.File.{Contents, versionOf, countOf, rootCountOf, slashingCountOf, rootsAt, contentsOf, queueIn, goodHeader, fileShaped}
 use Rattle.definitions_file.specs.ClosedFile.{fileTests, work, closedFile, answerFor, partFor}
-use Rattle.definitions_close.specs.FullClose.{fullTests, fullyClosed, closingQueue, fullClose}
+use Rattle.definitions_close.specs.FullClose.{fullTests, limitedFullTests, limitedFullyClosed, closingQueue, fullClose, limitedFullClose}
 use Rattle.laws.proofs.Checked.{number-not-zero}
 use Rattle.laws_file.proofs.Passed.{good-header, length-registry, length-slashings}
 use Rattle.theorems.specs.Shelf.Files.{OnShelf, whole, fileAfter}
@@ -84,7 +84,7 @@ module _ (f : OnShelf) (h : goodHeader (f .file) ≡ true) (v : versionOf (f .fi
       length-take-le (32 * rootCountOf file) (drop (rootsAt (versionOf file) (countOf file)) file) (omega (arith, e, length-drop (rootsAt (versionOf file) (countOf file)) file))
 
   pub same-tests : fullTests (whole f) ≡ fileTests (f .fork) (f .pair) file
-  unfolding fullTests closeTests fileTests fileShaped rulesShaped settingsShaped registryShaped inOrder every
+  unfolding limitedFullTests limitedTests fileTests fileShaped rulesShaped settingsShaped registryShaped inOrder every
   same-tests =
       let n = countOf file in
       let s = c .settings .«slots_per_historical_root» in
@@ -106,11 +106,11 @@ module _ (f : OnShelf) (h : goodHeader (f .file) ≡ true) (v : versionOf (f .fi
       rw (h, second, amounts, whole-entries, few, roots, slashings, own-entries, own-slashings, entries, counted, shapes n (rootCountOf file) (slashingCountOf file) s l (leb (f .fork) 1))
 
   pub same-number : answerFor (f .fork) (f .pair) file ≡ fullClose (whole f) .refusal
-  unfolding answerFor fullClose fullyClosed
+  unfolding answerFor limitedFullClose limitedFullyClosed
   same-number = rw same-tests
 
   pub same-part : (lent : List ℕ) → answerFor (f .fork) (f .pair) file ≡ 0 → partFor (f .fork) (f .pair) file lent ≡ fileAfter file (fullClose (whole f))
-  unfolding answerFor partFor fullClose fullyClosed closingQueue afterTests bind closingBuffer
+  unfolding answerFor partFor limitedFullClose limitedFullyClosed closingQueue afterTests bind closingBuffer
   same-part lent = rw same-tests (go (fileTests (f .fork) (f .pair) file) (work (f .fork) (f .pair) file))
     where
       go : (t : Checked (Unit {0})) (w : Checked BeaconState) → codeOf (afterTests t w) ≡ 0 → closingBuffer (closedFile file) t w file lent ≡ fileAfter file (record { refusal = codeOf (afterTests t w); finality = settle (afterTests t w) (stateOf (whole f .call)) .finality; queue = closingQueue (afterTests t w) (queueIn file); raised = fullClose (whole f) .raised; test = fullClose (whole f) .test; closingRegistry = closingBuffer (λ st. encode (st .validators)) t w (c .registry) (c .registry); closingSlashings = closingBuffer (λ st. st .slashings) t w (c .slashings) (c .slashings); amounts = fullClose (whole f) .amounts })

@@ -11,10 +11,10 @@ use Rattle.definitions.specs.Checked.{Refusal, badShape, value, refused, bind, 
 use Rattle.definitions.specs.Refusals.{inOrder, afterTests, closingBuffer, registryShaped, rootsShaped, slashingsShaped, sameLength}
 use Rattle.definitions.specs.Raised.{raisedUnlessRefused}
 use Rattle.definitions.specs.Rules.{rulesShaped}
-use Rattle.definitions.specs.Close.{closeTests}
-use Rattle.definitions_close.specs.Amounts.{amountsShaped, closingAmounts}
+use Rattle.definitions.specs.Close.{limitedTests}
+use Rattle.definitions_close.specs.Amounts.{amountsShaped, limitedClosingAmounts}
 use Rattle.definitions_close.specs.FinalizingTest.{finalizingTest}
-use Rattle.definitions_close.specs.FullClose.{fullTests, fullyClosed, closingQueue, fullClose}
+use Rattle.definitions_close.specs.FullClose.{fullTests, limitedFullTests, limitedFullyClosed, closingQueue, fullClose, limitedFullClose}
 use Rattle.definitions_close.specs.Store.{Entry, entries, lastOf, ofLast, storeShaped, goodEntries, storeTests, entryFor, rulesAt, readRules}
 use Rattle.definitions_close.specs.StoreClose.{StoreCall, callBy, storeCallShaped, rulesAtSlot, rulesFor, turnedAway, closeBy, storeClose}
 use Rattle.laws.proofs.Checked.{value-same, bound}
@@ -26,7 +26,7 @@ use Rattle.theorems.proofs.Store.Sequence.{Same, read-same}
 
 -- the tests' refusal is the close's: nothing is written
 pub refused-close : (c : StoreCall) (rules : Rules) (r : Refusal) → fullTests (callBy c rules) ≡ refused r → fullClose (callBy c rules) ≡ turnedAway c (numberOf r)
-unfolding fullClose fullyClosed closingQueue closingAmounts finalizingTest afterTests bind closingBuffer raisedUnlessRefused
+unfolding limitedFullClose limitedFullyClosed closingQueue limitedClosingAmounts finalizingTest afterTests bind closingBuffer raisedUnlessRefused
 refused-close c rules r t = rw t
 
 -- what is lent does not fit settings with the same S and L either
@@ -48,7 +48,7 @@ module _ (c : StoreCall) (rules : Rules) where
       every (rulesShaped rules ∷ registryShaped (c .registry) ∷ rootsShaped s (c .roots) ∷ slashingsShaped s (c .slashings) ∷ closing)
 
   pub shape-refused : cond (amountsShaped (c .registry) (c .amounts)) (shapedBy (rules .settings)) false ≡ false → fullTests (callBy c rules) ≡ refused badShape
-  unfolding fullTests closeTests inOrder bind
+  unfolding limitedFullTests limitedTests inOrder bind
   shape-refused h = go (amountsShaped (c .registry) (c .amounts)) refl h
     where
       go : (a : Bool) → amountsShaped (c .registry) (c .amounts) ≡ a → cond a (shapedBy (rules .settings)) false ≡ false → fullTests (callBy c rules) ≡ refused badShape

@@ -9,9 +9,9 @@ use Rattle.definitions.specs.Lists.{all, filter, every}
 use Rattle.definitions.specs.Checked.{badShape, badSettings, value, refused, bind}
 use Rattle.definitions.specs.Refusals.{inOrder, afterTests, registryShaped, rootsShaped, slashingsShaped}
 use Rattle.definitions.specs.Rules.{rulesShaped, goodRules}
-use Rattle.definitions.specs.Close.{closeTests}
+use Rattle.definitions.specs.Close.{limitedTests}
 use Rattle.definitions_close.specs.Amounts.{amountsShaped}
-use Rattle.definitions_close.specs.FullClose.{FullCall, fullTests, fullClose}
+use Rattle.definitions_close.specs.FullClose.{FullCall, fullTests, limitedFullTests, fullClose}
 use Rattle.definitions_close.specs.Store.{entriesFrom, entries, lastOf, ofLast, inSequence, storeShaped, goodEntries, entryFor, rulesAt}
 use Rattle.definitions_close.specs.StoreClose.{storeCallShaped, rulesAtSlot, rulesFor, closeBy, storeClose}
 use Rattle.laws.proofs.Tests.{both, and-true, test}
@@ -61,7 +61,7 @@ module _ (c : FullCall) where
 
   -- both pass, and 2 is next
   unsettled : storeCallShaped (withOneEntry c) ≡ true → goodRules r ≡ false → fullTests c ≡ refused badSettings
-  unfolding fullTests closeTests inOrder bind every
+  unfolding limitedFullTests limitedTests inOrder bind every
   unsettled h g =
       let t = test (rulesShaped r ∷ registryShaped (c .call .registry) ∷ amountsShaped (c .call .registry) (c .amounts) ∷ bySettings ∷ closing (withOneEntry c) r) (sym one-lent ∙ h) in
       let lengths = both (rootsShaped (r .settings) (c .call .roots)) (slashingsShaped (r .settings) (c .call .slashings)) (t 3) in

@@ -13,9 +13,9 @@ use Rattle.definitions.specs.Checked.{Refusal, badShape, badSettings, noEntry, 
 use Rattle.definitions.specs.Refusals.{inOrder, afterTests, registryShaped, rootsShaped, slashingsShaped, sameLength, goodFinality, goodRegistry}
 use Rattle.definitions.specs.Rules.{settingsUnder, rulesShaped, goodRules}
 use Rattle.definitions.specs.ExitQueue.{isQueueOf, queueTest}
-use Rattle.definitions.specs.Close.{stateOf, closeTests, «process_epoch»}
+use Rattle.definitions.specs.Close.{stateOf, limitedTests, «process_epoch»}
 use Rattle.definitions_close.specs.Amounts.{amountsShaped}
-use Rattle.definitions_close.specs.FullClose.{fullTests, fullyClosed, fullClose}
+use Rattle.definitions_close.specs.FullClose.{fullTests, limitedFullTests, limitedFullyClosed, fullClose, limitedFullClose}
 use Rattle.definitions_close.specs.Store.{Entry, entries, lastOf, ofLast, storeShaped, goodEntries, entryFor, rulesAt}
 use Rattle.definitions_close.specs.StoreClose.{StoreCall, callBy, storeCallShaped, rulesAtSlot, rulesFor, closeBy, storeClose}
 use Rattle.laws.proofs.Checked.{not-value, value-same, bound}
@@ -90,13 +90,13 @@ module _ (c : StoreCall) (rules : Rules) (n : Entered c rules) where
   slashings-fit = ap (λ (k : ℕ). eqb (length (c .slashings)) k) (n .same .slashings) ∙ n .lent-by .slashings
 
   tests-left : fullTests (callBy c rules) ≡ bind (inOrder [] [] (goodFinality (c .finality) ∷ goodRegistry (c .registry) ∷ [])) (λ _. queueTest (c .queue) (decode (c .registry)))
-  unfolding fullTests closeTests inOrder every
+  unfolding limitedFullTests limitedTests inOrder every
   tests-left =
       let l = n .lent-by in
       rw (l .amounts, n .shaped, l .registry, roots-fit, slashings-fit, l .closing-registry, l .closing-slashings, n .good)
 
   answers : OneOf (fullClose (callBy c rules) .refusal) (0 ∷ 3 ∷ 8 ∷ 4 ∷ 5 ∷ [])
-  unfolding fullClose fullyClosed afterTests bind inOrder queueTest every
+  unfolding limitedFullClose limitedFullyClosed afterTests bind inOrder queueTest every
   answers = go (every (goodFinality (c .finality) ∷ goodRegistry (c .registry) ∷ [])) refl (isQueueOf (c .queue) (decode (c .registry))) refl («process_epoch» (settingsUnder rules) (stateOf (callBy c rules .call))) refl
     where
       go : (r : Bool) → every (goodFinality (c .finality) ∷ goodRegistry (c .registry) ∷ []) ≡ r → (q : Bool) → isQueueOf (c .queue) (decode (c .registry)) ≡ q → (w : Checked BeaconState) → «process_epoch» (settingsUnder rules) (stateOf (callBy c rules .call)) ≡ w → OneOf (fullClose (callBy c rules) .refusal) (0 ∷ 3 ∷ 8 ∷ 4 ∷ 5 ∷ [])

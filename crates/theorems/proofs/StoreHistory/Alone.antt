@@ -7,6 +7,7 @@ use Prim.Native.Nat.{ℕ, _≤_}
 use native.Mathlib.Omega.{arith}
 use borrow.Author.Tests.{ne-eqb}
 use lib.Dec.{eqb}
+use Rattle.definitions.specs.declared.ActivationLimit.the-variants.{Churn}
 use Rattle.definitions.specs.declared.Rules.{Rules}
 use Rattle.definitions.specs.Record.{BeaconState}
 use Rattle.definitions.specs.Checked.{Refusal, badShape, numberOf, Checked, value, refused, bind}
@@ -45,7 +46,7 @@ Alone c out = out ≡ unwritten (record { refusal = out .answer .refusal; ended 
 step-number : (c : StepCall) (r : Refusal) → stepped c ≡ refused r → OneOf (numberOf r) (4 ∷ 5 ∷ [])
 unfolding stepped
 step-number c r e =
-    work-number r (⊎-elim (λ p. inl p) (λ p. inr (p .0)) (each-step (settingsOf (c .whole)) (stateOf (found c .call)) (stepAfter (c .running .done)) .only r e))
+    work-number r (⊎-elim (λ p. inl p) (λ p. inr (p .0)) (each-step Churn (settingsOf (c .whole)) (stateOf (found c .call)) (stepAfter (c .running .done)) .only r e))
 
 in-turn : (c : StepCall) → isFirst c ≡ false → (t : Checked (Unit {0})) → stepTests c ≡ t → (w : Checked BeaconState) → stepped c ≡ w → Before (stepInTurn c .answer .refusal) → Alone c (stepInTurn c)
 unfolding stepInTurn runningAfter steppedAmounts afterTests bind closingBuffer unwritten

@@ -12,7 +12,7 @@ use Rattle.definitions.specs.Lists.{every}
 use Rattle.definitions.specs.Record.{BeaconState, encode}
 use Rattle.definitions.specs.Checked.{value}
 use Rattle.definitions.specs.ExitQueue.{queueOf, isQueueOf, queueTest}
-use Rattle.definitions_close.specs.FullClose.{fullTests, fullyClosed, fullClose}
+use Rattle.definitions_close.specs.FullClose.{limitedFullTests, limitedFullyClosed, limitedFullClose}
 use Rattle.definitions_close.specs.Store.{Entry, Store, entriesFrom, numbersOf, lastOf, keeps, follows, inSequence, storeShaped, goodEntries, storeTests, entryFor, rulesAt, ofLast, additionShaped, startTest, additionTests, withEntry, addEntry}
 use Rattle.definitions_close.specs.StoreClose.{StoreCall, storeCallShaped, rulesAtSlot, rulesFor, closeBy, storeClose}
 use Rattle.history.specs.Events.{activation, waits, ahead, k, Event, accepted, standing, Least, Premises, Claim}
@@ -63,7 +63,7 @@ unfoldable pub run : List Event
 run = map event (map closeOf ((false, wholly (call before start)) ∷ (false, wholly (call after opening)) ∷ []))
 
 unfoldable storing : Unit {0}
-unfolding computing queueOf isQueueOf queueTest fullTests fullyClosed fullClose entriesFrom lastOf keeps follows inSequence storeShaped goodEntries storeTests entryFor rulesAt ofLast additionShaped startTest additionTests withEntry addEntry storeCallShaped rulesAtSlot rulesFor closeBy storeClose every
+unfolding computing queueOf isQueueOf queueTest limitedFullTests limitedFullyClosed limitedFullClose entriesFrom lastOf keeps follows inSequence storeShaped goodEntries storeTests entryFor rulesAt ofLast additionShaped startTest additionTests withEntry addEntry storeCallShaped rulesAtSlot rulesFor closeBy storeClose every
 storing = tt
 
 pub premises : Least 2 run × Premises start run

@@ -46,7 +46,7 @@ carries-by c false false m t = kept refl
 carries-by c false true (refused r) t = kept refl
 carries-by c false true (value rules) t = shape.shaped (calls.carrying (ninthBy c rules) (carryOut (ninthBy c rules))) refl t
 
-shaped : (c : Called) → Defined c → Shaped (event c)
+pub shaped : (c : Called) → Defined c → Shaped (event c)
 unfolding storeClose storeCarryOut
 shaped (storing c o) e = rw e (shaped-by c (rulesFor c))
 shaped (stepping c d list after) (h, e, f) = rw e (steps-by c d list h (subst Closed e f) (rulesFor c) refl)

@@ -11,7 +11,7 @@ use Rattle.definitions.specs.Raised.{noneRaised}
 use Rattle.definitions.specs.ExitQueue.{queueOf, isQueueOf, queueTest}
 use Rattle.definitions_close.specs.Amounts.{booked, bookedByRewards, takenFrom, takenBySlashings, nines}
 use Rattle.definitions_close.specs.FinalizingTest.{lastTest, finalizingTest}
-use Rattle.definitions_close.specs.FullClose.{fullTests}
+use Rattle.definitions_close.specs.FullClose.{limitedFullTests}
 use Rattle.definitions_close.specs.CloseBySteps.{found, stepTests, stepped, eights, amountsBy, steppedAmounts, endedBy, goesOn, runningAfter, unwritten, stepInTurn, closeStep}
 use Rattle.definitions_close.specs.Orders.{ordersIn, appended, takeOrder, mayExit, isDue, «process_voluntary_exit», carriedOut, answersTo, NinthOutcome, ninthTests, carriesOut, ninthInTurn, carryOut}
 use Rattle.definitions_close.specs.Store.{Store, entriesFrom, numbersOf, lastOf, keeps, follows, inSequence, storeShaped, goodEntries, entryFor, rulesAt, ofLast}
@@ -85,7 +85,7 @@ unfoldable pub ninth : NinthOutcome
 ninth = storeCarryOut (ninthCall whole eighth 3 (7 ∷ 7 ∷ 7 ∷ []))
 
 unfoldable carried : Unit {0}
-unfolding computing queueOf isQueueOf queueTest booked bookedByRewards takenFrom takenBySlashings nines lastTest finalizingTest fullTests found stepTests stepped eights amountsBy steppedAmounts endedBy goesOn runningAfter unwritten stepInTurn closeStep ordersIn appended takeOrder mayExit isDue «process_voluntary_exit» carriedOut answersTo ninthTests carriesOut ninthInTurn carryOut entriesFrom lastOf keeps follows inSequence storeShaped goodEntries entryFor rulesAt ofLast storeCallShaped rulesAtSlot rulesFor storeFound storeStepBy storeStep ninthRules carryBy storeCarryOut act acts triedBy ordersMeet every
+unfolding computing queueOf isQueueOf queueTest booked bookedByRewards takenFrom takenBySlashings nines lastTest finalizingTest limitedFullTests found stepTests stepped eights amountsBy steppedAmounts endedBy goesOn runningAfter unwritten stepInTurn closeStep ordersIn appended takeOrder mayExit isDue «process_voluntary_exit» carriedOut answersTo ninthTests carriesOut ninthInTurn carryOut entriesFrom lastOf keeps follows inSequence storeShaped goodEntries entryFor rulesAt ofLast storeCallShaped rulesAtSlot rulesFor storeFound storeStepBy storeStep ninthRules carryBy storeCarryOut act acts triedBy ordersMeet every
 carried = tt
 
 unfoldable pub run : List ((c : Called) × Defined c)

@@ -14,7 +14,7 @@ use Rattle.definitions.specs.ExitQueue.{queueOf, isQueueOf, queueTest}
 use Rattle.definitions.specs.Close.{closeTests}
 use Rattle.definitions_close.specs.declared.RunningAnswer.{RunningAnswer}
 use Rattle.definitions_close.specs.Amounts.{amountsShaped}
-use Rattle.definitions_close.specs.FullClose.{FullCall, fullTests}
+use Rattle.definitions_close.specs.FullClose.{FullCall, fullTests, limitedFullTests}
 use Rattle.theorems.proofs.FullClose.ByNumber.{full-by-number}
 use Rattle.definitions_close.specs.CloseBySteps.{StepCall, isFirst, inTurn, hasEnded, soFar, found, stepTests, stepped, endedBy, goesOn, runningAfter, unwritten, stepInTurn, closeStep, saysEnded, turnedAway}
 use Rattle.definitions_close.specs.Orders.{NinthCall, ninthTests, carriesOut, ninthInTurn, carryOut, untried}
@@ -43,7 +43,7 @@ pair-is q vs e = go (isQueueOf q vs) refl e
     go false p e = absurd (not-value e)
 
 full-pair : (c : FullCall) {u : Unit {0}} → fullTests c ≡ value u → c .queue ≡ queueOf (decode (c .call .registry))
-unfolding fullTests
+unfolding limitedFullTests
 full-pair c e = go (amountsShaped (c .call .registry) (c .amounts)) e
   where
     go : (t : Bool) {u : Unit {0}} → cond t (bind (closeTests (c .call)) (λ _. queueTest (c .queue) (decode (c .call .registry)))) (refused badShape) ≡ value u → c .queue ≡ queueOf (decode (c .call .registry))

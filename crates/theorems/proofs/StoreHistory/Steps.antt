@@ -16,7 +16,7 @@ use Rattle.definitions.specs.Checked.{Refusal, numberOf, Checked, value, refuse
 use Rattle.definitions.specs.Refusals.{inOrder, afterTests, lengthIs, isSmall, registryShaped}
 use Rattle.definitions.specs.Raised.{noneRaised}
 use Rattle.definitions.specs.Rules.{settingsUnder, rulesShaped, goodRules}
-use Rattle.definitions.specs.Close.{Step, justificationStep, inactivityStep, rewardsStep, registryStep, slashingsStep, effectiveBalancesStep, slashingsResetStep, participationFlagsStep, steps, step, closeUpTo}
+use Rattle.definitions.specs.Close.{Step, justificationStep, inactivityStep, rewardsStep, registryStep, slashingsStep, effectiveBalancesStep, slashingsResetStep, participationFlagsStep, steps, step, closeUpTo, limitedUpTo}
 use Rattle.definitions_close.specs.FullClose.{FullCall, fullClose}
 use Rattle.definitions_close.specs.CloseBySteps.{StepOutcome, saysEnded, hasEnded, inTurn, endedBy, unwritten, closeStep}
 use Rattle.definitions_close.specs.Orders.{Order, ordersIn, room, ordersShaped, takeOrder, ninthTests, ninthInTurn, untried, carryOut}
@@ -54,7 +54,7 @@ slot-steps s [] a p = ap (λ (st : BeaconState). st .finality .slot) (sym (value
 slot-steps s (k ∷ ks) a p = let h = bound _ _ p in slot-steps s ks (h .first) (h .then) ∙ slot-step s k a (h .first) (h .gave)
 
 slot-kept : (s : Settings) (n : ℕ) (a : BeaconState) {b : BeaconState} → closeUpTo n s a ≡ value b → b .finality .slot ≡ a .finality .slot
-unfolding closeUpTo
+unfolding limitedUpTo
 slot-kept s n a p = slot-steps s (take n steps) a p
 
 -- The rules read depend on slot and lengths alone

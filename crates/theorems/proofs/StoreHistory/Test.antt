@@ -16,9 +16,9 @@ use Rattle.definitions.specs.Refusals.{afterTests}
 use Rattle.definitions.specs.Rules.{isAltair, inPlace, settingsUnder}
 use Rattle.definitions.specs.Document.Phase0.Helpers.{«get_current_epoch», «compute_epoch_at_slot»}
 use Rattle.definitions.specs.Rust.Altair.EpochProcessing.{«process_justification_and_finalization»}
-use Rattle.definitions.specs.Close.{Step, justificationStep, inactivityStep, rewardsStep, registryStep, slashingsStep, effectiveBalancesStep, slashingsResetStep, participationFlagsStep, step, stateOf, closeUpTo, «process_epoch»}
+use Rattle.definitions.specs.Close.{Step, justificationStep, inactivityStep, rewardsStep, registryStep, slashingsStep, effectiveBalancesStep, slashingsResetStep, participationFlagsStep, step, limitedStep, stateOf, limitedUpTo, «process_epoch», limitedEpoch}
 use Rattle.definitions_close.specs.FinalizingTest.{finalizingTest}
-use Rattle.definitions_close.specs.FullClose.{FullCall, settingsOf, fullTests, fullyClosed, fullClose}
+use Rattle.definitions_close.specs.FullClose.{FullCall, settingsOf, fullTests, limitedFullyClosed, fullClose, limitedFullClose}
 use Rattle.definitions_close.specs.StoreClose.{StoreCall, callBy, rulesFor, closeBy, storeClose}
 use Rattle.laws.proofs.Checked.{value-same, bound}
 use Rattle.theorems.specs.Amounts.Laws.{setBy}
@@ -31,7 +31,7 @@ use Rattle.theorems.proofs.StoreHistory.Steps.{store-any-calls, store-a
 
 -- what justification gave is what the close gives
 epoch-finality : (s : Settings) (a b : BeaconState) → «process_epoch» s a ≡ value b → «process_justification_and_finalization» s (a .«block_roots») (a .finality) (a .validators) ≡ value (b .finality)
-unfolding «process_epoch» closeUpTo foldChecked step
+unfolding limitedEpoch limitedUpTo foldChecked limitedStep
 epoch-finality s a b p =
     let one = bound (step s a justificationStep) _ p in
     let two = bound (step s (one .first) inactivityStep) _ (one .then) in
@@ -68,7 +68,7 @@ closed-tells c st e =
     ∙ ap (λ (n : ℕ). setBy n (c .call .finality)) (test-under (c .call .rules) (c .call .finality) (st .finality))
 
 pub close-tells : CloseTells
-unfolding fullClose fullyClosed afterTests bind finalizingTest setBy
+unfolding limitedFullClose limitedFullyClosed afterTests bind finalizingTest setBy
 close-tells c = go (fullTests c) refl («process_epoch» (settingsOf c) (stateOf (c .call))) refl
   where
     go : (t : Checked (Unit {0})) → fullTests c ≡ t → (w : Checked BeaconState) → «process_epoch» (settingsOf c) (stateOf (c .call)) ≡ w → fullClose c .finality .«finalized_checkpoint» ≡ setBy (fullClose c .test) (c .call .finality)

@@ -3,6 +3,7 @@ use mathlib.Core.Path.{_≡_}
 use mathlib.Core.List.{List, [], _∷_}
 use Prim.Native.Nat.{ℕ, zero, suc, _+_, _*_, _<_}
 use lib.ListN.{length, getD, take}
+use Rattle.definitions.specs.declared.ActivationLimit.{ActivationLimit}
 use Rattle.definitions.specs.declared.Settings.{Settings}
 use Rattle.definitions.specs.declared.Deltas.{Deltas}
 use Rattle.definitions.specs.declared.Checkpoint.{Checkpoint}
@@ -11,8 +12,8 @@ use Rattle.definitions.specs.Record.{Validator, BeaconState, nobody}
 use Rattle.definitions.specs.Checked.{value}
 use Rattle.definitions.specs.Rust.Phase0.Helpers.{«get_current_epoch»}
 use Rattle.definitions.specs.Rust.Altair.Helpers.{«TIMELY_SOURCE_FLAG_INDEX», «TIMELY_TARGET_FLAG_INDEX», «TIMELY_HEAD_FLAG_INDEX», «get_flag_index_deltas», «get_inactivity_penalty_deltas»}
-use Rattle.definitions.specs.Close.{finalizedEpochOf, closeUpTo}
-use Rattle.definitions_close.specs.Amounts.{booked, amounts}
+use Rattle.definitions.specs.Close.{finalizedEpochOf, limitedUpTo}
+use Rattle.definitions_close.specs.Amounts.{booked, limitedAmounts}
 use Rattle.laws_close.specs.Nine.{nineOf, rewardsIn, takenIn, balanceAt}
 
 -- what the delta leaves answer of the validator v of the state that the rewards step finds, cut where the balance ends
@@ -28,15 +29,15 @@ pub record ByLeaves (s : Settings) (found : BeaconState) (v : Validator) (nine :
   pub cut : take 8 nine ≡ booked (v .balance) (source ∷ target ∷ head ∷ inactivity ∷ [])
 
 -- of an accepted close
-pub record Accounted (s : Settings) (opening closing : BeaconState) : Type 0 where
+pub record Accounted (l : ActivationLimit) (s : Settings) (opening closing : BeaconState) : Type 0 where
   pub filled : List ℕ
-  pub are : amounts s opening ≡ value filled
+  pub are : limitedAmounts l s opening ≡ value filled
   pub long : length filled ≡ 9 * length (opening .validators)
   -- "Opening balance plus rewards less amounts taken equals closing balance for each validator."
   pub equal : (i : ℕ) → i < length (opening .validators) → balanceAt (opening .validators) i + rewardsIn (nineOf filled i) ≡ balanceAt (closing .validators) i + takenIn (nineOf filled i)
   -- from epoch 1 on
   pub found : BeaconState
-  pub finds : closeUpTo 2 s opening ≡ value found
+  pub finds : limitedUpTo l 2 s opening ≡ value found
   pub leaves : («get_current_epoch» s (found .finality .slot) ≡ 0 → ⊥) → (i : ℕ) → i < length (opening .validators) → ByLeaves s found (getD (found .validators) i nobody) (nineOf filled i)
 
 -- the checkpoint that a test sets; 0 sets none

@@ -5,6 +5,8 @@ use mathlib.Core.Path.{_≡_}
 use mathlib.Core.List.{List, [], _∷_}
 use mathlib.Core.Logic.{_⊎_}
 use Prim.Native.Nat.{ℕ}
+use Rattle.definitions.specs.declared.ActivationLimit.{ActivationLimit}
+use Rattle.definitions.specs.declared.ActivationLimit.the-variants.{Churn}
 use Rattle.definitions.specs.declared.Settings.{Settings}
 use Rattle.definitions.specs.declared.Rules.{Rules}
 use Rattle.definitions.specs.declared.CloseAnswer.{CloseAnswer}
@@ -46,11 +48,14 @@ outcomeBy tests c work =
       closingSlashings = closingBuffer slashingsOf tests work (c .slashings) (c .closingSlashings);
     }
 
--- the outcome o is the process_epoch of the fork's document, of the record handed in
-pub record DocumentClosed (c : Call) (o : Outcome) : Type 0 where
-  pub finality : o .finality ≡ documentUnder (c .rules) (stateOf c) .finality
-  pub registry : o .closingRegistry ≡ registryOf (documentUnder (c .rules) (stateOf c))
-  pub slashings : o .closingSlashings ≡ slashingsOf (documentUnder (c .rules) (stateOf c))
+-- the outcome o is the record that a document gives: the process_epoch of the fork's, of the record handed in
+pub record Gives (document : BeaconState) (o : Outcome) : Type 0 where
+  pub finality : o .finality ≡ document .finality
+  pub registry : o .closingRegistry ≡ registryOf document
+  pub slashings : o .closingSlashings ≡ slashingsOf document
+
+abbrev pub DocumentClosed : Call → Outcome → Type 0
+DocumentClosed c o = Gives (documentUnder (c .rules) (stateOf c)) o
 
 -- of every call c, whose outcome o is `close c`
 pub record CloseCall (c : Call) (o : Outcome) : Type 0 where
@@ -58,7 +63,7 @@ pub record CloseCall (c : Call) (o : Outcome) : Type 0 where
   -- it answers as the document in 64 bits would, or a row parts the two
   pub complete : let s = settingsUnder (c .rules) in let st = stateOf c in
       (o ≡ outcomeBy (closeTests c) c (In64Bits.«process_epoch» s st))
-      ⊎ ((closeTests c ≡ value tt) × CloseParts s st)
+      ⊎ ((closeTests c ≡ value tt) × CloseParts Churn s st)
 
 -- The steps
 
@@ -70,12 +75,15 @@ pub record ByNumber (numbers document opening closing after : List ℕ) (r : ℕ
   pub restored : OneOf r (4 ∷ 5 ∷ []) → after ≡ opening
 
 -- by the settings s; `document` is what the document's step makes of st
-pub record StepCall (s : Settings) (document st : BeaconState) (k : Step)
+pub record LimitedStepCall (l : ActivationLimit) (s : Settings) (document st : BeaconState) (k : Step)
     (contents : BeaconState → List ℕ) (numbers : List ℕ) (tests : Checked (Unit {0}))
     (opening closing after : List ℕ) (r : ℕ) : Type 0 where
   pub byNumber : ByNumber numbers (contents document) opening closing after r
   -- it answers as the document in 64 bits would, or a row parts the two
-  pub complete : Closes contents tests (In64Bits.step s st k) opening closing after r ⊎ ((tests ≡ value tt) × StepParts s st k)
+  pub complete : Closes contents tests (In64Bits.limitedStep l s st k) opening closing after r ⊎ ((tests ≡ value tt) × StepParts l s st k)
+
+abbrev pub StepCall : Settings → BeaconState → BeaconState → Step → (BeaconState → List ℕ) → List ℕ → Checked (Unit {0}) → List ℕ → List ℕ → List ℕ → ℕ → Type 0
+StepCall = LimitedStepCall Churn
 
 -- `st` is any state that has what the call is lent
 pub record StepCalls (s : Settings) (st : BeaconState) (opening closing after : List ℕ) (r : ℕ) : Type 0 where

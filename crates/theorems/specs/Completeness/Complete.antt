@@ -4,19 +4,22 @@ use mathlib.Core.Path.{_≡_}
 use mathlib.Core.List.{List}
 use mathlib.Core.Logic.{_⊎_}
 use Prim.Native.Nat.{ℕ}
+use Rattle.definitions.specs.declared.ActivationLimit.{ActivationLimit}
+use Rattle.definitions.specs.declared.ActivationLimit.the-variants.{AtMost}
 use Rattle.definitions.specs.declared.Settings.{Settings}
 use Rattle.definitions.specs.declared.Deltas.{Deltas}
+use Rattle.definitions.specs.declared.Bellatrix.{Bellatrix}
 use Rattle.definitions.specs.declared.Rules.{Rules}
 use Rattle.definitions.specs.Record.{Validator, BeaconState}
 use Rattle.definitions.specs.Checked.{value, refused, overflow}
-use Rattle.definitions.specs.Rules.{settingsUnder}
+use Rattle.definitions.specs.Rules.{settingsUnder, inPlace}
 use Rattle.definitions.specs.Document.ByFork.{documentUnder}
 use Rattle.definitions.specs.Document.Altair.Helpers as DocumentHelpers
-use Rattle.definitions.specs.Document.Altair.EpochProcessing as Document
+use Rattle.definitions.specs.Document.Deneb as Deneb
 use Rattle.definitions.specs.Rust.Altair.Helpers as RustHelpers
 use Rattle.definitions.specs.Close as Rust
 use Rattle.definitions.specs.Close.{Step, inactivityStep, rewardsStep, registryStep, effectiveBalancesStep}
-use Rattle.agreement.specs.Agreement.{documentStep, documentStepUnder}
+use Rattle.agreement.specs.Agreement.{limitedDocumentStep, limitedDocument, documentStepUnder}
 use Rattle.laws.specs.Bounds.{Passed}
 use Rattle.theorems.specs.Completeness.DocumentIn64Bits as In64Bits
 use Rattle.theorems.specs.Completeness.Rows.{Row, LeafRow, CloseRow}
@@ -28,30 +31,35 @@ StepAgreesIn64Bits = (r : Rules) (st st′ : BeaconState) (k : Step) → In64Bit
 abbrev pub CloseAgreesIn64Bits : Type 0
 CloseAgreesIn64Bits = (r : Rules) (st st′ : BeaconState) → In64Bits.«process_epoch» (settingsUnder r) st ≡ value st′ → documentUnder r st ≡ st′
 
+abbrev pub DenebAgreesIn64Bits : Type 0
+DenebAgreesIn64Bits =
+    (s : Settings) (b : Bellatrix) (maximum : ℕ) (st st′ : BeaconState)
+    → In64Bits.limitedEpoch (AtMost maximum) (inPlace b s) st ≡ value st′ → Deneb.«process_epoch» s b maximum st ≡ st′
+
 -- Steps
 
-pub record StepParts (s : Settings) (st : BeaconState) (k : Step) : Type 0 where
+pub record StepParts (l : ActivationLimit) (s : Settings) (st : BeaconState) (k : Step) : Type 0 where
   pub row : Row s st k
-  pub rust : Rust.step s st k ≡ refused overflow
-  pub document : In64Bits.step s st k ≡ value (documentStep s st k)
+  pub rust : Rust.limitedStep l s st k ≡ refused overflow
+  pub document : In64Bits.limitedStep l s st k ≡ value (limitedDocumentStep l s st k)
 
 -- registry alone asks for the tests, which keep the activation epoch in 64 bits
 abbrev pub CompleteStep : Type 0
 CompleteStep =
-    (s : Settings) (st : BeaconState) (k : Step) → (k ≡ registryStep → Passed s (st .finality .slot))
-    → (Rust.step s st k ≡ In64Bits.step s st k) ⊎ StepParts s st k
+    (l : ActivationLimit) (s : Settings) (st : BeaconState) (k : Step) → (k ≡ registryStep → Passed s (st .finality .slot))
+    → (Rust.limitedStep l s st k ≡ In64Bits.limitedStep l s st k) ⊎ StepParts l s st k
 
 -- The rows are no wider than they need be
-pub record EveryRow (s : Settings) (st : BeaconState) : Type 0 where
+pub record EveryRow (l : ActivationLimit) (s : Settings) (st : BeaconState) : Type 0 where
   -- at each the Rust answers 5
-  pub refuses : (k : Step) → Row s st k → Rust.step s st k ≡ refused overflow
+  pub refuses : (k : Step) → Row s st k → Rust.limitedStep l s st k ≡ refused overflow
   -- at the first and the third the document leaves the state as it was
-  pub inactivity : Row s st inactivityStep → In64Bits.step s st inactivityStep ≡ value st
-  pub effectiveBalances : Row s st effectiveBalancesStep → In64Bits.step s st effectiveBalancesStep ≡ value st
+  pub inactivity : Row s st inactivityStep → In64Bits.limitedStep l s st inactivityStep ≡ value st
+  pub effectiveBalances : Row s st effectiveBalancesStep → In64Bits.limitedStep l s st effectiveBalancesStep ≡ value st
   -- at the second it goes on unless another number leaves 64 bits, and where it goes on the two part
-  pub parts : (k : Step) (st′ : BeaconState) → Row s st k → In64Bits.step s st k ≡ value st′ → StepParts s st k
+  pub parts : (k : Step) (st′ : BeaconState) → Row s st k → In64Bits.limitedStep l s st k ≡ value st′ → StepParts l s st k
   -- and they are not the same there
-  pub differ : (k : Step) → StepParts s st k → Rust.step s st k ≡ In64Bits.step s st k → ⊥
+  pub differ : (k : Step) → StepParts l s st k → Rust.limitedStep l s st k ≡ In64Bits.limitedStep l s st k → ⊥
 
 -- The leaf get_flag_index_deltas
 
@@ -77,22 +85,22 @@ pub record EveryLeafRow (s : Settings) (stateSlot finalizedEpoch : ℕ) (vs : Li
 
 -- The whole close
 
-pub record CloseParts (s : Settings) (st : BeaconState) : Type 0 where
+pub record CloseParts (l : ActivationLimit) (s : Settings) (st : BeaconState) : Type 0 where
   pub row : CloseRow s st
-  pub rust : Rust.«process_epoch» s st ≡ refused overflow
-  pub document : In64Bits.«process_epoch» s st ≡ value (Document.«process_epoch» s st)
+  pub rust : Rust.limitedEpoch l s st ≡ refused overflow
+  pub document : In64Bits.limitedEpoch l s st ≡ value (limitedDocument l s st)
 
 abbrev pub CompleteClose : Type 0
 CompleteClose =
-    (s : Settings) (st : BeaconState) → Passed s (st .finality .slot)
-    → (Rust.«process_epoch» s st ≡ In64Bits.«process_epoch» s st) ⊎ CloseParts s st
+    (l : ActivationLimit) (s : Settings) (st : BeaconState) → Passed s (st .finality .slot)
+    → (Rust.limitedEpoch l s st ≡ In64Bits.limitedEpoch l s st) ⊎ CloseParts l s st
 
-pub record EveryCloseRow (s : Settings) (st : BeaconState) : Type 0 where
+pub record EveryCloseRow (l : ActivationLimit) (s : Settings) (st : BeaconState) : Type 0 where
   -- at each the Rust gives no record
-  pub refuses : (st′ : BeaconState) → CloseRow s st → Rust.«process_epoch» s st ≡ value st′ → ⊥
+  pub refuses : (st′ : BeaconState) → CloseRow s st → Rust.limitedEpoch l s st ≡ value st′ → ⊥
   -- and where the document does the two part
-  pub parts : (st′ : BeaconState) → Passed s (st .finality .slot) → CloseRow s st → In64Bits.«process_epoch» s st ≡ value st′ → CloseParts s st
+  pub parts : (st′ : BeaconState) → Passed s (st .finality .slot) → CloseRow s st → In64Bits.limitedEpoch l s st ≡ value st′ → CloseParts l s st
 
 -- why the second row is none of a close: rewards comes after an inactivity step that gave a value
 abbrev pub NoRewardsRow : Type 0
-NoRewardsRow = (s : Settings) (st scored : BeaconState) → Rust.step s st inactivityStep ≡ value scored → Row s scored rewardsStep → ⊥
+NoRewardsRow = (l : ActivationLimit) (s : Settings) (st scored : BeaconState) → Rust.limitedStep l s st inactivityStep ≡ value scored → Row s scored rewardsStep → ⊥

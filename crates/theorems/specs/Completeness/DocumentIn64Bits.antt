@@ -7,6 +7,8 @@ use mathlib.Core.List.{List, [], _∷_}
 use Prim.Native.Nat.{ℕ, _/_}
 use lib.Dec.{eqb}
 use lib.ListN.{length, getD, take}
+use Rattle.definitions.specs.declared.ActivationLimit.{ActivationLimit}
+use Rattle.definitions.specs.declared.ActivationLimit.the-variants.{Churn}
 use Rattle.definitions.specs.declared.Settings.{Settings}
 use Rattle.definitions.specs.declared.Deltas.{Deltas}
 use Rattle.definitions.specs.Lists.{range}
@@ -17,7 +19,7 @@ use Rattle.definitions.specs.Document.Phase0.EpochProcessing as Document
 use Rattle.definitions.specs.Document.Phase0.EpochProcessing.{activationQueue}
 use Rattle.definitions.specs.Rust.Phase0.Helpers.{«compute_activation_exit_epoch», «get_current_epoch», «get_previous_epoch», «get_validator_churn_limit», «get_total_balance», «get_total_active_balance»}
 use Rattle.definitions.specs.Rust.Phase0.EpochProcessing as RustPhase0
-use Rattle.definitions.specs.Rust.Phase0.EpochProcessing.{isEligible, «is_in_inactivity_leak», updateRegistryAt}
+use Rattle.definitions.specs.Rust.Phase0.EpochProcessing.{isEligible, «is_in_inactivity_leak», updateRegistryAt, activationLimit}
 use Rattle.definitions.specs.Rust.Altair.Helpers.{«TIMELY_SOURCE_FLAG_INDEX», «TIMELY_TARGET_FLAG_INDEX», «TIMELY_HEAD_FLAG_INDEX», «PARTICIPATION_FLAG_WEIGHTS», noDeltas, isUnslashedParticipating, «get_unslashed_participating_indices», «get_base_reward», hitDeltas, missDeltas}
 use Rattle.definitions.specs.Rust.Altair.EpochProcessing.{movedScore, recoveredScore, applyDelta}
 use Rattle.definitions.specs.Close as Rust
@@ -91,10 +93,12 @@ unfoldable pub activateAt : Settings → ℕ → List Validator → ℕ → Chec
 activateAt s stateSlot vs index =
     bind («compute_activation_exit_epoch» s («get_current_epoch» s stateSlot)) (λ epoch. value (Document.activateAt epoch vs index))
 
-unfoldable pub «process_registry_updates» : Settings → ℕ → ℕ → List Validator → Checked (List Validator)
-«process_registry_updates» s stateSlot finalizedEpoch vs =
+-- the queue is cut at the churn limit, or at Deneb's get_validator_activation_churn_limit
+unfoldable pub limitedRegistryUpdates : ActivationLimit → Settings → ℕ → ℕ → List Validator → Checked (List Validator)
+limitedRegistryUpdates l s stateSlot finalizedEpoch vs =
     bind (foldChecked (updateRegistryAt s stateSlot) vs (range 0 (length vs))) (λ queued.
-    foldChecked (activateAt s stateSlot) queued (take («get_validator_churn_limit» s stateSlot queued) (activationQueue finalizedEpoch queued)))
+    let limit = activationLimit l («get_validator_churn_limit» s stateSlot queued) in
+    foldChecked (activateAt s stateSlot) queued (take limit (activationQueue finalizedEpoch queued)))
 
 -- Effective balances updates: both thresholds are worked out for each validator
 
@@ -110,17 +114,24 @@ unfoldable pub «process_effective_balance_updates» : Settings → List Validat
 
 -- Epoch processing. In the other four steps every operation stands where the Rust has it.
 
-unfoldable pub step : Settings → BeaconState → Step → Checked BeaconState
-step s st justificationStep = Rust.step s st justificationStep
-step s st inactivityStep = onValidators st («process_inactivity_updates» s (st .finality .slot) (finalizedEpochOf st) (st .validators))
-step s st rewardsStep =
+unfoldable pub limitedStep : ActivationLimit → Settings → BeaconState → Step → Checked BeaconState
+limitedStep l s st justificationStep = Rust.limitedStep l s st justificationStep
+limitedStep l s st inactivityStep = onValidators st («process_inactivity_updates» s (st .finality .slot) (finalizedEpochOf st) (st .validators))
+limitedStep l s st rewardsStep =
     let quotient = s .«inactivity_penalty_quotient_altair» in
     onValidators st («process_rewards_and_penalties» s quotient (st .finality .slot) (finalizedEpochOf st) (st .validators))
-step s st registryStep = onValidators st («process_registry_updates» s (st .finality .slot) (finalizedEpochOf st) (st .validators))
-step s st slashingsStep = Rust.step s st slashingsStep
-step s st effectiveBalancesStep = onValidators st («process_effective_balance_updates» s (st .validators))
-step s st slashingsResetStep = Rust.step s st slashingsResetStep
-step s st participationFlagsStep = Rust.step s st participationFlagsStep
+limitedStep l s st registryStep = onValidators st (limitedRegistryUpdates l s (st .finality .slot) (finalizedEpochOf st) (st .validators))
+limitedStep l s st slashingsStep = Rust.limitedStep l s st slashingsStep
+limitedStep l s st effectiveBalancesStep = onValidators st («process_effective_balance_updates» s (st .validators))
+limitedStep l s st slashingsResetStep = Rust.limitedStep l s st slashingsResetStep
+limitedStep l s st participationFlagsStep = Rust.limitedStep l s st participationFlagsStep
 
-unfoldable pub «process_epoch» : Settings → BeaconState → Checked BeaconState
-«process_epoch» s st = foldChecked (step s) st steps
+unfoldable pub limitedEpoch : ActivationLimit → Settings → BeaconState → Checked BeaconState
+limitedEpoch l s st = foldChecked (limitedStep l s) st steps
+
+-- before Deneb
+abbrev pub step : Settings → BeaconState → Step → Checked BeaconState
+step s st k = limitedStep Churn s st k
+
+abbrev pub «process_epoch» : Settings → BeaconState → Checked BeaconState
+«process_epoch» s st = limitedEpoch Churn s st

@@ -3,6 +3,7 @@ use mathlib.Core.Path.{_≡_}
 use mathlib.Core.List.{List, [], _∷_, _++_}
 use Prim.Native.Nat.{ℕ, _+_, _-_, _^_}
 use lib.ListN.{getD, replicate}
+use Rattle.definitions.specs.declared.ActivationLimit.the-variants.{Churn}
 use Rattle.definitions.specs.declared.Settings.{Settings}
 use Rattle.definitions.specs.declared.Checkpoint.{Checkpoint}
 use Rattle.definitions.specs.Record.{nobody, «FAR_FUTURE_EPOCH»}
@@ -105,18 +106,18 @@ untested = callOf (least 1 0 (2 ^ 64 - 1)) [] 0 0
 -- `ahead`, `missed` and `wide` pass the tests and part: a step of each, the leaf, and, but for rewards, the whole close
 pub record Parting (turned : Call → Call) : Type 0 where
   pub aheadTests : closeTests (turned ahead) ≡ value tt
-  pub inactivity : StepParts (settingsUnder (turned ahead .rules)) (stateOf (turned ahead)) inactivityStep
-  pub rewards : StepParts (settingsUnder (turned ahead .rules)) (stateOf (turned ahead)) rewardsStep
-  pub aheadClose : CloseParts (settingsUnder (turned ahead .rules)) (stateOf (turned ahead))
+  pub inactivity : StepParts Churn (settingsUnder (turned ahead .rules)) (stateOf (turned ahead)) inactivityStep
+  pub rewards : StepParts Churn (settingsUnder (turned ahead .rules)) (stateOf (turned ahead)) rewardsStep
+  pub aheadClose : CloseParts Churn (settingsUnder (turned ahead .rules)) (stateOf (turned ahead))
   pub missedTests : closeTests (turned missed) ≡ value tt
-  pub missedRewards : StepParts (settingsUnder (turned missed .rules)) (stateOf (turned missed)) rewardsStep
+  pub missedRewards : StepParts Churn (settingsUnder (turned missed .rules)) (stateOf (turned missed)) rewardsStep
   pub missedLeaf : let c = turned missed in let st = stateOf c in
       LeafParts (settingsUnder (c .rules)) (c .finality .slot) (finalizedEpochOf st) (st .validators) 0 (getD (st .validators) 0 nobody)
   pub missedClose : let s = settingsUnder (turned missed .rules) in let st = stateOf (turned missed) in
       (Rust.«process_epoch» s st ≡ refused overflow) × (In64Bits.«process_epoch» s st ≡ refused overflow)
   pub wideTests : closeTests (turned wide) ≡ value tt
-  pub effectiveBalances : StepParts (settingsUnder (turned wide .rules)) (stateOf (turned wide)) effectiveBalancesStep
-  pub wideClose : CloseParts (settingsUnder (turned wide .rules)) (stateOf (turned wide))
+  pub effectiveBalances : StepParts Churn (settingsUnder (turned wide .rules)) (stateOf (turned wide)) effectiveBalancesStep
+  pub wideClose : CloseParts Churn (settingsUnder (turned wide .rules)) (stateOf (turned wide))
   -- in a row, and both refuse
   pub heavyTests : closeTests (turned heavy) ≡ value tt
   pub heavyRow : Row (settingsUnder (turned heavy .rules)) (stateOf (turned heavy)) rewardsStep

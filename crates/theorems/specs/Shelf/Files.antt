@@ -7,6 +7,7 @@ use mathlib.Core.Logic.{_⊎_}
 use Prim.Native.Nat.{ℕ, zero, suc, _*_, _<_}
 use lib.Dec.{eqb}
 use lib.ListN.{length, getD, take, drop, replicate}
+use Rattle.definitions.specs.declared.ActivationLimit.the-variants.{Churn}
 use Rattle.definitions.specs.declared.Bellatrix.{Bellatrix}
 use Rattle.definitions.specs.Record.{decode}
 use Rattle.definitions.specs.Checked.{value}
@@ -103,7 +104,7 @@ pub record FileCall (f : OnShelf) : Type 0 where
   -- it is answered as by the document in 64 bits, or a row parts the two
   pub complete : let tests = fileTests (f .fork) (f .pair) (f .file) in let s = settingsUnder (rulesIn (f .fork) (f .pair) (f .file)) in
       Closes (closedFile (f .file)) tests (In64Bits.«process_epoch» s (stateIn (f .file))) (f .file) (f .lent) (f .part) (f .answer)
-      ⊎ ((tests ≡ value tt) × CloseParts s (stateIn (f .file)))
+      ⊎ ((tests ≡ value tt) × CloseParts Churn s (stateIn (f .file)))
 
 abbrev pub FileCalls : Type 0
 FileCalls = (f : OnShelf) → Defined f → FileCall f

@@ -1,3 +1,5 @@
+use mathlib.Core.Path.{refl}
+use Rattle.definitions.specs.declared.ActivationLimit.the-variants.{Churn}
 use Rattle.refusals.proofs.Laws.{good-settings}
 use Rattle.exit_queue.proofs.Tracks.{tracks-start}
 use Rattle.registry.proofs.Epochs.{epochs}
@@ -54,16 +56,17 @@ update-by-requires c κs =
     let at-survey-registry = at-cut-queue .before .before .before .before .before .before in
     let at-current-epoch = at-survey-registry .before .before .before .before in
     let at-start = at-current-epoch .before .before .before in
-    let p = epochs _ _ (at-start .pre .0) (at-start .pre .1 .0 .0) in let q = good-settings _ (at-start .pre .0) .small .«max_seed_lookahead» in ((at-start .pre .1 .1 .0, omega (arith, p .small, at-current-epoch .current-epoch .ensures), q), (omega arith, (rw (c .before .start-pair .ensures) (tracks-start (omega (arith, p .fits, at-current-epoch .current-epoch .ensures)) (at-survey-registry .survey-registry .ensures .queue)), at-cut-queue .cut-queue .ensures)))
+    let p = epochs _ _ (at-start .pre .0) (at-start .pre .1 .0 .0) in let q = good-settings _ (at-start .pre .0) .small .«max_seed_lookahead» in ((at-start .pre .1 .1 .0, omega (arith, p .small, at-current-epoch .current-epoch .ensures), q), (omega arith, rw (c .before .start-pair .ensures) (tracks-start (omega (arith, p .fits, at-current-epoch .current-epoch .ensures)) (at-survey-registry .survey-registry .ensures .queue))))
 
 returns : tie.Need-returns
 returns c =
     let at-update-by = c .before .before in
+    let at-cut-queue : tie.After-cut-queue = search needs in
     let at-churn-by = at-update-by .before .before .before .before .before .before .before in
     let at-survey-registry = at-churn-by .before .before .before in
     let at-current-epoch = at-survey-registry .before .before .before .before in
     let at-start = at-current-epoch .before .before .before in
-    let limit = counted-limit _ _ _ (at-current-epoch .current-epoch .ensures) (at-survey-registry .survey-registry .ensures .number) (at-churn-by .churn-by .ensures) in ran-whole _ _ _ _ (at-start .pre .1 .1 .0) (rw (step-by _ _ _ _ _ (epochs _ _ (at-start .pre .0) (at-start .pre .1 .0 .0)) (at-current-epoch .current-epoch .ensures) limit) (at-update-by .update-by .ensures))
+    let limit = counted-limit _ _ _ (at-current-epoch .current-epoch .ensures) (at-survey-registry .survey-registry .ensures .number) (at-churn-by .churn-by .ensures) in ran-whole _ _ _ _ (at-start .pre .1 .1 .0) (rw (step-by Churn _ _ _ _ _ (epochs _ _ (at-start .pre .0) (at-start .pre .1 .0 .0)) (at-current-epoch .current-epoch .ensures) limit refl) (at-update-by .update-by .ensures .under _ (at-cut-queue .cut-queue .ensures)))
 
 pub registry-core-spec : {M : Type 1} → statement M
 registry-core-spec =

@@ -14,6 +14,7 @@ use Rattle.definitions.specs.Document.Altair.Helpers.{«TIMELY_SOURCE_FL
 
 -- Justification and finalization
 
+-- altair, Justification and finalization; the balances are asked by flags, phase0's weighing goes on
 unfoldable pub «process_justification_and_finalization» : Settings → BeaconState → BeaconState
 «process_justification_and_finalization» s st =
     let stateSlot = st .finality .slot in
@@ -28,6 +29,7 @@ unfoldable pub «process_justification_and_finalization» : Settings → BeaconS
 
 -- Inactivity scores
 
+-- altair, Inactivity scores, process_inactivity_updates: one validator's turn
 unfoldable pub updateInactivityScore : Settings → ℕ → ℕ → Validator → Validator
 updateInactivityScore s stateSlot finalizedEpoch v =
     let score = v .«inactivity_score» in
@@ -45,14 +47,17 @@ unfoldable pub «process_inactivity_updates» : Settings → BeaconState → Bea
 
 -- Rewards and penalties
 
+-- altair, process_rewards_and_penalties: increase_balance(state, index, rewards[index]), then decrease_balance
 -- a reward, then its penalty
 unfoldable pub applyDelta : Validator → Deltas → Validator
 applyDelta v d = «decrease_balance» («increase_balance» v (d .reward)) (d .penalty)
 
+-- altair, process_rewards_and_penalties: the inner loop, for (rewards, penalties) of one list
 -- one pair of the list `deltas`, for every validator
 unfoldable pub applyDeltas : List Validator → List Deltas → List Validator
 applyDeltas vs ds = zipWith applyDelta vs ds
 
+-- altair, process_rewards_and_penalties: flag_deltas and the inactivity deltas, one behind the other
 -- by the inactivity deltas, which are all that a later fork changes of it
 abbrev pub rewardedBy : Settings → List Deltas → BeaconState → BeaconState
 rewardedBy s inactivity st =
@@ -66,6 +71,7 @@ unfoldable pub «process_rewards_and_penalties» : Settings → ℕ → BeaconSt
 
 -- Slashings
 
+-- altair, Slashings, modified process_slashings: one validator's turn
 unfoldable pub slash : Settings → ℕ → ℕ → ℕ → Validator → Validator
 slash s epoch totalBalance adjustedTotalSlashingBalance v =
     let increment = s .«effective_balance_increment» in
@@ -83,6 +89,7 @@ unfoldable pub «process_slashings» : Settings → ℕ → BeaconState → Beac
 
 -- Participation flags updates
 
+-- altair, Participation flags updates, process_participation_flag_updates: one validator's two fields
 unfoldable pub rotateParticipation : Validator → Validator
 rotateParticipation v = withParticipation (v .«current_epoch_participation») 0 v
 

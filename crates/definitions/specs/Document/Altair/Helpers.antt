@@ -58,9 +58,11 @@ unfoldable pub «get_unslashed_participating_indices» : Settings → ℕ → Li
 «get_unslashed_participating_indices» s stateSlot vs flagIndex epoch =
     filter (isUnslashedParticipating («get_current_epoch» s stateSlot) flagIndex epoch) vs
 
+-- altair, get_flag_index_deltas and get_inactivity_penalty_deltas: the zeros that both lists begin with
 abbrev pub noDeltas : Deltas
 noDeltas = record { reward = 0; penalty = 0 }
 
+-- altair, get_flag_index_deltas: one validator's turn
 -- rewards[index] and penalties[index] of a flag
 unfoldable pub flagIndexDeltas : Settings → ℕ → ℕ → List Validator → ℕ → Validator → Deltas
 flagIndexDeltas s stateSlot finalizedEpoch vs flagIndex v =
@@ -81,6 +83,7 @@ flagIndexDeltas s stateSlot finalizedEpoch vs flagIndex v =
 unfoldable pub «get_flag_index_deltas» : Settings → ℕ → ℕ → List Validator → ℕ → List Deltas
 «get_flag_index_deltas» s stateSlot finalizedEpoch vs flagIndex = map (flagIndexDeltas s stateSlot finalizedEpoch vs flagIndex) vs
 
+-- altair, modified get_inactivity_penalty_deltas: one validator's turn; `quotient` is inactivity_penalty_quotient_altair
 -- the inactivity penalty of a validator; `quotient` is inactivity_penalty_quotient_altair
 unfoldable pub inactivityPenaltyDeltas : Settings → ℕ → ℕ → Validator → Deltas
 inactivityPenaltyDeltas s quotient stateSlot v =

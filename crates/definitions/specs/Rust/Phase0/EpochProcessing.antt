@@ -1,11 +1,13 @@
 -- ethereum-consensus/src/phase0/epoch_processing.rs
 use mathlib.Core.Bool.{Bool, cond}
 use mathlib.Core.List.{List, []}
-use Prim.Native.Nat.{ℕ, _/_}
+use Prim.Native.Nat.{ℕ, _/_, min}
 use lib.Dec.{leb, ltb}
 use lib.ListN.{length, getD, set}
 use Rattle.definitions.specs.declared.Settings.{Settings}
 use Rattle.definitions.specs.declared.Finality.{Finality}
+use Rattle.definitions.specs.declared.ActivationLimit.{ActivationLimit}
+use Rattle.definitions.specs.declared.ActivationLimit.the-variants.{Churn, AtMost}
 use Rattle.definitions.specs.Lists.{range}
 use Rattle.definitions.specs.Record.{Validator, nobody}
 use Rattle.definitions.specs.Updates.{withEffectiveBalance}
@@ -50,12 +52,20 @@ updateRegistryAt s stateSlot vs index =
     let queued = set vs index (queueEligible s currentEpoch (getD vs index nobody)) in
     cond (isEjected s currentEpoch (getD queued index nobody)) («initiate_validator_exit» s stateSlot queued index) (value queued)
 
+-- where `churn` may exit; «get_validator_activation_churn_limit» from Deneb on
+abbrev pub activationLimit : ActivationLimit → ℕ → ℕ
+activationLimit Churn churn = churn
+activationLimit (AtMost maximum) churn = min maximum churn
+
 -- 253: the queue is read with the eligibility epochs just written
-unfoldable pub «process_registry_updates» : Settings → ℕ → ℕ → List Validator → Checked (List Validator)
-«process_registry_updates» s stateSlot finalizedEpoch vs =
+unfoldable pub limitedRegistryUpdates : ActivationLimit → Settings → ℕ → ℕ → List Validator → Checked (List Validator)
+limitedRegistryUpdates limit s stateSlot finalizedEpoch vs =
     bind (foldChecked (updateRegistryAt s stateSlot) vs (range 0 (length vs))) (λ queued.
     bind («compute_activation_exit_epoch» s («get_current_epoch» s stateSlot)) (λ epoch.
-    value (dequeued epoch («get_validator_churn_limit» s stateSlot queued) finalizedEpoch queued)))
+    value (dequeued epoch (activationLimit limit («get_validator_churn_limit» s stateSlot queued)) finalizedEpoch queued)))
+
+abbrev pub «process_registry_updates» : Settings → ℕ → ℕ → List Validator → Checked (List Validator)
+«process_registry_updates» s stateSlot finalizedEpoch vs = limitedRegistryUpdates Churn s stateSlot finalizedEpoch vs
 
 -- 395, a validator: the second sum is evaluated only where the first test failed
 unfoldable pub updateEffectiveBalance : Settings → ℕ → ℕ → Validator → Checked Validator

@@ -1,0 +1,2 @@
+-- Laws of Deneb's registry step.
+mod Step
