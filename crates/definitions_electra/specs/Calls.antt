@@ -111,7 +111,8 @@ abbrev pub churnIn : Checked ElectraState → Checked ExitChurn
 churnIn m = bind m (λ st. value (st .churn))
 
 -- the registry step, and the exit of one validator
-pub record ChurnCloses (tests : Checked (Unit {0})) (work : Checked ElectraState) (churn : ExitChurn) (opening closing after : List ℕ) (r : ExitChurnAnswer) : Type 0 where
+pub record ChurnCloses (tests : Checked (Unit {0})) (work : Checked ElectraState) (churn : ExitChurn) (opening closing after : List ℕ)
+    (r : ExitChurnAnswer) : Type 0 where
   pub answer : r ≡ exitChurnAnswer (churnIn (afterTests tests work)) churn
   pub buffer : after ≡ closingBuffer registryIn tests work opening closing
 

@@ -95,7 +95,8 @@ slashingsTests r stateSlot slashings opening closing =
 -- `work` is the working list of the keys, as long as there are deposits
 unfoldable pub depositsTests : ElectraRules → ℕ → ℕ → List ℕ → List ℕ → List ℕ → List ℕ → List ℕ → List ℕ → List ℕ → Checked (Unit {0})
 depositsTests r stateSlot finalizedEpoch registry compounding deposits closingRegistry closingCompounding closingDeposits work =
-    let lent = settingsShaped (r .settings) ∷ registryShaped registry ∷ compoundingShaped registry compounding ∷ depositsShaped deposits ∷ keysShaped registry deposits ∷ [] in
+    let lent = settingsShaped (r .settings) ∷ registryShaped registry ∷ compoundingShaped registry compounding
+    ∷ depositsShaped deposits ∷ keysShaped registry deposits ∷ [] in
     let closing = roomyRegistry registry deposits closingRegistry ∷ roomyCompounding registry deposits closingCompounding
     ∷ sameLength deposits closingDeposits ∷ lengthIs (depositsOf deposits) work ∷ [] in
     inOrder (lent ++ closing) (goodElectra r ∷ [])

@@ -1,6 +1,14 @@
 pub mod Keys
-pub mod Simulated
-pub mod Steps
-pub mod Queue
+pub mod Alone
+pub mod Alike
 pub mod Postponed
 pub mod Twin
+pub mod Joined
+pub mod Text
+pub mod Simulated
+pub mod Steps
+pub mod Table
+pub mod TestSteps
+pub mod Marks
+pub mod Tests
+pub mod Refuses

@@ -2,7 +2,7 @@
 use mathlib.Core.Path.{_≡_, refl, sym, ap, _∙_}
 use mathlib.Core.Bool.{Bool, true, false, cond, _&&_, not}
 use mathlib.Core.List.{List, [], _∷_, _++_}
-use Prim.Native.Nat.{ℕ, suc, _+_, _-_, _≤_, _<_}
+use Prim.Native.Nat.{ℕ, suc, _+_, _≤_, _<_}
 use native.Mathlib.Omega.{arith}
 use borrow.Author.Tests.{lt-ltb, le-ltb, ltb-true, ltb-false, eqb-true, eqb-false}
 use lib.Dec.{ltb, eqb}
@@ -20,7 +20,8 @@ use Rattle.definitions_electra.specs.Loops.{foldUntilChecked}
 use Rattle.definitions_electra.specs.Record.{Registry, placeOf}
 use Rattle.definitions_electra.specs.Document.Electra.EpochProcessing.{Queueing, Processing, «get_validator_from_deposit», «add_validator_to_registry», isKnown, placeIn, putValidator, isWithdrawn, isExited, movedOn, limitReached, depositsStop}
 use Rattle.definitions_electra.specs.Evaluated.Electra.EpochProcessing.{«apply_pending_deposit», processDeposit}
-use Rattle.electra_deposits.specs.Room.{isPostponed}
+use Rattle.electra_deposits.specs.Alone.{isPostponed}
+use Rattle.electra_deposits.proofs.Alike.{apart}
 use Rattle.electra_deposits.proofs.Keys.{place-front, place-behind, place-range, place-outside, length-range}
 
 -- the registry of the step, with the opening's n validators vs₀ at its front
@@ -34,9 +35,6 @@ pub record Kept (n : ℕ) (vs₀ : List Validator) (reg : Registry) : Type 0 whe
   pub withdrawables : (j : ℕ) → j < n → getD (reg .validators) j nobody .«withdrawable_epoch» ≡ getD vs₀ j nobody .«withdrawable_epoch»
   pub news : (j : ℕ) → n ≤ j → j < length (reg .pubkeys) → getD (reg .validators) j nobody .«exit_epoch» ≡ «FAR_FUTURE_EPOCH»
   pub news-too : (j : ℕ) → n ≤ j → j < length (reg .pubkeys) → getD (reg .validators) j nobody .«withdrawable_epoch» ≡ «FAR_FUTURE_EPOCH»
-
-apart : false ≡ true → ⊥
-apart e = let z : _≡_ {A = ℕ} 0 1 = cc in omega arith
 
 -- the text's two tests are that one
 pub postponed-is : {n : ℕ} {vs₀ : List Validator} {reg : Registry} → Kept n vs₀ reg → (q : Queueing) (d : PendingDeposit) → (not (isWithdrawn q reg d) && isExited reg d) ≡ isPostponed n (q .nextEpoch) vs₀ d
@@ -159,45 +157,12 @@ kept-apply {n} {vs₀} {reg} h r d {reg′} e = go (isKnown reg d) refl e
         rw (← value-same (b .then)) (kept-put h (placeIn reg d) (b .first) (omega (arith, l, h .long)) (rw (← w)) (rw (← w)))
     go false u e = chosen (eqb (d .valid) 1) u (value-same e)
 
--- A deposit that adds nobody leaves the keys
-
-keys-apply : (r : ElectraRules) (reg : Registry) (d : PendingDeposit) {reg′ : Registry} → d .valid ≡ 0 → «apply_pending_deposit» r reg d ≡ value reg′ → reg′ .pubkeys ≡ reg .pubkeys
-unfolding «apply_pending_deposit»
-keys-apply r reg d {reg′} z e = go (isKnown reg d) (rw z at e)
-  where
-    go : (t : Bool) → cond t (bind («increase_balance» (getD (reg .validators) (placeIn reg d) nobody) (d .amount)) (λ w. value (putValidator reg (placeIn reg d) w))) (value reg) ≡ value reg′ → reg′ .pubkeys ≡ reg .pubkeys
-    go true e =
-        let b = bound («increase_balance» (getD (reg .validators) (placeIn reg d) nobody) (d .amount)) (λ w. value (putValidator reg (placeIn reg d) w)) e in
-        sym (ap (λ (x : Registry). x .pubkeys) (value-same (b .then)))
-    go false e = sym (ap (λ (x : Registry). x .pubkeys) (value-same e))
-
-pub keys-turn : (r : ElectraRules) (q : Queueing) (p : Processing) (d : PendingDeposit) {p′ : Processing} → d .valid ≡ 0 → processDeposit r q p d ≡ value p′ → p′ .registry .pubkeys ≡ p .registry .pubkeys
-unfolding processDeposit
-keys-turn r q p d {p′} z e = go (isWithdrawn q (p .registry) d) (isExited (p .registry) d) e
-  where
-    applied : (s : ℕ) → bind («apply_pending_deposit» r (p .registry) d) (λ a. value (movedOn a s (p .«deposits_to_postpone») p)) ≡ value p′ → p′ .registry .pubkeys ≡ p .registry .pubkeys
-    applied s e =
-        let b = bound («apply_pending_deposit» r (p .registry) d) (λ a. value (movedOn a s (p .«deposits_to_postpone») p)) e in
-        sym (ap (λ (x : Processing). x .registry .pubkeys) (value-same (b .then))) ∙ keys-apply r (p .registry) d z (b .gave)
-
-    last : (s : ℕ) (t : Bool) → cond t (value (limitReached p)) (bind («apply_pending_deposit» r (p .registry) d) (λ a. value (movedOn a s (p .«deposits_to_postpone») p))) ≡ value p′ → p′ .registry .pubkeys ≡ p .registry .pubkeys
-    last s true e = sym (ap (λ (x : Processing). x .registry .pubkeys) (value-same e))
-    last s false e = applied s e
-
-    go : (w x : Bool) → cond w (bind («apply_pending_deposit» r (p .registry) d) (λ a. value (movedOn a (p .«processed_amount») (p .«deposits_to_postpone») p))) (cond x (value (movedOn (p .registry) (p .«processed_amount») (p .«deposits_to_postpone» ++ (d ∷ [])) p)) (bind (add64 (p .«processed_amount») (d .amount)) (λ s. cond (ltb (q .available) s) (value (limitReached p)) (bind («apply_pending_deposit» r (p .registry) d) (λ a. value (movedOn a s (p .«deposits_to_postpone») p)))))) ≡ value p′ → p′ .registry .pubkeys ≡ p .registry .pubkeys
-    go true x e = applied (p .«processed_amount») e
-    go false true e = sym (ap (λ (x : Processing). x .registry .pubkeys) (value-same e))
-    go false false e =
-        let b = bound (add64 (p .«processed_amount») (d .amount)) (λ s. cond (ltb (q .available) s) (value (limitReached p)) (bind («apply_pending_deposit» r (p .registry) d) (λ a. value (movedOn a s (p .«deposits_to_postpone») p)))) e in
-        last (b .first) (ltb (q .available) (b .first)) (b .then)
-
 -- What a turn does to the list of the postponed
 pub record Went (n : ℕ) (vs₀ : List Validator) (q : Queueing) (p : Processing) (d : PendingDeposit) (p′ : Processing) : Type 0 where
   pub kept : Kept n vs₀ (p′ .registry)
   pub moved : p′ .«is_churn_limit_reached» ≡ false → p′ .«next_deposit_index» ≡ p .«next_deposit_index» + 1
   pub more : p′ .«is_churn_limit_reached» ≡ false → p′ .«deposits_to_postpone» ≡ p .«deposits_to_postpone» ++ filter (isPostponed n (q .nextEpoch) vs₀) (d ∷ [])
-  pub stayed : p′ .«is_churn_limit_reached» ≡ true → p′ .«next_deposit_index» ≡ p .«next_deposit_index»
-  pub same : p′ .«is_churn_limit_reached» ≡ true → p′ .«deposits_to_postpone» ≡ p .«deposits_to_postpone»
+  pub left : p′ .«is_churn_limit_reached» ≡ true → p′ ≡ limitReached p
 
 pub with-none : {A : Type 0} (xs : List A) → xs ++ [] ≡ xs
 with-none [] = refl
@@ -215,8 +180,7 @@ module _ {n : ℕ} {vs₀ : List Validator} (r : ElectraRules) (q : Queueing) {p
         kept = k;
         moved = λ e. refl;
         more = λ e. rw (one (isPostponed n (q .nextEpoch) vs₀) d f) (sym (with-none (p .«deposits_to_postpone»)));
-        stayed = λ e. absurd (apart e);
-        same = λ e. absurd (apart e);
+        left = λ e. absurd (apart (sym e));
       }
 
   went-postponed : (s : ℕ) → isPostponed n (q .nextEpoch) vs₀ d ≡ true → Went n vs₀ q p d (movedOn (p .registry) s (p .«deposits_to_postpone» ++ (d ∷ [])) p)
@@ -225,12 +189,11 @@ module _ {n : ℕ} {vs₀ : List Validator} (r : ElectraRules) (q : Queueing) {p
         kept = h;
         moved = λ e. refl;
         more = λ e. rw (one (isPostponed n (q .nextEpoch) vs₀) d f);
-        stayed = λ e. absurd (apart e);
-        same = λ e. absurd (apart e);
+        left = λ e. absurd (apart (sym e));
       }
 
   went-full : Went n vs₀ q p d (limitReached p)
-  went-full = record { kept = h; moved = λ e. absurd (apart (sym e)); more = λ e. absurd (apart (sym e)); stayed = λ e. refl; same = λ e. refl }
+  went-full = record { kept = h; moved = λ e. absurd (apart e); more = λ e. absurd (apart e); left = λ e. refl }
 
   pub turn-went : {p′ : Processing} → processDeposit r q p d ≡ value p′ → Went n vs₀ q p d p′
   unfolding processDeposit
@@ -264,7 +227,7 @@ unfolding filter
 done-none p ds h = record { count = 0; index = omega arith; within = omega arith; postponed = sym (with-none (p .«deposits_to_postpone»)); kept = h }
 
 -- a limit that was reached leaves the loop
-left-full : (r : ElectraRules) (q : Queueing) (p : Processing) (ds : List PendingDeposit) → p .«is_churn_limit_reached» ≡ true → foldUntilChecked (depositsStop r q) (processDeposit r q) p ds ≡ value p
+pub left-full : (r : ElectraRules) (q : Queueing) (p : Processing) (ds : List PendingDeposit) → p .«is_churn_limit_reached» ≡ true → foldUntilChecked (depositsStop r q) (processDeposit r q) p ds ≡ value p
 unfolding foldUntilChecked depositsStop
 left-full r q p [] e = refl
 left-full r q p (d ∷ ds) e = rw e
@@ -292,7 +255,7 @@ loop-done {n} {vs₀} r q {p} h (d ∷ ds) {p′} e = go (depositsStop r q p d) 
         next : (m : Processing) → Went n vs₀ q p d m → (t : Bool) → m .«is_churn_limit_reached» ≡ t → foldUntilChecked (depositsStop r q) (processDeposit r q) m ds ≡ value p′ → (foldUntilChecked (depositsStop r q) (processDeposit r q) m ds ≡ value p′ → Done n vs₀ q m ds p′) → Done n vs₀ q p (d ∷ ds) p′
         next m w true t e rec =
             let z : m ≡ p′ = value-same (sym (left-full r q m ds t) ∙ e) in
-            rw (← z) (record { count = 0; index = omega (arith, w .stayed t); within = omega arith; postponed = w .same t ∙ sym (with-none (p .«deposits_to_postpone»)); kept = w .kept })
+            rw (← z) (record { count = 0; index = omega (arith, ap (λ (x : Processing). x .«next_deposit_index») (w .left t)); within = omega arith; postponed = ap (λ (x : Processing). x .«deposits_to_postpone») (w .left t) ∙ sym (with-none (p .«deposits_to_postpone»)); kept = w .kept })
         next m w false t e rec =
             let i = rec e in
             let f = isPostponed n (q .nextEpoch) vs₀ in

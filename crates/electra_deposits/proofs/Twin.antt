@@ -1,18 +1,18 @@
--- A run that adds nobody is refused where the text's is, ends at the same deposit and has processed as much: what a new validator holds is at most
--- what was processed, so that its balance never leaves 64 bits.
+-- The loop over the opening's validators is refused where the text's is, leaves them as the text does, ends at the same deposit and has processed as
+-- much: what a new validator holds is at most what was processed, so that its balance never leaves 64 bits.
 use mathlib.Core.Path.{_≡_, refl, sym, ap, _∙_}
 use mathlib.Core.Bool.{Bool, true, false, _&&_}
-use mathlib.Core.List.{List, [], _∷_, _++_, map}
+use mathlib.Core.List.{List, [], _∷_, _++_}
 use Prim.Native.Nat.{ℕ, _+_, _^_, _≤_, _<_}
 use native.Mathlib.Omega.{arith}
 use borrow.Author.Tests.{lt-ltb, le-ltb, ltb-true, ltb-false, eqb-true, eqb-false}
 use lib.Dec.{ltb, eqb}
-use lib.ListN.{length, getD, set, length-append, List·getD-append, List·getD-eq-default}
+use lib.ListN.{length, getD, set, length-append, length-set, List·getD-append, List·getD-eq-default}
 use lib.Seq.{getD-set-same, getD-set-other, getD-at}
 use Rattle.definitions.specs.Lists.{range}
 use Rattle.definitions.specs.Record.{Validator, «FAR_FUTURE_EPOCH», nobody}
 use Rattle.definitions.specs.Updates.{withBalance}
-use Rattle.definitions.specs.Checked.{value, refused, bind, add64}
+use Rattle.definitions.specs.Checked.{value, bind, add64}
 use Rattle.definitions.specs.Rust.Phase0.Helpers.{«increase_balance»}
 use Rattle.laws.proofs.Checked.{bound, value-same, add64-value, add64-below}
 use Rattle.definitions_electra.specs.declared.ElectraRules.{ElectraRules}
@@ -21,81 +21,83 @@ use Rattle.definitions_electra.specs.Loops.{foldUntilChecked}
 use Rattle.definitions_electra.specs.Record.{Registry}
 use Rattle.definitions_electra.specs.Document.Electra.EpochProcessing.{Queueing, Processing, «get_validator_from_deposit», «add_validator_to_registry», isKnown, placeIn, putValidator, isWithdrawn, isExited, movedOn, breaksBefore, depositsStop}
 use Rattle.definitions_electra.specs.Evaluated.Electra.EpochProcessing.{«apply_pending_deposit», processDeposit}
-use Rattle.electra_deposits.specs.Room.{adding}
-use Rattle.electra_deposits.proofs.Keys.{length-range}
-use Rattle.electra_deposits.proofs.Simulated.{Alike, alike-value, alike-bind, alike-given, alike-cond}
+use Rattle.electra_deposits.specs.Alone.{testedAt, raised, Running, onward, turn, stops}
+use Rattle.electra_deposits.proofs.Alike.{Alike, alike-value, alike-bind, alike-given, alike-cond}
 use Rattle.electra_deposits.proofs.Postponed.{Kept, kept-none, kept-put, kept-apply}
 
--- two registries of the step: the first with nobody added, the second the text's, in which the new ones hold at most `most`
-pub record Pair (n : ℕ) (vs₀ : List Validator) (most : ℕ) (a b : Registry) : Type 0 where
-  pub kept : Kept n vs₀ a
-  pub alone : length (a .pubkeys) ≡ n
-  pub kept-too : Kept n vs₀ b
-  pub same : (j : ℕ) → j < n → getD (a .validators) j nobody ≡ getD (b .validators) j nobody
+-- the opening's validators, and the text's registry, in which the new ones hold at most `most`
+pub record Pair (n : ℕ) (vs₀ : List Validator) (most : ℕ) (a : List Validator) (b : Registry) : Type 0 where
+  pub alone : length a ≡ n
+  pub kept : Kept n vs₀ b
+  pub same : (j : ℕ) → j < n → getD a j nobody ≡ getD (b .validators) j nobody
   pub low : (j : ℕ) → n ≤ j → getD (b .validators) j nobody .balance ≤ most
 
 module _ {n : ℕ} {vs₀ : List Validator} where
-  more : {m k : ℕ} {a b : Registry} → Pair n vs₀ m a b → m ≤ k → Pair n vs₀ k a b
-  more h l = record { kept = h .kept; alone = h .alone; kept-too = h .kept-too; same = h .same; low = λ j b. omega (arith, l, h .low j b) }
+  more : {m k : ℕ} {a : List Validator} {b : Registry} → Pair n vs₀ m a b → m ≤ k → Pair n vs₀ k a b
+  more h l = record { alone = h .alone; kept = h .kept; same = h .same; low = λ j b. omega (arith, l, h .low j b) }
 
   -- a key of the opening
-  module _ (r : ElectraRules) {most : ℕ} {a b : Registry} (h : Pair n vs₀ most a b) (d : PendingDeposit) (l : d .pubkey < n) where
-    known : {reg : Registry} → Kept n vs₀ reg → isKnown reg d ≡ true
-    known {reg} k = rw (k .old-keys (d .pubkey) l) (lt-ltb (d .pubkey) (length (reg .pubkeys)) (omega (arith, l, k .least)))
+  module _ (r : ElectraRules) {most : ℕ} {a : List Validator} {b : Registry} (h : Pair n vs₀ most a b) (d : PendingDeposit) (l : d .pubkey < n) where
+    known : isKnown b d ≡ true
+    known = rw (h .kept .old-keys (d .pubkey) l) (lt-ltb (d .pubkey) (length (b .pubkeys)) (omega (arith, l, h .kept .least)))
 
-    inside : {reg : Registry} → Kept n vs₀ reg → d .pubkey < length (reg .validators)
-    inside k = omega (arith, l, k .least, k .long)
+    inside : d .pubkey < length (b .validators)
+    inside = omega (arith, l, h .kept .least, h .kept .long)
 
     -- the same test of the same validator
-    pub same-test : (f : Validator → Bool) → (isKnown a d && f (getD (a .validators) (placeIn a d) nobody)) ≡ (isKnown b d && f (getD (b .validators) (placeIn b d) nobody))
-    same-test f = rw (known (h .kept), known (h .kept-too), h .kept .old-keys (d .pubkey) l, h .kept-too .old-keys (d .pubkey) l, h .same (d .pubkey) l)
+    pub same-test : (f : Validator → Bool) → testedAt f a (d .pubkey) ≡ (isKnown b d && f (getD (b .validators) (placeIn b d) nobody))
+    same-test f = rw (known, h .kept .old-keys (d .pubkey) l, ← h .same (d .pubkey) l, h .alone, lt-ltb (d .pubkey) n l)
 
-    put : (w : Validator) → «increase_balance» (getD (b .validators) (d .pubkey) nobody) (d .amount) ≡ value w → Pair n vs₀ most (putValidator a (d .pubkey) w) (putValidator b (d .pubkey) w)
+    put : (w : Validator) → «increase_balance» (getD (b .validators) (d .pubkey) nobody) (d .amount) ≡ value w → Pair n vs₀ most (set a (d .pubkey) w) (putValidator b (d .pubkey) w)
     unfolding «increase_balance»
     put w e =
         let c = bound (add64 (getD (b .validators) (d .pubkey) nobody .balance) (d .amount)) (λ x. value (withBalance x (getD (b .validators) (d .pubkey) nobody))) e in
         let x : w .«exit_epoch» ≡ getD (b .validators) (d .pubkey) nobody .«exit_epoch» = sym (ap (λ (v : Validator). v .«exit_epoch») (value-same (c .then))) in
         let y : w .«withdrawable_epoch» ≡ getD (b .validators) (d .pubkey) nobody .«withdrawable_epoch» = sym (ap (λ (v : Validator). v .«withdrawable_epoch») (value-same (c .then))) in
-        let s = h .same (d .pubkey) l in
         record {
-          kept = kept-put (h .kept) (d .pubkey) w (inside (h .kept)) (rw s x) (rw s y);
-          alone = h .alone;
-          kept-too = kept-put (h .kept-too) (d .pubkey) w (inside (h .kept-too)) x y;
+          alone = length-set a (d .pubkey) w ∙ h .alone;
+          kept = kept-put (h .kept) (d .pubkey) w inside x y;
           same = λ j k. go j k (eqb (d .pubkey) j) refl;
           low = λ j k. rw (getD-set-other (b .validators) (d .pubkey) j w nobody (λ z. omega (arith, z, k, l))) (h .low j k);
         }
       where
-        go : (j : ℕ) → j < n → (t : Bool) → eqb (d .pubkey) j ≡ t → getD (set (a .validators) (d .pubkey) w) j nobody ≡ getD (set (b .validators) (d .pubkey) w) j nobody
-        go j k true z = let i : d .pubkey ≡ j = eqb-true (d .pubkey) j z in rw (← i, getD-set-same (a .validators) (d .pubkey) w nobody (inside (h .kept)), getD-set-same (b .validators) (d .pubkey) w nobody (inside (h .kept-too)))
-        go j k false z = let i : d .pubkey ≡ j → ⊥ = eqb-false (d .pubkey) j z in rw (getD-set-other (a .validators) (d .pubkey) j w nobody (λ x. i (sym x)), getD-set-other (b .validators) (d .pubkey) j w nobody (λ x. i (sym x))) (h .same j k)
+        go : (j : ℕ) → j < n → (t : Bool) → eqb (d .pubkey) j ≡ t → getD (set a (d .pubkey) w) j nobody ≡ getD (set (b .validators) (d .pubkey) w) j nobody
+        go j k true z = let i : d .pubkey ≡ j = eqb-true (d .pubkey) j z in rw (← i, getD-set-same a (d .pubkey) w nobody (omega (arith, l, h .alone)), getD-set-same (b .validators) (d .pubkey) w nobody inside)
+        go j k false z = let i : d .pubkey ≡ j → ⊥ = eqb-false (d .pubkey) j z in rw (getD-set-other a (d .pubkey) j w nobody (λ x. i (sym x)), getD-set-other (b .validators) (d .pubkey) j w nobody (λ x. i (sym x))) (h .same j k)
 
-    pub apply-old : Alike (Pair n vs₀ most) («apply_pending_deposit» r a (adding false d)) («apply_pending_deposit» r b d)
-    unfolding «apply_pending_deposit»
+    pub apply-old : Alike (Pair n vs₀ most) (raised a d) («apply_pending_deposit» r b d)
+    unfolding «apply_pending_deposit» raised
     apply-old =
-        rw (known (h .kept), known (h .kept-too), h .kept .old-keys (d .pubkey) l, h .kept-too .old-keys (d .pubkey) l, h .same (d .pubkey) l)
+        rw (known, h .kept .old-keys (d .pubkey) l, h .alone, lt-ltb (d .pubkey) n l, h .same (d .pubkey) l)
         (alike-given («increase_balance» (getD (b .validators) (d .pubkey) nobody) (d .amount)) _ _ (λ w e. alike-value (put w e)))
 
   -- another key
-  module _ (r : ElectraRules) {most : ℕ} {a b : Registry} (h : Pair n vs₀ most a b) (d : PendingDeposit) (l : n ≤ d .pubkey) where
+  module _ (r : ElectraRules) {most : ℕ} {a : List Validator} {b : Registry} (h : Pair n vs₀ most a b) (d : PendingDeposit) (l : n ≤ d .pubkey) where
+    stranger : ltb (d .pubkey) (length a) ≡ false
+    stranger = le-ltb (d .pubkey) (length a) (omega (arith, l, h .alone))
+
+    pub untested : (f : Validator → Bool) → testedAt f a (d .pubkey) ≡ false
+    untested f = rw stranger
+
     -- neither withdrawn nor exiting
-    pub fresh : {reg : Registry} → Kept n vs₀ reg → (f : Validator → Bool) → ((j : ℕ) → n ≤ j → j < length (reg .pubkeys) → f (getD (reg .validators) j nobody) ≡ false) → (isKnown reg d && f (getD (reg .validators) (placeIn reg d) nobody)) ≡ false
-    fresh {reg} k f z = go (isKnown reg d) refl
+    pub fresh : (f : Validator → Bool) → ((j : ℕ) → n ≤ j → j < length (b .pubkeys) → f (getD (b .validators) j nobody) ≡ false) → (isKnown b d && f (getD (b .validators) (placeIn b d) nobody)) ≡ false
+    fresh f z = go (isKnown b d) refl
       where
-        go : (t : Bool) → isKnown reg d ≡ t → (t && f (getD (reg .validators) (placeIn reg d) nobody)) ≡ false
-        go true e = z (placeIn reg d) (k .new-keys (d .pubkey) l) (ltb-true (placeIn reg d) (length (reg .pubkeys)) e)
+        go : (t : Bool) → isKnown b d ≡ t → (t && f (getD (b .validators) (placeIn b d) nobody)) ≡ false
+        go true e = z (placeIn b d) (h .kept .new-keys (d .pubkey) l) (ltb-true (placeIn b d) (length (b .pubkeys)) e)
         go false e = refl
 
-    pub apply-alone : «apply_pending_deposit» r a (adding false d) ≡ value a
-    unfolding «apply_pending_deposit»
-    apply-alone = rw (le-ltb (placeIn a d) (length (a .pubkeys)) (omega (arith, h .alone, h .kept .new-keys (d .pubkey) l)))
+    raised-alone : raised a d ≡ value a
+    unfolding raised
+    raised-alone = rw stranger
 
     paired : {reg : Registry} → «apply_pending_deposit» r b d ≡ value reg → ((j : ℕ) → j < n → getD (reg .validators) j nobody ≡ getD (b .validators) j nobody) → ((j : ℕ) → n ≤ j → getD (reg .validators) j nobody .balance ≤ most + d .amount) → Pair n vs₀ (most + d .amount) a reg
-    paired e s low = record { kept = h .kept; alone = h .alone; kept-too = kept-apply (h .kept-too) r d e; same = λ j k. h .same j k ∙ sym (s j k); low = low }
+    paired e s low = record { alone = h .alone; kept = kept-apply (h .kept) r d e; same = λ j k. h .same j k ∙ sym (s j k); low = low }
 
     module _ (small : most + d .amount < 2 ^ 64) where
       -- a new validator's place, and what it holds with the amount
       behind : n ≤ placeIn b d
-      behind = h .kept-too .new-keys (d .pubkey) l
+      behind = h .kept .new-keys (d .pubkey) l
 
       fits : getD (b .validators) (placeIn b d) nobody .balance + d .amount ≤ most + d .amount
       fits = omega (arith, h .low (placeIn b d) behind)
@@ -125,7 +127,7 @@ module _ {n : ℕ} {vs₀ : List Validator} where
           go : (t : Bool) → eqb (placeIn b d) j ≡ t → getD (set (b .validators) (placeIn b d) grown) j nobody .balance ≤ most + d .amount
           go true z =
               let i : placeIn b d ≡ j = eqb-true (placeIn b d) j z in
-              let m : placeIn b d < length (b .validators) = omega (arith, ltb-true (placeIn b d) (length (b .pubkeys)) e, h .kept-too .long) in
+              let m : placeIn b d < length (b .validators) = omega (arith, ltb-true (placeIn b d) (length (b .pubkeys)) e, h .kept .long) in
               rw (← i, getD-set-same (b .validators) (placeIn b d) grown nobody m) fits
           go false z =
               let i : placeIn b d ≡ j → ⊥ = eqb-false (placeIn b d) j z in
@@ -133,7 +135,7 @@ module _ {n : ℕ} {vs₀ : List Validator} where
 
       front : (j : ℕ) → j < n → getD («add_validator_to_registry» r b d .validators) j nobody ≡ getD (b .validators) j nobody
       unfolding «add_validator_to_registry»
-      front j k = List·getD-append (b .validators) («get_validator_from_deposit» r d ∷ []) nobody j (omega (arith, k, h .kept-too .least, h .kept-too .long))
+      front j k = List·getD-append (b .validators) («get_validator_from_deposit» r d ∷ []) nobody j (omega (arith, k, h .kept .least, h .kept .long))
 
       added-low : (j : ℕ) → n ≤ j → getD («add_validator_to_registry» r b d .validators) j nobody .balance ≤ most + d .amount
       unfolding «add_validator_to_registry» «get_validator_from_deposit»
@@ -157,34 +159,27 @@ module _ {n : ℕ} {vs₀ : List Validator} where
           go false e true f = rw (added e f) (alike-value (paired (added e f) front added-low))
           go false e false f = rw (nothing e f) (alike-value (more h (omega arith)))
 
-    pub apply-fresh : {k : ℕ} → add64 most (d .amount) ≡ value k → Alike (Pair n vs₀ k) («apply_pending_deposit» r a (adding false d)) («apply_pending_deposit» r b d)
-    apply-fresh e = rw (← add64-value most (d .amount) e, apply-alone) (apply-new (add64-below most (d .amount) e))
+    pub apply-fresh : {k : ℕ} → add64 most (d .amount) ≡ value k → Alike (Pair n vs₀ k) (raised a d) («apply_pending_deposit» r b d)
+    apply-fresh e = rw (← add64-value most (d .amount) e, raised-alone) (apply-new (add64-below most (d .amount) e))
 
-  pub pair-start : (cs : List ℕ) → length vs₀ ≡ n → length cs ≡ n → Pair n vs₀ 0 (record { validators = vs₀; pubkeys = range 0 n; compounding = cs }) (record { validators = vs₀; pubkeys = range 0 n; compounding = cs })
+  pub pair-start : (cs : List ℕ) → length vs₀ ≡ n → length cs ≡ n → Pair n vs₀ 0 vs₀ (record { validators = vs₀; pubkeys = range 0 n; compounding = cs })
   pair-start cs l m =
-      let k = kept-none n vs₀ cs l m in
-      record { kept = k; alone = length-range 0 n; kept-too = k; same = λ j b. refl; low = λ j b. (let e : getD vs₀ j nobody ≡ nobody = List·getD-eq-default vs₀ nobody (omega arith) in rw e (omega arith)) }
+      record { alone = l; kept = kept-none n vs₀ cs l m; same = λ j b. refl; low = λ j b. (let e : getD vs₀ j nobody ≡ nobody = List·getD-eq-default vs₀ nobody (omega arith) in rw e (omega arith)) }
 
 -- The loop's variables
-pub record Twin (n : ℕ) (vs₀ : List Validator) (p s : Processing) : Type 0 where
-  pub pair : Pair n vs₀ (s .«processed_amount») (p .registry) (s .registry)
-  pub processed : p .«processed_amount» ≡ s .«processed_amount»
-  pub index : p .«next_deposit_index» ≡ s .«next_deposit_index»
-  pub reached : p .«is_churn_limit_reached» ≡ s .«is_churn_limit_reached»
+pub record Twin (n : ℕ) (vs₀ : List Validator) (p : Running) (s : Processing) : Type 0 where
+  pub pair : Pair n vs₀ (s .«processed_amount») (p .validators) (s .registry)
+  pub processed : p .processed ≡ s .«processed_amount»
+  pub index : p .index ≡ s .«next_deposit_index»
+  pub reached : p .reached ≡ s .«is_churn_limit_reached»
 
 module _ (r : ElectraRules) (q : Queueing) (far : q .nextEpoch ≤ «FAR_FUTURE_EPOCH») {n : ℕ} {vs₀ : List Validator} where
-  module _ {p s : Processing} (h : Twin n vs₀ p s) (x : PendingDeposit) where
-    moved : {a b : Registry} {k : ℕ} {us ws : List PendingDeposit} → Pair n vs₀ k a b → Twin n vs₀ (movedOn a k us p) (movedOn b k ws s)
+  module _ {p : Running} {s : Processing} (h : Twin n vs₀ p s) (x : PendingDeposit) where
+    moved : {a : List Validator} {b : Registry} {k : ℕ} {ws : List PendingDeposit} → Pair n vs₀ k a b → Twin n vs₀ (onward a k p) (movedOn b k ws s)
     moved g = record { pair = g; processed = refl; index = ap (λ (k : ℕ). k + 1) (h .index); reached = refl }
 
-    not-withdrawn : {reg : Registry} → n ≤ x .pubkey → Kept n vs₀ reg → isWithdrawn q reg x ≡ false
-    not-withdrawn l k = fresh r (h .pair) x l k (λ v. ltb (v .«withdrawable_epoch») (q .nextEpoch)) (λ j a b. rw (k .news-too j a b) (le-ltb «FAR_FUTURE_EPOCH» (q .nextEpoch) far))
-
-    not-exited : {reg : Registry} → n ≤ x .pubkey → Kept n vs₀ reg → isExited reg x ≡ false
-    not-exited l k = fresh r (h .pair) x l k (λ v. ltb (v .«exit_epoch») «FAR_FUTURE_EPOCH») (λ j a b. rw (k .news j a b) (le-ltb «FAR_FUTURE_EPOCH» «FAR_FUTURE_EPOCH» (omega arith)))
-
-    turn-old : x .pubkey < n → Alike (Twin n vs₀) (processDeposit r q p (adding false x)) (processDeposit r q s x)
-    unfolding processDeposit
+    turn-old : x .pubkey < n → Alike (Twin n vs₀) (turn q p x) (processDeposit r q s x)
+    unfolding processDeposit turn
     turn-old l =
         rw (h .processed)
         (alike-cond _ _ (same-test r (h .pair) x l (λ v. ltb (v .«withdrawable_epoch») (q .nextEpoch)))
@@ -192,31 +187,32 @@ module _ (r : ElectraRules) (q : Queueing) (far : q .nextEpoch ≤ «FAR_FUTURE_
         (alike-cond _ _ (same-test r (h .pair) x l (λ v. ltb (v .«exit_epoch») «FAR_FUTURE_EPOCH»))
         (alike-value (moved (h .pair)))
         (alike-given (add64 (s .«processed_amount») (x .amount)) _ _ (λ k e.
-        alike-cond (ltb (q .available) k) (ltb (q .available) k) refl
-        (alike-value (record { pair = h .pair; processed = refl; index = h .index; reached = refl }))
+        alike-cond (ltb (q .available) k) (ltb (q .available) k) refl (alike-value (record { pair = h .pair; processed = refl; index = h .index; reached = refl }))
         (alike-bind _ _ (apply-old r (h .pair) x l) (λ a b g. alike-value (moved (more g (omega (arith, add64-value (s .«processed_amount») (x .amount) e))))))))))
 
-    turn-new : n ≤ x .pubkey → Alike (Twin n vs₀) (processDeposit r q p (adding false x)) (processDeposit r q s x)
-    unfolding processDeposit
+    turn-new : n ≤ x .pubkey → Alike (Twin n vs₀) (turn q p x) (processDeposit r q s x)
+    unfolding processDeposit turn
     turn-new l =
-        rw (h .processed, not-withdrawn l (h .pair .kept), not-exited l (h .pair .kept), not-withdrawn l (h .pair .kept-too), not-exited l (h .pair .kept-too))
+        let kept = h .pair .kept in
+        let w : isWithdrawn q (s .registry) x ≡ false = fresh r (h .pair) x l (λ v. ltb (v .«withdrawable_epoch») (q .nextEpoch)) (λ j a b. rw (kept .news-too j a b) (le-ltb «FAR_FUTURE_EPOCH» (q .nextEpoch) far)) in
+        let e : isExited (s .registry) x ≡ false = fresh r (h .pair) x l (λ v. ltb (v .«exit_epoch») «FAR_FUTURE_EPOCH») (λ j a b. rw (kept .news j a b) (le-ltb «FAR_FUTURE_EPOCH» «FAR_FUTURE_EPOCH» (omega arith))) in
+        rw (h .processed, w, e, untested r (h .pair) x l (λ v. ltb (v .«withdrawable_epoch») (q .nextEpoch)), untested r (h .pair) x l (λ v. ltb (v .«exit_epoch») «FAR_FUTURE_EPOCH»))
         (alike-given (add64 (s .«processed_amount») (x .amount)) _ _ (λ k e.
-        alike-cond (ltb (q .available) k) (ltb (q .available) k) refl
-        (alike-value (record { pair = h .pair; processed = refl; index = h .index; reached = refl }))
+        alike-cond (ltb (q .available) k) (ltb (q .available) k) refl (alike-value (record { pair = h .pair; processed = refl; index = h .index; reached = refl }))
         (alike-bind _ _ (apply-fresh r (h .pair) x l e) (λ a b g. alike-value (moved g)))))
 
-    turn-twin : Alike (Twin n vs₀) (processDeposit r q p (adding false x)) (processDeposit r q s x)
+    turn-twin : Alike (Twin n vs₀) (turn q p x) (processDeposit r q s x)
     turn-twin = go (ltb (x .pubkey) n) refl
       where
-        go : (t : Bool) → ltb (x .pubkey) n ≡ t → Alike (Twin n vs₀) (processDeposit r q p (adding false x)) (processDeposit r q s x)
+        go : (t : Bool) → ltb (x .pubkey) n ≡ t → Alike (Twin n vs₀) (turn q p x) (processDeposit r q s x)
         go true e = turn-old (ltb-true (x .pubkey) n e)
         go false e = turn-new (ltb-false (x .pubkey) n e)
 
-    stops-twin : depositsStop r q p (adding false x) ≡ depositsStop r q s x
-    unfolding depositsStop breaksBefore
+    stops-twin : stops (r .electra .«max_pending_deposits_per_epoch») q p x ≡ depositsStop r q s x
+    unfolding depositsStop breaksBefore stops
     stops-twin = rw (h .reached, h .index)
 
-  pub loop-twin : {p s : Processing} → Twin n vs₀ p s → (xs : List PendingDeposit) → Alike (Twin n vs₀) (foldUntilChecked (depositsStop r q) (processDeposit r q) p (map (adding false) xs)) (foldUntilChecked (depositsStop r q) (processDeposit r q) s xs)
+  pub loop-twin : {p : Running} {s : Processing} → Twin n vs₀ p s → (xs : List PendingDeposit) → Alike (Twin n vs₀) (foldUntilChecked (stops (r .electra .«max_pending_deposits_per_epoch») q) (turn q) p xs) (foldUntilChecked (depositsStop r q) (processDeposit r q) s xs)
   unfolding foldUntilChecked
   loop-twin h [] = alike-value h
   loop-twin h (x ∷ xs) = alike-cond _ _ (stops-twin h x) (alike-value h) (alike-bind _ _ (turn-twin h x) (λ a b g. loop-twin g xs))

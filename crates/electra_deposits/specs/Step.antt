@@ -2,8 +2,8 @@
 use mathlib.Core.Path.{_≡_}
 use mathlib.Core.Bool.{true}
 use mathlib.Core.List.{List, [], _++_}
-use Prim.Native.Nat.{ℕ, _+_, _*_, _/_, _≤_}
-use lib.ListN.{length, drop}
+use Prim.Native.Nat.{ℕ, _+_, _*_, _/_}
+use lib.ListN.{length, take, drop}
 use Rattle.definitions.specs.Lists.{range}
 use Rattle.definitions.specs.Record.{encode, decode}
 use Rattle.definitions.specs.Checked.{Checked, value, refused, bind, numberOf, codeOf}
@@ -16,11 +16,13 @@ use Rattle.definitions_electra.specs.Record.{Registry, ElectraState, decodeDepo
 use Rattle.definitions_electra.specs.Calls.{lentFinality, noChurn, lentState, over}
 use Rattle.definitions_electra.specs.Document.Electra.EpochProcessing.{Queueing, Processing, started, depositsStop}
 use Rattle.definitions_electra.specs.Evaluated.Electra.EpochProcessing.{processDeposit, queueing, leftToConsume}
-use Rattle.electra_deposits.specs.declared.NewNumbers.{NewNumbers}
+use Rattle.electra_deposits.specs.declared.adding.NewNumbers.{NewNumbers}
 use Rattle.electra_deposits.specs.declared.Deposited.{Deposited}
 use Rattle.electra_deposits.specs.declared.step.QueueAnswer.{QueueAnswer}
 use Rattle.electra_deposits.specs.declared.step.QueueAnswer.the-variants.{Value as QueueValue, Refused as QueueRefused}
-use Rattle.electra_deposits.specs.Room.{keyed, opening}
+use Rattle.electra_deposits.specs.Alone.{Running, Deposits}
+use Rattle.electra_deposits.specs.Room.{keyed, opening, rulesBy, joined, Added}
+use Rattle.electra_deposits.specs.Written.{closingQueue, Queued}
 
 -- What the loop goes by
 
@@ -69,11 +71,12 @@ pub record Lent (registry compounding deposits closingRegistry closingCompoundin
 unfoldable pub textBy : ElectraRules → Queueing → Registry → List PendingDeposit → Checked Processing
 textBy r q reg ds = foldUntilChecked (depositsStop r q) (processDeposit r q) (started reg) ds
 
--- of a run that adds nobody: its refusal, and what it processed
-pub record Dried (m : Checked Processing) (r : Deposited) : Type 0 where
-  pub code : r .refusal ≡ codeOf m
-  pub processed : (p : Processing) → m ≡ value p → r .processed ≡ p .«processed_amount»
-  pub reached : (p : Processing) → m ≡ value p → r .reached ≡ p .«is_churn_limit_reached»
+-- the loop over the opening's validators, at the front of a buffer
+pub record Fronted (m : Checked Running) (long : ℕ) (xs₀ xs : List ℕ) (r : Deposited) : Type 0 where
+  pub front : List ℕ
+  pub is-long : length front ≡ long
+  pub is : xs ≡ over front xs₀
+  pub deposits : Deposits m front r
 
 -- After it
 
@@ -112,11 +115,15 @@ pub record Ends (l : Left) (xs₀ cs₀ ds₀ xs cs ds : List ℕ) (r : Deposits
   pub queue : ds ≡ over (encodeDeposits (l .queue)) ds₀
   pub answer : r ≡ answerOf l
 
--- once it is known not to be refused: what is left to consume is `carried`
-pub record Filled (m : Checked Processing) (n carried : ℕ) (queue : List PendingDeposit) (xs₀ cs₀ ds₀ xs cs ds : List ℕ) (r : DepositsAnswer) : Type 0 where
-  pub ends : (p : Processing) → m ≡ value p → Ends (record { registry = p .registry; toConsume = carried; queue = queueAfter p queue }) xs₀ cs₀ ds₀ xs cs ds r
-  pub least : (p : Processing) → m ≡ value p → n ≤ length (p .registry .validators)
-  pub least-too : (p : Processing) → m ≡ value p → n ≤ length (p .registry .compounding)
+-- those added behind what stands in front, and the closing queue
+pub record Finished (next : ℕ) (k : NewNumbers) (registry deposits : List ℕ) (index carried : ℕ) (xs₀ cs₀ ds₀ xs cs ds : List ℕ) (r : DepositsAnswer)
+    : Type 0 where
+  pub count : ℕ
+  pub left : ℕ
+  pub added : Added (joined (rulesBy k 0) (length registry / 10) (opening (length registry / 10) xs₀ cs₀) (take index (decodeDeposits deposits)))
+      xs₀ cs₀ xs cs count
+  pub queued : Queued (closingQueue (length registry / 10) next (decode registry) index (decodeDeposits deposits)) ds₀ ds left
+  pub answer : r ≡ record { refusal = 0; «deposit_balance_to_consume» = carried; validators = count; deposits = left }
 
 -- on refusal
 abbrev pub asOpened : ℕ → DepositNumbers → List ℕ → List ℕ → DepositsAnswer

@@ -9,7 +9,7 @@ use Rattle.definitions.specs.Record.{Validator, decode}
 use Rattle.definitions_electra.specs.declared.PendingDeposit.{PendingDeposit}
 use Rattle.definitions_electra.specs.Record.{encodeDeposits, decodeDeposits}
 use Rattle.definitions_electra.specs.Calls.{over}
-use Rattle.electra_deposits.specs.Room.{isPostponed}
+use Rattle.electra_deposits.specs.Alone.{isPostponed}
 
 -- the rest from `index` on, and behind it those postponed of the first `index`; n validators, vs, open the step
 abbrev pub closingQueue : ℕ → ℕ → List Validator → ℕ → List PendingDeposit → List PendingDeposit

@@ -6,7 +6,7 @@ ghost use lib.ListN.{length};
 ghost use Rattle.definitions.specs.Record.{decode};
 ghost use Rattle.definitions_electra.specs.Record.{decodeDeposits, encodeDeposit};
 ghost use Rattle.definitions_electra.specs.Calls.{over};
-ghost use Rattle.electra_deposits.specs.Room.{isPostponed};
+ghost use Rattle.electra_deposits.specs.Alone.{isPostponed};
 ghost use Rattle.electra_deposits.specs.Written.{closingQueue, Queued, Adds, Postponing};
 use crate::deposit_at;
 use crate::exited_at;
@@ -27,15 +27,10 @@ fn is_postponed(registry: &[u64], next_epoch: u64, d: PendingDeposit) -> bool
     requires { ⌜ length (now registry) ≡ 10 * (length (now registry) / 10) ⌝ }
     ensures { λ r. ⌜ r ≡ isPostponed (length (now (registry .entry)) / 10) «next_epoch» (decode (now (registry .entry))) d ⌝ }
 {
-    let n = registry.len() / 10;
-    if n as u64 <= d.pubkey {
+    if withdrawn_at(registry, d.pubkey, next_epoch) {
         return false;
     }
-    let place = d.pubkey + 1;
-    if withdrawn_at(registry, n, place, next_epoch) {
-        return false;
-    }
-    exited_at(registry, n, place)
+    exited_at(registry, d.pubkey)
 }
 
 fn write_deposit(part: &mut [u64], d: PendingDeposit)

@@ -1,11 +1,11 @@
-// process_pending_deposits. A refusal leaves what stands behind the opening untouched, so that the loop is run twice: first without adding anybody,
-// which is refused where the text's loop is (proofs/Twin.antt) and touches no more than the opening's copy.
+// process_pending_deposits. A refusal leaves what stands behind the opening untouched, so that those whom the deposits add are written behind it after
+// the loop, of the deposits that it did.
 ghost use mathlib.Core.Path.{_≡_};
-ghost use mathlib.Core.Bool.{true, false, cond};
+ghost use mathlib.Core.Bool.{true, cond};
 ghost use Prim.Native.Nat.{_*_, _/_, _≤_, _<_};
-ghost use lib.ListN.{length, replicate};
+ghost use lib.ListN.{length};
 ghost use Rattle.definitions.specs.Record.{decode, «FAR_FUTURE_EPOCH»};
-ghost use Rattle.definitions.specs.Checked.{value, codeOf, sub64};
+ghost use Rattle.definitions.specs.Checked.{value, sub64};
 ghost use Rattle.definitions.specs.Answers.{Answers, Says};
 ghost use Rattle.definitions.specs.Refusals.{goodSettings};
 ghost use Rattle.definitions_electra.specs.Record.{decodeDeposits};
@@ -13,11 +13,13 @@ ghost use Rattle.definitions_electra.specs.Refusals.{depositsTests};
 ghost use Rattle.definitions_electra.specs.Calls.{over, depositsWork, DepositsClose};
 ghost use Rattle.definitions_electra.specs.Evaluated.Electra.Helpers.{«get_activation_exit_churn_limit»};
 ghost use Rattle.definitions_electra.specs.Evaluated.Electra.EpochProcessing.{queueing};
-ghost use Rattle.electra_deposits.specs.Room.{rulesBy, queueingOf, queueOf, opening};
-ghost use Rattle.electra_deposits.specs.Step.{queueAnswerFor, newOf, lentFor, lentRegistry, Lent, textBy, Dried, Filled, leftBy, stepBy, Runs, asOpened};
+ghost use Rattle.electra_deposits.specs.Alone.{queueingOf, alone};
+ghost use Rattle.electra_deposits.specs.Room.{rulesBy};
+ghost use Rattle.electra_deposits.specs.Step.{queueAnswerFor, newOf, lentFor, lentRegistry, Lent, Fronted, Finished, leftBy, stepBy, Runs, asOpened};
 use crate::Deposited;
-use crate::NewNumbers;
 use crate::QueueNumbers;
+use crate::adding::NewNumbers;
+use crate::adding::add_deposits;
 use crate::apply_deposits;
 use crate::closing::copy_front;
 use crate::closing::write_queue;
@@ -54,7 +56,7 @@ pub enum QueueAnswer {
 }
 
 // Next epoch, limit, what is available, finalized slot: also where the queue is empty.
-fn queue_numbers(
+pub fn queue_numbers(
     rules: ElectraRules,
     state_slot: u64,
     finalized_epoch: u64,
@@ -89,7 +91,7 @@ fn queue_numbers(
     })
 }
 
-fn new_numbers(rules: ElectraRules) -> NewNumbers
+pub fn new_numbers(rules: ElectraRules) -> NewNumbers
     ensures { λ r. ⌜ r ≡ newOf rules ⌝ }
 {
     let s = rules.settings;
@@ -102,7 +104,7 @@ fn new_numbers(rules: ElectraRules) -> NewNumbers
 }
 
 // What is carried to the next close.
-fn left_to_consume(available: u64, processed: u64, reached: bool) -> Number
+pub fn left_to_consume(available: u64, processed: u64, reached: bool) -> Number
     ensures { λ r. ⌜ Says (cond reached (sub64 available processed) (value 0)) r ⌝ }
 {
     if reached {
@@ -141,75 +143,26 @@ fn opening_answer(
     )
 }
 
-// Registry and credentials at the front of the closing buffers, and no key in the table.
-fn put_opening(
-    registry: &[u64],
-    compounding: &[u64],
-    closing_registry: &mut [u64],
-    closing_compounding: &mut [u64],
-    places: &mut [u64],
-)
-    requires { ⌜ (length (now registry) ≤ length (now «closing_registry»)) × (length (now compounding) ≤ length (now «closing_compounding»)) ⌝ }
-    ensures { λ _. ⌜ now («closing_registry» .exit) ≡ over (now (registry .entry)) (now («closing_registry» .entry)) ⌝ }
-    ensures { λ _. ⌜ now («closing_compounding» .exit) ≡ over (now (compounding .entry)) (now («closing_compounding» .entry)) ⌝ }
-    ensures { λ _. ⌜ now (places .exit) ≡ replicate (length (now (places .entry))) 0 ⌝ }
-{
-    copy_front(registry, closing_registry);
-    copy_front(compounding, closing_compounding);
-    clear(places);
-}
-
-// The loop without adding anybody. The opening stands in front of what stood behind it before and afterwards.
-fn dry_run(
+// The loop, on the opening at the front of the closing registry.
+fn run_alone(
     q: QueueNumbers,
-    k: NewNumbers,
     registry: &[u64],
-    compounding: &[u64],
     deposits: &[u64],
     closing_registry: &mut [u64],
-    closing_compounding: &mut [u64],
-    places: &mut [u64],
 ) -> Deposited
-    requires { ⌜ Lent (now registry) (now compounding) (now deposits) (now «closing_registry») (now «closing_compounding») (now places) ⌝ }
-    requires { ⌜ 0 < k .increment ⌝ }
+    requires { ⌜ (length (now registry) ≡ 10 * (length (now registry) / 10)) × (length (now registry) ≤ length (now «closing_registry»)) ⌝ }
     ensures { λ r. ⌜
-        Dried (textBy (rulesBy k (q .most)) (queueingOf q) (lentRegistry (now (registry .entry)) (now (compounding .entry)))
-        (queueOf false (now (deposits .entry)))) r ⌝ }
-    ensures { λ _. ⌜ now («closing_registry» .exit) ≡ over (now (registry .entry)) (now («closing_registry» .entry)) ⌝ }
-    ensures { λ _. ⌜ now («closing_compounding» .exit) ≡ over (now (compounding .entry)) (now («closing_compounding» .entry)) ⌝ }
-    ensures { λ _. ⌜ now (places .exit) ≡ replicate (length (now (deposits .entry)) / 5) 0 ⌝ }
+        Fronted (alone q (now (registry .entry)) (now (deposits .entry))) (length (now (registry .entry))) (now («closing_registry» .entry))
+        (now («closing_registry» .exit)) r ⌝ }
 {
-    put_opening(
-        registry,
-        compounding,
-        closing_registry,
-        closing_compounding,
-        places,
-    );
-    let n = (registry.len() / 10) as u64;
-    let dry = apply_deposits(
-        closing_registry,
-        closing_compounding,
-        places,
-        deposits,
-        n,
-        q,
-        k,
-        false,
-    );
-    put_opening(
-        registry,
-        compounding,
-        closing_registry,
-        closing_compounding,
-        places,
-    );
-    dry
+    copy_front(registry, closing_registry);
+    let a = registry.len();
+    apply_deposits(&mut closing_registry[0..a], deposits, q)
 }
 
-// The loop, known not to be refused, and the closing queue.
-fn real_run(
-    q: QueueNumbers,
+// Once nothing can be refused any more: those added, and the closing queue. `index` deposits are done.
+fn finish(
+    next_epoch: u64,
     k: NewNumbers,
     registry: &[u64],
     compounding: &[u64],
@@ -218,38 +171,30 @@ fn real_run(
     closing_compounding: &mut [u64],
     closing_deposits: &mut [u64],
     places: &mut [u64],
+    index: usize,
     carried: u64,
 ) -> DepositsAnswer
     requires { ⌜ Lent (now registry) (now compounding) (now deposits) (now «closing_registry») (now «closing_compounding») (now places) ⌝ }
-    requires { ⌜ (0 < k .increment) × (length (now «closing_deposits») ≡ length (now deposits)) × (now places ≡ replicate (length (now deposits) / 5) 0) ⌝ }
-    requires { ⌜ opening (length (now registry) / 10) (now «closing_registry») (now «closing_compounding») ≡ lentRegistry (now registry) (now compounding) ⌝ }
-    requires { ⌜ codeOf (textBy (rulesBy k (q .most)) (queueingOf q) (lentRegistry (now registry) (now compounding)) (decodeDeposits (now deposits))) ≡ 0 ⌝ }
+    requires { ⌜ (0 < k .increment) × (length (now «closing_deposits») ≡ length (now deposits)) × (index ≤ length (now deposits) / 5) ⌝ }
     ensures { λ r. ⌜
-        Filled (textBy (rulesBy k (q .most)) (queueingOf q) (lentRegistry (now (registry .entry)) (now (compounding .entry)))
-        (decodeDeposits (now (deposits .entry))))
-        (length (now (registry .entry)) / 10) carried (decodeDeposits (now (deposits .entry))) (now («closing_registry» .entry))
-        (now («closing_compounding» .entry)) (now («closing_deposits» .entry))
+        Finished «next_epoch» k (now (registry .entry)) (now (deposits .entry)) index carried (now («closing_registry» .entry))
+        (over (now (compounding .entry)) (now («closing_compounding» .entry))) (now («closing_deposits» .entry))
         (now («closing_registry» .exit)) (now («closing_compounding» .exit)) (now («closing_deposits» .exit)) r ⌝ }
 {
+    copy_front(compounding, closing_compounding);
+    clear(places);
     let n = (registry.len() / 10) as u64;
-    let done = apply_deposits(
+    let count = add_deposits(
         closing_registry,
         closing_compounding,
         places,
         deposits,
         n,
-        q,
+        index,
         k,
-        true,
     );
-    let left = write_queue(
-        registry,
-        q.next_epoch,
-        deposits,
-        done.index,
-        closing_deposits,
-    );
-    answer_of(0, carried, done.count as u64, left as u64)
+    let left = write_queue(registry, next_epoch, deposits, index, closing_deposits);
+    answer_of(0, carried, count as u64, left as u64)
 }
 
 // On refusal the opening may be put back in front of what stands behind.
@@ -273,25 +218,16 @@ fn run_queue(
         (now («closing_deposits» .entry))
         (now («closing_registry» .exit)) (now («closing_compounding» .exit)) (now («closing_deposits» .exit)) r ⌝ }
 {
-    let dry = dry_run(
-        q,
-        k,
-        registry,
-        compounding,
-        deposits,
-        closing_registry,
-        closing_compounding,
-        places,
-    );
-    let refusal = dry.refusal;
+    let done = run_alone(q, registry, deposits, closing_registry);
+    let refusal = done.refusal;
     if refusal != 0 {
         return answer_of(refusal, 0, 0, 0);
     }
-    let Number::Value(carried) = left_to_consume(q.available, dry.processed, dry.reached) else {
+    let Number::Value(carried) = left_to_consume(q.available, done.processed, done.reached) else {
         return answer_of(5, 0, 0, 0);
     };
-    real_run(
-        q,
+    finish(
+        q.next_epoch,
         k,
         registry,
         compounding,
@@ -300,6 +236,7 @@ fn run_queue(
         closing_compounding,
         closing_deposits,
         places,
+        done.index,
         carried,
     )
 }

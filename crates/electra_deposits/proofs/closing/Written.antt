@@ -1,21 +1,21 @@
 -- The second loop over the queue: those postponed, one by one.
 use mathlib.Core.Path.{_≡_, refl, sym, ap, _∙_}
-use mathlib.Core.Bool.{Bool, true, false, cond}
+use mathlib.Core.Bool.{Bool, true, false, cond, _&&_, not}
 use mathlib.Core.List.{List, [], _∷_, _++_}
 use Prim.Native.Nat.{ℕ, _+_, _-_, _*_, _/_, _≤_, _<_}
 use native.Mathlib.Omega.{arith}
 use native.Mathlib.Numerals.{add-one}
-use borrow.Author.Tests.{lt-ltb, le-ltb, ne-eqb}
-use lib.Dec.{ltb, eqb}
+use lib.Dec.{ltb}
 use lib.ListN.{length, getD, take, drop, set, length-append, length-take, length-drop}
 use lib.Seq.{take-suc}
 use Rattle.definitions.specs.Lists.{filter}
-use Rattle.definitions.specs.Record.{Validator, nobody, decode, «FAR_FUTURE_EPOCH»}
+use Rattle.definitions.specs.Record.{nobody, decode, «FAR_FUTURE_EPOCH»}
+use Rattle.laws.proofs.Encode.{length-decode}
 use Rattle.laws.proofs.Loops.Filtered.{filter-le}
 use Rattle.definitions_electra.specs.declared.PendingDeposit.{PendingDeposit}
 use Rattle.definitions_electra.specs.Record.{encodeDeposit, encodeDeposits, decodeDeposits}
 use Rattle.definitions_electra.specs.Calls.{over}
-use Rattle.electra_deposits.specs.Room.{isPostponed, none}
+use Rattle.electra_deposits.specs.Alone.{isPostponed, withdrawnAt, exitedAt, none}
 use Rattle.laws_electra.proofs.Deposits.{length-deposits}
 use Rattle.electra_deposits.proofs.Postponed.{with-none}
 use Rattle.electra_deposits.specs.Written.{Queued, Adds, Postponing}
@@ -23,28 +23,21 @@ use Rattle.electra_deposits.proofs.closing.Over.{tail-lent, tail-back, 
 
 -- The test
 
-module _ (n next : ℕ) (vs : List Validator) (d : PendingDeposit) where
-  pub not-known : n ≤ d .pubkey → false ≡ isPostponed n next vs d
+both-tests : (a b c : Bool) → (a && (not b && c)) ≡ cond (a && b) false (a && c)
+both-tests true true c = refl
+both-tests true false c = refl
+both-tests false b c = refl
+
+module _ (next : ℕ) (xs : List ℕ) (d : PendingDeposit) (long : length xs ≡ 10 * (length xs / 10)) {w : Bool} (is-w : w ≡ withdrawnAt next (decode xs) (d .pubkey)) where
+  is-test : isPostponed (length xs / 10) next (decode xs) d ≡ cond w false (exitedAt (decode xs) (d .pubkey))
   unfolding isPostponed
-  not-known l = rw (le-ltb (d .pubkey) n l)
+  is-test = rw (is-w, length-decode (length xs / 10) xs long) (both-tests (ltb (d .pubkey) (length xs / 10)) (ltb (getD (decode xs) (d .pubkey) nobody .«withdrawable_epoch») next) (ltb (getD (decode xs) (d .pubkey) nobody .«exit_epoch») «FAR_FUTURE_EPOCH»))
 
-  module _ (l : d .pubkey < n) {place : ℕ} (p : place ≡ d .pubkey + 1) {w : Bool} (is-w : w ≡ cond (eqb place 0) false (ltb (getD vs (place - 1) nobody .«withdrawable_epoch») next)) where
-    some : eqb place 0 ≡ false
-    some = ne-eqb place 0 (λ e. omega (arith, e, p))
+  pub is-withdrawn : w ≡ true → false ≡ isPostponed (length xs / 10) next (decode xs) d
+  is-withdrawn t = rw (is-test, t)
 
-    back : place - 1 ≡ d .pubkey
-    back = omega arith
-
-    tested : ltb (getD vs (d .pubkey) nobody .«withdrawable_epoch») next ≡ w
-    tested = sym (rw (some, back) at is-w)
-
-    pub is-withdrawn : w ≡ true → false ≡ isPostponed n next vs d
-    unfolding isPostponed
-    is-withdrawn t = rw (lt-ltb (d .pubkey) n l, tested, t)
-
-    pub is-exiting : {x : Bool} → w ≡ false → x ≡ cond (eqb place 0) false (ltb (getD vs (place - 1) nobody .«exit_epoch») «FAR_FUTURE_EPOCH») → x ≡ isPostponed n next vs d
-    unfolding isPostponed
-    is-exiting t h = rw (lt-ltb (d .pubkey) n l, tested, t) (rw (some, back) at h)
+  pub is-exiting : {x : Bool} → w ≡ false → x ≡ exitedAt (decode xs) (d .pubkey) → x ≡ isPostponed (length xs / 10) next (decode xs) d
+  is-exiting t h = rw (is-test, t) h
 
 -- Five numbers
 

@@ -25,11 +25,12 @@ use Rattle.definitions_electra.specs.Document.Electra.EpochProcessing.{Queueing
 use Rattle.definitions_electra.specs.Evaluated.Electra.Helpers.{«get_activation_exit_churn_limit»}
 use Rattle.definitions_electra.specs.Evaluated.Electra.EpochProcessing.{«apply_pending_deposit», processDeposit, queueing, «process_pending_deposits»}
 use Rattle.electra_refusals.proofs.Passed.{DepositsPassed}
-use Rattle.electra_deposits.specs.declared.NewNumbers.{NewNumbers}
+use Rattle.electra_deposits.specs.declared.adding.NewNumbers.{NewNumbers}
 use Rattle.electra_deposits.specs.declared.QueueNumbers.{QueueNumbers}
 use Rattle.electra_deposits.specs.declared.step.QueueAnswer.{QueueAnswer}
 use Rattle.electra_deposits.specs.declared.step.QueueAnswer.the-variants.{Value as QueueValue, Refused as QueueRefused}
-use Rattle.electra_deposits.specs.Room.{rulesBy, queueingOf, keyed}
+use Rattle.electra_deposits.specs.Alone.{queueingOf}
+use Rattle.electra_deposits.specs.Room.{rulesBy, keyed}
 use Rattle.electra_deposits.specs.Step.{queueAnswerFor, newOf, lentFor, lentRegistry, Lent, textBy, Left, leftBy, stepBy, Ends, Runs}
 
 -- What the loop goes by

@@ -1,5 +1,5 @@
 use borrow.Author.Needs.{needs}
-use Rattle.electra_deposits.proofs.Queue.{stop-late, stop-many, stop-none, stop-bridge}
+use Rattle.electra_deposits.proofs.Alone.{stop-late, stop-many, stop-none, stop-bridge}
 use Rattle.electra_deposits.proofs.stops_before.Statement.{statement}
 use Rattle.electra_deposits.proofs.stops_before.Tie as tie
 
