@@ -2,12 +2,11 @@
 use mathlib.Core.Path.{_≡_, refl, sym, ap, _∙_}
 use mathlib.Core.Bool.{Bool, true, false, cond, _&&_, not}
 use mathlib.Core.List.{List}
-use Prim.Native.Nat.{ℕ, _+_, _-_, _*_, _/_, _≤_, _<_, min}
+use Prim.Native.Nat.{ℕ, _+_, _*_, _/_, _≤_, _<_, min}
 use native.Mathlib.Omega.{arith}
 use borrow.Author.Tests.{ltb-true, eq-eqb, ne-eqb}
 use lib.Dec.{ltb}
 use lib.ListN.{length, getD, set, length-set}
-use Rattle.definitions.specs.Lists.{all}
 use Rattle.definitions.specs.Record.{Validator, isSlashed, decodeOne, encodeOne, encode, decode, nobody}
 use Rattle.definitions.specs.Checked.{Checked, value, refused, bind, codeOf}
 use Rattle.definitions.specs.Rust.Phase0.Helpers.{«increase_balance», «decrease_balance»}
@@ -41,11 +40,13 @@ module _ (n : ℕ) (ps : List ℕ) (i : ℕ) (l : i < length ps / 2) (h : placed
 
 -- One consolidation: the source's part came back as e, then the target's as g
 
-pub moved-ran : (n : ℕ) (xs : List ℕ) (source target : ℕ) {e g : List ℕ} {moved r : ℕ} → length xs ≡ 10 * n → source < n → target < n → moved ≡ min (getD xs (10 * source + 6) 0) (getD xs (10 * source + 0) 0) → e ≡ encodeOne («decrease_balance» (decodeOne (entryAt xs source)) moved) → Settles (λ v. «increase_balance» v moved) (entryAt (putAt xs source e) target) g r → Ran (consolidate (decode xs) (pair source target)) (putAt (putAt xs source e) target g) r
+pub balance-moved : (n : ℕ) (xs : List ℕ) (source : ℕ) {moved : ℕ} → length xs ≡ 10 * n → source < n → moved ≡ min (getD xs (10 * source + 6) 0) (getD xs (10 * source + 0) 0) → moved ≡ consolidatedBalance (getD (decode xs) source nobody)
+balance-moved n xs source long ls m = m ∙ rw (number-at n xs source long ls 6 (omega arith), number-at n xs source long ls 0 (omega arith))
+
+pub moved-ran : (n : ℕ) (xs : List ℕ) (source target : ℕ) {e g : List ℕ} {moved r : ℕ} → length xs ≡ 10 * n → source < n → target < n → moved ≡ consolidatedBalance (getD (decode xs) source nobody) → e ≡ encodeOne («decrease_balance» (decodeOne (entryAt xs source)) moved) → Settles (λ v. «increase_balance» v moved) (entryAt (putAt xs source e) target) g r → Ran (consolidate (decode xs) (pair source target)) (putAt (putAt xs source e) target g) r
 unfolding consolidate
-moved-ran n xs source target {e} {g} {moved} {r} long ls lt m h k =
+moved-ran n xs source target {e} {g} {moved} {r} long ls lt a h k =
     let v = getD (decode xs) source nobody in
-    let a : moved ≡ consolidatedBalance v = m ∙ rw (number-at n xs source long ls 6 (omega arith), number-at n xs source long ls 0 (omega arith)) in
     let b : decodeOne (entryAt xs source) ≡ v = entry-is n xs source long ls in
     let w = «decrease_balance» v moved in
     let c : putAt xs source e ≡ encode (set (decode xs) source w) = entry-back n xs source long ls w (h ∙ ap (λ (u : Validator). encodeOne («decrease_balance» u moved)) b) in
@@ -69,6 +70,12 @@ module _ (n : ℕ) (xs : List ℕ) (source target : ℕ) (long : length xs ≡ 1
   pub turn-moved : {ys : List ℕ} {r : ℕ} → (getD xs (10 * source + 1) 0 ≡ 1 → ⊥) → Ran (consolidate (decode xs) (pair source target)) ys r → Ran (turned (decode xs) (pair source target)) ys r
   unfolding turned
   turn-moved f h = rw (ne-eqb (v .slashed) 1 (λ e. f (slashed-at ∙ e))) h
+
+  pub moves-slashed : getD xs (10 * source + 1) 0 ≡ 1 → 0 ≡ cond (isSlashed v) 0 (consolidatedBalance v)
+  moves-slashed e = rw (eq-eqb (v .slashed) 1 (sym slashed-at ∙ e))
+
+  pub moves-balance : {moved : ℕ} → (getD xs (10 * source + 1) 0 ≡ 1 → ⊥) → moved ≡ consolidatedBalance v → moved ≡ cond (isSlashed v) 0 (consolidatedBalance v)
+  moves-balance f h = h ∙ rw (ne-eqb (v .slashed) 1 (λ e. f (slashed-at ∙ e)))
 
   pub stops-slashed : (next : ℕ) → getD xs (10 * source + 1) 0 ≡ 1 → false ≡ (not (isSlashed v) && ltb next (v .«withdrawable_epoch»))
   stops-slashed next e = rw (eq-eqb (v .slashed) 1 (sym slashed-at ∙ e))
@@ -114,15 +121,15 @@ module _ {next n : ℕ} {xs₀ ps : List ℕ} {i : ℕ} {xs : List ℕ} (g : Goi
       rw (← e) (done (resumed-all (g .resumed) (omega (arith, length-pairs ps))) (omega arith) now-encoded)
 
   module _ (l : i < length ps / 2) {source target : ℕ} (s : source ≡ getD ps (2 * i) 0) (t : target ≡ getD ps (2 * i + 1) 0) where
-    is-pair : getD (decodeConsolidations ps) i none ≡ pair source target
+    pub is-pair : getD (decodeConsolidations ps) i none ≡ pair source target
     is-pair = rw (s, t) (pair-at ps i l)
 
-    inside-pairs : i < length (decodeConsolidations ps)
+    pub inside-pairs : i < length (decodeConsolidations ps)
     inside-pairs = omega (arith, length-pairs ps)
 
     -- the test of the source is b
     module _ {b : Bool} (e : b ≡ (not (isSlashed (getD (decode xs) source nobody)) && ltb next (getD (decode xs) source nobody .«withdrawable_epoch»))) where
-      stops : consolidationsStop next (reached (decode xs) i) (getD (decodeConsolidations ps) i none) ≡ b
+      pub stops : consolidationsStop next (reached (decode xs) i) (getD (decodeConsolidations ps) i none) ≡ b
       unfolding consolidationsStop
       stops = rw is-pair (sym e)
 
@@ -131,7 +138,7 @@ module _ {next n : ℕ} {xs₀ ps : List ℕ} {i : ℕ} {xs : List ℕ} (g : Goi
       going-left h = done (resumed-left (g .resumed) none inside-pairs (stops ∙ h)) (omega arith) now-encoded
 
       module _ (f : b ≡ false) {ys : List ℕ} {r : ℕ} (h : Ran (turned (decode xs) (pair source target)) ys r) where
-        turn : processConsolidation (reached (decode xs) i) (getD (decodeConsolidations ps) i none) ≡ bind (turned (decode xs) (pair source target)) (λ vs. value (nextConsolidation (reached (decode xs) i) vs))
+        pub turn : processConsolidation (reached (decode xs) i) (getD (decodeConsolidations ps) i none) ≡ bind (turned (decode xs) (pair source target)) (λ vs. value (nextConsolidation (reached (decode xs) i) vs))
         turn = rw is-pair (turn-is (reached (decode xs) i) (pair source target))
 
         pub going-stop : (r ≡ 0 → ⊥) → Consolidates (consolidations next (decode xs₀) ps) (length ps / 2) ys (record { refusal = r; count = 0 })

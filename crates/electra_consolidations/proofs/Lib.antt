@@ -1,2 +1,3 @@
 pub mod Consolidating
+pub mod Moves
 mod Closing

@@ -38,12 +38,12 @@ put-back-requires c κs = omega (arith, passed (search needs) .same)
 mul-keep-rest : tie.Need-mul-keep-rest
 mul-keep-rest c =
     let at-all : tie.After-consolidate-all = search needs in
-    omega (arith, at-all .consolidate-all .ensures .most, passed (search needs) .queue .few)
+    omega (arith, at-all .consolidate-all .ensures .0 .most, passed (search needs) .queue .few)
 
 keep-rest-requires : tie.Need-keep-rest-requires
 keep-rest-requires c κs =
     let at-all : tie.After-consolidate-all = search needs in
-    (passed (search needs) .sameQueue, omega (arith, at-all .consolidate-all .ensures .most))
+    (passed (search needs) .sameQueue, omega (arith, at-all .consolidate-all .ensures .0 .most))
 
 returns-2 : tie.Need-returns-2
 returns-2 c =
@@ -54,9 +54,9 @@ returns-2 c =
     let at-copy : tie.After-copy = search needs in
     let at-else1 : tie.Else1 = search needs in
     let p = passed at-else1 in
-    call-done _ _ _ _ _ (at-else1 .before .consolidations-tests .ensures) (at-else1 .if1 .left) (p .settings) (p .queue .long) (rw (at-copy .copy .ensures, at-epoch .current-epoch .ensures) at (at-all .consolidate-all .ensures)) (at-back .put-back .ensures) (at-rest .keep-rest .ensures)
+    call-done _ _ _ _ _ (at-else1 .before .consolidations-tests .ensures) (at-else1 .if1 .left) (p .settings) (p .queue .long) (rw (at-copy .copy .ensures, at-epoch .current-epoch .ensures) at (at-all .consolidate-all .ensures .0)) (at-back .put-back .ensures) (at-rest .keep-rest .ensures)
 
 pub process-pending-consolidations-spec : {M : Type 1} → statement M
 process-pending-consolidations-spec =
     tie.close
-    (tie.spec (λ c κs. search needs) (λ c. search needs) (λ c. search needs) returns copy-requires current-epoch-requires add-next-epoch consolidate-all-requires put-back-requires mul-keep-rest keep-rest-requires (λ c. search needs) (λ c. search needs) (λ c. search needs) returns-2)
+    (tie.spec (λ c κs. search needs) (λ c. search needs) (λ c. search needs) returns copy-requires current-epoch-requires add-next-epoch (λ c. search needs) (λ c. search needs) (λ c. search needs) consolidate-all-requires put-back-requires mul-keep-rest keep-rest-requires (λ c. search needs) (λ c. search needs) (λ c. search needs) returns-2)

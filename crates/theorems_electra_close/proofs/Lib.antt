@@ -1,0 +1,12 @@
+mod Lists
+mod Moves
+mod Registry
+mod Slashings
+mod Deposits
+mod Effective
+mod Rows
+mod Steps
+pub mod Accounted
+pub mod ByNumber
+pub mod Call
+mod Figures

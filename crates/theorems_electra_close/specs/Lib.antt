@@ -1,0 +1,3 @@
+-- What is proved of the whole close under Electra.
+pub mod Accounted
+pub mod ByNumber
