@@ -1,3 +1,3 @@
 -- Laws of a slashing on one validator, and of the step.
 mod Slash
-mod Slashed
+pub mod Slashed

@@ -42,13 +42,18 @@ module _ (st : ElectraState) (multiplier total : ℕ) (k : ℕ → Checked (List
 abbrev pub lent : ℕ → List ℕ → List ℕ → ElectraState
 lent stateSlot slashings registry = lentState (lentFinality stateSlot 0) (decode registry) slashings [] noChurn noDepositNumbers [] []
 
-pub work-by : (r : ElectraRules) (stateSlot : ℕ) (slashings registry : List ℕ) → slashingsWork r stateSlot slashings registry ≡ inState (lent stateSlot slashings registry) (slashedRegistry (r .settings) (r .bellatrix .«proportional_slashing_multiplier_bellatrix») stateSlot slashings (decode registry))
-unfolding slashingsWork «process_slashings» slashedRegistry adjustedBalance bind
-work-by r stateSlot slashings registry = go («get_total_active_balance» (r .settings) stateSlot (decode registry))
+-- the step, of any state
+pub step-by : (r : ElectraRules) (st : ElectraState) → «process_slashings» r st ≡ inState st (slashedRegistry (r .settings) (r .bellatrix .«proportional_slashing_multiplier_bellatrix») (st .altair .finality .slot) (st .altair .slashings) (st .altair .validators))
+unfolding «process_slashings» slashedRegistry adjustedBalance bind
+step-by r st = go («get_total_active_balance» (r .settings) (st .altair .finality .slot) (st .altair .validators))
   where
     by : ℕ → ℕ → Checked (List Validator)
-    by total a = mapChecked (slash (r .settings) («get_current_epoch» (r .settings) stateSlot) (a / (total / r .settings .«effective_balance_increment»))) (decode registry)
+    by total a = mapChecked (slash (r .settings) («get_current_epoch» (r .settings) (st .altair .finality .slot)) (a / (total / r .settings .«effective_balance_increment»))) (st .altair .validators)
 
-    go : (m : Checked ℕ) → bind m (λ total. bind (sum64 slashings) (λ slashed. bind (mul64 slashed (r .bellatrix .«proportional_slashing_multiplier_bellatrix»)) (λ product. inState (lent stateSlot slashings registry) (by total (min product total))))) ≡ inState (lent stateSlot slashings registry) (bind m (λ total. bind (bind (sum64 slashings) (λ slashed. bind (mul64 slashed (r .bellatrix .«proportional_slashing_multiplier_bellatrix»)) (λ product. value (min product total)))) (by total)))
-    go (value total) = adjusted (lent stateSlot slashings registry) (r .bellatrix .«proportional_slashing_multiplier_bellatrix») total (by total) (sum64 slashings)
+    go : (m : Checked ℕ) → bind m (λ total. bind (sum64 (st .altair .slashings)) (λ slashed. bind (mul64 slashed (r .bellatrix .«proportional_slashing_multiplier_bellatrix»)) (λ product. inState st (by total (min product total))))) ≡ inState st (bind m (λ total. bind (bind (sum64 (st .altair .slashings)) (λ slashed. bind (mul64 slashed (r .bellatrix .«proportional_slashing_multiplier_bellatrix»)) (λ product. value (min product total)))) (by total)))
+    go (value total) = adjusted st (r .bellatrix .«proportional_slashing_multiplier_bellatrix») total (by total) (sum64 (st .altair .slashings))
     go (refused p) = refl
+
+pub work-by : (r : ElectraRules) (stateSlot : ℕ) (slashings registry : List ℕ) → slashingsWork r stateSlot slashings registry ≡ inState (lent stateSlot slashings registry) (slashedRegistry (r .settings) (r .bellatrix .«proportional_slashing_multiplier_bellatrix») stateSlot slashings (decode registry))
+unfolding slashingsWork
+work-by r stateSlot slashings registry = step-by r (lent stateSlot slashings registry)

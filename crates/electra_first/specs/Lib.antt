@@ -1,0 +1,4 @@
+-- What contracts of the first five steps cite.
+pub mod Paid
+pub mod Taken
+pub mod First

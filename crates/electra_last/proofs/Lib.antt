@@ -1,0 +1,3 @@
+-- Laws of the last steps.
+mod Moving
+mod Appending

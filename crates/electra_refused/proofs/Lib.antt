@@ -1,0 +1,2 @@
+-- A refused close is the definition's.
+pub mod Refused

@@ -1,0 +1,2 @@
+-- What contracts of a refused close cite.
+pub mod Outcome

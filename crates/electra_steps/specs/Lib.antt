@@ -1,0 +1,2 @@
+-- What contracts of the close under Electra cite of its steps.
+pub mod Last

@@ -1,0 +1,4 @@
+-- Laws of the close under Electra.
+pub mod Beside
+pub mod Balances
+pub mod Rows

@@ -1,0 +1,1 @@
+// Laws of the close under Electra that its code and its theorems cite: proofs/.
