@@ -70,7 +70,7 @@ pub fn given(rng: &mut Random, record: &Record) -> Given {
 }
 
 /// What comes back and what the lent buffers hold afterwards.
-#[derive(Debug, PartialEq, Eq)]
+#[derive(Debug, Clone, PartialEq, Eq)]
 pub struct Told {
     pub outcome: Outcome,
     pub queue: Queue,

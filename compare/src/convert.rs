@@ -7,11 +7,17 @@ pub fn settings(s: &record::Settings) -> types::Settings {
     unsafe { std::mem::transmute(*s) }
 }
 
-pub fn rules(s: &record::Settings, fork: u64, pair: [u64; 2]) -> types::Rules {
+fn bellatrix(pair: [u64; 2]) -> types::Bellatrix {
     let [inactivity_penalty_quotient_bellatrix, proportional_slashing_multiplier_bellatrix] = pair;
-    let bellatrix =
-        types::Bellatrix { inactivity_penalty_quotient_bellatrix, proportional_slashing_multiplier_bellatrix };
-    types::Rules { settings: settings(s), fork, bellatrix }
+    types::Bellatrix { inactivity_penalty_quotient_bellatrix, proportional_slashing_multiplier_bellatrix }
+}
+
+pub fn rules(s: &record::Settings, fork: u64, pair: [u64; 2]) -> types::Rules {
+    types::Rules { settings: settings(s), fork, bellatrix: bellatrix(pair) }
+}
+
+pub fn deneb(s: &record::Settings, pair: [u64; 2], max_per_epoch_activation_churn_limit: u64) -> types::DenebRules {
+    types::DenebRules { settings: settings(s), bellatrix: bellatrix(pair), max_per_epoch_activation_churn_limit }
 }
 
 pub fn queue([last_epoch, number]: [u64; 2]) -> types::ExitQueue {

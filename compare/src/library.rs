@@ -5,7 +5,7 @@ use crate::{
     raw::{self, FinalityAnswer, QueueAnswer},
     record::{Finality, Settings},
     rules::Rules,
-    types::RaisedNumbers,
+    types::{DenebRules, RaisedNumbers},
 };
 
 /// 0 or the refusal's number, and the finality that comes back.
@@ -57,6 +57,53 @@ pub fn close(
         )
     };
     (a.refusal, convert::plain(&a.finality), raised(a.raised), [a.queue.last_epoch, a.queue.number], a.test)
+}
+
+/// As `close`, by Deneb's rules.
+#[allow(clippy::too_many_arguments)]
+pub fn deneb_close(
+    rules: DenebRules,
+    f: &Finality,
+    queue: Queue,
+    registry: &[u64],
+    slashings: &[u64],
+    roots: &[u8],
+    closing_registry: &mut [u64],
+    closing_slashings: &mut [u64],
+    amounts: &mut [u64],
+) -> (u64, Finality, [u64; 3], Queue, u64) {
+    let a = unsafe {
+        raw::deneb_close(
+            rules,
+            convert::finality(f),
+            convert::queue(queue),
+            registry.as_ptr(),
+            registry.len(),
+            slashings.as_ptr(),
+            slashings.len(),
+            roots.as_ptr(),
+            roots.len(),
+            closing_registry.as_mut_ptr(),
+            closing_registry.len(),
+            closing_slashings.as_mut_ptr(),
+            closing_slashings.len(),
+            amounts.as_mut_ptr(),
+            amounts.len(),
+        )
+    };
+    (a.refusal, convert::plain(&a.finality), raised(a.raised), [a.queue.last_epoch, a.queue.number], a.test)
+}
+
+pub fn deneb_registry(
+    rules: DenebRules,
+    slot: u64,
+    finalized: u64,
+    queue: Queue,
+    opening: &[u64],
+    closing: &mut [u64],
+) -> (u64, Queue) {
+    let (a, n, b, m) = (opening.as_ptr(), opening.len(), closing.as_mut_ptr(), closing.len());
+    queued(unsafe { raw::deneb_process_registry_updates(rules, slot, finalized, convert::queue(queue), a, n, b, m) })
 }
 
 /// Refusal, finality, which totals were raised and the finalizing test.

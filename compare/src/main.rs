@@ -137,6 +137,7 @@ fn run(count: u64, seed: u64) -> Option<Difference> {
     println!("{shelves} shelves of {files} files, {closed} of them closed");
     let [altair, bellatrix, other] = counts.forks;
     println!("{altair} closes under Altair, {bellatrix} under Bellatrix, {other} under another fork");
+    println!("{} closes and registry steps as Deneb's, where the churn limit is the smaller", counts.deneb);
     println!("{} lines and net changes held to the model, {} of them refused with 7", counts.lines, counts.wide);
     first.into_inner().expect("a worker panicked")
 }
@@ -169,6 +170,8 @@ struct Counts {
     tests: [u64; 5],
     /// closes under Altair, under Bellatrix, and under another fork
     forks: [u64; 3],
+    /// closes and registry steps as Deneb's, with a limit of activations that is the churn limit or more
+    deneb: u64,
 }
 
 impl Default for Counts {
@@ -186,6 +189,7 @@ impl Default for Counts {
             queues: 0,
             tests: [0; 5],
             forks: [0; 3],
+            deneb: 0,
         }
     }
 }
@@ -210,6 +214,7 @@ impl Counts {
         self.queues += other.queues;
         self.tests.iter_mut().zip(other.tests).for_each(|(a, b)| *a += b);
         self.forks.iter_mut().zip(other.forks).for_each(|(a, b)| *a += b);
+        self.deneb += other.deneb;
         self
     }
 
@@ -266,6 +271,12 @@ impl Counts {
                 let buffers = (&call.closing_registry, &call.closing_slashings, &given.amounts);
                 format!("{} under {under:?} with the pair {:?} into {buffers:?}", operation.name(), given.queue)
             };
+            if under.fork == 1 && (operation == Operation::Close || operation == Operation::Registry && under.good_pair()) {
+                let limit = steps::roomy_limit(rng, record);
+                let named = || format!("{} as Deneb with the limit {limit} under {under:?}", operation.name());
+                self.deneb += 1;
+                self.same(named, wanted.clone(), steps::deneb_told(&call, &given, operation, under, limit))?;
+            }
             self.same(asked, wanted, steps::told(&call, &given, operation, under))?;
         }
         let pair = reference::booked::queue(&record.registry);

@@ -13,6 +13,14 @@ pub struct Rules {
     pub pair: [u64; 2],
 }
 
+impl Rules {
+    /// Whether test 2 passes the pair.
+    pub fn good_pair(&self) -> bool {
+        let [quotient, multiplier] = self.pair;
+        quotient != 0 && quotient < SMALL && multiplier < SMALL
+    }
+}
+
 /// Mostly fork 0 or 1. The pair is mainnet's, small, at a limit of test 2, or any.
 pub fn drawn(rng: &mut Random) -> Rules {
     let fork = if rng.once_in(40) { 2 + rng.any_size() % (u64::MAX - 1) } else { rng.below(2) };

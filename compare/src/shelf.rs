@@ -13,7 +13,7 @@ use reference::{
     calls::{Call, Operation},
     generate,
     random::Random,
-    record::{number_at, write_file, Record, SMALL},
+    record::{number_at, write_file, Record},
     refusals,
 };
 
@@ -41,8 +41,7 @@ fn file(rng: &mut Random, record: &Record) -> File {
 }
 
 fn bad_pair(rules: Rules) -> bool {
-    let [quotient, multiplier] = rules.pair;
-    rules.fork == 1 && (quotient == 0 || quotient >= SMALL || multiplier >= SMALL)
+    rules.fork == 1 && !rules.good_pair()
 }
 
 /// The answer, and the part of the closing buffer, which was filled with this byte.

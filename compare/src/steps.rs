@@ -1,13 +1,13 @@
 //! The library's close and steps on a call of the reference, with its closing buffers in the middle of watched memory.
 use crate::{
     booked::{self, Given, Told},
-    library,
+    convert, library,
     rules::Rules,
 };
 use reference::{
     calls::{Call, Operation, Outcome},
     random::Random,
-    record::{of, Record},
+    record::{at, of, Record},
 };
 
 const MARGIN: usize = 32;
@@ -77,6 +77,36 @@ pub fn told(c: &Call, given: &Given, operation: Operation, rules: Rules) -> Told
         Operation::EffectiveBalances => alone(library::effective_balances(s, opening, closing)),
         Operation::SlashingsReset => alone(library::slashings_reset(s, slot, &r.slashings, slashings.lent())),
         Operation::ParticipationFlags => alone(library::participation_flags(opening, closing)),
+    };
+    let outcome = Outcome { refusal, finality, raised, registry: registry.after(), slashings: slashings.after() };
+    Told { outcome, queue, test, amounts: amounts.after() }
+}
+
+/// A limit of activations that is no smaller than the churn limit, so that Deneb's step is the Rust's, which knows no such limit.
+pub fn roomy_limit(rng: &mut Random, r: &Record) -> u64 {
+    let (s, slot) = (&r.settings, r.finality.slot);
+    let epoch = slot.checked_div(s[at::SLOTS_PER_EPOCH]).unwrap_or(0);
+    let active = r.registry.chunks_exact(10).filter(|v| v[of::ACTIVATION] <= epoch && epoch < v[of::EXIT]).count();
+    let churn = (active as u64).checked_div(s[at::CHURN_QUOTIENT]).unwrap_or(0).max(s[at::MIN_CHURN]);
+    let most = (1 << 48) - 1;
+    rng.pick(&[churn, churn.saturating_add(1), most]).min(most)
+}
+
+/// The close or the registry step by Deneb's rules.
+pub fn deneb_told(c: &Call, given: &Given, operation: Operation, rules: Rules, limit: u64) -> Told {
+    let (r, f) = (&c.record, &c.record.finality);
+    let by = convert::deneb(&r.settings, rules.pair, limit);
+    let mut registry = Watched::around(&c.closing_registry);
+    let mut slashings = Watched::around(&c.closing_slashings);
+    let mut amounts = Watched::around(&given.amounts);
+    let closing = registry.lent();
+    let (refusal, finality, raised, queue, test) = if operation == Operation::Close {
+        let (slashed, booked) = (slashings.lent(), amounts.lent());
+        library::deneb_close(by, f, given.queue, &r.registry, &r.slashings, &r.roots, closing, slashed, booked)
+    } else {
+        let (refusal, queue) =
+            library::deneb_registry(by, f.slot, f.finalized.epoch, given.queue, &r.registry, closing);
+        (refusal, *f, [0; 3], queue, 0)
     };
     let outcome = Outcome { refusal, finality, raised, registry: registry.after(), slashings: slashings.after() };
     Told { outcome, queue, test, amounts: amounts.after() }
