@@ -14,6 +14,7 @@ mod record;
 #[allow(dead_code)]
 #[path = "../../compare/src/convert.rs"]
 mod convert;
+mod deneb;
 mod measure;
 mod plain;
 mod plot;
@@ -46,7 +47,8 @@ fn main() {
             rows.push(row);
         }
     }
-    let text = table::markdown(&rows, stack::deepest()) + "\n" + &shelf::text(&shelf::row());
+    let deneb = deneb::text(&deneb::row(largest.min(1_000_000)));
+    let text = table::markdown(&rows, stack::deepest()) + "\n" + &shelf::text(&shelf::row()) + "\n" + &deneb;
     println!("\n{text}");
     let write = |name: &str, text: String| {
         let file = Path::new(&folder).join(name);
