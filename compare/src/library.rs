@@ -22,77 +22,53 @@ fn queued(a: QueueAnswer) -> (u64, Queue) {
     (a.refusal, [a.queue.last_epoch, a.queue.number])
 }
 
-/// Refusal, finality, which totals were raised, the pair and the finalizing test. By a store of `count` entries.
-#[allow(clippy::too_many_arguments)]
-pub fn close(
-    (store, count): (&[u64], u64),
-    f: &Finality,
-    queue: Queue,
-    registry: &[u64],
-    slashings: &[u64],
-    roots: &[u8],
-    closing_registry: &mut [u64],
-    closing_slashings: &mut [u64],
-    amounts: &mut [u64],
-) -> (u64, Finality, [u64; 3], Queue, u64) {
-    let a = unsafe {
-        raw::altair_close(
-            store.as_ptr(),
-            store.len(),
-            count,
-            convert::finality(f),
-            convert::queue(queue),
-            registry.as_ptr(),
-            registry.len(),
-            slashings.as_ptr(),
-            slashings.len(),
-            roots.as_ptr(),
-            roots.len(),
-            closing_registry.as_mut_ptr(),
-            closing_registry.len(),
-            closing_slashings.as_mut_ptr(),
-            closing_slashings.len(),
-            amounts.as_mut_ptr(),
-            amounts.len(),
-        )
+macro_rules! whole {
+    ($(#[$doc:meta])* $name:ident, $symbol:ident, $by:pat => $kind:ty, $($lent:expr),*) => {
+        $(#[$doc])*
+        #[allow(clippy::too_many_arguments)]
+        pub fn $name(
+            $by: $kind,
+            f: &Finality,
+            queue: Queue,
+            registry: &[u64],
+            slashings: &[u64],
+            roots: &[u8],
+            closing_registry: &mut [u64],
+            closing_slashings: &mut [u64],
+            amounts: &mut [u64],
+        ) -> (u64, Finality, [u64; 3], Queue, u64) {
+            let a = unsafe {
+                raw::$symbol(
+                    $($lent,)*
+                    convert::finality(f),
+                    convert::queue(queue),
+                    registry.as_ptr(),
+                    registry.len(),
+                    slashings.as_ptr(),
+                    slashings.len(),
+                    roots.as_ptr(),
+                    roots.len(),
+                    closing_registry.as_mut_ptr(),
+                    closing_registry.len(),
+                    closing_slashings.as_mut_ptr(),
+                    closing_slashings.len(),
+                    amounts.as_mut_ptr(),
+                    amounts.len(),
+                )
+            };
+            (a.refusal, convert::plain(&a.finality), raised(a.raised), [a.queue.last_epoch, a.queue.number], a.test)
+        }
     };
-    (a.refusal, convert::plain(&a.finality), raised(a.raised), [a.queue.last_epoch, a.queue.number], a.test)
 }
 
-/// As `close`, by Deneb's rules.
-#[allow(clippy::too_many_arguments)]
-pub fn deneb_close(
-    rules: DenebRules,
-    f: &Finality,
-    queue: Queue,
-    registry: &[u64],
-    slashings: &[u64],
-    roots: &[u8],
-    closing_registry: &mut [u64],
-    closing_slashings: &mut [u64],
-    amounts: &mut [u64],
-) -> (u64, Finality, [u64; 3], Queue, u64) {
-    let a = unsafe {
-        raw::deneb_close(
-            rules,
-            convert::finality(f),
-            convert::queue(queue),
-            registry.as_ptr(),
-            registry.len(),
-            slashings.as_ptr(),
-            slashings.len(),
-            roots.as_ptr(),
-            roots.len(),
-            closing_registry.as_mut_ptr(),
-            closing_registry.len(),
-            closing_slashings.as_mut_ptr(),
-            closing_slashings.len(),
-            amounts.as_mut_ptr(),
-            amounts.len(),
-        )
-    };
-    (a.refusal, convert::plain(&a.finality), raised(a.raised), [a.queue.last_epoch, a.queue.number], a.test)
-}
+whole!(
+    /// Refusal, finality, which totals were raised, the pair and the finalizing test. By a store of `count` entries.
+    close, altair_close, (store, count) => (&[u64], u64), store.as_ptr(), store.len(), count
+);
+whole!(
+    /// The same by Deneb's rules.
+    deneb_close, deneb_close, rules => DenebRules, rules
+);
 
 pub fn deneb_registry(
     rules: DenebRules,

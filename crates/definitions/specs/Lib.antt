@@ -6,7 +6,7 @@
 -- `Checked A` is an A or a refusal; `bind m (λ x. rest)` is `let x = m?; rest`. `abbrev`, `unfoldable` and `pub` are the checker's affair.
 -- Types: `ℕ` are the numbers from 0 (`zero`, `suc n` is n + 1), `ℤ` the integers (`pos n`, and `negsuc n` is -1 - n); `Bool`, `List A`, `String`, `Unit`.
 -- `A → B` is a function, and of statements: B follows from A. `(x : A) → B` is for every x, and so is `{x : A} → B`, where a call leaves x out.
--- `A × B` is both, `(x : A) × B` that there is such an x, its parts are `.1` and `.2`; `A ⊎ B` is one of the two; `⊥` never holds: `A → ⊥` is not A.
+-- `A × B` is both, `(x : A) × B` that there is such an x, its parts are `.0` and `.1`; `A ⊎ B` is one of the two; `⊥` never holds: `A → ⊥` is not A.
 -- `a ≡ b`: they are the same; `a ≢ b`: they are not. `a ≤ b` and `a < b` are of numbers, `T b` says that the test b holds; `2 ^ n` is a power.
 -- A `record` has fields, given by `record { field = e; .. }`; a record of statements says all of them. A `data` has cases; of statements, one holds.
 -- `let x = e in r` names e in r; `module _ (x : A) where` gives x to all below it; `x′` is a name; `use P.{a}` takes the name a from the file P.
