@@ -1,2 +1,3 @@
 -- What contracts of the close under Electra cite of its steps.
 pub mod Last
+pub mod Finds
