@@ -19,7 +19,7 @@ use Rattle.electra_slashings.specs.Slashed.{slashedRegistry}
 use Rattle.electra_slashings.proofs.Slashed.{step-by}
 use Rattle.electra_first.specs.Paid.{Paid, paidBy}
 use Rattle.electra_first.specs.Taken.{exitsOf, Taken, takenBy}
-use Rattle.electra_first.specs.First.{Four, fourBy, Five, fiveBy}
+use Rattle.electra_first.specs.First.{Four, fourBy, Five, fiveBy, afterFive}
 use Rattle.electra_first.proofs.RegistryIn.{putIn, registry-in}
 
 -- one step that gives f of what was worked out, then the others
@@ -91,9 +91,6 @@ module _ (r : ElectraRules) (st : ElectraState) where
   abbrev five : Checked Five
   five = fiveBy r (inPlace (r .bellatrix) (r .settings)) (st .altair .finality) (st .churn) (st .altair .validators) (st .altair .slashings) (st .altair .«block_roots»)
 
-  abbrev pub afterFive : Five → ElectraState
-  afterFive v = stateAt (v .finality) (v .four .taken .lessened) (v .four .taken .updated .churn)
-
   folded : (g : Finality) (e : Exiting) (m : Checked (List Validator)) → bind (bind m (λ ws. value (record { updated = e; lessened = ws }))) (λ (t : Taken). value (stateAt g (t .lessened) (t .updated .churn))) ≡ bind m (λ ws. value (stateAt g ws (e .churn)))
   unfolding bind
   folded g e (value ws) = refl
@@ -124,7 +121,7 @@ module _ (r : ElectraRules) (st : ElectraState) where
       by (value t) = refl
       by (refused q) = refl
 
-  made : (g : Finality) (m : Checked Four) → bind (bind m (λ four. value (record { finality = g; four = four }))) (λ v. value (afterFive v)) ≡ bind m (λ f. value (stateAt g (f .taken .lessened) (f .taken .updated .churn)))
+  made : (g : Finality) (m : Checked Four) → bind (bind m (λ four. value (record { finality = g; four = four }))) (λ v. value (afterFive st v)) ≡ bind m (λ f. value (stateAt g (f .taken .lessened) (f .taken .updated .churn)))
   unfolding bind
   made g (value f) = refl
   made g (refused q) = refl
@@ -141,7 +138,7 @@ module _ (r : ElectraRules) (st : ElectraState) where
       ∙ sym (flat («process_inactivity_updates» (inPlace (r .bellatrix) (r .settings)) (g .slot) (g .«finalized_checkpoint» .epoch) vs) _ (lastTwo g churn))
       ∙ outer g churn (paidBy (inPlace (r .bellatrix) (r .settings)) (g .slot) (g .«finalized_checkpoint» .epoch) vs)
 
-  pub up-to-five : closeUpTo 5 r st ≡ bind (fiveBy r (inPlace (r .bellatrix) (r .settings)) (st .altair .finality) (st .churn) (st .altair .validators) (st .altair .slashings) (st .altair .«block_roots»)) (λ v. value (afterFive v))
+  pub up-to-five : closeUpTo 5 r st ≡ bind (fiveBy r (inPlace (r .bellatrix) (r .settings)) (st .altair .finality) (st .churn) (st .altair .validators) (st .altair .slashings) (st .altair .«block_roots»)) (λ v. value (afterFive st v))
   unfolding closeUpTo fiveBy
   up-to-five =
       then (electraStep r) st (kept justificationStep) (kept inactivityStep ∷ kept rewardsStep ∷ registryUpdates ∷ slashings ∷ []) _ _ justified

@@ -14,6 +14,7 @@ use Rattle.definitions_close.specs.FinalizingTest.{finalizingTest}
 use Rattle.definitions_electra.specs.declared.ElectraRules.{ElectraRules}
 use Rattle.definitions_electra.specs.declared.ExitChurn.{ExitChurn}
 use Rattle.definitions_electra.specs.declared.ExitChurnAnswer.{ExitChurnAnswer}
+use Rattle.definitions_electra.specs.Record.{ElectraState, withAltair, withChurn}
 use Rattle.electra_first.specs.declared.First.{First}
 use Rattle.electra_first.specs.Paid.{Paid, paidBy}
 use Rattle.electra_first.specs.Taken.{Taken, takenBy, balanceAt}
@@ -57,6 +58,20 @@ unfoldable pub fiveBy : ElectraRules → Settings → Finality → ExitChurn →
 fiveBy r s f churn vs slashings roots =
     bind («process_justification_and_finalization» s roots f vs) (λ g.
     bind (fourBy r s (g .slot) (g .«finalized_checkpoint» .epoch) slashings churn vs) (λ four. value (record { finality = g; four = four })))
+
+-- the state then
+abbrev pub afterFive : ElectraState → Five → ElectraState
+afterFive st v =
+    let registry = v .four .taken in
+    withChurn (registry .updated .churn)
+    (withAltair
+    (record {
+      finality = v .finality;
+      validators = registry .lessened;
+      slashings = st .altair .slashings;
+      «block_roots» = st .altair .«block_roots»;
+    })
+    st)
 
 pub record FirstHeld (s : Settings) (f : Finality) (vs : List Validator) (v : Five) (after amounts : List ℕ) (r : First) : Type 0 where
   pub registry : after ≡ encode (v .four .taken .lessened)

@@ -1,7 +1,7 @@
 -- Consolidations, then effective balances.
 use mathlib.Core.Path.{_≡_, refl, sym, ap, ap₂, _∙_}
 use mathlib.Core.List.{List}
-use Prim.Native.Nat.{ℕ, _*_, _≤_}
+use Prim.Native.Nat.{ℕ, _*_, _/_, _≤_}
 use lib.ListN.{length}
 use Rattle.definitions.specs.Record.{Validator, encode, decode}
 use Rattle.definitions.specs.Checked.{Checked, value, refused, bind, codeOf}
@@ -16,7 +16,7 @@ use Rattle.electra_consolidations.specs.Consolidations.{consolidations, Consoli
 use Rattle.electra_consolidations.specs.Moves.{movedTo, movements, Framed, MovesBooked}
 use Rattle.electra_last.specs.Moved.{Balanced, movedBy, MovedHeld, MovedRan}
 
-module _ (r : ElectraRules) (next n many : ℕ) (compounding registry pairs : List ℕ) {moved before amounts : List ℕ} {d : Done} (c : Consolidates (consolidations next (decode registry) pairs) many moved d) (b : MovesBooked next n registry moved pairs before amounts d) where
+module _ (r : ElectraRules) (next n : ℕ) (compounding registry pairs : List ℕ) {moved before amounts : List ℕ} {d : Done} (c : Consolidates (consolidations next (decode registry) pairs) (length pairs / 2) moved d) (b : MovesBooked next n registry moved pairs before amounts d) where
   abbrev Goal : List ℕ → Done → Type 0
   Goal after x = MovedRan next n (decode registry) pairs (movedBy r next compounding (decode registry) pairs) after before amounts x
 
@@ -26,7 +26,7 @@ module _ (r : ElectraRules) (next n many : ℕ) (compounding registry pairs : Li
     where
       go : (m : Checked Consolidating) → d .refusal ≡ codeOf m → MovedRan next n (decode registry) pairs (bind m (λ p. bind (updateEffectiveBalances r compounding (p .validators)) (λ ws. value (record { moved = p; balanced = ws })))) after before amounts d
       go (value p) e = absurd (z e)
-      go (refused w) e = record { code = e; framed = b .framed; held = λ x q. absurd (not-value q) }
+      go (refused w) e = record { code = e; most = c .most; framed = b .framed; held = λ x q. absurd (not-value q) }
 
   pub moves-balanced : {after : List ℕ} {x : ℕ} → d .refusal ≡ 0 → Ran (updateEffectiveBalances r compounding (decode moved)) after x → Goal after (record { refusal = x; count = d .count })
   unfolding movedBy bind
@@ -40,8 +40,8 @@ module _ (r : ElectraRules) (next n many : ℕ) (compounding registry pairs : Li
           back = ap decode (h p refl .0) ∙ decode-encode (p .validators)
 
           on : (m : Checked (List Validator)) → Ran m after x → MovedRan next n (decode registry) pairs (bind m (λ ws. value (record { moved = p; balanced = ws }))) after before amounts (record { refusal = x; count = d .count })
-          on (refused w) ran = record { code = ran .code; framed = b .framed; held = λ y q. absurd (not-value q) }
-          on (value ws) ran = record { code = ran .code; framed = b .framed; held = λ y q. by (value-same q) }
+          on (refused w) ran = record { code = ran .code; most = c .most; framed = b .framed; held = λ y q. absurd (not-value q) }
+          on (value ws) ran = record { code = ran .code; most = c .most; framed = b .framed; held = λ y q. by (value-same q) }
             where
               whole : MovedHeld next n (decode registry) pairs (record { moved = p; balanced = ws }) after before amounts (record { refusal = x; count = d .count })
               whole = record { registry = ran .held ws refl; count = h p refl .1; books = λ l. b .booked z l ∙ ap (λ (vs : List Validator). value (movedTo n vs (d .count) amounts)) back }

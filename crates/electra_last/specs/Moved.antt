@@ -1,7 +1,7 @@
 -- Pending consolidations and effective balances, one after the other.
 use mathlib.Core.Path.{_≡_}
 use mathlib.Core.List.{List}
-use Prim.Native.Nat.{ℕ, _*_, _≤_}
+use Prim.Native.Nat.{ℕ, _*_, _/_, _≤_}
 use lib.ListN.{length}
 use Rattle.definitions.specs.Record.{Validator, encode, decode}
 use Rattle.definitions.specs.Checked.{Checked, value, bind, codeOf}
@@ -28,5 +28,6 @@ pub record MovedHeld (next n : ℕ) (vs : List Validator) (pairs : List ℕ) (b 
 
 pub record MovedRan (next n : ℕ) (vs : List Validator) (pairs : List ℕ) (m : Checked Balanced) (after before amounts : List ℕ) (r : Done) : Type 0 where
   pub code : r .refusal ≡ codeOf m
+  pub most : r .count ≤ length pairs / 2
   pub framed : Framed n before amounts
   pub held : (b : Balanced) → m ≡ value b → MovedHeld next n vs pairs b after before amounts r

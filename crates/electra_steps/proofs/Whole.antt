@@ -15,21 +15,15 @@ use Rattle.definitions_electra.specs.Record.{ElectraState, withDeposits}
 use Rattle.definitions_electra.specs.Document.Electra.EpochProcessing.{currentEpochOf}
 use Rattle.definitions_electra.specs.Evaluated.Electra.EpochProcessing.{ElectraStep, kept, pendingDeposits, pendingConsolidations, effectiveBalances, steps, electraStep, closeUpTo, «process_epoch»}
 use Rattle.laws_electra.specs.Consolidations.{within}
-use Rattle.electra_first.specs.First.{Five, fiveBy}
-use Rattle.electra_first.proofs.Text.{then, bind-same, flat, afterFive, up-to-five}
-use Rattle.electra_steps.specs.Last.{Six, sixBy, afterSix, Eight, eightBy, afterEight, afterTen}
+use Rattle.electra_first.specs.First.{Five, fiveBy, afterFive}
+use Rattle.electra_first.proofs.Text.{then, bind-same, flat, up-to-five}
+use Rattle.electra_steps.specs.Last.{Six, sixBy, afterSix, Eight, sevenEight, afterEight, afterTen}
 use Rattle.electra_steps.proofs.Last.{sixth, at-once, bind-given, seventh-eighth, ninth-tenth}
 
 -- what the deposits leave of the n that the record opened with: as many validators as credentials
 pub record Parted (n : ℕ) (x : Six) : Type 0 where
   pub front : length (take n (x .processing .registry .validators)) ≡ n
   pub fits : length (take n (x .processing .registry .compounding)) ≡ length (take n (x .processing .registry .validators))
-
-abbrev pub sevenEight : ElectraRules → ℕ → ElectraState → Six → Checked Eight
-sevenEight r n st x =
-    bind (add64 (currentEpochOf r st) 1) (λ next.
-    eightBy r next (st .«pending_consolidations») (take n (x .processing .registry .compounding)) (drop n (x .processing .registry .compounding))
-    (take n (x .processing .registry .validators)) (drop n (x .processing .registry .validators)))
 
 module _ (r : ElectraRules) (n : ℕ) (st : ElectraState) (placed : all (within n) (st .«pending_consolidations») ≡ true) where
   -- from the seventh on
@@ -50,10 +44,10 @@ module _ (r : ElectraRules) (st : ElectraState) where
   abbrev five : Checked Five
   five = fiveBy r (inPlace (r .bellatrix) (r .settings)) (st .altair .finality) (st .churn) (st .altair .validators) (st .altair .slashings) (st .altair .«block_roots»)
 
-  pub whole : (n : ℕ) → all (within n) (st .«pending_consolidations») ≡ true → ((v : Five) → five ≡ value v → (x : Six) → sixBy r (afterFive r st v) ≡ value x → Parted n x) → «process_epoch» r st ≡ bind five (λ v. bind (sixBy r (afterFive r st v)) (λ x. bind (sevenEight r n (afterFive r st v) x) (λ y. value (afterTen r (afterEight (afterSix (afterFive r st v) x) y)))))
+  pub whole : (n : ℕ) → all (within n) (st .«pending_consolidations») ≡ true → ((v : Five) → five ≡ value v → (x : Six) → sixBy r (afterFive st v) ≡ value x → Parted n x) → «process_epoch» r st ≡ bind five (λ v. bind (sixBy r (afterFive st v)) (λ x. bind (sevenEight r n (afterFive st v) x) (λ y. value (afterTen r (afterEight (afterSix (afterFive st v) x) y)))))
   unfolding «process_epoch» closeUpTo
   whole n placed h =
       foldChecked-append (electraStep r) st (take 5 steps) (drop 5 steps)
       ∙ ap (λ (m : Checked ElectraState). bind m (λ s. foldChecked (electraStep r) s (drop 5 steps))) (up-to-five r st)
-      ∙ flat five (λ v. value (afterFive r st v)) (λ s. foldChecked (electraStep r) s (drop 5 steps))
-      ∙ bind-given five (λ v e. at-once (afterFive r st v) (λ s. foldChecked (electraStep r) s (drop 5 steps)) ∙ last-five r n (afterFive r st v) placed (h v e))
+      ∙ flat five (λ v. value (afterFive st v)) (λ s. foldChecked (electraStep r) s (drop 5 steps))
+      ∙ bind-given five (λ v e. at-once (afterFive st v) (λ s. foldChecked (electraStep r) s (drop 5 steps)) ∙ last-five r n (afterFive st v) placed (h v e))

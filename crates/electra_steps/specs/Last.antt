@@ -1,16 +1,16 @@
 -- Pending deposits, and the steps after them by two parts of the registry: the validators of the opening, and those whom the deposits have added.
 use mathlib.Core.List.{List, _++_}
 use Prim.Native.Nat.{ℕ}
-use lib.ListN.{drop}
+use lib.ListN.{take, drop}
 use Rattle.definitions.specs.Record.{Validator}
-use Rattle.definitions.specs.Checked.{Checked, value, bind}
+use Rattle.definitions.specs.Checked.{Checked, value, bind, add64}
 use Rattle.definitions.specs.Rules.{inPlace}
 use Rattle.definitions.specs.Rust.Phase0.EpochProcessing.{resetSlashings}
 use Rattle.definitions.specs.Rust.Altair.EpochProcessing.{«process_participation_flag_updates»}
 use Rattle.definitions_electra.specs.declared.ElectraRules.{ElectraRules}
 use Rattle.definitions_electra.specs.Loops.{foldUntilChecked}
 use Rattle.definitions_electra.specs.Record.{PendingConsolidation, ElectraState, registryOf, withAltair, withDeposits, withConsolidations}
-use Rattle.definitions_electra.specs.Document.Electra.EpochProcessing.{Queueing, Processing, started, depositsStop, Consolidating, consolidationsStop}
+use Rattle.definitions_electra.specs.Document.Electra.EpochProcessing.{currentEpochOf, Queueing, Processing, started, depositsStop, Consolidating, consolidationsStop}
 use Rattle.definitions_electra.specs.Evaluated.Electra.EpochProcessing.{processDeposit, queueing, leftToConsume, processConsolidation, updateEffectiveBalances}
 
 -- the sixth
@@ -43,6 +43,13 @@ eightBy r next pairs cs ds us ws =
     bind (foldUntilChecked (consolidationsStop next) processConsolidation (record { validators = us; «next_pending_consolidation» = 0 }) pairs) (λ c.
     bind (updateEffectiveBalances r cs (c .validators)) (λ bs.
     bind (updateEffectiveBalances r ds ws) (λ xs. value (record { moved = c; balanced = bs; added = xs }))))
+
+-- of the n that the record opened with, and those whom the deposits added
+abbrev pub sevenEight : ElectraRules → ℕ → ElectraState → Six → Checked Eight
+sevenEight r n st x =
+    bind (add64 (currentEpochOf r st) 1) (λ next.
+    eightBy r next (st .«pending_consolidations») (take n (x .processing .registry .compounding)) (drop n (x .processing .registry .compounding))
+    (take n (x .processing .registry .validators)) (drop n (x .processing .registry .validators)))
 
 abbrev pub afterEight : ElectraState → Eight → ElectraState
 afterEight st y =

@@ -14,7 +14,7 @@ returns c =
     let at-moved : tie.After-consolidate-all = search needs in
     let at-start : tie.Start = search needs in
     let a = at-start .args in
-    moves-refused (a .rules) (a .next-epoch) _ _ (a .compounding .now) (a .registry .now) (a .pairs .now) (at-moved .consolidate-all .ensures .0) (at-moved .consolidate-all .ensures .1) (c .if1 .taken)
+    moves-refused (a .rules) (a .next-epoch) _ (a .compounding .now) (a .registry .now) (a .pairs .now) (at-moved .consolidate-all .ensures .0) (at-moved .consolidate-all .ensures .1) (c .if1 .taken)
 
 effective-balances-core-requires : tie.Need-effective-balances-core-requires
 effective-balances-core-requires c κs =
@@ -29,7 +29,7 @@ returns-2 c =
     let at-moved : tie.After-consolidate-all = search needs in
     let at-start : tie.Start = search needs in
     let a = at-start .args in
-    moves-balanced (a .rules) (a .next-epoch) _ _ (a .compounding .now) (a .registry .now) (a .pairs .now) (at-moved .consolidate-all .ensures .0) (at-moved .consolidate-all .ensures .1) (at-else1 .if1 .left) (at-core .effective-balances-core .ensures)
+    moves-balanced (a .rules) (a .next-epoch) _ (a .compounding .now) (a .registry .now) (a .pairs .now) (at-moved .consolidate-all .ensures .0) (at-moved .consolidate-all .ensures .1) (at-else1 .if1 .left) (at-core .effective-balances-core .ensures)
 
 pub moves-and-balances-spec : {M : Type 1} → statement M
 moves-and-balances-spec =
