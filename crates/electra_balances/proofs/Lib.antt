@@ -1,2 +1,2 @@
 -- Laws of the turn by its thresholds, and of the loop.
-mod Turns
+pub mod Turns

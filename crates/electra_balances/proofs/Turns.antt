@@ -1,17 +1,19 @@
 -- The turn is Altair's by the validator's own settings, and the turns one after the other are the text's loop.
-use mathlib.Core.Path.{_≡_, refl, sym, ap, _∙_}
+use mathlib.Core.Path.{_≡_, refl, sym, _∙_}
 use mathlib.Core.List.{List, [], _∷_, _++_, append-assoc}
-use Prim.Native.Nat.{ℕ, suc, _+_, _*_, _/_, _≤_, _<_}
+use Prim.Native.Nat.{ℕ, suc, _+_, _*_, _≤_, _<_}
 use native.Mathlib.Omega.{arith}
 use lib.ListN.{length, getD, set, length-append, length-take, length-drop}
 use lib.Seq.{getD-append-seam, set-append-seam}
 use Rattle.definitions.specs.declared.Settings.{Settings}
 use Rattle.definitions.specs.Lists.{range}
 use Rattle.definitions.specs.Record.{Validator, decodeOne, decode, nobody}
-use Rattle.definitions.specs.Checked.{Checked, value, refused, overflow, bind, mul64, foldChecked}
+use Rattle.definitions.specs.Checked.{Checked, value, refused, overflow, bind, foldChecked}
 use Rattle.definitions.specs.Document.Phase0.EpochProcessing.{roundedBalance}
 use Rattle.definitions.specs.Rust.Phase0.EpochProcessing as altair
+use Rattle.laws.proofs.Checked.{bind-bind}
 use Rattle.laws.proofs.Encode.{length-decode}
+use Rattle.laws_electra.proofs.Cases.{bind-given}
 use Rattle.laws.specs.Ran.{Settles, Ran}
 use Rattle.laws.proofs.Loops.Entry.{entryAt, putAt, entry-ten}
 use Rattle.laws.proofs.Loops.Ran.{ran-entry}
@@ -32,13 +34,8 @@ module _ (r : ElectraRules) where
   turnBy compounding t v = altair.updateEffectiveBalance (ownSettings r compounding) (t .downward) (t .upward) v
 
   pub by-thresholds : (compounding : ℕ) (v : Validator) → updateEffectiveBalance r compounding v ≡ bind (thresholdsOf s) (λ t. turnBy compounding t v)
-  unfolding updateEffectiveBalance altair.updateEffectiveBalance roundedBalance thresholdsOf bind
-  by-thresholds compounding v = go (mul64 (s .«effective_balance_increment» / s .«hysteresis_quotient») (s .«hysteresis_downward_multiplier»)) (mul64 (s .«effective_balance_increment» / s .«hysteresis_quotient») (s .«hysteresis_upward_multiplier»))
-    where
-      go : (x y : Checked ℕ) → bind x (λ downward. bind y (λ upward. turnBy compounding (record { downward = downward; upward = upward }) v)) ≡ bind (bind x (λ downward. bind y (λ upward. value (record { downward = downward; upward = upward })))) (λ t. turnBy compounding t v)
-      go (value x) (value y) = refl
-      go (value x) (refused p) = refl
-      go (refused p) y = refl
+  unfolding updateEffectiveBalance altair.updateEffectiveBalance roundedBalance thresholdsOf
+  by-thresholds compounding v = simp (bind-bind, bind-given)
 
   module _ {t : Thresholds} (h : thresholdsOf s ≡ value t) where
     turn-is : (compounding : ℕ) (v : Validator) → updateEffectiveBalance r compounding v ≡ turnBy compounding t v
@@ -59,11 +56,6 @@ module _ (r : ElectraRules) where
   abbrev pub turnAt : List ℕ → List Validator → ℕ → Checked (List Validator)
   turnAt cs vs i = bind (updateEffectiveBalance r (getD cs i 0) (getD vs i nobody)) (λ v. value (set vs i v))
 
-  joined : (ws : List Validator) (w : Validator) (m : Checked (List Validator)) → bind m (λ us. value ((ws ++ (w ∷ [])) ++ us)) ≡ bind (bind m (λ us. value (w ∷ us))) (λ us. value (ws ++ us))
-  unfolding bind
-  joined ws w (value us) = ap value (append-assoc ws (w ∷ []) us)
-  joined ws w (refused p) = refl
-
   -- the first are done
   seam : (ds cs : List ℕ) (ws vs : List Validator) → length ds ≡ length ws → length cs ≡ length vs → foldChecked (turnAt (ds ++ cs)) (ws ++ vs) (range (length ws) (length vs)) ≡ bind (updateEffectiveBalances r cs vs) (λ us. value (ws ++ us))
   unfolding updateEffectiveBalances foldChecked range bind
@@ -79,7 +71,7 @@ module _ (r : ElectraRules) where
       go : (m : Checked Validator) → ((w : Validator) → foldChecked (turnAt ((ds ++ (c ∷ [])) ++ cs)) ((ws ++ (w ∷ [])) ++ vs) (range (length (ws ++ (w ∷ []))) (length vs)) ≡ bind (updateEffectiveBalances r cs vs) (λ us. value ((ws ++ (w ∷ [])) ++ us))) → bind (bind m (λ w. value (set (ws ++ (v ∷ vs)) (length ws) w))) (λ us. foldChecked (turnAt (ds ++ (c ∷ cs))) us (range (suc (length ws)) (length vs))) ≡ bind (bind m (λ w. bind (updateEffectiveBalances r cs vs) (λ us. value (w ∷ us)))) (λ us. value (ws ++ us))
       go (value w) h =
           let k : length (ws ++ (w ∷ [])) ≡ suc (length ws) = omega (arith, length-append ws (w ∷ [])) in
-          rw (set-append-seam ws v vs w) ((rw (append-assoc ds (c ∷ []) cs, append-assoc ws (w ∷ []) vs, k) at (h w)) ∙ joined ws w (updateEffectiveBalances r cs vs))
+          rw (set-append-seam ws v vs w) ((rw (append-assoc ds (c ∷ []) cs, append-assoc ws (w ∷ []) vs, k) at (h w)) ∙ simp (bind-bind, bind-given, append-assoc))
       go (refused p) h = refl
 
   loop-is : (cs : List ℕ) (vs : List Validator) → length cs ≡ length vs → foldChecked (turnAt cs) vs (range 0 (length vs)) ≡ updateEffectiveBalances r cs vs

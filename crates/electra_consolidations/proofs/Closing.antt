@@ -45,7 +45,7 @@ encode-first (suc m) [] h = absurd (omega arith)
 encode-first (suc m) (p ∷ []) h = absurd (omega arith)
 encode-first (suc m) (p ∷ q ∷ ps) h = ap (λ (t : List ℕ). p ∷ q ∷ t) (encode-first m ps (omega arith))
 
-rest-encoded : (k : ℕ) (ps : List ℕ) → length ps ≡ 2 * (length ps / 2) → k ≤ length ps / 2 → encodeConsolidations (drop k (decodeConsolidations ps)) ≡ drop (2 * k) ps
+pub rest-encoded : (k : ℕ) (ps : List ℕ) → length ps ≡ 2 * (length ps / 2) → k ≤ length ps / 2 → encodeConsolidations (drop k (decodeConsolidations ps)) ≡ drop (2 * k) ps
 unfolding decodeConsolidations
 rest-encoded k ps h l = ap encodeConsolidations (rest-first k (length ps / 2) ps l) ∙ encode-first (length ps / 2 - k) (drop (2 * k) ps) (length-drop (2 * k) ps ∙ omega arith)
 

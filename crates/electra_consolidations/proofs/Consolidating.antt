@@ -8,7 +8,7 @@ use borrow.Author.Tests.{ltb-true, eq-eqb, ne-eqb}
 use lib.Dec.{ltb}
 use lib.ListN.{length, getD, set, length-set}
 use Rattle.definitions.specs.Record.{Validator, isSlashed, decodeOne, encodeOne, encode, decode, nobody}
-use Rattle.definitions.specs.Checked.{Checked, value, refused, bind, codeOf}
+use Rattle.definitions.specs.Checked.{Checked, value, bind, codeOf}
 use Rattle.definitions.specs.Rust.Phase0.Helpers.{«increase_balance», «decrease_balance»}
 use Rattle.laws.proofs.Checked.{not-value, value-same}
 use Rattle.laws.proofs.Encode.{length-encode, length-decode, encode-decode, decode-encode}
@@ -19,8 +19,10 @@ use Rattle.laws.proofs.Loops.Ran.{ran-value, ran-gave, ran-entry}
 use Rattle.definitions_electra.specs.Record.{PendingConsolidation, decodeConsolidations}
 use Rattle.definitions_electra.specs.Document.Electra.EpochProcessing.{Consolidating, consolidationsStop, consolidatedBalance, nextConsolidation}
 use Rattle.definitions_electra.specs.Evaluated.Electra.EpochProcessing.{consolidate, processConsolidation}
+use Rattle.arithmetic.proofs.Laws.{bind-refused}
 use Rattle.laws_electra.specs.Consolidations.{pair, within}
 use Rattle.laws_electra.proofs.Consolidations.{none, length-pairs, pair-at}
+use Rattle.laws_electra.proofs.Cases.{test-or, refuses}
 use Rattle.laws_electra.proofs.Until.{Resumed, resumed-none, resumed-all, resumed-left, resumed-refused, resumed-more}
 use Rattle.electra_consolidations.specs.Consolidations.{turned, reached, placed, consolidations, Consolidates}
 
@@ -86,11 +88,7 @@ module _ (n : ℕ) (xs : List ℕ) (source target : ℕ) (long : length xs ≡ 1
 -- the text's turn
 turn-is : (p : Consolidating) (c : PendingConsolidation) → processConsolidation p c ≡ bind (turned (p .validators) c) (λ vs. value (nextConsolidation p vs))
 unfolding processConsolidation turned bind
-turn-is p c = go (isSlashed (getD (p .validators) (c .«source_index») nobody))
-  where
-    go : (t : Bool) → cond t (value (nextConsolidation p (p .validators))) (bind (consolidate (p .validators) c) (λ vs. value (nextConsolidation p vs))) ≡ bind (cond t (value (p .validators)) (consolidate (p .validators) c)) (λ vs. value (nextConsolidation p vs))
-    go true = refl
-    go false = refl
+turn-is p c = test-or (isSlashed (getD (p .validators) (c .«source_index») nobody)) (λ t. rw t) (λ t. rw t)
 
 -- The loop: the registry xs after i turns over the registry xs₀ of n validators
 
@@ -143,13 +141,10 @@ module _ {next n : ℕ} {xs₀ ps : List ℕ} {i : ℕ} {xs : List ℕ} (g : Goi
 
         pub going-stop : (r ≡ 0 → ⊥) → Consolidates (consolidations next (decode xs₀) ps) (length ps / 2) ys (record { refusal = r; count = 0 })
         unfolding consolidations bind
-        going-stop z = go (turned (decode xs) (pair source target)) refl
-          where
-            go : (m : Checked (List Validator)) → turned (decode xs) (pair source target) ≡ m → Consolidates (consolidations next (decode xs₀) ps) (length ps / 2) ys (record { refusal = r; count = 0 })
-            go (value vs) q = absurd (z (h .code ∙ ap codeOf q))
-            go (refused p) q =
-                let w = resumed-refused (g .resumed) none inside-pairs (stops ∙ f) {p = p} (turn ∙ rw q) in
-                record { code = h .code ∙ ap codeOf q ∙ sym (ap codeOf w); most = omega arith; held = λ o u. absurd (not-value (sym w ∙ u)); none = λ o u. refl }
+        going-stop z =
+            let o = refuses (turned (decode xs) (pair source target)) (λ y. z (h .code ∙ y)) in
+            let w = resumed-refused (g .resumed) none inside-pairs (stops ∙ f) {p = o .why} (turn ∙ bind-refused _ (o .is)) in
+            record { code = h .code ∙ ap codeOf (o .is) ∙ sym (ap codeOf w); most = omega arith; held = λ o u. absurd (not-value (sym w ∙ u)); none = λ o u. refl }
 
         pub going-more : r ≡ 0 → length ys ≡ length xs → Going next n xs₀ ps (i + 1) ys
         unfolding bind

@@ -1,3 +1,3 @@
 pub mod Consolidating
 pub mod Moves
-mod Closing
+pub mod Closing

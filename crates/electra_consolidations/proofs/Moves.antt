@@ -5,8 +5,8 @@ use mathlib.Core.Logic.{_≢_}
 use mathlib.Core.List.{List}
 use Prim.Native.Nat.{ℕ, zero, suc, _+_, _*_, _/_, _%_, _^_, _≤_, _<_}
 use native.Mathlib.Omega.{arith}
-use borrow.Author.Tests.{eqb-true, eqb-false, ltb-false, le-ltb, lt-ltb}
-use lib.Dec.{eqb, ltb}
+use borrow.Author.Tests.{le-ltb, lt-ltb}
+use lib.Dec.{ltb}
 use lib.ListN.{length, getD, drop, length-set}
 use lib.Seq.{ext-getD, getD-set-same, getD-set-other, getD-drop}
 use Rattle.definitions.specs.Record.{Validator, decode, isSlashed, nobody}
@@ -20,6 +20,7 @@ use Rattle.definitions_electra.specs.Evaluated.Electra.EpochProcessing.{process
 use Rattle.definitions_electra_close.specs.Amounts.{addAt, moveConsolidation}
 use Rattle.laws_electra.specs.Consolidations.{pair}
 use Rattle.laws_electra.proofs.Consolidations.{none, length-pairs}
+use Rattle.laws_electra.proofs.Cases.{same-or, less-or}
 use Rattle.laws_electra.proofs.Until.{Resumed, resumed-none, resumed-all, resumed-left, resumed-more}
 use Rattle.electra_consolidations.specs.Consolidations.{turned, reached}
 use Rattle.electra_consolidations.specs.Moves.{bookedMove, column, movedTo, movements, Framed, MovesBooked}
@@ -42,34 +43,25 @@ column-at k (suc n) xs (suc i) l =
 
 -- a number that no row has at k is added to
 column-other : (k n : ℕ) (xs : List ℕ) (j x : ℕ) → ((i : ℕ) → 12 * i + k ≢ j) → column k n (addAt xs j x) ≡ column k n xs
-column-other k n xs j x h = ext-getD 0 _ _ (column-long k n _ ∙ sym (column-long k n xs)) at
-  where
-    at : (i : ℕ) → i < length (column k n (addAt xs j x)) → getD (column k n (addAt xs j x)) i 0 ≡ getD (column k n xs) i 0
-    at i l =
-        let b : i < n = omega (arith, l, column-long k n (addAt xs j x)) in
-        column-at k n (addAt xs j x) i b ∙ getD-set-other xs j (12 * i + k) _ 0 (h i) ∙ sym (column-at k n xs i b)
+column-other k n xs j x h =
+    ext-getD 0 _ _ (column-long k n _ ∙ sym (column-long k n xs))
+    (λ i l. (let b : i < n = omega (arith, l, column-long k n (addAt xs j x)) in column-at k n (addAt xs j x) i b ∙ getD-set-other xs j (12 * i + k) _ 0 (h i) ∙ sym (column-at k n xs i b)))
 
 -- the number k of the row r is added to
 column-same : (k n : ℕ) (xs : List ℕ) (r x : ℕ) → r < n → 12 * n ≤ length xs → k < 12 → column k n (addAt xs (12 * r + k) x) ≡ addAt (column k n xs) r x
-column-same k n xs r x l long m = ext-getD 0 _ _ (column-long k n _ ∙ sym (length-set (column k n xs) r _ ∙ column-long k n xs)) at
-  where
-    go : (i : ℕ) → i < n → (t : Bool) → eqb i r ≡ t → getD (column k n (addAt xs (12 * r + k) x)) i 0 ≡ getD (addAt (column k n xs) r x) i 0
-    go i b true e =
-        let q : i ≡ r = eqb-true i r e in
-        rw q
-        (column-at k n (addAt xs (12 * r + k) x) r l
-        ∙ getD-set-same xs (12 * r + k) _ 0 (omega arith)
-        ∙ ap (λ (y : ℕ). (y + x) % (2 ^ 64)) (sym (column-at k n xs r l))
-        ∙ sym (getD-set-same (column k n xs) r _ 0 (omega (arith, l, column-long k n xs))))
-    go i b false e =
-        let q : i ≢ r = eqb-false i r e in
-        column-at k n (addAt xs (12 * r + k) x) i b
-        ∙ getD-set-other xs (12 * r + k) (12 * i + k) _ 0 (λ u. q (omega (arith, u)))
-        ∙ sym (column-at k n xs i b)
-        ∙ sym (getD-set-other (column k n xs) r i _ 0 q)
-
-    at : (i : ℕ) → i < length (column k n (addAt xs (12 * r + k) x)) → getD (column k n (addAt xs (12 * r + k) x)) i 0 ≡ getD (addAt (column k n xs) r x) i 0
-    at i b = go i (omega (arith, b, column-long k n (addAt xs (12 * r + k) x))) (eqb i r) refl
+column-same k n xs r x l long m =
+    ext-getD 0 _ _ (column-long k n _ ∙ sym (length-set (column k n xs) r _ ∙ column-long k n xs))
+    (λ i b. same-or i r
+    (λ q. rw q
+    (column-at k n (addAt xs (12 * r + k) x) r l
+    ∙ getD-set-same xs (12 * r + k) _ 0 (omega arith)
+    ∙ ap (λ (y : ℕ). (y + x) % (2 ^ 64)) (sym (column-at k n xs r l))
+    ∙ sym (getD-set-same (column k n xs) r _ 0 (omega (arith, l, column-long k n xs)))))
+    (λ q. (let c : i < n = omega (arith, b, column-long k n (addAt xs (12 * r + k) x)) in
+    column-at k n (addAt xs (12 * r + k) x) i c
+    ∙ getD-set-other xs (12 * r + k) (12 * i + k) _ 0 (λ u. q (omega (arith, u)))
+    ∙ sym (column-at k n xs i c)
+    ∙ sym (getD-set-other (column k n xs) r i _ 0 q))))
 
 -- Nothing else is written
 
@@ -113,13 +105,9 @@ module _ (n source target moved : ℕ) (xs : List ℕ) (ls : source < n) (lt : t
 
   booked-framed : Framed n xs (bookedMove n source target moved xs)
   unfolding bookedMove
-  booked-framed = go (ltb (length xs) (12 * n)) refl
-    where
-      go : (t : Bool) → ltb (length xs) (12 * n) ≡ t → Framed n xs (cond t xs (addAt first (12 * target + 11) moved))
-      go true e = framed-same n xs
-      go false e =
-          let l = ltb-false (length xs) (12 * n) e in
-          framed-then (framed-add n xs source 10 moved ls (omega arith) (omega arith) l) (framed-add n first target 11 moved lt (omega arith) (omega arith) (omega (arith, l, first-long)))
+  booked-framed =
+      less-or (length xs) (12 * n) (λ l. rw (lt-ltb (length xs) (12 * n) l) (framed-same n xs))
+      (λ l. rw (le-ltb (length xs) (12 * n) l) (framed-then (framed-add n xs source 10 moved ls (omega arith) (omega arith) l) (framed-add n first target 11 moved lt (omega arith) (omega arith) (omega (arith, l, first-long)))))
 
   module _ (l : 12 * n ≤ length xs) where
     booked-out : column 10 n (bookedMove n source target moved xs) ≡ addAt (column 10 n xs) source moved

@@ -167,7 +167,7 @@ pub fn consolidate_all(
 }
 
 // The rest of the queue at the front of the closing one.
-fn keep_rest(queue: &[u64], from: usize, closing: &mut [u64])
+pub fn keep_rest(queue: &[u64], from: usize, closing: &mut [u64])
     requires { ⌜ (length (now closing) ≡ length (now queue)) × (from ≤ length (now queue)) ⌝ }
     ensures { λ _. ⌜ now (closing .exit) ≡ over (drop from (now (queue .entry))) (now (closing .entry)) ⌝ }
 {

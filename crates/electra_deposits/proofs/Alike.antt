@@ -1,9 +1,11 @@
 -- Two computations that give values that are alike, or the same refusal.
-use mathlib.Core.Path.{_≡_, refl, sym}
+use mathlib.Core.Path.{_≡_, refl, sym, ap}
 use mathlib.Core.Bool.{Bool, true, false, cond}
 use Prim.Native.Nat.{ℕ}
 use native.Mathlib.Omega.{arith}
-use Rattle.definitions.specs.Checked.{Checked, value, refused, bind}
+use Rattle.definitions.specs.Checked.{Checked, value, refused, numberOf, bind, codeOf}
+use Rattle.laws.proofs.Checked.{number-not-zero}
+use Rattle.laws_electra.proofs.Cases.{Gives}
 
 abbrev alikeBy : {A B : Type 0} → (A → B → Type 0) → Checked A → Checked B → Type 0
 alikeBy R (value a) (value b) = R a b
@@ -38,3 +40,20 @@ alike-cond true true e h g = h
 alike-cond false false e h g = g
 alike-cond true false e h g = absurd (apart e)
 alike-cond false true e h g = absurd (apart (sym e))
+
+-- by the number of a refusal
+pub record Both {A B : Type 0} (R : A → B → Type 0) (m : Checked A) (n : Checked B) : Type 0 where
+  pub left : Gives m
+  pub right : Gives n
+  pub alike : R (left .first) (right .first)
+
+pub both-gave : {A B : Type 0} {R : A → B → Type 0} {m : Checked A} {n : Checked B} → Alike R m n → codeOf m ≡ 0 → Both R m n
+both-gave {m = value a} {n = value b} h z = record { left = record { first = a; gave = refl }; right = record { first = b; gave = refl }; alike = h .is }
+both-gave {m = value a} {n = refused q} h z = absurd (h .is)
+both-gave {m = refused p} {n = n} h z = absurd (number-not-zero p z)
+
+pub same-code : {A B : Type 0} {R : A → B → Type 0} {m : Checked A} {n : Checked B} → Alike R m n → codeOf m ≡ codeOf n
+same-code {m = value a} {n = value b} h = refl
+same-code {m = value a} {n = refused q} h = absurd (h .is)
+same-code {m = refused p} {n = value b} h = absurd (h .is)
+same-code {m = refused p} {n = refused q} h = ap numberOf (h .is)

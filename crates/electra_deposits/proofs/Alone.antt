@@ -4,24 +4,25 @@ use mathlib.Core.Bool.{Bool, true, false, _&&_, _||_}
 use mathlib.Core.List.{List}
 use Prim.Native.Nat.{ℕ, _+_, _*_, _/_, _≤_, _<_}
 use native.Mathlib.Omega.{arith}
-use borrow.Author.Tests.{lt-ltb, le-ltb, ltb-true, ltb-false, le-leb, lt-leb}
+use borrow.Author.Tests.{lt-ltb, le-ltb, le-leb, lt-leb}
 use lib.Dec.{ltb, leb}
-use lib.ListN.{length, getD, set}
-use Rattle.definitions.specs.Record.{Validator, «FAR_FUTURE_EPOCH», decodeOne, encodeOne, encode, decode}
-use Rattle.definitions.specs.Checked.{Checked, value, refused, Refusal, overflow, numberOf, bind, add64, codeOf, settle}
+use lib.ListN.{length, getD}
+use Rattle.definitions.specs.Record.{Validator, «FAR_FUTURE_EPOCH», encode, decode}
+use Rattle.definitions.specs.Checked.{Checked, value, refused, Refusal, overflow, numberOf, bind, add64, codeOf}
 use Rattle.definitions.specs.Rust.Phase0.Helpers.{«increase_balance»}
 use Rattle.laws.proofs.Checked.{not-value, value-same, number-not-zero}
 use Rattle.laws.proofs.Encode.{length-decode, encode-decode, decode-encode}
 use Rattle.laws.specs.Ran.{Settles, Ran}
-use Rattle.laws.proofs.Loops.Entry.{entryAt, putAt, entry-is, entry-back, number-at}
+use Rattle.laws.proofs.Loops.Entry.{entryAt, putAt, number-at}
+use Rattle.laws.proofs.Loops.Ran.{ran-value, ran-entry}
 use Rattle.definitions_electra.specs.declared.PendingDeposit.{PendingDeposit}
-use Rattle.definitions_electra.specs.Loops.{foldUntilChecked}
 use Rattle.definitions_electra.specs.Record.{decodeDeposits}
 use Rattle.laws_electra.proofs.Deposits.{length-deposits}
 use Rattle.laws_electra.proofs.Until.{Resumed, resumed-none, resumed-all, resumed-left, resumed-refused, resumed-more}
 use Rattle.electra_deposits.specs.declared.QueueNumbers.{QueueNumbers}
 use Rattle.electra_deposits.specs.declared.DepositTurn.{DepositTurn}
 use Rattle.electra_deposits.specs.Alone.{testedAt, withdrawnAt, exitedAt, raised, Running, running, turn, stops, none, queueingOf, turnBy, afterTurn, Turns, alone, Deposits}
+use Rattle.laws_electra.proofs.Cases.{refuses, less-or, test-or}
 
 -- One validator
 
@@ -39,61 +40,40 @@ module _ (xs : List ℕ) (key : ℕ) (long : length xs ≡ 10 * (length xs / 10)
     pub tested-exit : ltb (getD xs (10 * key + 4) 0) «FAR_FUTURE_EPOCH» ≡ exitedAt (decode xs) key
     tested-exit = rw (many, lt-ltb key (length xs / 10) l, number-at (length xs / 10) xs key long l 4 (omega arith))
 
-ran-value : {m : Checked (List Validator)} {vs : List Validator} {xs : List ℕ} {r : ℕ} → m ≡ value vs → r ≡ 0 → xs ≡ encode vs → Ran m xs r
-ran-value {vs = vs} e z h = record { code = rw (z, e); held = λ ws f. (let s : vs ≡ ws = value-same (sym e ∙ f) in rw (← s) h) }
-
 module _ (xs : List ℕ) (d : PendingDeposit) (long : length xs ≡ 10 * (length xs / 10)) where
   pub raised-none : length xs / 10 ≤ d .pubkey → Ran (raised (decode xs) d) xs 0
   unfolding raised
-  raised-none l = ran-value (rw (many xs (d .pubkey) long, le-ltb (d .pubkey) (length xs / 10) l)) refl (sym (encode-decode (length xs / 10) xs long))
+  raised-none l = rw (many xs (d .pubkey) long, le-ltb (d .pubkey) (length xs / 10) l) (ran-value (sym (encode-decode (length xs / 10) xs long)))
 
   -- its part comes back as e
   pub raised-one : {e : List ℕ} {r : ℕ} → d .pubkey < length xs / 10 → Settles (λ v. «increase_balance» v (d .amount)) (entryAt xs (d .pubkey)) e r → Ran (raised (decode xs) d) (putAt xs (d .pubkey) e) r
-  unfolding raised bind
-  raised-one {e} {r} l h = rw (many xs (d .pubkey) long, lt-ltb (d .pubkey) (length xs / 10) l, ← entry-is (length xs / 10) xs (d .pubkey) long l) (go («increase_balance» (decodeOne (entryAt xs (d .pubkey))) (d .amount)) refl)
-    where
-      go : (m : Checked Validator) → «increase_balance» (decodeOne (entryAt xs (d .pubkey))) (d .amount) ≡ m → Ran (bind m (λ w. value (set (decode xs) (d .pubkey) w))) (putAt xs (d .pubkey) e) r
-      go (value w) q =
-          let b = entry-back (length xs / 10) xs (d .pubkey) long l w (h .held ∙ ap (λ (m : Checked Validator). encodeOne (settle m (decodeOne (entryAt xs (d .pubkey))))) q) in
-          ran-value refl (h .code ∙ ap codeOf q) b
-      go (refused p) q = record { code = h .code ∙ ap codeOf q; held = λ b f. absurd (not-value f) }
+  unfolding raised
+  raised-one l h = rw (many xs (d .pubkey) long, lt-ltb (d .pubkey) (length xs / 10) l) (ran-entry (λ v. «increase_balance» v (d .amount)) (length xs / 10) xs (d .pubkey) long l h)
 
 -- The three stops
 
-or-first : (a z : Bool) → true ≡ ((a || true) || z)
-or-first true z = refl
-or-first false z = refl
-
-or-last : (a : Bool) → true ≡ ((a || false) || true)
-or-last true = refl
-or-last false = refl
-
-or-none : (a : Bool) → a ≡ ((a || false) || false)
-or-none true = refl
-or-none false = refl
-
 module _ (q : QueueNumbers) (i slot : ℕ) where
   pub stop-late : q .«finalized_slot» < slot → true ≡ ((ltb 0 slot && q .«bridge_open») || ltb (q .«finalized_slot») slot || leb (q .most) i)
-  stop-late l = rw (lt-ltb (q .«finalized_slot») slot l) (or-first (ltb 0 slot && q .«bridge_open») (leb (q .most) i))
+  stop-late l = rw (lt-ltb (q .«finalized_slot») slot l) (test-or (ltb 0 slot && q .«bridge_open») (λ t. rw t) (λ t. rw t))
 
   module _ (f : slot ≤ q .«finalized_slot») where
     pub stop-many : q .most ≤ i → true ≡ ((ltb 0 slot && q .«bridge_open») || ltb (q .«finalized_slot») slot || leb (q .most) i)
-    stop-many l = rw (le-ltb (q .«finalized_slot») slot f, le-leb (q .most) i l) (or-last (ltb 0 slot && q .«bridge_open»))
+    stop-many l = rw (le-ltb (q .«finalized_slot») slot f, le-leb (q .most) i l) (test-or (ltb 0 slot && q .«bridge_open») (λ t. rw t) (λ t. rw t))
 
     module _ (g : i < q .most) where
       pub stop-none : slot ≡ 0 → false ≡ ((ltb 0 slot && q .«bridge_open») || ltb (q .«finalized_slot») slot || leb (q .most) i)
       stop-none z = rw (le-ltb (q .«finalized_slot») slot f, lt-leb (q .most) i g, le-ltb 0 slot (omega arith))
 
       pub stop-bridge : (slot ≡ 0 → ⊥) → q .«bridge_open» ≡ ((ltb 0 slot && q .«bridge_open») || ltb (q .«finalized_slot») slot || leb (q .most) i)
-      stop-bridge z = rw (le-ltb (q .«finalized_slot») slot f, lt-leb (q .most) i g, lt-ltb 0 slot (omega (arith, z))) (or-none (q .«bridge_open»))
+      stop-bridge z = rw (le-ltb (q .«finalized_slot») slot f, lt-leb (q .most) i g, lt-ltb 0 slot (omega (arith, z))) (test-or (q .«bridge_open») (λ t. rw t) (λ t. rw t))
 
 -- The five ways through a turn
 
 gave : {m : ℕ → Checked Running} {xs : List ℕ} {s : ℕ} {t : Bool} → ((i : ℕ) → m i ≡ value (afterTurn xs (record { refusal = 0; processed = s; reached = t }) i)) → Turns m xs (record { refusal = 0; processed = s; reached = t })
 gave e = record { code = λ i. rw (e i); gives = λ z i. e i }
 
-refuses : {m : ℕ → Checked Running} (p : Refusal) {xs : List ℕ} {r : DepositTurn} → ((i : ℕ) → m i ≡ refused p) → r .refusal ≡ numberOf p → Turns m xs r
-refuses p e z = record { code = λ i. z ∙ sym (ap codeOf (e i)); gives = λ o. absurd (number-not-zero p (sym z ∙ o)) }
+over : {m : ℕ → Checked Running} (p : Refusal) {xs : List ℕ} {r : DepositTurn} → ((i : ℕ) → m i ≡ refused p) → r .refusal ≡ numberOf p → Turns m xs r
+over p e z = record { code = λ i. z ∙ sym (ap codeOf (e i)); gives = λ o. absurd (number-not-zero p (sym z ∙ o)) }
 
 went : {m : ℕ → Checked Running} {x : Checked (List Validator)} {xs : List ℕ} {r : ℕ} (s : ℕ) → ((i : ℕ) → m i ≡ bind x (λ vs. value (running vs s (i + 1)))) → Ran x xs r → Turns m xs (record { refusal = r; processed = s; reached = false })
 unfolding bind
@@ -103,7 +83,7 @@ went {m} {x} {xs} {r} s e h = go x e h
     go (value a) e h =
         let same : a ≡ decode xs = sym (ap decode (h .held a refl) ∙ decode-encode a) in
         rw (h .code) (gave (λ i. e i ∙ ap (λ (vs : List Validator). value (running vs s (i + 1))) same))
-    go (refused p) e h = refuses p e (h .code)
+    go (refused p) e h = over p e (h .code)
 
 module _ (q : QueueNumbers) (processed : ℕ) (d : PendingDeposit) (xs : List ℕ) {w : Bool} (is-w : w ≡ withdrawnAt (q .«next_epoch») (decode xs) (d .pubkey)) where
   pub turn-withdrawn : {ys : List ℕ} {r : ℕ} → w ≡ true → Ran (raised (decode xs) d) ys r → Turns (turnBy q xs processed d) ys (record { refusal = r; processed = processed; reached = false })
@@ -118,7 +98,7 @@ module _ (q : QueueNumbers) (processed : ℕ) (d : PendingDeposit) (xs : List �
     module _ (not-x : x ≡ false) where
       pub turn-over : add64 processed (d .amount) ≡ refused overflow → Turns (turnBy q xs processed d) xs (record { refusal = 5; processed = processed; reached = false })
       unfolding turn bind
-      turn-over e = refuses overflow (λ i. rw (← is-w, not-w, ← is-x, not-x, e)) refl
+      turn-over e = over overflow (λ i. rw (← is-w, not-w, ← is-x, not-x, e)) refl
 
       module _ {sum : ℕ} (e : add64 processed (d .amount) ≡ value sum) where
         pub turn-full : q .available < sum → Turns (turnBy q xs processed d) xs (record { refusal = 0; processed = processed; reached = true })
@@ -166,13 +146,10 @@ module _ {q : QueueNumbers} {xs₀ ds : List ℕ} {i : ℕ} {xs : List ℕ} {pro
     module _ (f : b ≡ false) {ys : List ℕ} {r : DepositTurn} (h : Turns (turnBy q xs processed d) ys r) where
       pub going-stop : {s : ℕ} {t : Bool} → (r .refusal ≡ 0 → ⊥) → Deposits (alone q xs₀ ds) ys (record { refusal = r .refusal; index = i; processed = s; reached = t })
       unfolding alone
-      going-stop {s} {t} z = go (turnBy q xs processed d i) refl
-        where
-          go : (m : Checked Running) → turnBy q xs processed d i ≡ m → Deposits (alone q xs₀ ds) ys (record { refusal = r .refusal; index = i; processed = s; reached = t })
-          go (value a) u = absurd (z (h .code i ∙ ap codeOf u))
-          go (refused p) u =
-              let x = resumed-refused (g .resumed) none here (stops-is ∙ f) {p = p} (rw (← is) u) in
-              record { code = h .code i ∙ ap codeOf u ∙ sym (ap codeOf x); held = λ o y. absurd (not-value (sym x ∙ y)) }
+      going-stop z =
+          let o = refuses (turnBy q xs processed d i) (λ y. z (h .code i ∙ y)) in
+          let x = resumed-refused (g .resumed) none here (stops-is ∙ f) {p = o .why} (rw (← is) (o .is)) in
+          record { code = h .code i ∙ ap codeOf (o .is) ∙ sym (ap codeOf x); held = λ o y. absurd (not-value (sym x ∙ y)) }
 
       module _ (z : r .refusal ≡ 0) where
         more : Resumed (stops (q .most) (queueingOf q)) (turn (queueingOf q)) (running (decode xs₀) 0 0) (decodeDeposits ds) (i + 1) (afterTurn ys r i)
@@ -181,11 +158,9 @@ module _ {q : QueueNumbers} {xs₀ ds : List ℕ} {i : ℕ} {xs : List ℕ} {pro
         -- the limit is reached: whatever follows, the loop is left
         pub going-full : length ys ≡ length xs → r .reached ≡ true → Deposits (alone q xs₀ ds) ys (record { refusal = 0; index = i; processed = r .processed; reached = true })
         unfolding alone stops
-        going-full same t = finished (go (ltb (i + 1) (length (decodeDeposits ds))) refl) (sym (encode-decode (length xs / 10) ys (omega (arith, same, g .long)))) (rw t) refl (sym t)
-          where
-            go : (y : Bool) → ltb (i + 1) (length (decodeDeposits ds)) ≡ y → foldUntilChecked (stops (q .most) (queueingOf q)) (turn (queueingOf q)) (running (decode xs₀) 0 0) (decodeDeposits ds) ≡ value (afterTurn ys r i)
-            go true o = resumed-left more none (ltb-true (i + 1) (length (decodeDeposits ds)) o) (rw t)
-            go false o = resumed-all more (ltb-false (i + 1) (length (decodeDeposits ds)) o)
+        going-full same t =
+            finished (less-or (i + 1) (length (decodeDeposits ds)) (λ o. resumed-left more none o (rw t)) (λ o. resumed-all more o))
+            (sym (encode-decode (length xs / 10) ys (omega (arith, same, g .long)))) (rw t) refl (sym t)
 
         pub going-more : length ys ≡ length xs → r .reached ≡ false → Going q xs₀ ds (i + 1) ys (r .processed)
         going-more same t = record { resumed = rw t at more; long = omega (arith, same, g .long) }

@@ -1,27 +1,29 @@
 -- Those whom the text's loop adds, behind any n validators: the deposits that were done with keys from n on, applied one after the other.
 use mathlib.Core.Path.{_≡_, refl, sym, ap, _∙_}
-use mathlib.Core.Bool.{Bool, true, false, cond, _&&_, not}
+use mathlib.Core.Bool.{true, false}
 use mathlib.Core.List.{List, [], _∷_, _++_, append-assoc}
-use Prim.Native.Nat.{ℕ, zero, suc, _+_, _-_, _≤_, _<_}
+use Prim.Native.Nat.{ℕ, suc, _+_, _-_, _≤_, _<_}
 use native.Mathlib.Omega.{arith}
-use borrow.Author.Tests.{lt-ltb, ltb-true, ltb-false}
+use borrow.Author.Tests.{lt-ltb, le-ltb, ltb-true}
 use lib.Dec.{ltb, eqb}
 use lib.ListN.{length, getD, take, drop, set}
 use lib.Seq.{drop-set-lt, drop-set-add, drop-append-le, getD-drop, getD-append-add, take-nil}
 use Rattle.definitions.specs.Record.{Validator, nobody}
-use Rattle.definitions.specs.Checked.{value, bind, add64}
+use Rattle.definitions.specs.Checked.{value, bind}
 use Rattle.definitions.specs.Rust.Phase0.Helpers.{«increase_balance»}
 use Rattle.laws.proofs.Checked.{bound, value-same}
 use Rattle.definitions_electra.specs.declared.ElectraRules.{ElectraRules}
 use Rattle.definitions_electra.specs.declared.PendingDeposit.{PendingDeposit}
+use Rattle.laws.proofs.Tests.{both}
 use Rattle.definitions_electra.specs.Loops.{foldUntilChecked}
 use Rattle.definitions_electra.specs.Record.{Registry}
 use Rattle.definitions_electra.specs.Document.Electra.EpochProcessing.{Queueing, Processing, «get_validator_from_deposit», «add_validator_to_registry», isKnown, placeIn, putValidator, isWithdrawn, isExited, movedOn, limitReached, depositsStop}
 use Rattle.definitions_electra.specs.Evaluated.Electra.EpochProcessing.{«apply_pending_deposit», processDeposit}
 use Rattle.electra_deposits.specs.Alone.{isPostponed}
 use Rattle.electra_deposits.specs.Room.{joins, joined}
+use Rattle.laws_electra.proofs.Cases.{less-or, test-or, whichever}
 use Rattle.electra_deposits.proofs.Alike.{apart}
-use Rattle.electra_deposits.proofs.Postponed.{Kept, Went, postponed-is, turn-went, left-full, loop-done}
+use Rattle.electra_deposits.proofs.Postponed.{Kept, postponed-is, turn-went, left-full, loop-done}
 
 -- vs in place of the first n validators
 abbrev pub behind : ℕ → List Validator → Registry → Registry
@@ -36,11 +38,7 @@ set-behind {A} (x ∷ xs) ys i a =
 -- postponed: a key of the opening's
 postponed-old : (n next : ℕ) (vs : List Validator) (d : PendingDeposit) → isPostponed n next vs d ≡ true → d .pubkey < n
 unfolding isPostponed
-postponed-old n next vs d z = test (ltb (d .pubkey) n) _ refl z
-  where
-    test : (t u : Bool) → ltb (d .pubkey) n ≡ t → (t && u) ≡ true → d .pubkey < n
-    test true u o z = ltb-true (d .pubkey) n o
-    test false u o z = absurd (apart (sym z))
+postponed-old n next vs d z = ltb-true (d .pubkey) n (both (ltb (d .pubkey) n) _ z .0)
 
 module _ {n : ℕ} (vs : List Validator) (long : length vs ≡ n) (r : ElectraRules) where
   module _ {vs₀ : List Validator} {reg : Registry} (h : Kept n vs₀ reg) (d : PendingDeposit) where
@@ -72,18 +70,10 @@ module _ {n : ℕ} (vs : List Validator) (long : length vs ≡ n) (r : ElectraRu
     -- a new key
     apply-behind : n ≤ d .pubkey → {reg′ : Registry} → «apply_pending_deposit» r reg d ≡ value reg′ → «apply_pending_deposit» r (behind n vs reg) d ≡ value (behind n vs reg′)
     unfolding «apply_pending_deposit» bind
-    apply-behind l {reg′} e = go (isKnown reg d) refl e
-      where
-        go : (t : Bool) → isKnown reg d ≡ t → cond t (bind («increase_balance» (getD (reg .validators) (placeIn reg d) nobody) (d .amount)) (λ w. value (putValidator reg (placeIn reg d) w))) (value (cond (eqb (d .valid) 1) («add_validator_to_registry» r reg d) reg)) ≡ value reg′ → cond t (bind («increase_balance» (getD (vs ++ drop n (reg .validators)) (placeIn reg d) nobody) (d .amount)) (λ w. value (putValidator (behind n vs reg) (placeIn reg d) w))) (value (cond (eqb (d .valid) 1) («add_validator_to_registry» r (behind n vs reg) d) (behind n vs reg))) ≡ value (behind n vs reg′)
-        go true k e =
-            let b = bound («increase_balance» (getD (reg .validators) (placeIn reg d) nobody) (d .amount)) (λ w. value (putValidator reg (placeIn reg d) w)) e in
-            let p = h .new-keys (d .pubkey) l in
-            rw (get-behind (placeIn reg d) p, b .gave, put-behind (placeIn reg d) p (b .first)) (ap (λ (x : Registry). value (behind n vs x)) (value-same (b .then)))
-        go false k e = ap value (chosen (eqb (d .valid) 1)) ∙ ap (λ (x : Registry). value (behind n vs x)) (value-same e)
-          where
-            chosen : (t : Bool) → cond t («add_validator_to_registry» r (behind n vs reg) d) (behind n vs reg) ≡ behind n vs (cond t («add_validator_to_registry» r reg d) reg)
-            chosen true = add-behind
-            chosen false = refl
+    apply-behind l e =
+        whichever (isKnown reg d) e
+        (λ k z. (let b = bound («increase_balance» (getD (reg .validators) (placeIn reg d) nobody) (d .amount)) (λ w. value (putValidator reg (placeIn reg d) w)) z in let p = h .new-keys (d .pubkey) l in rw (k, get-behind (placeIn reg d) p, b .gave, put-behind (placeIn reg d) p (b .first)) (ap (λ (x : Registry). value (behind n vs x)) (value-same (b .then)))))
+        (λ k z. rw (k, ← value-same z) (test-or (eqb (d .valid) 1) (λ t. rw (t, add-behind)) (λ t. rw t)))
 
     -- a key of the opening's
     apply-front : d .pubkey < n → {reg′ : Registry} → «apply_pending_deposit» r reg d ≡ value reg′ → behind n vs reg′ ≡ behind n vs reg
@@ -96,11 +86,9 @@ module _ {n : ℕ} (vs : List Validator) (long : length vs ≡ n) (r : ElectraRu
 
     join-behind : {reg′ : Registry} → «apply_pending_deposit» r reg d ≡ value reg′ → joins r n (behind n vs reg) d ≡ value (behind n vs reg′)
     unfolding joins
-    join-behind {reg′} e = go (ltb (d .pubkey) n) refl
-      where
-        go : (t : Bool) → ltb (d .pubkey) n ≡ t → cond t (value (behind n vs reg)) («apply_pending_deposit» r (behind n vs reg) d) ≡ value (behind n vs reg′)
-        go true o = ap value (sym (apply-front (ltb-true (d .pubkey) n o) e))
-        go false o = apply-behind (ltb-false (d .pubkey) n o) e
+    join-behind e =
+        less-or (d .pubkey) n (λ l. rw (lt-ltb (d .pubkey) n l) (ap value (sym (apply-front l e))))
+        (λ l. rw (le-ltb (d .pubkey) n l) (apply-behind l e))
 
     join-front : d .pubkey < n → joins r n (behind n vs reg) d ≡ value (behind n vs reg)
     unfolding joins
@@ -109,23 +97,16 @@ module _ {n : ℕ} (vs : List Validator) (long : length vs ≡ n) (r : ElectraRu
   -- a turn: whoever it leaves behind
   turn-joins : (q : Queueing) {vs₀ : List Validator} (p : Processing) (h : Kept n vs₀ (p .registry)) (d : PendingDeposit) {p′ : Processing} → processDeposit r q p d ≡ value p′ → p′ .«is_churn_limit_reached» ≡ false → joins r n (behind n vs (p .registry)) d ≡ value (behind n vs (p′ .registry))
   unfolding processDeposit
-  turn-joins q {vs₀} p h d {p′} e f = go (isWithdrawn q (p .registry) d) (isExited (p .registry) d) (postponed-is h q d) e
+  turn-joins q {vs₀} p h d {p′} e f =
+      whichever (isWithdrawn q (p .registry) d) e (λ w e. applied (p .«processed_amount») e)
+      (λ w e. whichever (isExited (p .registry) d) e
+      (λ x e. join-front h d (postponed-old n (q .nextEpoch) vs₀ d (sym (rw (w, x) at (postponed-is h q d)))) ∙ ap (λ (x : Processing). value (behind n vs (x .registry))) (value-same e))
+      (λ x e. (let b = bound _ _ e in whichever (ltb (q .available) (b .first)) (b .then) (λ t e. absurd (apart (ap (λ (x : Processing). x .«is_churn_limit_reached») (value-same e) ∙ f))) (λ t e. applied (b .first) e))))
     where
-      applied : (s : ℕ) (us : List PendingDeposit) → bind («apply_pending_deposit» r (p .registry) d) (λ a. value (movedOn a s us p)) ≡ value p′ → joins r n (behind n vs (p .registry)) d ≡ value (behind n vs (p′ .registry))
-      applied s us e =
-          let b = bound («apply_pending_deposit» r (p .registry) d) (λ a. value (movedOn a s us p)) e in
+      applied : (s : ℕ) → bind («apply_pending_deposit» r (p .registry) d) (λ a. value (movedOn a s (p .«deposits_to_postpone») p)) ≡ value p′ → joins r n (behind n vs (p .registry)) d ≡ value (behind n vs (p′ .registry))
+      applied s e =
+          let b = bound _ _ e in
           join-behind h d (b .gave) ∙ ap (λ (x : Processing). value (behind n vs (x .registry))) (value-same (b .then))
-
-      last : (s : ℕ) (t : Bool) → cond t (value (limitReached p)) (bind («apply_pending_deposit» r (p .registry) d) (λ a. value (movedOn a s (p .«deposits_to_postpone») p))) ≡ value p′ → joins r n (behind n vs (p .registry)) d ≡ value (behind n vs (p′ .registry))
-      last s true e = absurd (apart (ap (λ (x : Processing). x .«is_churn_limit_reached») (value-same e) ∙ f))
-      last s false e = applied s (p .«deposits_to_postpone») e
-
-      go : (w x : Bool) → (not w && x) ≡ isPostponed n (q .nextEpoch) vs₀ d → cond w (bind («apply_pending_deposit» r (p .registry) d) (λ a. value (movedOn a (p .«processed_amount») (p .«deposits_to_postpone») p))) (cond x (value (movedOn (p .registry) (p .«processed_amount») (p .«deposits_to_postpone» ++ (d ∷ [])) p)) (bind (add64 (p .«processed_amount») (d .amount)) (λ s. cond (ltb (q .available) s) (value (limitReached p)) (bind («apply_pending_deposit» r (p .registry) d) (λ a. value (movedOn a s (p .«deposits_to_postpone») p)))))) ≡ value p′ → joins r n (behind n vs (p .registry)) d ≡ value (behind n vs (p′ .registry))
-      go true x z e = applied (p .«processed_amount») (p .«deposits_to_postpone») e
-      go false true z e = join-front h d (postponed-old n (q .nextEpoch) vs₀ d (sym z)) ∙ ap (λ (x : Processing). value (behind n vs (x .registry))) (value-same e)
-      go false false z e =
-          let b = bound (add64 (p .«processed_amount») (d .amount)) (λ s. cond (ltb (q .available) s) (value (limitReached p)) (bind («apply_pending_deposit» r (p .registry) d) (λ a. value (movedOn a s (p .«deposits_to_postpone») p)))) e in
-          last (b .first) (ltb (q .available) (b .first)) (b .then)
 
   joined-none : (reg : Registry) → joined r n reg [] ≡ value reg
   unfolding joined foldUntilChecked
@@ -139,21 +120,14 @@ module _ {n : ℕ} (vs : List Validator) (long : length vs ≡ n) (r : ElectraRu
   pub loop-joins : (q : Queueing) {vs₀ : List Validator} (p : Processing) → Kept n vs₀ (p .registry) → (ds : List PendingDeposit) {p′ : Processing} → foldUntilChecked (depositsStop r q) (processDeposit r q) p ds ≡ value p′ → (c : ℕ) → p′ .«next_deposit_index» ≡ p .«next_deposit_index» + c → joined r n (behind n vs (p .registry)) (take c ds) ≡ value (behind n vs (p′ .registry))
   unfolding foldUntilChecked
   loop-joins q p h [] e c i = rw (take-nil {A = PendingDeposit} c) (joined-none (behind n vs (p .registry)) ∙ ap (λ (x : Processing). value (behind n vs (x .registry))) (value-same e))
-  loop-joins q {vs₀} p h (d ∷ ds) {p′} e c i = go (depositsStop r q p d) e (λ m k. loop-joins q m k ds)
+  loop-joins q p h (d ∷ ds) {p′} e c i =
+      whichever (depositsStop r q p d) e (λ t e. none p (value-same e) refl refl)
+      (λ t e. (let b = bound _ _ e in let w = turn-went r q h d (b .gave) in test-or (b .first .«is_churn_limit_reached»)
+      (λ t. none (limitReached p) (sym (w .left t) ∙ value-same (sym (left-full r q (b .first) ds t) ∙ b .then)) refl refl)
+      (λ t. (let o = loop-done r q (w .kept) ds (b .then) in let s : c ≡ suc (c - 1) = omega (arith, i, o .index, w .moved t) in
+      rw s (joined-one (behind n vs (p .registry)) d (take (c - 1) ds) (turn-joins q p h d (b .gave) t) ∙ loop-joins q (b .first) (w .kept) ds (b .then) (c - 1) (omega (arith, i, s, w .moved t)))))))
     where
-      go : (t : Bool) → cond t (value p) (bind (processDeposit r q p d) (λ m. foldUntilChecked (depositsStop r q) (processDeposit r q) m ds)) ≡ value p′ → ((m : Processing) → Kept n vs₀ (m .registry) → foldUntilChecked (depositsStop r q) (processDeposit r q) m ds ≡ value p′ → (c : ℕ) → p′ .«next_deposit_index» ≡ m .«next_deposit_index» + c → joined r n (behind n vs (m .registry)) (take c ds) ≡ value (behind n vs (p′ .registry))) → joined r n (behind n vs (p .registry)) (take c (d ∷ ds)) ≡ value (behind n vs (p′ .registry))
-      go true e rec =
-          let z = value-same e in
-          let none : c ≡ 0 = omega (arith, i, ap (λ (x : Processing). x .«next_deposit_index») z) in
-          rw none (joined-none (behind n vs (p .registry)) ∙ ap (λ (x : Processing). value (behind n vs (x .registry))) z)
-      go false e rec =
-          let b = bound (processDeposit r q p d) (λ m. foldUntilChecked (depositsStop r q) (processDeposit r q) m ds) e in
-          next (b .first) (b .gave) (turn-went r q h d (b .gave)) (b .first .«is_churn_limit_reached») refl (b .then) c i (rec (b .first) (turn-went r q h d (b .gave) .kept))
-        where
-          next : (m : Processing) → processDeposit r q p d ≡ value m → Went n vs₀ q p d m → (t : Bool) → m .«is_churn_limit_reached» ≡ t → foldUntilChecked (depositsStop r q) (processDeposit r q) m ds ≡ value p′ → (c : ℕ) → p′ .«next_deposit_index» ≡ p .«next_deposit_index» + c → (foldUntilChecked (depositsStop r q) (processDeposit r q) m ds ≡ value p′ → (c : ℕ) → p′ .«next_deposit_index» ≡ m .«next_deposit_index» + c → joined r n (behind n vs (m .registry)) (take c ds) ≡ value (behind n vs (p′ .registry))) → joined r n (behind n vs (p .registry)) (take c (d ∷ ds)) ≡ value (behind n vs (p′ .registry))
-          next m g w true t e c i rec =
-              let z : limitReached p ≡ p′ = sym (w .left t) ∙ value-same (sym (left-full r q m ds t) ∙ e) in
-              let none : c ≡ 0 = omega (arith, i, ap (λ (x : Processing). x .«next_deposit_index») z) in
-              rw none (joined-none (behind n vs (p .registry)) ∙ ap (λ (x : Processing). value (behind n vs (x .registry))) z)
-          next m g w false t e zero i rec = absurd (let o = loop-done r q (w .kept) ds e in omega (arith, i, o .index, w .moved t))
-          next m g w false t e (suc c) i rec = joined-one (behind n vs (p .registry)) d (take c ds) (turn-joins q p h d g t) ∙ rec e c (omega (arith, i, w .moved t))
+      none : (m : Processing) → m ≡ p′ → m .«next_deposit_index» ≡ p .«next_deposit_index» → m .registry ≡ p .registry → joined r n (behind n vs (p .registry)) (take c (d ∷ ds)) ≡ value (behind n vs (p′ .registry))
+      none m z a o =
+          let none : c ≡ 0 = omega (arith, i, a, ap (λ (x : Processing). x .«next_deposit_index») z) in
+          rw (none, ← o) (joined-none (behind n vs (m .registry)) ∙ ap (λ (x : Processing). value (behind n vs (x .registry))) z)

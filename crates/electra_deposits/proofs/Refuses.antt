@@ -1,17 +1,18 @@
 -- Step 8 at those whom the deposits add: by the test, before they are written.
-use mathlib.Core.Path.{_≡_, refl, sym, ap}
-use mathlib.Core.Bool.{Bool, true, false, cond}
+use mathlib.Core.Path.{_≡_, refl, ap}
+use mathlib.Core.Bool.{true, false, cond}
 use mathlib.Core.List.{List, [], _∷_}
 use Prim.Native.Nat.{ℕ, zero, suc, _+_, _-_, _*_, _/_, _%_, _≤_, _<_, _^_, min}
 use native.Mathlib.Omega.{arith}
-use borrow.Author.Tests.{lt-ltb, le-ltb, ltb-true}
+use borrow.Author.Tests.{lt-ltb, le-ltb}
 use lib.Dec.{ltb}
 use lib.ListN.{length, getD, take, drop, length-drop}
 use lib.Seq.{getD-drop, length-take-le}
 use Rattle.definitions.specs.Record.{Validator, nobody}
 use Rattle.definitions.specs.Updates.{withEffectiveBalance}
 use Rattle.definitions.specs.Checked.{Checked, value, refused, Refusal, overflow, bind, add64, mul64}
-use Rattle.laws.proofs.Checked.{not-value}
+use Rattle.arithmetic.proofs.Operations.{OnlyOverflow, only-value, only-add64, only-mul64, only-bind}
+use Rattle.electra_registry.proofs.Turns.{only-either}
 use Rattle.definitions_electra.specs.declared.ElectraRules.{ElectraRules}
 use Rattle.definitions_electra.specs.Record.{decodeDeposits}
 use Rattle.definitions_electra.specs.Document.Electra.Helpers.{«get_max_effective_balance»}
@@ -22,13 +23,8 @@ use Rattle.electra_deposits.specs.declared.QueueNumbers.{QueueNumbers}
 use Rattle.electra_deposits.specs.declared.testing.NewTest.{NewTest}
 use Rattle.electra_deposits.specs.Testing.{Good, Bad, NewTests, TestsNew}
 use Rattle.electra_deposits.proofs.Text.{text, done, joined-is}
-
-pub record Gives {A : Type 0} (m : Checked A) : Type 0 where
-  pub first : A
-  pub gave : m ≡ value first
-
-refused-same : {A : Type 0} {p q : Refusal} → _≡_ {A = Checked A} (refused p) (refused q) → p ≡ q
-refused-same e = cc
+use Rattle.laws_electra.proofs.Cases.{less-or, test-or}
+pub use Rattle.laws_electra.proofs.Cases.{Gives}
 
 module _ (r : ElectraRules) {downward upward : ℕ} (low : mul64 (r .settings .«effective_balance_increment» / r .settings .«hysteresis_quotient») (r .settings .«hysteresis_downward_multiplier») ≡ value downward) (high : mul64 (r .settings .«effective_balance_increment» / r .settings .«hysteresis_quotient») (r .settings .«hysteresis_upward_multiplier») ≡ value upward) where
   -- by its balance
@@ -37,39 +33,26 @@ module _ (r : ElectraRules) {downward upward : ℕ} (low : mul64 (r .settings .�
 
   good-one : (c : ℕ) (v : Validator) → Good downward upward v → Gives (updateEffectiveBalance r c v)
   unfolding updateEffectiveBalance bind add64
-  good-one c v g = rw (low, high, lt-ltb (v .balance + downward) (2 ^ 64) (g .low), lt-ltb (v .«effective_balance» + upward) (2 ^ 64) (g .high)) (go (updated c v) (cond (ltb (v .«effective_balance» + upward) (v .balance)) (updated c v) v) (ltb (v .balance + downward) (v .«effective_balance»)))
-    where
-      go : (x y : Validator) (t : Bool) → Gives (cond t (value x) (value y))
-      go x y true = record { first = x; gave = refl }
-      go x y false = record { first = y; gave = refl }
+  good-one c v g =
+      let y = cond (ltb (v .«effective_balance» + upward) (v .balance)) (updated c v) v in
+      rw (low, high, lt-ltb (v .balance + downward) (2 ^ 64) (g .low), lt-ltb (v .«effective_balance» + upward) (2 ^ 64) (g .high))
+      (test-or (ltb (v .balance + downward) (v .«effective_balance»)) (λ t. rw t (record { first = updated c v; gave = refl })) (λ t. rw t (record { first = y; gave = refl })))
 
   bad-one : (c : ℕ) (v : Validator) → Bad downward upward v → updateEffectiveBalance r c v ≡ refused overflow
   unfolding updateEffectiveBalance bind add64
-  bad-one c v g = rw (low, high) (go (ltb (v .balance + downward) (2 ^ 64)) refl)
-    where
-      go : (t : Bool) → ltb (v .balance + downward) (2 ^ 64) ≡ t → bind (cond t (value (v .balance + downward)) (refused overflow)) (λ s. cond (ltb s (v .«effective_balance»)) (value (updated c v)) (bind (cond (ltb (v .«effective_balance» + upward) (2 ^ 64)) (value (v .«effective_balance» + upward)) (refused overflow)) (λ h. value (cond (ltb h (v .balance)) (updated c v) v)))) ≡ refused overflow
-      go true z =
-          let x = g .high (ltb-true (v .balance + downward) (2 ^ 64) z) in
-          rw (le-ltb (v .balance + downward) (v .«effective_balance») (omega (arith, x .0)), le-ltb (v .«effective_balance» + upward) (2 ^ 64) (x .1))
-      go false z = refl
+  bad-one c v g =
+      rw (low, high) (less-or (v .balance + downward) (2 ^ 64)
+      (λ l. (let x = g .high l in rw (lt-ltb (v .balance + downward) (2 ^ 64) l, le-ltb (v .balance + downward) (v .«effective_balance») (omega (arith, x .0)), le-ltb (v .«effective_balance» + upward) (2 ^ 64) (x .1))))
+      (λ l. rw (le-ltb (v .balance + downward) (2 ^ 64) l)))
 
-  only-one : (c : ℕ) (v : Validator) {p : Refusal} → updateEffectiveBalance r c v ≡ refused p → p ≡ overflow
-  unfolding updateEffectiveBalance bind add64
-  only-one c v {p} e = go (ltb (v .balance + downward) (2 ^ 64)) (ltb (v .balance + downward) (v .«effective_balance»)) (ltb (v .«effective_balance» + upward) (2 ^ 64)) refl (rw (low, high) at e)
-    where
-      go : (a t b : Bool) → ltb (v .balance + downward) (v .«effective_balance») ≡ t → bind (cond a (value (v .balance + downward)) (refused overflow)) (λ s. cond (ltb s (v .«effective_balance»)) (value (updated c v)) (bind (cond b (value (v .«effective_balance» + upward)) (refused overflow)) (λ h. value (cond (ltb h (v .balance)) (updated c v) v)))) ≡ refused p → p ≡ overflow
-      go true true b z e = absurd (not-value (sym (rw z at e)))
-      go true false true z e = absurd (not-value (sym (rw z at e)))
-      go true false false z e = sym (refused-same (rw z at e))
-      go false t b z e = sym (refused-same e)
+  only-one : (c : ℕ) (v : Validator) → OnlyOverflow (updateEffectiveBalance r c v)
+  unfolding updateEffectiveBalance
+  only-one c v = only-bind (only-mul64 _ _) (λ d. only-bind (only-mul64 _ _) (λ u. only-bind (only-add64 _ _) (λ s. only-either (ltb s (v .«effective_balance»)) (only-value (updated c v)) (only-bind (only-add64 (v .«effective_balance») u) (λ h. only-value (cond (ltb h (v .balance)) (updated c v) v))))))
 
   pub all-good : (cs : List ℕ) (vs : List Validator) → ((j : ℕ) → j < length vs → Good downward upward (getD vs j nobody)) → Gives (updateEffectiveBalances r cs vs)
   unfolding updateEffectiveBalances bind
-  all-good cs [] g = none cs
-    where
-      none : (cs : List ℕ) → Gives (updateEffectiveBalances r cs [])
-      none [] = record { first = []; gave = refl }
-      none (c ∷ cs) = record { first = []; gave = refl }
+  all-good [] [] g = record { first = []; gave = refl }
+  all-good (c ∷ cs) [] g = record { first = []; gave = refl }
   all-good [] (v ∷ vs) g = record { first = []; gave = refl }
   all-good (c ∷ cs) (v ∷ vs) g =
       let x = good-one c v (g 0 (omega arith)) in
@@ -85,7 +68,7 @@ module _ (r : ElectraRules) {downward upward : ℕ} (low : mul64 (r .settings .�
     where
       go : (m : Checked Validator) → updateEffectiveBalance r c v ≡ m → updateEffectiveBalances r cs vs ≡ refused overflow → bind m (λ w. bind (updateEffectiveBalances r cs vs) (λ ws. value (w ∷ ws))) ≡ refused overflow
       go (value w) z rest = rw rest
-      go (refused p) z rest = ap (λ (x : Refusal). refused x) (only-one c v z)
+      go (refused p) z rest = ap (λ (x : Refusal). refused x) (only-one c v .why p z)
 
 -- The text's loop
 module _ (k : NewNumbers) (q : QueueNumbers) (registry compounding deposits : List ℕ) (tens : length registry ≡ 10 * (length registry / 10)) (credentials : length compounding ≡ length registry / 10) where

@@ -1,6 +1,6 @@
 -- The paths of the test of one deposit.
 use mathlib.Core.Path.{_≡_, refl}
-use mathlib.Core.Bool.{Bool, true, false, cond, _&&_}
+use mathlib.Core.Bool.{Bool, true, false, _&&_}
 use mathlib.Core.List.{List}
 use Prim.Native.Nat.{ℕ, _+_, _-_, _≤_, _<_, _^_}
 use native.Mathlib.Omega.{arith}
@@ -11,17 +11,18 @@ use Rattle.definitions_electra.specs.declared.PendingDeposit.{PendingDeposit}
 use Rattle.electra_deposits.specs.declared.adding.NewNumbers.{NewNumbers}
 use Rattle.electra_deposits.specs.Room.{placeBy, effectiveBy}
 use Rattle.electra_deposits.specs.Testing.{marked, Turn, turn, knownAt, newAt, testAt, Turned}
+use Rattle.laws_electra.proofs.Cases.{test-or}
 
 -- the code's tests, without a sum that could leave 64 bits
 
 pub over-one : (downward place amount : ℕ) → 18446744073709551615 - downward < amount → 2 ^ 64 ≤ place - 1 + amount + downward
-over-one downward place amount h = omega (arith, h)
+over-one downward place amount h = omega arith
 
 pub over-two : (downward place amount : ℕ) → 18446744073709551615 - downward - amount < place - 1 → 2 ^ 64 ≤ place - 1 + amount + downward
-over-two downward place amount h = omega (arith, h)
+over-two downward place amount h = omega arith
 
 pub under : (downward place amount : ℕ) → downward ≤ 18446744073709551615 → amount ≤ 18446744073709551615 - downward → place - 1 ≤ 18446744073709551615 - downward - amount → place - 1 + amount + downward < 2 ^ 64
-under downward place amount a b c = omega (arith, a, b, c)
+under downward place amount a b c = omega arith
 
 turned : {t : Turn} {ps : List ℕ} {a : ℕ} {f : Bool} → t ≡ turn ps a f → Turned t ps (record { added = a; fits = f })
 turned e = rw e (record { places = refl; added = refl; fits = refl })
@@ -74,13 +75,7 @@ module _ (k : NewNumbers) (n downward upward : ℕ) (ps : List ℕ) (d : Pending
 
 pub added-most : (k : NewNumbers) (n downward upward : ℕ) (ps : List ℕ) (d : PendingDeposit) → testAt k n downward upward ps d .added ≤ 1
 unfolding testAt newAt knownAt
-added-most k n downward upward ps d = go (ltb (d .pubkey) n) (eqb (placeBy n ps (d .pubkey)) 0) (eqb (d .valid) 1) (ltb (d .amount + downward) (2 ^ 64) && ltb (effectiveBy k d + upward) (2 ^ 64)) (eqb downward 0) (ltb (placeBy n ps (d .pubkey) - 1 + d .amount + downward) (2 ^ 64))
-  where
-    go : (a b c e f g : Bool) → cond a (turn ps 0 true) (cond b (cond c (cond e (turn (set ps (d .pubkey - n) (marked downward (d .amount))) 1 true) (turn ps 0 false)) (turn ps 0 true)) (cond f (turn ps 0 true) (cond g (turn (set ps (d .pubkey - n) (placeBy n ps (d .pubkey) + d .amount)) 0 true) (turn ps 0 false)))) .added ≤ 1
-    go true b c e f g = omega arith
-    go false true true true f g = omega arith
-    go false true true false f g = omega arith
-    go false true false e f g = omega arith
-    go false false c e true g = omega arith
-    go false false c e false true = omega arith
-    go false false c e false false = omega arith
+added-most k n downward upward ps d =
+    test-or (ltb (d .pubkey) n) (λ e. rw e (omega arith)) (λ e. rw e (test-or (eqb (placeBy n ps (d .pubkey)) 0)
+    (λ f. rw f (test-or (eqb (d .valid) 1) (λ g. rw g (test-or (ltb (d .amount + downward) (2 ^ 64) && ltb (effectiveBy k d + upward) (2 ^ 64)) (λ h. rw h (omega arith)) (λ h. rw h (omega arith)))) (λ g. rw g (omega arith))))
+    (λ f. rw f (test-or (eqb downward 0) (λ g. rw g (omega arith)) (λ g. rw g (test-or (ltb (placeBy n ps (d .pubkey) - 1 + d .amount + downward) (2 ^ 64)) (λ h. rw h (omega arith)) (λ h. rw h (omega arith))))))))

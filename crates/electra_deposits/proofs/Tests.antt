@@ -1,38 +1,29 @@
 -- The loop of the test, over the lent queue.
 use mathlib.Core.Path.{_≡_, refl, sym, _∙_}
-use mathlib.Core.Bool.{Bool, true, false, not}
+use mathlib.Core.Bool.{true, false}
 use mathlib.Core.List.{List}
 use Prim.Native.Nat.{ℕ, _+_, _/_, _≤_, _<_}
 use native.Mathlib.Omega.{arith}
-use borrow.Author.Tests.{le-ltb}
 use lib.ListN.{length, getD, take, drop, replicate, length-replicate}
-use lib.Seq.{getD-take, length-take-le}
+use lib.Seq.{drop-cons}
 use Rattle.definitions.specs.Record.{Validator}
-use Rattle.definitions.specs.Checked.{Checked, value, refused}
-use Rattle.laws.proofs.Checked.{not-value, value-same}
+use Rattle.definitions.specs.Checked.{value}
+use Rattle.laws.proofs.Checked.{value-same, bound}
 use Rattle.definitions_electra.specs.declared.PendingDeposit.{PendingDeposit}
 use Rattle.definitions_electra.specs.Record.{Registry, decodeDeposits}
-use Rattle.laws_electra.proofs.Deposits.{length-deposits}
-use Rattle.laws_electra.proofs.Until.{Resumed, resumed-none, resumed-all, resumed-refused, resumed-more}
+use Rattle.definitions_electra.specs.Loops.{foldUntilChecked}
+use Rattle.laws_electra.proofs.Until.{Resumed, resumed-none, resumed-all, resumed-more}
 use Rattle.electra_deposits.specs.declared.adding.NewNumbers.{NewNumbers}
 use Rattle.electra_deposits.specs.declared.testing.NewTest.{NewTest}
 use Rattle.electra_deposits.specs.Alone.{none}
 use Rattle.electra_deposits.specs.Room.{rulesBy, keyed, joins, joined}
 use Rattle.electra_deposits.specs.Testing.{testAt, Turned, frontOf, NewTests}
 use Rattle.electra_deposits.proofs.Alike.{apart}
-use Rattle.electra_deposits.proofs.Keys.{place-outside, length-range}
+use Rattle.electra_deposits.proofs.Keys.{length-range, finds-none}
 use Rattle.electra_deposits.proofs.Postponed.{kept-none}
-use Rattle.electra_deposits.proofs.Table.{zeros, key-below}
+use Rattle.electra_deposits.proofs.Table.{total, here, at-queue, key-here}
 use Rattle.electra_deposits.proofs.TestSteps.{added-most}
 use Rattle.electra_deposits.proofs.Marks.{Marks, Outcome, joined-is, kept-join, turn-out, bad-rest}
-
-pub not-true : (t : Bool) → not t ≡ true → t ≡ false
-not-true true e = absurd (apart (sym e))
-not-true false e = refl
-
-pub not-false : (t : Bool) → not t ≡ false → t ≡ true
-not-false true e = refl
-not-false false e = absurd (apart e)
 
 -- after i turns, of which there are `index`: for whoever stands in front
 pub record Each (k : NewNumbers) (n downward upward : ℕ) (vs : List Validator) (cs ds : List ℕ) (index i : ℕ) (ps : List ℕ) (many : ℕ) : Type 0 where
@@ -55,58 +46,42 @@ testing-none k n downward upward ds index ps z =
         resumed = resumed-none _ _ _ _;
         marks = record {
           kept = kept-none n vs cs l m;
-          long = rw z (length-replicate (length ds / 5) 0);
           count = omega (arith, length-range 0 n);
-          found = λ key a b. rw (place-outside 0 n key (omega (arith, a)), length-range 0 n, le-ltb n n (omega arith), z) (zeros (length ds / 5) _);
+          finds = rw z (finds-none _ n (length ds / 5));
           good = λ j a b. absurd (omega (arith, a, b, l));
         };
       };
     }
 
 module _ {k : NewNumbers} {n downward upward : ℕ} {ds : List ℕ} {index i : ℕ} {ps : List ℕ} {many : ℕ} (g : Testing k n downward upward ds index i ps many) (within : index ≤ length ds / 5) where
-  total : length (take index (decodeDeposits ds)) ≡ index
-  total = length-take-le index (decodeDeposits ds) (omega (arith, within, length-deposits ds))
-
   pub testing-all : index ≤ i → NewTests k n downward upward (take index (decodeDeposits ds)) (record { added = many; fits = true })
   unfolding joined
   testing-all b =
       record {
         tests = λ vs cs l m reg e. (
             let x = g .each vs cs l m reg e in
-            let same : x .text ≡ reg = value-same (sym (resumed-all (x .resumed) (omega (arith, total, b))) ∙ e) in
+            let same : x .text ≡ reg = value-same (sym (resumed-all (x .resumed) (omega (arith, total ds index within, b))) ∙ e) in
             rw (← same) (record { added = λ t. x .marks .count ∙ sym (x .marks .kept .long); good = λ t. x .marks .good; bad = λ t. absurd (apart t) }));
       }
 
   module _ (l : i < index) {d : PendingDeposit} (is : d ≡ getD (decodeDeposits ds) i none) (keys : keyed n ds ≡ true) where
-    pub key-here : d .pubkey < n + length ds / 5
-    key-here = rw is (key-below n ds i (omega (arith, l, within)) keys)
-
-    at-queue : d ≡ getD (take index (decodeDeposits ds)) i none
-    at-queue = is ∙ sym (getD-take index (decodeDeposits ds) i none l)
-
-    here : i < length (take index (decodeDeposits ds))
-    here = omega (arith, l, total)
-
     record Next (vs : List Validator) (cs : List ℕ) : Type 0 where
       text : Registry
       resumed : Resumed (λ b d. false) (joins (rulesBy k 0) n) (frontOf n vs cs) (take index (decodeDeposits ds)) (i + 1) text
       outcome : Outcome n (length ds / 5) downward upward vs many text (testAt k n downward upward ps d)
 
     next : (vs : List Validator) (cs : List ℕ) → length vs ≡ n → length cs ≡ n → (reg : Registry) → joined (rulesBy k 0) n (frontOf n vs cs) (take index (decodeDeposits ds)) ≡ value reg → Next vs cs
-    unfolding joined
-    next vs cs a b reg e = go (g .each vs cs a b reg e)
-      where
-        go : Each k n downward upward vs cs ds index i ps many → Next vs cs
-        go x = at (joins (rulesBy k 0) n (x .text) d) refl
-          where
-            at : (m : Checked Registry) → joins (rulesBy k 0) n (x .text) d ≡ m → Next vs cs
-            at (value c) u =
-                record {
-                  text = c;
-                  resumed = resumed-more (x .resumed) none here refl (rw (← at-queue) u);
-                  outcome = turn-out (x .marks) k d key-here (joined-is k n (x .text) d u) (kept-join k (x .marks .kept) d u);
-                }
-            at (refused p) u = absurd (not-value (sym (resumed-refused (x .resumed) none here refl {p = p} (rw (← at-queue) u)) ∙ e))
+    unfolding joined foldUntilChecked
+    next vs cs a b reg e =
+        let x = g .each vs cs a b reg e in
+        let inside = here ds index within l in
+        let c = bound _ _ (rw (drop-cons (take index (decodeDeposits ds)) i none inside) at (sym (x .resumed .held) ∙ e)) in
+        let u : joins (rulesBy k 0) n (x .text) d ≡ value (c .first) = rw (at-queue ds index within l is) (c .gave) in
+        record {
+          text = c .first;
+          resumed = resumed-more (x .resumed) none inside refl (c .gave);
+          outcome = turn-out (x .marks) k d (key-here ds index within l is n keys) (joined-is k n (x .text) d u) (kept-join k (x .marks .kept) d u);
+        }
 
     module _ {qs : List ℕ} {r : NewTest} (h : Turned (testAt k n downward upward ps d) qs r) where
       pub added-few : r .added ≤ 1

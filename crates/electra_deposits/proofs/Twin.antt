@@ -1,14 +1,14 @@
 -- The loop over the opening's validators is refused where the text's is, leaves them as the text does, ends at the same deposit and has processed as
 -- much: what a new validator holds is at most what was processed, so that its balance never leaves 64 bits.
 use mathlib.Core.Path.{_≡_, refl, sym, ap, _∙_}
-use mathlib.Core.Bool.{Bool, true, false, _&&_}
-use mathlib.Core.List.{List, [], _∷_, _++_}
+use mathlib.Core.Bool.{Bool, true, false, cond, _&&_}
+use mathlib.Core.List.{List, [], _∷_}
 use Prim.Native.Nat.{ℕ, _+_, _^_, _≤_, _<_}
 use native.Mathlib.Omega.{arith}
-use borrow.Author.Tests.{lt-ltb, le-ltb, ltb-true, ltb-false, eqb-true, eqb-false}
+use borrow.Author.Tests.{lt-ltb, le-ltb}
 use lib.Dec.{ltb, eqb}
-use lib.ListN.{length, getD, set, length-append, length-set, List·getD-append, List·getD-eq-default}
-use lib.Seq.{getD-set-same, getD-set-other, getD-at}
+use lib.ListN.{length, getD, set, length-set, List·getD-append, List·getD-eq-default}
+use lib.Seq.{getD-set-same, getD-set-other}
 use Rattle.definitions.specs.Lists.{range}
 use Rattle.definitions.specs.Record.{Validator, «FAR_FUTURE_EPOCH», nobody}
 use Rattle.definitions.specs.Updates.{withBalance}
@@ -22,8 +22,9 @@ use Rattle.definitions_electra.specs.Record.{Registry}
 use Rattle.definitions_electra.specs.Document.Electra.EpochProcessing.{Queueing, Processing, «get_validator_from_deposit», «add_validator_to_registry», isKnown, placeIn, putValidator, isWithdrawn, isExited, movedOn, breaksBefore, depositsStop}
 use Rattle.definitions_electra.specs.Evaluated.Electra.EpochProcessing.{«apply_pending_deposit», processDeposit}
 use Rattle.electra_deposits.specs.Alone.{testedAt, raised, Running, onward, turn, stops}
+use Rattle.laws_electra.proofs.Cases.{same-or, less-or, test-or}
 use Rattle.electra_deposits.proofs.Alike.{Alike, alike-value, alike-bind, alike-given, alike-cond}
-use Rattle.electra_deposits.proofs.Postponed.{Kept, kept-none, kept-put, kept-apply}
+use Rattle.electra_deposits.proofs.Postponed.{Kept, kept-none, kept-put, kept-apply, set-case, more-case}
 
 -- the opening's validators, and the text's registry, in which the new ones hold at most `most`
 pub record Pair (n : ℕ) (vs₀ : List Validator) (most : ℕ) (a : List Validator) (b : Registry) : Type 0 where
@@ -51,19 +52,13 @@ module _ {n : ℕ} {vs₀ : List Validator} where
     put : (w : Validator) → «increase_balance» (getD (b .validators) (d .pubkey) nobody) (d .amount) ≡ value w → Pair n vs₀ most (set a (d .pubkey) w) (putValidator b (d .pubkey) w)
     unfolding «increase_balance»
     put w e =
-        let c = bound (add64 (getD (b .validators) (d .pubkey) nobody .balance) (d .amount)) (λ x. value (withBalance x (getD (b .validators) (d .pubkey) nobody))) e in
-        let x : w .«exit_epoch» ≡ getD (b .validators) (d .pubkey) nobody .«exit_epoch» = sym (ap (λ (v : Validator). v .«exit_epoch») (value-same (c .then))) in
-        let y : w .«withdrawable_epoch» ≡ getD (b .validators) (d .pubkey) nobody .«withdrawable_epoch» = sym (ap (λ (v : Validator). v .«withdrawable_epoch») (value-same (c .then))) in
+        let z = value-same (bound _ _ e .then) in
         record {
           alone = length-set a (d .pubkey) w ∙ h .alone;
-          kept = kept-put (h .kept) (d .pubkey) w inside x y;
-          same = λ j k. go j k (eqb (d .pubkey) j) refl;
+          kept = kept-put (h .kept) (d .pubkey) w inside (rw (← z)) (rw (← z));
+          same = λ j k. same-or (d .pubkey) j (λ i. rw (← i, getD-set-same a (d .pubkey) w nobody (omega (arith, l, h .alone)), getD-set-same (b .validators) (d .pubkey) w nobody inside)) (λ i. rw (getD-set-other a (d .pubkey) j w nobody (λ x. i (sym x)), getD-set-other (b .validators) (d .pubkey) j w nobody (λ x. i (sym x))) (h .same j k));
           low = λ j k. rw (getD-set-other (b .validators) (d .pubkey) j w nobody (λ z. omega (arith, z, k, l))) (h .low j k);
         }
-      where
-        go : (j : ℕ) → j < n → (t : Bool) → eqb (d .pubkey) j ≡ t → getD (set a (d .pubkey) w) j nobody ≡ getD (set (b .validators) (d .pubkey) w) j nobody
-        go j k true z = let i : d .pubkey ≡ j = eqb-true (d .pubkey) j z in rw (← i, getD-set-same a (d .pubkey) w nobody (omega (arith, l, h .alone)), getD-set-same (b .validators) (d .pubkey) w nobody inside)
-        go j k false z = let i : d .pubkey ≡ j → ⊥ = eqb-false (d .pubkey) j z in rw (getD-set-other a (d .pubkey) j w nobody (λ x. i (sym x)), getD-set-other (b .validators) (d .pubkey) j w nobody (λ x. i (sym x))) (h .same j k)
 
     pub apply-old : Alike (Pair n vs₀ most) (raised a d) («apply_pending_deposit» r b d)
     unfolding «apply_pending_deposit» raised
@@ -81,18 +76,16 @@ module _ {n : ℕ} {vs₀ : List Validator} where
 
     -- neither withdrawn nor exiting
     pub fresh : (f : Validator → Bool) → ((j : ℕ) → n ≤ j → j < length (b .pubkeys) → f (getD (b .validators) j nobody) ≡ false) → (isKnown b d && f (getD (b .validators) (placeIn b d) nobody)) ≡ false
-    fresh f z = go (isKnown b d) refl
-      where
-        go : (t : Bool) → isKnown b d ≡ t → (t && f (getD (b .validators) (placeIn b d) nobody)) ≡ false
-        go true e = z (placeIn b d) (h .kept .new-keys (d .pubkey) l) (ltb-true (placeIn b d) (length (b .pubkeys)) e)
-        go false e = refl
+    fresh f z =
+        less-or (placeIn b d) (length (b .pubkeys)) (λ e. rw (lt-ltb (placeIn b d) (length (b .pubkeys)) e) (z (placeIn b d) (h .kept .new-keys (d .pubkey) l) e))
+        (λ e. rw (le-ltb (placeIn b d) (length (b .pubkeys)) e))
 
     raised-alone : raised a d ≡ value a
     unfolding raised
     raised-alone = rw stranger
 
-    paired : {reg : Registry} → «apply_pending_deposit» r b d ≡ value reg → ((j : ℕ) → j < n → getD (reg .validators) j nobody ≡ getD (b .validators) j nobody) → ((j : ℕ) → n ≤ j → getD (reg .validators) j nobody .balance ≤ most + d .amount) → Pair n vs₀ (most + d .amount) a reg
-    paired e s low = record { alone = h .alone; kept = kept-apply (h .kept) r d e; same = λ j k. h .same j k ∙ sym (s j k); low = low }
+    paired : {reg : Registry} → «apply_pending_deposit» r b d ≡ value reg → ((j : ℕ) → j < n → getD (reg .validators) j nobody ≡ getD (b .validators) j nobody) → ((j : ℕ) → n ≤ j → getD (reg .validators) j nobody .balance ≤ most + d .amount) → Alike (Pair n vs₀ (most + d .amount)) (value a) («apply_pending_deposit» r b d)
+    paired e s low = rw e (alike-value (record { alone = h .alone; kept = kept-apply (h .kept) r d e; same = λ j k. h .same j k ∙ sym (s j k); low = low }))
 
     module _ (small : most + d .amount < 2 ^ 64) where
       -- a new validator's place, and what it holds with the amount
@@ -105,33 +98,13 @@ module _ {n : ℕ} {vs₀ : List Validator} where
       abbrev grown : Validator
       grown = withBalance (getD (b .validators) (placeIn b d) nobody .balance + d .amount) (getD (b .validators) (placeIn b d) nobody)
 
-      increased : «increase_balance» (getD (b .validators) (placeIn b d) nobody) (d .amount) ≡ value grown
-      unfolding «increase_balance» add64 bind
-      increased = rw (lt-ltb (getD (b .validators) (placeIn b d) nobody .balance + d .amount) (2 ^ 64) (omega (arith, fits)))
+      applied-known : placeIn b d < length (b .pubkeys) → «apply_pending_deposit» r b d ≡ value (putValidator b (placeIn b d) grown)
+      unfolding «apply_pending_deposit» «increase_balance» add64 bind
+      applied-known e = rw (lt-ltb (placeIn b d) (length (b .pubkeys)) e, lt-ltb (getD (b .validators) (placeIn b d) nobody .balance + d .amount) (2 ^ 64) (omega (arith, fits, small)))
 
-      known-new : isKnown b d ≡ true → «apply_pending_deposit» r b d ≡ value (putValidator b (placeIn b d) grown)
-      unfolding «apply_pending_deposit» bind
-      known-new e = rw (e, increased)
-
-      added : isKnown b d ≡ false → eqb (d .valid) 1 ≡ true → «apply_pending_deposit» r b d ≡ value («add_validator_to_registry» r b d)
+      applied-new : length (b .pubkeys) ≤ placeIn b d → {t : Bool} → eqb (d .valid) 1 ≡ t → «apply_pending_deposit» r b d ≡ value (cond t («add_validator_to_registry» r b d) b)
       unfolding «apply_pending_deposit»
-      added e f = rw (e, f)
-
-      nothing : isKnown b d ≡ false → eqb (d .valid) 1 ≡ false → «apply_pending_deposit» r b d ≡ value b
-      unfolding «apply_pending_deposit»
-      nothing e f = rw (e, f)
-
-      put-low : isKnown b d ≡ true → (j : ℕ) → n ≤ j → getD (set (b .validators) (placeIn b d) grown) j nobody .balance ≤ most + d .amount
-      put-low e j k = go (eqb (placeIn b d) j) refl
-        where
-          go : (t : Bool) → eqb (placeIn b d) j ≡ t → getD (set (b .validators) (placeIn b d) grown) j nobody .balance ≤ most + d .amount
-          go true z =
-              let i : placeIn b d ≡ j = eqb-true (placeIn b d) j z in
-              let m : placeIn b d < length (b .validators) = omega (arith, ltb-true (placeIn b d) (length (b .pubkeys)) e, h .kept .long) in
-              rw (← i, getD-set-same (b .validators) (placeIn b d) grown nobody m) fits
-          go false z =
-              let i : placeIn b d ≡ j → ⊥ = eqb-false (placeIn b d) j z in
-              rw (getD-set-other (b .validators) (placeIn b d) j grown nobody (λ x. i (sym x))) (omega (arith, h .low j k))
+      applied-new e f = rw (le-ltb (placeIn b d) (length (b .pubkeys)) e, f)
 
       front : (j : ℕ) → j < n → getD («add_validator_to_registry» r b d .validators) j nobody ≡ getD (b .validators) j nobody
       unfolding «add_validator_to_registry»
@@ -139,25 +112,14 @@ module _ {n : ℕ} {vs₀ : List Validator} where
 
       added-low : (j : ℕ) → n ≤ j → getD («add_validator_to_registry» r b d .validators) j nobody .balance ≤ most + d .amount
       unfolding «add_validator_to_registry» «get_validator_from_deposit»
-      added-low j k = go (ltb j (length (b .validators))) refl (eqb (length (b .validators)) j) refl
-        where
-          go : (t : Bool) → ltb j (length (b .validators)) ≡ t → (u : Bool) → eqb (length (b .validators)) j ≡ u → getD (b .validators ++ («get_validator_from_deposit» r d ∷ [])) j nobody .balance ≤ most + d .amount
-          go true e u f = rw (List·getD-append (b .validators) («get_validator_from_deposit» r d ∷ []) nobody j (ltb-true j (length (b .validators)) e)) (omega (arith, h .low j k))
-          go false e true f = rw (getD-at (b .validators) («get_validator_from_deposit» r d) [] nobody j (eqb-true (length (b .validators)) j f)) (omega arith)
-          go false e false f =
-              let x = ltb-false j (length (b .validators)) e in
-              let y : length (b .validators) ≡ j → ⊥ = eqb-false (length (b .validators)) j f in
-              let z : length (b .validators ++ («get_validator_from_deposit» r d ∷ [])) ≤ j = omega (arith, x, y, length-append (b .validators) («get_validator_from_deposit» r d ∷ [])) in
-              let w : getD (b .validators ++ («get_validator_from_deposit» r d ∷ [])) j nobody ≡ nobody = List·getD-eq-default (b .validators ++ («get_validator_from_deposit» r d ∷ [])) nobody z in
-              rw w (omega arith)
+      added-low j k = more-case (λ v. v .balance ≤ most + d .amount) (b .validators) («get_validator_from_deposit» r d) j (λ l. omega (arith, h .low j k)) (λ q. omega arith) (λ q. omega arith)
 
       apply-new : Alike (Pair n vs₀ (most + d .amount)) (value a) («apply_pending_deposit» r b d)
-      apply-new = go (isKnown b d) refl (eqb (d .valid) 1) refl
-        where
-          go : (t : Bool) → isKnown b d ≡ t → (u : Bool) → eqb (d .valid) 1 ≡ u → Alike (Pair n vs₀ (most + d .amount)) (value a) («apply_pending_deposit» r b d)
-          go true e u f = rw (known-new e) (alike-value (paired (known-new e) (λ j k. getD-set-other (b .validators) (placeIn b d) j grown nobody (λ z. omega (arith, z, k, behind))) (put-low e)))
-          go false e true f = rw (added e f) (alike-value (paired (added e f) front added-low))
-          go false e false f = rw (nothing e f) (alike-value (more h (omega arith)))
+      apply-new =
+          less-or (placeIn b d) (length (b .pubkeys))
+          (λ e. paired (applied-known e) (λ j k. getD-set-other (b .validators) (placeIn b d) j grown nobody (λ z. omega (arith, z, k, behind)))
+          (λ j k. set-case (λ v. v .balance ≤ most + d .amount) (b .validators) (placeIn b d) grown j (λ q. omega (arith, e, h .kept .long)) (λ q. fits) (λ q. omega (arith, h .low j k))))
+          (λ e. test-or (eqb (d .valid) 1) (λ f. paired (applied-new e f) front added-low) (λ f. rw (applied-new e f) (alike-value (more h (omega arith)))))
 
     pub apply-fresh : {k : ℕ} → add64 most (d .amount) ≡ value k → Alike (Pair n vs₀ k) (raised a d) («apply_pending_deposit» r b d)
     apply-fresh e = rw (← add64-value most (d .amount) e, raised-alone) (apply-new (add64-below most (d .amount) e))
@@ -202,11 +164,7 @@ module _ (r : ElectraRules) (q : Queueing) (far : q .nextEpoch ≤ «FAR_FUTURE_
         (alike-bind _ _ (apply-fresh r (h .pair) x l e) (λ a b g. alike-value (moved g)))))
 
     turn-twin : Alike (Twin n vs₀) (turn q p x) (processDeposit r q s x)
-    turn-twin = go (ltb (x .pubkey) n) refl
-      where
-        go : (t : Bool) → ltb (x .pubkey) n ≡ t → Alike (Twin n vs₀) (turn q p x) (processDeposit r q s x)
-        go true e = turn-old (ltb-true (x .pubkey) n e)
-        go false e = turn-new (ltb-false (x .pubkey) n e)
+    turn-twin = less-or (x .pubkey) n turn-old turn-new
 
     stops-twin : stops (r .electra .«max_pending_deposits_per_epoch») q p x ≡ depositsStop r q s x
     unfolding depositsStop breaksBefore stops

@@ -138,6 +138,7 @@ pub fn add_deposits(
     ensures { λ r. ⌜
         Added (joined (rulesBy k 0) n (opening n (now (registry .entry)) (now (compounding .entry))) (take index (decodeDeposits (now (deposits .entry)))))
         (now (registry .entry)) (now (compounding .entry)) (now (registry .exit)) (now (compounding .exit)) r ⌝ }
+    ensures { λ r. ⌜ (n ≤ r) × (r ≤ n + length (now (deposits .entry)) / 5) ⌝ }
 {
     let mut count = n as usize;
     for i in 0..index {

@@ -11,7 +11,6 @@ ghost use Rattle.definitions.specs.Refusals.{goodSettings};
 ghost use Rattle.definitions_electra.specs.Record.{decodeDeposits};
 ghost use Rattle.definitions_electra.specs.Refusals.{depositsTests};
 ghost use Rattle.definitions_electra.specs.Calls.{over, depositsWork, DepositsClose};
-ghost use Rattle.definitions_electra.specs.Evaluated.Electra.Helpers.{«get_activation_exit_churn_limit»};
 ghost use Rattle.definitions_electra.specs.Evaluated.Electra.EpochProcessing.{queueing};
 ghost use Rattle.electra_deposits.specs.Alone.{queueingOf, alone};
 ghost use Rattle.electra_deposits.specs.Room.{rulesBy};
@@ -31,23 +30,9 @@ use definitions_electra::DepositNumbers;
 use definitions_electra::DepositsAnswer;
 use definitions_electra::ElectraRules;
 use electra_refusals::step_tests::deposits_tests;
-use electra_registry::churn_limit;
+use electra_registry::activation_exit_churn;
 use epochs::current_epoch;
 use refusals::buffers::clear;
-use totals::total_active;
-
-// get_activation_exit_churn_limit.
-fn limit_at(rules: ElectraRules, state_slot: u64, registry: &[u64]) -> Number
-    requires { ⌜ (length (now registry) ≡ 10 * (length (now registry) / 10)) × (goodSettings (rules .settings) ≡ true) ⌝ }
-    ensures { λ r. ⌜ Says («get_activation_exit_churn_limit» rules «state_slot» (decode (now (registry .entry)))) r ⌝ }
-{
-    let s = rules.settings;
-    let epoch = current_epoch(s, state_slot);
-    let Number::Value(total) = total_active(s, epoch, registry) else {
-        return Number::Refused(5);
-    };
-    Number::Value(churn_limit(rules, total))
-}
 
 // What the loop goes by, or a refusal's number.
 pub enum QueueAnswer {
@@ -73,7 +58,7 @@ pub fn queue_numbers(
     let Number::Value(next_epoch) = add64(current_epoch(s, state_slot), 1) else {
         return QueueAnswer::Refused(5);
     };
-    let Number::Value(limit) = limit_at(rules, state_slot, registry) else {
+    let Number::Value(limit) = activation_exit_churn(rules, state_slot, registry) else {
         return QueueAnswer::Refused(5);
     };
     let Number::Value(available) = add64(numbers.deposit_balance_to_consume, limit) else {

@@ -1,22 +1,21 @@
 -- What the tests of the Electra calls give once passed. `x` is the number that their code gave.
-use mathlib.Core.Bool.{true, not}
+use mathlib.Core.Bool.{true}
 use mathlib.Core.List.{List}
 use mathlib.Core.Path.{_≡_, sym, _∙_}
 use Prim.Native.Nat.{ℕ, _+_, _*_, _/_, _%_, _^_, _≤_, _<_}
 use native.Mathlib.Omega.{arith}
 use borrow.Author.Tests.{ltb-true, leb-true, eqb-true, eqb-false, not-true}
 use lib.Dec.{leb, eqb}
-use lib.ListN.{length, getD}
+use lib.ListN.{length}
 use Rattle.definitions.specs.Checked.{codeOf}
-use Rattle.definitions.specs.Refusals.{isSmall, goodSettings, goodRegistry}
+use Rattle.definitions.specs.Refusals.{goodSettings}
 use Rattle.definitions.specs.Rules.{goodBellatrix}
-use Rattle.definitions_electra.specs.declared.Electra.{Electra}
 use Rattle.definitions_electra.specs.declared.ElectraRules.{ElectraRules}
-use Rattle.definitions_electra.specs.Refusals.{countOf, depositsOf, depositsShaped, consolidationsShaped, keysShaped, indicesShaped, electraNumbers, goodElectra, goodCompounding, goodDeposits}
-use Rattle.definitions_electra.specs.Refusals.{registryTests, slashingsTests, depositsTests, consolidationsTests, effectiveBalanceTests, credentialTests, slotRegistryTests, exitTests}
+use Rattle.definitions_electra.specs.Refusals.{countOf, depositsOf, depositsShaped, consolidationsShaped, keysShaped, indicesShaped, goodElectra}
+use Rattle.definitions_electra.specs.Refusals.{registryTests, slashingsTests, depositsTests, consolidationsTests, effectiveBalanceTests, slotRegistryTests, exitTests}
 use Rattle.laws.specs.Bounds.{Passed}
-use Rattle.laws.proofs.Tests.{both, test, all-at, in-order}
-use Rattle.refusals.proofs.Laws.{PositiveDivisors, good-settings, RegistryShape, registry-shaped, small}
+use Rattle.laws.proofs.Tests.{both, test, in-order}
+use Rattle.refusals.proofs.Laws.{PositiveDivisors, good-settings, RegistryShape, registry-shaped}
 
 -- Test 1
 
@@ -44,18 +43,10 @@ consolidations-shaped xs e =
 
 -- Test 2
 
-pub record SmallElectra (e : Electra) : Type 0 where
-  pub «min_activation_balance» : e .«min_activation_balance» < 2 ^ 48
-  pub «max_effective_balance_electra» : e .«max_effective_balance_electra» < 2 ^ 48
-  pub «min_per_epoch_churn_limit_electra» : e .«min_per_epoch_churn_limit_electra» < 2 ^ 48
-  pub «max_per_epoch_activation_exit_churn_limit» : e .«max_per_epoch_activation_exit_churn_limit» < 2 ^ 48
-  pub «max_pending_deposits_per_epoch» : e .«max_pending_deposits_per_epoch» < 2 ^ 48
-
 pub record GoodElectra (r : ElectraRules) : Type 0 where
   pub settings : goodSettings (r .settings) ≡ true
   pub positive : PositiveDivisors (r .settings)
   pub pair : goodBellatrix (r .bellatrix) ≡ true
-  pub numbers : SmallElectra (r .electra)
   pub least : r .settings .«effective_balance_increment» ≤ r .electra .«min_per_epoch_churn_limit_electra»
   pub most : 0 < r .electra .«max_per_epoch_activation_exit_churn_limit»
 
@@ -63,20 +54,11 @@ pub good-electra : (r : ElectraRules) → goodElectra r ≡ true → GoodElectra
 unfolding goodElectra
 good-electra r e =
     let t = test _ e in
-    let number : (i : ℕ) → i < 5 → getD (electraNumbers (r .electra)) i 0 < 2 ^ 48 = λ i l. ltb-true (getD (electraNumbers (r .electra)) i 0) (2 ^ 48) (all-at isSmall (electraNumbers (r .electra)) i 0 l (t 2)) in
     let z = eqb-false (r .electra .«max_per_epoch_activation_exit_churn_limit») 0 (not-true _ (t 4)) in
     record {
       settings = t 0;
       positive = good-settings (r .settings) (t 0) .positive;
       pair = t 1;
-      numbers =
-          record {
-            «min_activation_balance» = number 0 (omega arith);
-            «max_effective_balance_electra» = number 1 (omega arith);
-            «min_per_epoch_churn_limit_electra» = number 2 (omega arith);
-            «max_per_epoch_activation_exit_churn_limit» = number 3 (omega arith);
-            «max_pending_deposits_per_epoch» = number 4 (omega arith);
-          };
       least = leb-true _ _ (t 3);
       most = omega arith;
     }
@@ -86,7 +68,6 @@ good-electra r e =
 pub record RegistryPassed (r : ElectraRules) (stateSlot finalizedEpoch : ℕ) (opening closing : List ℕ) : Type 0 where
   pub settings : Passed (r .settings) stateSlot
   pub good : goodElectra r ≡ true
-  pub finalized : finalizedEpoch < 2 ^ 48
   pub shape : RegistryShape opening
   pub same : length closing ≡ length opening
 
@@ -98,15 +79,12 @@ registry-passed r stateSlot finalizedEpoch opening closing e z =
     record {
       settings = record { shaped = p .shaped 0; good = good-electra r good .settings; small = p .recorded 0 };
       good = good;
-      finalized = small finalizedEpoch (p .recorded 1);
       shape = registry-shaped opening (p .shaped 1);
       same = eqb-true (length closing) (length opening) (p .shaped 2);
     }
 
 pub record SlashingsPassed (r : ElectraRules) (stateSlot : ℕ) (slashings opening closing : List ℕ) : Type 0 where
-  pub settings : Passed (r .settings) stateSlot
   pub good : goodElectra r ≡ true
-  pub long : length slashings ≡ r .settings .«epochs_per_slashings_vector»
   pub shape : RegistryShape opening
   pub same : length closing ≡ length opening
 
@@ -114,19 +92,14 @@ pub slashings-passed : (r : ElectraRules) (stateSlot : ℕ) (slashings opening c
 unfolding slashingsTests
 slashings-passed r stateSlot slashings opening closing e z =
     let p = in-order _ _ _ (sym e ∙ z) in
-    let good = p .settings 0 in
     record {
-      settings = record { shaped = p .shaped 0; good = good-electra r good .settings; small = p .recorded 0 };
-      good = good;
-      long = eqb-true (length slashings) (r .settings .«epochs_per_slashings_vector») (p .shaped 1);
+      good = p .settings 0;
       shape = registry-shaped opening (p .shaped 2);
       same = eqb-true (length closing) (length opening) (p .shaped 3);
     }
 
 pub record DepositsPassed (r : ElectraRules) (stateSlot finalizedEpoch : ℕ) (registry compounding deposits closingRegistry closingCompounding closingDeposits work : List ℕ) : Type 0 where
-  pub settings : Passed (r .settings) stateSlot
   pub good : goodElectra r ≡ true
-  pub finalized : finalizedEpoch < 2 ^ 48
   pub shape : RegistryShape registry
   pub credentials : length compounding ≡ countOf registry
   pub queue : DepositsShape deposits
@@ -135,19 +108,13 @@ pub record DepositsPassed (r : ElectraRules) (stateSlot finalizedEpoch : ℕ) (r
   pub roomyCompounding : length closingCompounding ≡ countOf registry + depositsOf deposits
   pub same : length closingDeposits ≡ length deposits
   pub places : length work ≡ depositsOf deposits
-  pub goodRegistry : goodRegistry registry ≡ true
-  pub goodCompounding : goodCompounding compounding ≡ true
-  pub goodDeposits : goodDeposits deposits ≡ true
 
 pub deposits-passed : (r : ElectraRules) (stateSlot finalizedEpoch : ℕ) (registry compounding deposits closingRegistry closingCompounding closingDeposits work : List ℕ) {x : ℕ} → x ≡ codeOf (depositsTests r stateSlot finalizedEpoch registry compounding deposits closingRegistry closingCompounding closingDeposits work) → x ≡ 0 → DepositsPassed r stateSlot finalizedEpoch registry compounding deposits closingRegistry closingCompounding closingDeposits work
 unfolding depositsTests
 deposits-passed r stateSlot finalizedEpoch registry compounding deposits closingRegistry closingCompounding closingDeposits work e z =
     let p = in-order _ _ _ (sym e ∙ z) in
-    let good = p .settings 0 in
     record {
-      settings = record { shaped = p .shaped 0; good = good-electra r good .settings; small = p .recorded 0 };
-      good = good;
-      finalized = small finalizedEpoch (p .recorded 1);
+      good = p .settings 0;
       shape = registry-shaped registry (p .shaped 1);
       credentials = eqb-true (length compounding) (countOf registry) (p .shaped 2);
       queue = deposits-shaped deposits (p .shaped 3);
@@ -156,14 +123,10 @@ deposits-passed r stateSlot finalizedEpoch registry compounding deposits closing
       roomyCompounding = eqb-true (length closingCompounding) (countOf registry + depositsOf deposits) (p .shaped 6);
       same = eqb-true (length closingDeposits) (length deposits) (p .shaped 7);
       places = eqb-true (length work) (depositsOf deposits) (p .shaped 8);
-      goodRegistry = p .recorded 2;
-      goodCompounding = p .recorded 3;
-      goodDeposits = p .recorded 4;
     }
 
 pub record ConsolidationsPassed (r : ElectraRules) (stateSlot : ℕ) (registry consolidations closingRegistry closingConsolidations : List ℕ) : Type 0 where
   pub settings : Passed (r .settings) stateSlot
-  pub good : goodElectra r ≡ true
   pub shape : RegistryShape registry
   pub queue : ConsolidationsShape consolidations
   pub indices : indicesShaped registry consolidations ≡ true
@@ -174,10 +137,8 @@ pub consolidations-passed : (r : ElectraRules) (stateSlot : ℕ) (registry conso
 unfolding consolidationsTests
 consolidations-passed r stateSlot registry consolidations closingRegistry closingConsolidations e z =
     let p = in-order _ _ _ (sym e ∙ z) in
-    let good = p .settings 0 in
     record {
-      settings = record { shaped = p .shaped 0; good = good-electra r good .settings; small = p .recorded 0 };
-      good = good;
+      settings = record { shaped = p .shaped 0; good = good-electra r (p .settings 0) .settings; small = p .recorded 0 };
       shape = registry-shaped registry (p .shaped 1);
       queue = consolidations-shaped consolidations (p .shaped 2);
       indices = p .shaped 3;
@@ -190,7 +151,6 @@ pub record BalancesPassed (r : ElectraRules) (compounding opening closing : List
   pub shape : RegistryShape opening
   pub credentials : length compounding ≡ countOf opening
   pub same : length closing ≡ length opening
-  pub goodCompounding : goodCompounding compounding ≡ true
 
 pub balances-passed : (r : ElectraRules) (compounding opening closing : List ℕ) {x : ℕ} → x ≡ codeOf (effectiveBalanceTests r compounding opening closing) → x ≡ 0 → BalancesPassed r compounding opening closing
 unfolding effectiveBalanceTests
@@ -201,20 +161,9 @@ balances-passed r compounding opening closing e z =
       shape = registry-shaped opening (p .shaped 1);
       credentials = eqb-true (length compounding) (countOf opening) (p .shaped 2);
       same = eqb-true (length closing) (length opening) (p .shaped 3);
-      goodCompounding = p .recorded 1;
     }
 
 -- The leaves
-
-pub record CredentialPassed (r : ElectraRules) (compounding : ℕ) : Type 0 where
-  pub good : goodElectra r ≡ true
-  pub credential : compounding ≤ 1
-
-pub credential-passed : (r : ElectraRules) (compounding : ℕ) {x : ℕ} → x ≡ codeOf (credentialTests r compounding) → x ≡ 0 → CredentialPassed r compounding
-unfolding credentialTests
-credential-passed r compounding e z =
-    let p = in-order _ _ _ (sym e ∙ z) in
-    record { good = p .settings 0; credential = leb-true compounding 1 (p .recorded 0) }
 
 pub record SlotRegistryPassed (r : ElectraRules) (stateSlot : ℕ) (registry : List ℕ) : Type 0 where
   pub settings : Passed (r .settings) stateSlot

@@ -12,10 +12,12 @@ use lib.Seq.{set-getD}
 use Rattle.definitions.specs.Lists.{range}
 use Rattle.definitions.specs.Record.{Validator, decodeOne, encodeOne, encode, decode, nobody}
 use Rattle.definitions.specs.Checked.{Checked, value, refused, bind, codeOf, settle, foldChecked}
-use Rattle.laws.proofs.Checked.{number-not-zero, not-value, value-same}
+use Rattle.laws.proofs.Checked.{not-value, value-same}
 use Rattle.laws.proofs.Encode.{length-decode, encode-decode, decode-encode}
 use Rattle.laws.proofs.Loops.Entry.{entryAt, putAt, entry-ten, entry-is, entry-back}
 use Rattle.arithmetic.proofs.Answers.{Refuses}
+use Rattle.arithmetic.proofs.Laws.{bind-value, bind-refused}
+use Rattle.laws_electra.proofs.Cases.{same-or, Gives, gives, Refuses as Refused, refuses}
 use Rattle.definitions_electra.specs.declared.ExitChurn.{ExitChurn}
 use Rattle.definitions_electra.specs.declared.ExitChurnAnswer.{ExitChurnAnswer}
 use Rattle.electra_registry.specs.declared.updates.RegistryNumbers.{RegistryNumbers}
@@ -49,39 +51,36 @@ module _ (f : ExitChurn → Validator → Checked Turned) {churn : ExitChurn} (c
   churn-at : (m : Checked Turned) → f churn v ≡ m → r .churn ≡ settle m (kept churn v) .churn
   churn-at m g = h .moved ∙ ap₂ (λ (m : Checked Turned) (u : Validator). settle m (kept churn u) .churn) (is g) (entry-is count xs i long l)
 
+  gave : r .refusal ≡ 0 → Gives (f churn v)
+  gave z = gives (f churn v) (sym (h .code ∙ ap codeOf (is refl)) ∙ z)
+
+  why : (r .refusal ≡ 0 → ⊥) → Refused (f churn v)
+  why z = refuses (f churn v) (λ y. z (h .code ∙ ap codeOf (is refl) ∙ y))
+
   pub turn-gave : r .refusal ≡ 0 → turnAt f (exiting (decode xs) churn) i ≡ value (exiting (decode (putAt xs i e)) (r .churn))
-  unfolding turnAt bind
-  turn-gave z = go (f churn v) refl
-    where
-      go : (m : Checked Turned) → f churn v ≡ m → bind m (λ t. value (exiting (set (decode xs) i (t .validator)) (t .churn))) ≡ value (exiting (decode (putAt xs i e)) (r .churn))
-      go (value t) g = sym (ap₂ (λ (vs : List Validator) (c : ExitChurn). value (exiting vs c)) (ap decode (put-at (value t) g) ∙ decode-encode (set (decode xs) i (t .validator))) (churn-at (value t) g))
-      go (refused p) g = absurd (number-not-zero p (sym (h .code ∙ ap codeOf (is g)) ∙ z))
+  unfolding turnAt
+  turn-gave z =
+      let o = gave z in
+      let t = value (o .first) in
+      bind-value _ (o .gave) ∙ sym (ap₂ (λ (vs : List Validator) (c : ExitChurn). value (exiting vs c)) (ap decode (put-at t (o .gave)) ∙ decode-encode (set (decode xs) i (o .first .validator))) (churn-at t (o .gave)))
 
   pub turn-refused : (r .refusal ≡ 0 → ⊥) → Refuses (turnAt f (exiting (decode xs) churn) i) (r .refusal)
-  unfolding turnAt bind
-  turn-refused z = go (f churn v) refl
-    where
-      go : (m : Checked Turned) → f churn v ≡ m → Refuses (bind m (λ t. value (exiting (set (decode xs) i (t .validator)) (t .churn)))) (r .refusal)
-      go (value t) g = absurd (z (h .code ∙ ap codeOf (is g)))
-      go (refused p) g = record { why = p; gave = refl; number = h .code ∙ ap codeOf (is g) }
+  unfolding turnAt
+  turn-refused z =
+      let o = why z in
+      record { why = o .why; gave = bind-refused _ (o .is); number = h .code ∙ ap codeOf (is (o .is)) }
 
   pub turn-moves : Moves (turnAt f (exiting (decode xs) churn) i) churn (putAt xs i e) r
-  unfolding turnAt bind
-  turn-moves = go (f churn v) refl
-    where
-      go : (m : Checked Turned) → f churn v ≡ m → Moves (bind m (λ t. value (exiting (set (decode xs) i (t .validator)) (t .churn)))) churn (putAt xs i e) r
-      go (value t) g = moves-value refl (h .code ∙ ap codeOf (is g)) (churn-at (value t) g) (put-at (value t) g)
-      go (refused p) g = moves-refused (record { why = p; gave = refl; number = h .code ∙ ap codeOf (is g) }) (churn-at (refused p) g)
+  unfolding turnAt
+  turn-moves =
+      same-or (r .refusal) 0 (λ z. (let o = gave z in moves-value (bind-value _ (o .gave)) z (churn-at (value (o .first)) (o .gave)) (put-at (value (o .first)) (o .gave))))
+      (λ z. (let o = why z in moves-refused (turn-refused z) (churn-at (refused (o .why)) (o .is))))
 
   -- refused: the registry is left as lent
   pub turn-left : putAt xs i e ≡ cond (eqb (r .refusal) 0) (putAt xs i e) xs
-  turn-left = go (f churn v) refl
-    where
-      go : (m : Checked Turned) → f churn v ≡ m → putAt xs i e ≡ cond (eqb (r .refusal) 0) (putAt xs i e) xs
-      go (value t) g = rw (eq-eqb (r .refusal) 0 (h .code ∙ ap codeOf (is g)))
-      go (refused p) g =
-          rw (ne-eqb (r .refusal) 0 (λ z. number-not-zero p (sym (h .code ∙ ap codeOf (is g)) ∙ z)))
-          (put-at (refused p) g ∙ ap encode (set-getD (decode xs) i nobody) ∙ encode-decode count xs long)
+  turn-left =
+      same-or (r .refusal) 0 (λ z. rw (eq-eqb (r .refusal) 0 z))
+      (λ z. (let o = why z in rw (ne-eqb (r .refusal) 0 z) (put-at (refused (o .why)) (o .is) ∙ ap encode (set-getD (decode xs) i nobody) ∙ encode-decode count xs long)))
 
 -- The loop: what is left of it, from the registry xs and the two numbers `churn` after i turns, decides the whole
 pub record Updating (n : RegistryNumbers) (first : ExitChurn) (count : ℕ) (xs₀ : List ℕ) (i : ℕ) (xs : List ℕ) (churn : ExitChurn) : Type 0 where

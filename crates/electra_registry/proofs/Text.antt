@@ -1,5 +1,5 @@
 -- The turn by numbers is the text's turn, and so are the exits that are calls of their own.
-use mathlib.Core.Path.{_≡_, refl}
+use mathlib.Core.Path.{_≡_, refl, sym, _∙_}
 use mathlib.Core.Bool.{Bool, true, false, cond}
 use mathlib.Core.List.{List, []}
 use Prim.Native.Nat.{ℕ, _+_, _^_, _<_}
@@ -8,10 +8,11 @@ use lib.Dec.{eqb}
 use lib.ListN.{getD, set}
 use lib.Seq.{set-getD}
 use Rattle.definitions.specs.Record.{Validator, «FAR_FUTURE_EPOCH», nobody, decode}
-use Rattle.definitions.specs.Updates.{withEligibility, withActivation, withExit}
-use Rattle.definitions.specs.Checked.{Checked, value, refused, bind, add64, settle}
+use Rattle.definitions.specs.Updates.{withEligibility, withActivation}
+use Rattle.definitions.specs.Checked.{Checked, value, bind, add64, settle}
 use Rattle.definitions.specs.Rust.Phase0.Helpers.{«get_current_epoch», «compute_activation_exit_epoch»}
 use Rattle.laws.proofs.Checked.{bind-bind}
+use Rattle.laws_electra.proofs.Cases.{test-or, bind-given}
 use Rattle.registry.proofs.Epochs.{Epochs}
 use Rattle.definitions_electra.specs.declared.ElectraRules.{ElectraRules}
 use Rattle.definitions_electra.specs.declared.ExitChurn.{ExitChurn}
@@ -65,20 +66,8 @@ module _ (r : ElectraRules) (st : ElectraState) (least limit : ℕ) (a : «compu
   stays = rw (set-getD (st .altair .validators) i nobody)
 
   pub exit-text : «initiate_validator_exit» r st i ≡ bind (exitWith least limit (r .settings .«min_validator_withdrawability_delay») (st .churn) v) (λ t. value (put t))
-  unfolding «initiate_validator_exit» «compute_exit_epoch_and_update_churn» exitWith churnBy bind
-  exit-text = rw (a, ← e) (go (eqb (v .«exit_epoch») «FAR_FUTURE_EPOCH») (churnBy least limit (st .churn) (v .«effective_balance»)))
-    where
-      delay : ℕ
-      delay = r .settings .«min_validator_withdrawability_delay»
-
-      later : (after : ExitChurn) (m : Checked ℕ) → bind m (λ w. value (withChurn after (withVs (set vs i (withExit (after .«earliest_exit_epoch») w v)) st))) ≡ bind (bind m (λ w. value (kept after (withExit (after .«earliest_exit_epoch») w v)))) (λ t. value (put t))
-      later after (value w) = refl
-      later after (refused p) = refl
-
-      go : (t : Bool) (m : Checked ExitChurn) → cond t (bind m (λ after. bind (add64 (after .«earliest_exit_epoch») (r .settings .«min_validator_withdrawability_delay»)) (λ w. value (withChurn after (withVs (set vs i (withExit (after .«earliest_exit_epoch») w v)) st))))) (value st) ≡ bind (cond t (bind m (λ after. bind (add64 (after .«earliest_exit_epoch») (r .settings .«min_validator_withdrawability_delay»)) (λ w. value (kept after (withExit (after .«earliest_exit_epoch») w v))))) (value (kept (st .churn) v))) (λ t. value (put t))
-      go true (value after) = later after (add64 (after .«earliest_exit_epoch») (r .settings .«min_validator_withdrawability_delay»))
-      go true (refused p) = refl
-      go false m = stays
+  unfolding «initiate_validator_exit» «compute_exit_epoch_and_update_churn» exitWith churnBy
+  exit-text = rw (a, bind-given, ← e) (test-or (eqb (v .«exit_epoch») «FAR_FUTURE_EPOCH») (λ t. rw t (simp (bind-bind, bind-given))) (λ t. rw t (stays ∙ sym (bind-given (kept (st .churn) v) (λ t. value (put t))))))
 
   pub turn-text : currentEpochOf r st + 1 < 2 ^ 64 → updateRegistryAt r least st i ≡ bind (turnBy numbers (st .churn) v) (λ t. value (put t))
   unfolding updateRegistryAt turnBy bind add64 «is_eligible_for_activation_queue»

@@ -27,7 +27,7 @@ tells-churn = record { of-value = λ x. refl; of-refused = λ p. refl; one-value
 
 -- No refusal but overflow
 
-only-either : {A : Type 0} (t : Bool) {m n : Checked A} → OnlyOverflow m → OnlyOverflow n → OnlyOverflow (cond t m n)
+pub only-either : {A : Type 0} (t : Bool) {m n : Checked A} → OnlyOverflow m → OnlyOverflow n → OnlyOverflow (cond t m n)
 only-either true h g = h
 only-either false h g = g
 

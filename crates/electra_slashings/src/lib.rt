@@ -29,7 +29,7 @@ use slashings::adjusted_balance;
 use totals::total_active;
 
 // The epoch is compared only where the validator is slashed, and the penalty worked out only where it is due.
-fn entry_slash(s: Settings, epoch: u64, per_increment: u64, entry: &mut [u64]) -> u64
+pub fn entry_slash(s: Settings, epoch: u64, per_increment: u64, entry: &mut [u64]) -> u64
     requires { ⌜ (length (now entry) ≡ 10) × (0 < s .«effective_balance_increment») ⌝ }
     ensures { λ r. ⌜ Settles (slash s epoch «per_increment») (now (entry .entry)) (now (entry .exit)) r ⌝ }
 {

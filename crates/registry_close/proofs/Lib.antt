@@ -1,4 +1,4 @@
 -- Laws of the steps over the registry.
 pub mod Steps
-mod Justified
+pub mod Justified
 pub mod Worked

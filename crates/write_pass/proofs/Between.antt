@@ -1,13 +1,13 @@
 -- What a turn did to a validator.
 use mathlib.Core.Path.{_≡_, refl, sym, ap, _∙_}
 use mathlib.Core.Bool.{Bool, true, false, cond, _&&_, _||_}
-use Prim.Native.Nat.{ℕ, _+_, _-_, _≤_}
+use Prim.Native.Nat.{ℕ, _+_, _-_, _/_, _≤_}
 use native.Mathlib.Omega.{arith}
 use lib.Dec.{ltb, eqb}
 use Rattle.definitions.specs.declared.Settings.{Settings}
 use Rattle.definitions.specs.Record.{Validator, «FAR_FUTURE_EPOCH»}
 use Rattle.definitions.specs.Updates.{withEffectiveBalance, withEligibility, withExit, withBalance}
-use Rattle.definitions.specs.Checked.{value, bind, add64}
+use Rattle.definitions.specs.Checked.{value, bind, add64, mul64}
 use Rattle.definitions.specs.Document.Phase0.Helpers.{«is_eligible_for_activation_queue»}
 use Rattle.definitions.specs.Document.Phase0.EpochProcessing.{queueEligible, isEjected, roundedBalance}
 use Rattle.definitions.specs.Document.Altair.EpochProcessing.{rotateParticipation}
@@ -15,15 +15,21 @@ use Rattle.definitions.specs.Rust.Phase0.Helpers.{«decrease_balance»}
 use Rattle.definitions.specs.Rust.Phase0.EpochProcessing.{updateEffectiveBalance}
 use Rattle.definitions.specs.Rust.Altair.EpochProcessing.{isSlashingDue, slashingPenalty, slash}
 use Rattle.laws.proofs.Checked.{value-same, bound}
+use Rattle.laws.proofs.Tests.{either, lowered}
 use Rattle.definitions.specs.declared.ExitQueue.{ExitQueue}
 use Rattle.exit_queue.specs.Queue.{nextEpoch, exitBy}
 use Rattle.laws.specs.Cut.{queuedBefore, queuedAt, admitOne}
 use Rattle.registry.specs.Updates.{turnBy}
+use Rattle.definitions_electra.specs.declared.ExitChurn.{ExitChurn}
+use Rattle.definitions_electra.specs.Evaluated.Electra.EpochProcessing.{slash as slashLater}
+use Rattle.electra_registry.specs.declared.updates.RegistryNumbers.{RegistryNumbers}
+use Rattle.electra_registry.specs.Turns.{Turned, kept, churnBy, exitWith, isQueued, isEjectedBy, isActivated, turnBy as turnByBalance}
 use Rattle.write_turn.specs.Sweep.{Moved}
 use Rattle.write_turn.specs.declared.Plan.{Plan}
 use Rattle.write_turn.specs.declared.Course.{Course}
+use Rattle.write_turn.specs.declared.Carry.{Carry}
 use Rattle.write_turn.specs.Planned.{lastBy}
-use Rattle.write_turn.specs.Written.{payOf, turnWith, admitWith, moveWith, writtenWith}
+use Rattle.write_turn.specs.Written.{payOf, turnWith, admitWith, moveWith, writtenWith, churnWith, laterWith, queued, churned, writtenBy}
 use Rattle.write_pass.specs.Filled.{Between}
 
 -- No step after rewards writes the score or raises the balance
@@ -128,10 +134,65 @@ module _ (s : Settings) (p : Plan) where
         (less-then (admit-less (t .«activation_epoch») (t .«finalized_epoch») (t .bound) (c .1) (a .first .held))
         (less-then (less-same admitted) (less-same (ap (λ (k : Moved (ExitQueue × ℕ) Validator). k .held) (value-same (d .then)))))))
 
-    pub between : (c : ExitQueue × ℕ) (v : Validator) {m : Moved (ExitQueue × ℕ) Validator} → writtenWith s p t c v ≡ value m → Between s p v (m .held)
-    between c v e =
+    between-altair : (c : ExitQueue × ℕ) (v : Validator) {m : Moved (ExitQueue × ℕ) Validator} → writtenWith s p t c v ≡ value m → Between s p v (m .held)
+    between-altair c v e =
         let a = bound (payOf s p v) _ e in
         let b = bound (moveWith s (p .shared .«current_epoch») t c (a .first)) _ (a .then) in
         let d = bound (lastBy s p (b .first .held)) _ (b .then) in
         let less = less-then (move-less c (a .first) (b .gave)) (less-then (last-less (b .first .held) (d .gave)) (less-same (ap (λ (k : Moved (ExitQueue × ℕ) Validator). k .held) (value-same (d .then))))) in
         record { paid = a .first; pays = a .gave; score = less .score; less = less .balance }
+
+-- Electra's two steps
+turn-later-less : (n : RegistryNumbers) (churn : ExitChurn) (v : Validator) {t : Turned} → turnByBalance n churn v ≡ value t → Less v (t .validator)
+unfolding turnByBalance exitWith
+turn-later-less n churn v {t} e =
+    either Is (isQueued n v) (told (less-none refl refl))
+    (either Is (isEjectedBy n v)
+    (either Is (eqb (v .«exit_epoch») «FAR_FUTURE_EPOCH») exits (told (less-none refl refl)))
+    (either Is (isActivated n v) (told (less-none refl refl)) (told (less-none refl refl)))) e
+  where
+    Is : Turned → Type 0
+    Is u = Less v (u .validator)
+
+    told : {u w : Turned} → Less v (u .validator) → value u ≡ value w → Less v (w .validator)
+    told h e = rw (value-same e) at h
+
+    exits : bind (churnBy (n .least) (n .limit) churn (v .«effective_balance»)) (λ after. bind (add64 (after .«earliest_exit_epoch») (n .delay)) (λ withdrawable. value (kept after (withExit (after .«earliest_exit_epoch») withdrawable v)))) ≡ value t → Less v (t .validator)
+    exits e =
+        let a = bound (churnBy (n .least) (n .limit) churn (v .«effective_balance»)) _ e in
+        let b = bound (add64 (a .first .«earliest_exit_epoch») (n .delay)) _ (a .then) in
+        told (less-none refl refl) (b .then)
+
+slash-later-less : (s : Settings) (epoch perIncrement : ℕ) (v : Validator) {w : Validator} → slashLater s epoch perIncrement v ≡ value w → Less v w
+unfolding slashLater «decrease_balance»
+slash-later-less s epoch perIncrement v {w} e =
+    let a = bound (isSlashingDue s epoch v) _ e in
+    either (λ (u : Validator). Less v u) (a .first) takes (λ e. less-same (value-same e)) (a .then)
+  where
+    takes : bind (mul64 perIncrement (v .«effective_balance» / s .«effective_balance_increment»)) (λ penalty. value (withBalance (cond (ltb (v .balance) penalty) 0 (v .balance - penalty)) v)) ≡ value w → Less v w
+    takes e =
+        let b = bound (mul64 perIncrement (v .«effective_balance» / s .«effective_balance_increment»)) _ e in
+        less-then (record { score = refl; balance = omega (arith, lowered (v .balance) (b .first)) }) (less-same (value-same (b .then)))
+
+module _ (later : ℕ) (s : Settings) (p : Plan) (t : Course) (n : RegistryNumbers) where
+  between-later : (churn : ExitChurn) (v : Validator) {m : Moved ExitChurn Validator} → laterWith s p n churn v ≡ value m → Between s p v (m .held)
+  between-later churn v e =
+      let a = bound (payOf s p v) _ e in
+      let b = bound (churnWith n churn (a .first)) _ (a .then) in
+      let turned = bound (turnByBalance n churn (a .first)) _ (b .gave) in
+      let d = bound (slashLater s (p .shared .«current_epoch») (p .adjusted) (b .first .held)) _ (b .then) in
+      let less = less-then (turn-later-less n churn (a .first) (turned .gave)) (less-then (less-same (ap (λ (k : Moved ExitChurn Validator). k .held) (value-same (turned .then)))) (less-then (slash-later-less s (p .shared .«current_epoch») (p .adjusted) (b .first .held) (d .gave)) (less-same (ap (λ (k : Moved ExitChurn Validator). k .held) (value-same (d .then)))))) in
+      record { paid = a .first; pays = a .gave; score = less .score; less = less .balance }
+
+  pub between : (c : Carry) (v : Validator) {m : Moved Carry Validator} → writtenBy later s p t n c v ≡ value m → Between s p v (m .held)
+  between c v {m} e = either (λ (k : Moved Carry Validator). Between s p v (k .held)) (eqb later 0) by-queue by-churn e
+    where
+      by-queue : queued s p t c v ≡ value m → Between s p v (m .held)
+      by-queue e =
+          let a = bound (writtenWith s p t (c .queue, c .left) v) _ e in
+          rw (ap (λ (k : Moved Carry Validator). k .held) (value-same (a .then))) at (between-altair s p t (c .queue, c .left) v (a .gave))
+
+      by-churn : churned s p n c v ≡ value m → Between s p v (m .held)
+      by-churn e =
+          let a = bound (laterWith s p n (c .churn) v) _ e in
+          rw (ap (λ (k : Moved Carry Validator). k .held) (value-same (a .then))) at (between-later (c .churn) v (a .gave))

@@ -3,3 +3,4 @@ pub mod Nine
 pub mod Booked
 mod Between
 mod Loop
+mod Forks

@@ -10,8 +10,9 @@ ghost use Rattle.definitions_close.specs.Amounts.{booked};
 ghost use Rattle.laws.specs.Ran.{Ran};
 ghost use Rattle.rates.specs.Balances.{four};
 ghost use Rattle.write_turn.specs.Sweep.{sweep, dropped};
+ghost use Rattle.write_turn.specs.Steps.{Swept};
 ghost use Rattle.write_turn.specs.Planned.{Planned};
-ghost use Rattle.write_turn.specs.Written.{AnswerFor, TableFor, writtenWith};
+ghost use Rattle.write_turn.specs.Written.{AnswerFor, TableFor, writtenWith, laterWith, writtenBy};
 ghost use Rattle.write_pass.specs.Filled.{Opens, BooksPair, left, Fits, nineBy, Between, PutAt, Fills, PairOf};
 use definitions::BALANCE;
 use definitions::Deltas;
@@ -19,10 +20,14 @@ use definitions::EFFECTIVE_BALANCE;
 use definitions::EXIT_EPOCH;
 use definitions::ExitQueue;
 use definitions::Settings;
+use definitions_electra::ExitChurn;
+use definitions_electra::ExitChurnAnswer;
+use electra_registry::updates::RegistryNumbers;
 use exit_queue::exited;
 use rates::rates_in;
 use rates::reward_balances::Pairs;
 use rates::reward_balances::PairsAnswer;
+use write_turn::Carry;
 use write_turn::Course;
 use write_turn::Plan;
 use write_turn::write_entry;
@@ -172,29 +177,36 @@ pub struct Wrote {
     pub queue: ExitQueue,
 }
 
-// From the exit queue's pair and the cut's quota. It stops at the first refusal, and the caller puts the opening back.
+// The same with what was carried.
+struct Passed {
+    refusal: u64,
+    carry: Carry,
+    pair: ExitQueue,
+}
+
+// It stops at the first refusal, and the caller puts the opening back. `later` is as in write_entry.
 fn write_by(
+    later: u64,
     s: Settings,
     p: Plan,
     t: Course,
-    first: ExitQueue,
-    quota: u64,
+    e: RegistryNumbers,
+    first: Carry,
     opening: &[u64],
     closing: &mut [u64],
     amounts: &mut [u64],
     table: &mut [u64],
-) -> Wrote
+) -> Passed
     requires { ⌜ Planned s p ⌝ }
     requires { ⌜ TableFor s p (now table) ⌝ }
     requires { ⌜ (length (now opening) ≡ 10 * (length (now opening) / 10)) × (length (now closing) ≡ length (now opening)) ⌝ }
-    requires { ⌜ (p .shared .«current_epoch» < 2 ^ 48) × (first .number ≤ length (now opening)) ⌝ }
-    ensures { λ r. ⌜ Ran (dropped (sweep (writtenWith s p t) (first, quota) (decode (now (opening .entry))))) (now (closing .exit)) (r .refusal) ⌝ }
+    requires { ⌜ (p .shared .«current_epoch» < 2 ^ 48) × (e .epoch < 2 ^ 48) × (first .queue .number ≤ length (now opening)) ⌝ }
+    ensures { λ r. ⌜ Swept (sweep (writtenBy later s p t e) first (decode (now (opening .entry)))) (now (closing .exit)) (r .refusal) (r .carry) ⌝ }
     ensures { λ r. ⌜ Fills s p (now (opening .entry)) (now (closing .exit)) (now (amounts .entry)) (now (amounts .exit)) (r .refusal) ⌝ }
-    ensures { λ r. ⌜ PairOf (now (closing .exit)) (r .refusal) (r .queue) ⌝ }
+    ensures { λ r. ⌜ PairOf (now (closing .exit)) (r .refusal) (r .pair) ⌝ }
 {
     let n = opening.len() / 10;
-    let mut queue = first;
-    let mut left = quota;
+    let mut carry = first;
     let mut pair = ExitQueue {
         last_epoch: 0,
         number: 0,
@@ -205,26 +217,28 @@ fn write_by(
         let balance = opening[10 * i + EFFECTIVE_BALANCE];
         let rates = rates_in(s, p.shared, p.source, p.target, p.head, balance, table);
         let from = &opening[a..b];
-        let written = write_entry(s, p, t, queue, left, rates, from, &mut closing[a..b]);
+        let written = write_entry(later, s, p, t, e, carry, rates, from, &mut closing[a..b]);
         let refusal = written.refusal;
         if refusal != 0 {
-            return Wrote {
+            return Passed {
                 refusal: refusal,
-                queue: pair,
+                carry: carry,
+                pair: pair,
             };
         }
-        queue = written.queue;
-        left = written.left;
+        carry = written.carry;
         let answer = written.answer;
         book_entry(s, p, answer, i, from, &closing[a..b], amounts);
         pair = exited(pair, closing[10 * i + EXIT_EPOCH]);
     }
-    Wrote {
+    Passed {
         refusal: 0,
-        queue: pair,
+        carry: carry,
+        pair: pair,
     }
 }
 
+// Altair's steps, from the exit queue's pair and the cut's quota.
 pub fn write_all(
     s: Settings,
     p: Plan,
@@ -242,16 +256,90 @@ pub fn write_all(
     ensures { λ r. ⌜ Fills s p (now (opening .entry)) (now (closing .exit)) (now (amounts .entry)) (now (amounts .exit)) (r .refusal) ⌝ }
     ensures { λ r. ⌜ PairOf (now (closing .exit)) (r .refusal) (r .queue) ⌝ }
 {
+    let none = RegistryNumbers {
+        epoch: 0,
+        finalized_epoch: 0,
+        least: 0,
+        limit: 0,
+        delay: 0,
+        min_activation_balance: 0,
+        ejection_balance: 0,
+    };
+    let carry = Carry {
+        queue: first,
+        left: quota,
+        churn: ExitChurn {
+            exit_balance_to_consume: 0,
+            earliest_exit_epoch: 0,
+        },
+    };
     let mut table = [0u64; 960];
-    write_by(
+    let passed = write_by(
+        0,
         s,
         p,
         t,
-        first,
-        quota,
+        none,
+        carry,
         opening,
         closing,
         amounts,
         &mut table[0..960],
-    )
+    );
+    let pair = passed.pair;
+    Wrote {
+        refusal: passed.refusal,
+        queue: pair,
+    }
+}
+
+// Electra's steps up to slashings, from its two numbers of the exit queue.
+pub fn write_later(
+    s: Settings,
+    p: Plan,
+    e: RegistryNumbers,
+    churn: ExitChurn,
+    opening: &[u64],
+    closing: &mut [u64],
+    amounts: &mut [u64],
+) -> ExitChurnAnswer
+    requires { ⌜ Planned s p ⌝ }
+    requires { ⌜ (length (now opening) ≡ 10 * (length (now opening) / 10)) × (length (now closing) ≡ length (now opening)) ⌝ }
+    requires { ⌜ (p .shared .«current_epoch» < 2 ^ 48) × (e .epoch < 2 ^ 48) ⌝ }
+    ensures { λ r. ⌜ Swept (sweep (laterWith s p e) churn (decode (now (opening .entry)))) (now (closing .exit)) (r .refusal) (r .churn) ⌝ }
+    ensures { λ r. ⌜ Fills s p (now (opening .entry)) (now (closing .exit)) (now (amounts .entry)) (now (amounts .exit)) (r .refusal) ⌝ }
+{
+    let none = Course {
+        limit: 0,
+        finalized_epoch: 0,
+        bound: 0,
+        activation_epoch: 0,
+    };
+    let first = Carry {
+        queue: ExitQueue {
+            last_epoch: 0,
+            number: 0,
+        },
+        left: 0,
+        churn: churn,
+    };
+    let mut table = [0u64; 960];
+    let passed = write_by(
+        1,
+        s,
+        p,
+        none,
+        e,
+        first,
+        opening,
+        closing,
+        amounts,
+        &mut table[0..960],
+    );
+    let carry = passed.carry;
+    let after = carry.churn;
+    ExitChurnAnswer {
+        refusal: passed.refusal,
+        churn: after,
+    }
 }

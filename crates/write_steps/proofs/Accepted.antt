@@ -89,7 +89,7 @@ part p q h vs g =
         go true e = rw (h v e) (omega arith)
         go false e = omega arith
 
-total-gave : (s : Settings) (members : List Validator) {x : ℕ} → «get_total_balance» s members ≡ value x → Gave (sum64 (map (λ v. v .«effective_balance») members))
+pub total-gave : (s : Settings) (members : List Validator) {x : ℕ} → «get_total_balance» s members ≡ value x → Gave (sum64 (map (λ v. v .«effective_balance») members))
 unfolding «get_total_balance»
 total-gave s members e = let a = bound (sum64 (map (λ v. v .«effective_balance») members)) _ e in record { gift = a .first; gave = a .gave }
 
@@ -180,8 +180,49 @@ module _ (s : Settings) (slot fin : ℕ) (vs : List Validator) where
       let of : (index : ℕ) → Gave (balanceOf (participating s slot index) vs) = λ index. part (participating s slot index) (activeAt current) (is-active index («get_previous_epoch» s slot) e) vs g in
       record { source = of 0; target = of 1; head = of 2 }
 
+-- the sums of the opening and the leak, where scores and rewards are accepted and the active balance afterwards is a number
+pub record Summed (s : Settings) (slot fin : ℕ) (vs : List Validator) : Type 0 where
+  pub sums : Sums
+  pub plain : PlainSums («get_current_epoch» s slot) («get_previous_epoch» s slot) vs sums
+  pub leak : Gave (leakOf s slot fin)
+
+module _ (s : Settings) (slot fin : ℕ) (vs scored paid : List Validator) (e : «process_inactivity_updates» s slot fin vs ≡ value scored) (f : «process_rewards_and_penalties» s (s .«inactivity_penalty_quotient_altair») slot fin scored ≡ value paid) where
+  abbrev now : ℕ
+  now = «get_current_epoch» s slot
+
+  back : (index : ℕ) → Gave (balanceOf (participating s slot index) scored) → Gave (balanceOf (participating s slot index) vs)
+  unfolding «is_active_validator» isUnslashedParticipating
+  back index g = same-sum (participating s slot index) vs scored (scores-keep (weight (participating s slot index)) (λ v. refl) s slot fin vs e) g
+
+  pub summed : Gave (balanceOf (activeAt now) paid) → Summed s slot fin vs
+  unfolding «is_active_validator» isUnslashedParticipating
+  summed last = go (eqb now 0) refl
+    where
+      g : Gave (balanceOf (activeAt now) vs)
+      g =
+          let after : Gave (balanceOf (activeAt now) scored) = same-sum (activeAt now) scored paid (rewards-keep (weight (activeAt now)) (λ v. refl) s (s .«inactivity_penalty_quotient_altair») slot fin scored f) last in
+          same-sum (activeAt now) vs scored (scores-keep (weight (activeAt now)) (λ v. refl) s slot fin vs e) after
+
+      target : Gave (balanceOf (isUnslashedParticipating now 1 now) vs)
+      target = part (isUnslashedParticipating now 1 now) (activeAt now) (is-active s slot fin vs 1 _ refl) vs g
+
+      made : Flags s slot vs → Gave (leakOf s slot fin) → Summed s slot fin vs
+      made flags leak =
+          record {
+            sums = record { active = g .gift; source = flags .source .gift; target = flags .target .gift; head = flags .head .gift; «current_target» = target .gift };
+            plain = record { active = g .gave; source = flags .source .gave; target = flags .target .gave; head = flags .head .gave; «current_target» = target .gave };
+            leak = leak;
+          }
+
+      go : (t : Bool) → eqb now 0 ≡ t → Summed s slot fin vs
+      go true t = let z = eqb-true _ _ t in made (genesis s slot fin vs z g) (record { gift = false; gave = leak-none s slot fin z })
+      go false t =
+          let n : now ≡ 0 → ⊥ = λ z. mathlib.Core.Bool.true≢false (sym (eq-eqb _ 0 z) ∙ t) in
+          let told = asked s slot fin scored _ n f in
+          made (record { source = back 0 (told .0 .source); target = back 1 (told .0 .target); head = back 2 (told .0 .head) }) (record { gift = told .1 .gift; gave = leak-some s slot fin n ∙ told .1 .gave })
+
 -- whether the adjusted balance is a number does not depend on the total
-adjusted-any : (multiplier total other : ℕ) (ys : List ℕ) {x : ℕ} → adjustedBalance multiplier total ys ≡ value x → Gave (adjustedBalance multiplier other ys)
+pub adjusted-any : (multiplier total other : ℕ) (ys : List ℕ) {x : ℕ} → adjustedBalance multiplier total ys ≡ value x → Gave (adjustedBalance multiplier other ys)
 unfolding adjustedBalance
 adjusted-any multiplier total other ys e =
     let a = bound (sum64 ys) (λ slashed. bind (mul64 slashed multiplier) (λ product. value (min product total))) e in
@@ -203,41 +244,14 @@ module _ (by : ActivationLimit) (s : Settings) (slot fin : ℕ) (ep : Epochs s s
       let adjusted = bound (adjustedBalance (s .«proportional_slashing_multiplier_altair») (total .first) ys) _ (total .then) in
       let thresholds = bound (thresholdsOf s) _ (sym (updates-by s (d .first)) ∙ e .gave) in
       let paid : Gave (balanceOf (activeAt now) (b .first)) = total-gave s _ (sym (total-kept s slot fin ep by (b .first) (c .gave)) ∙ total .gave) in
-      let scored : Gave (balanceOf (activeAt now) (a .first)) = same-sum (activeAt now) (a .first) (b .first) (rewards-keep (weight (activeAt now)) (λ v. refl) s quotient slot fin (a .first) (b .gave)) paid in
-      let active : Gave (balanceOf (activeAt now) vs) = same-sum (activeAt now) vs (a .first) (scores-keep (weight (activeAt now)) (λ v. refl) s slot fin vs (a .gave)) scored in
-      go (eqb now 0) refl vs (a .first) (b .first) (a .gave) (b .gave) active
-      (λ other. adjusted-any (s .«proportional_slashing_multiplier_altair») (total .first) other ys (adjusted .gave))
-      (record { gift = thresholds .first; gave = thresholds .gave })
-    where
-      back : (index : ℕ) (vs scored : List Validator) → «process_inactivity_updates» s slot fin vs ≡ value scored → Gave (balanceOf (participating s slot index) scored) → Gave (balanceOf (participating s slot index) vs)
-      back index vs scored e g = same-sum (participating s slot index) vs scored (scores-keep (weight (participating s slot index)) (λ v. refl) s slot fin vs e) g
-
-      go : (t : Bool) → eqb («get_current_epoch» s slot) 0 ≡ t → (vs scored paid : List Validator) → «process_inactivity_updates» s slot fin vs ≡ value scored → «process_rewards_and_penalties» s (s .«inactivity_penalty_quotient_altair») slot fin scored ≡ value paid → Gave (balanceOf (activeAt («get_current_epoch» s slot)) vs) → ((total : ℕ) → Gave (adjustedBalance (s .«proportional_slashing_multiplier_altair») total ys)) → Gave (thresholdsOf s) → Accepted s slot fin ys vs
-      go true t vs scored paid e f g adjusted thresholds =
-          let z = eqb-true _ _ t in
-          let flags = genesis s slot fin vs z g in
-          let target = part (isUnslashedParticipating («get_current_epoch» s slot) 1 («get_current_epoch» s slot)) (activeAt («get_current_epoch» s slot)) (is-active s slot fin vs 1 _ refl) vs g in
-          record {
-            sums = record { active = g .gift; source = flags .source .gift; target = flags .target .gift; head = flags .head .gift; «current_target» = target .gift };
-            plain = record { active = g .gave; source = flags .source .gave; target = flags .target .gave; head = flags .head .gave; «current_target» = target .gave };
-            leak = record { gift = false; gave = leak-none s slot fin z };
-            adjusted = adjusted;
-            thresholds = thresholds;
-          }
-      go false t vs scored paid e f g adjusted thresholds =
-          let n : «get_current_epoch» s slot ≡ 0 → ⊥ = λ z. mathlib.Core.Bool.true≢false (sym (eq-eqb _ 0 z) ∙ t) in
-          let told = asked s slot fin scored _ n f in
-          let source = back 0 vs scored e (told .0 .source) in
-          let hit = back 1 vs scored e (told .0 .target) in
-          let head = back 2 vs scored e (told .0 .head) in
-          let target = part (isUnslashedParticipating («get_current_epoch» s slot) 1 («get_current_epoch» s slot)) (activeAt («get_current_epoch» s slot)) (is-active s slot fin vs 1 _ refl) vs g in
-          record {
-            sums = record { active = g .gift; source = source .gift; target = hit .gift; head = head .gift; «current_target» = target .gift };
-            plain = record { active = g .gave; source = source .gave; target = hit .gave; head = head .gave; «current_target» = target .gave };
-            leak = record { gift = told .1 .gift; gave = leak-some s slot fin n ∙ told .1 .gave };
-            adjusted = adjusted;
-            thresholds = thresholds;
-          }
+      let all = summed s slot fin vs (a .first) (b .first) (a .gave) (b .gave) paid in
+      record {
+        sums = all .sums;
+        plain = all .plain;
+        leak = all .leak;
+        adjusted = λ other. adjusted-any (s .«proportional_slashing_multiplier_altair») (total .first) other ys (adjusted .gave);
+        thresholds = record { gift = thresholds .first; gave = thresholds .gave };
+      }
 
   -- so that what is not accepted is refused by 5
   pub not-accepted : (vs : List Validator) → (Accepted s slot fin ys vs → ⊥) → registrySteps by s slot fin ys vs ≡ refused overflow

@@ -1,13 +1,14 @@
 -- Why the pass is the steps.
 pub mod Leak
 pub mod Kept
-mod Only
+pub mod Only
 pub mod Rewards
 mod Last
 pub mod Made
-mod Tracked
-mod Seen
+pub mod Tracked
+pub mod Seen
 mod Passes
 mod Opening
 pub mod Accepted
 pub mod Steps
+pub mod Eights

@@ -60,7 +60,7 @@ only-turn s epoch limit q v =
 
 -- slashings, effective balances and flags
 
-only-due : (s : Settings) (epoch : ℕ) (v : Validator) → OnlyOverflow (isSlashingDue s epoch v)
+pub only-due : (s : Settings) (epoch : ℕ) (v : Validator) → OnlyOverflow (isSlashingDue s epoch v)
 unfolding isSlashingDue
 only-due s epoch v = only-either (isSlashed v) (only-bind (only-add64 _ _) (λ due. only-value _)) (only-value _)
 
@@ -116,7 +116,7 @@ module _ (s : Settings) (slot : ℕ) where
       let queued = set vs i (queueEligible s present (getD vs i nobody)) in
       only-either (isEjected s present (getD queued i nobody)) (only-exit queued i) (only-value queued)
 
-  only-active : (vs : List Validator) → OnlyOverflow («get_total_active_balance» s slot vs)
+  pub only-active : (vs : List Validator) → OnlyOverflow («get_total_active_balance» s slot vs)
   unfolding «get_total_active_balance»
   only-active vs = only-total s _
 
@@ -130,12 +130,12 @@ module _ (s : Settings) (slot : ℕ) where
   only-totals fin vs index =
       only-bind (only-total s _) (λ participating. only-bind (only-active vs) (λ active. only-bind (finality.only-leak s slot fin) (λ leaking. only-value _)))
 
-  only-inactivity : (fin : ℕ) (vs : List Validator) → OnlyOverflow («process_inactivity_updates» s slot fin vs)
+  pub only-inactivity : (fin : ℕ) (vs : List Validator) → OnlyOverflow («process_inactivity_updates» s slot fin vs)
   unfolding «process_inactivity_updates»
   only-inactivity fin vs =
       only-either (eqb present «GENESIS_EPOCH») (only-value vs) (only-bind (finality.only-leak s slot fin) (λ leaking. only-map (only-score s _ _ leaking) vs))
 
-  only-rewards : (quotient fin : ℕ) (vs : List Validator) → OnlyOverflow («process_rewards_and_penalties» s quotient slot fin vs)
+  pub only-rewards : (quotient fin : ℕ) (vs : List Validator) → OnlyOverflow («process_rewards_and_penalties» s quotient slot fin vs)
   unfolding «process_rewards_and_penalties»
   only-rewards quotient fin vs =
       only-either (eqb present «GENESIS_EPOCH») (only-value vs)

@@ -56,7 +56,7 @@ cut-kept {limit} {f} {bound} {quota} {vs} ws c e =
     cut-cuts (record { reach = ap (λ (k : ℕ). k + quota) (before-kept f bound vs ws e) ∙ c .reach; enough = λ l. omega (arith, c .enough l, before-kept f (bound + 1) vs ws e) })
 
 -- through a pass: what h sees afterwards is what k saw before
-kept-sweep : {B C : Type 0} (h k : Validator → B) (g : Turning C Validator) → ((c : C) (v : Validator) (m : Moved C Validator) → g c v ≡ value m → h (m .held) ≡ k v) → (c : C) (vs : List Validator) {m : Moved C (List Validator)} → sweep g c vs ≡ value m → map h (m .held) ≡ map k vs
+pub kept-sweep : {B C : Type 0} (h k : Validator → B) (g : Turning C Validator) → ((c : C) (v : Validator) (m : Moved C Validator) → g c v ≡ value m → h (m .held) ≡ k v) → (c : C) (vs : List Validator) {m : Moved C (List Validator)} → sweep g c vs ≡ value m → map h (m .held) ≡ map k vs
 unfolding sweep
 kept-sweep {B} {C} h k g t c [] e = ap (λ (m : Moved C (List Validator)). map h (m .held)) (sym (value-same e))
 kept-sweep {B} {C} h k g t c (v ∷ vs) e =

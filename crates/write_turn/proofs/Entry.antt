@@ -1,10 +1,10 @@
 -- What the code's ways through one entry give.
 use mathlib.Core.Path.{_≡_, refl, sym, ap, subst, _∙_}
-use mathlib.Core.Bool.{Bool, true, false, cond}
+use mathlib.Core.Bool.{Bool, true, false, cond, true≢false}
 use mathlib.Core.List.{List}
 use Prim.Native.Nat.{ℕ, _+_, _-_, _≤_}
 use native.Mathlib.Omega.{arith}
-use borrow.Author.Tests.{eq-eqb, ne-eqb}
+use borrow.Author.Tests.{eq-eqb, ne-eqb, eqb-true}
 use lib.Dec.{eqb, ltb}
 use lib.ListN.{length, getD}
 use Rattle.definitions.specs.declared.Settings.{Settings}
@@ -27,12 +27,19 @@ use Rattle.registry.specs.Updates.{turnBy}
 use Rattle.rates.specs.declared.reward_balances.PairsAnswer.{PairsAnswer}
 use Rattle.rates.specs.Balances.{SaysPairs, fourOf}
 use Rattle.rewards.specs.Shared.{totalsOf}
+use Rattle.definitions_electra.specs.declared.ExitChurn.{ExitChurn}
+use Rattle.definitions_electra.specs.declared.ExitChurnAnswer.{ExitChurnAnswer}
+use Rattle.electra_registry.specs.declared.updates.RegistryNumbers.{RegistryNumbers}
+use Rattle.electra_registry.specs.Turns.{Turned, kept, turnBy as turnByBalance, Turns as TurnsByBalance}
 use Rattle.write_turn.specs.Runs.{Runs}
+use Rattle.write_turn.specs.Sweep.{Moved}
 use Rattle.write_turn.specs.Steps.{Steps}
-use Rattle.write_turn.proofs.Sweeps.Steps.{steps-value, steps-refused}
+use Rattle.write_turn.proofs.Sweeps.Steps.{steps-value, steps-refused, steps-along, first-stop}
 use Rattle.write_turn.specs.declared.Plan.{Plan}
+use Rattle.write_turn.specs.declared.Course.{Course}
+use Rattle.write_turn.specs.declared.Carry.{Carry}
 use Rattle.write_turn.specs.Planned.{scoredBy, paidBy}
-use Rattle.write_turn.specs.Written.{AnswerFor, payOf, turnWith, admitWith}
+use Rattle.write_turn.specs.Written.{AnswerFor, payOf, turnWith, admitWith, writtenWith, churnWith, laterWith, queued, churned, writtenBy}
 
 -- at the genesis epoch, and later
 module _ (s : Settings) (p : Plan) {before : List ℕ} where
@@ -92,3 +99,37 @@ module _ (s : Settings) (epoch limit : ℕ) {q : ExitQueue} {before after : List
 
 pub admit-steps : (epoch finalizedEpoch bound left : ℕ) {before after : List ℕ} {d : ℕ} → after ≡ encodeOne (admitOne epoch finalizedEpoch bound left (decodeOne before)) → d ≡ left - cond (queuedAt finalizedEpoch bound (decodeOne before)) 1 0 → Steps (admitWith epoch finalizedEpoch bound) left before after 0 d
 admit-steps epoch finalizedEpoch bound left h k = steps-value (admitWith epoch finalizedEpoch bound) refl refl h k
+
+-- Electra's registry turn
+pub churn-steps : (n : RegistryNumbers) {churn : ExitChurn} {before after : List ℕ} {r : ExitChurnAnswer} → TurnsByBalance (turnByBalance n churn) churn before after r → Steps (churnWith n) churn before after (r .refusal) (r .churn)
+unfolding bind
+churn-steps n {churn} {before} {after} {r} h = go (turnByBalance n churn (decodeOne before)) refl
+  where
+    by : Checked Turned → Checked (Moved ExitChurn Validator)
+    by m = bind m (λ t. value (record { carry = t .churn; held = t .validator }))
+
+    go : (m : Checked Turned) → turnByBalance n churn (decodeOne before) ≡ m → Steps (churnWith n) churn before after (r .refusal) (r .churn)
+    go (value t) e = steps-value (churnWith n) (ap by e) (h .code ∙ ap codeOf e) (h .held ∙ ap (λ (m : Checked Turned). encodeOne (settle m (kept churn (decodeOne before)) .validator)) e) (h .moved ∙ ap (λ (m : Checked Turned). settle m (kept churn (decodeOne before)) .churn) e)
+    go (refused p) e = steps-refused (churnWith n) (ap by e) (h .code ∙ ap codeOf e)
+
+-- Altair's turn or Electra's, by their parts of what is carried
+module _ (later : ℕ) (s : Settings) (p : Plan) (t : Course) (n : RegistryNumbers) {c : Carry} {before after : List ℕ} {r : ℕ} where
+  pub queue-steps : later ≡ 0 → {q : ExitQueue} {left : ℕ} → Steps (writtenWith s p t) (c .queue, c .left) before after r (q, left) → Steps (writtenBy later s p t n) c before after r (record { queue = q; left = left; churn = c .churn })
+  queue-steps z {q} {left} h =
+      let k : Steps (queued s p t) c before after r (record { queue = q; left = left; churn = c .churn }) = steps-along (λ c. (c .queue, c .left)) (λ c d. record { queue = d .0; left = d .1; churn = c .churn }) (writtenWith s p t) h in
+      let e : writtenBy later s p t n c (decodeOne before) ≡ queued s p t c (decodeOne before) = rw (eq-eqb later 0 z) in
+      record { code = k .code ∙ ap codeOf (sym e); held = λ m g. k .held m (sym e ∙ g); carried = λ m g. k .carried m (sym e ∙ g) }
+
+  pub later-steps : (later ≡ 0 → ⊥) → {churn : ExitChurn} → Steps (laterWith s p n) (c .churn) before after r churn → Steps (writtenBy later s p t n) c before after r (record { queue = c .queue; left = c .left; churn = churn })
+  later-steps z {churn} h =
+      let k : Steps (churned s p n) c before after r (record { queue = c .queue; left = c .left; churn = churn }) = steps-along (λ c. c .churn) (λ c d. record { queue = c .queue; left = c .left; churn = d }) (laterWith s p n) h in
+      let e : writtenBy later s p t n c (decodeOne before) ≡ churned s p n c (decodeOne before) = rw (ne-eqb later 0 z) in
+      record { code = k .code ∙ ap codeOf (sym e); held = λ m g. k .held m (sym e ∙ g); carried = λ m g. k .carried m (sym e ∙ g) }
+
+  -- neither where it is not paid
+  pub unpaid-steps : {between : List ℕ} → Runs (payOf s p) before between r → (r ≡ 0 → ⊥) → Steps (writtenBy later s p t n) c before after r c
+  unpaid-steps h z = go (eqb later 0) refl
+    where
+      go : (b : Bool) → eqb later 0 ≡ b → Steps (writtenBy later s p t n) c before after r c
+      go true e = queue-steps (eqb-true later 0 e) (first-stop h _ z)
+      go false e = later-steps (λ y. true≢false (sym (eq-eqb later 0 y) ∙ e)) (first-stop h _ z)

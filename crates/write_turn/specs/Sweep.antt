@@ -34,6 +34,10 @@ first f g c x = bind (f x) (g c)
 abbrev pub last : {C A : Type 0} → Turning C A → (A → Checked A) → Turning C A
 last f g c x = bind (f c x) (λ m. bind (g (m .held)) (λ y. value (record { carry = m .carry; held = y })))
 
+-- one that carries a part of a state
+abbrev pub along : {C D A : Type 0} → (C → D) → (C → D → C) → Turning D A → Turning C A
+along part put f c x = bind (f (part c) x) (λ m. value (record { carry = put c (m .carry); held = m .held }))
+
 -- what is left when the state is dropped
 abbrev pub dropped : {C A : Type 0} → Checked (Moved C A) → Checked A
 dropped m = bind m (λ p. value (p .held))

@@ -11,6 +11,10 @@ use Rattle.laws.specs.Cut.{queuedAt, admitOne}
 use Rattle.definitions.specs.declared.ExitQueue.{ExitQueue}
 use Rattle.exit_queue.specs.Queue.{moved}
 use Rattle.registry.specs.Updates.{turnBy}
+use Rattle.definitions_electra.specs.declared.ExitChurn.{ExitChurn}
+use Rattle.definitions_electra.specs.Evaluated.Electra.EpochProcessing.{slash as slashLater}
+use Rattle.electra_registry.specs.declared.updates.RegistryNumbers.{RegistryNumbers}
+use Rattle.electra_registry.specs.Turns.{Turned, turnBy as turnByBalance}
 use Rattle.rates.specs.declared.Rates.{Rates}
 use Rattle.rates.specs.declared.reward_balances.PairsAnswer.{PairsAnswer}
 use Rattle.rates.specs.Rated.{Fits}
@@ -18,11 +22,12 @@ use Rattle.rates.specs.Table.{TableOf}
 use Rattle.rates.specs.Balances.{SaysPairs, fourOf}
 use Rattle.rewards.specs.Shared.{totalsOf}
 use Rattle.write_turn.specs.Runs.{Runs}
-use Rattle.write_turn.specs.Sweep.{Turning, after, first, last}
+use Rattle.write_turn.specs.Sweep.{Turning, after, first, last, along}
 use Rattle.write_turn.specs.Steps.{Steps}
 use Rattle.write_turn.specs.declared.Plan.{Plan}
 use Rattle.write_turn.specs.Planned.{scoredBy, paidBy, lastBy}
 use Rattle.write_turn.specs.declared.Course.{Course}
+use Rattle.write_turn.specs.declared.Carry.{Carry}
 use Rattle.write_turn.specs.declared.Paid.{Paid}
 use Rattle.write_turn.specs.declared.Moved.{Moved}
 use Rattle.write_turn.specs.declared.Written.{Written}
@@ -58,6 +63,26 @@ moveWith s epoch t = after (turnWith s epoch (t .limit)) (admitWith (t .«activa
 abbrev pub writtenWith : Settings → Plan → Course → Turning (ExitQueue × ℕ) Validator
 writtenWith s p t = first (payOf s p) (last (moveWith s (p .shared .«current_epoch») t) (lastBy s p))
 
+-- Electra's registry turn, by its two numbers of the exit queue
+abbrev pub churnWith : RegistryNumbers → Turning ExitChurn Validator
+churnWith n churn v = bind (turnByBalance n churn v) (λ t. value (record { carry = t .churn; held = t .validator }))
+
+abbrev pub turnLater : Settings → Plan → RegistryNumbers → Turning ExitChurn Validator
+turnLater s p n = last (churnWith n) (slashLater s (p .shared .«current_epoch») (p .adjusted))
+
+abbrev pub laterWith : Settings → Plan → RegistryNumbers → Turning ExitChurn Validator
+laterWith s p n = first (payOf s p) (turnLater s p n)
+
+-- Either, each by its part of what is carried
+abbrev pub queued : Settings → Plan → Course → Turning Carry Validator
+queued s p t = along (λ c. (c .queue, c .left)) (λ c d. record { queue = d .0; left = d .1; churn = c .churn }) (writtenWith s p t)
+
+abbrev pub churned : Settings → Plan → RegistryNumbers → Turning Carry Validator
+churned s p n = along (λ c. c .churn) (λ c d. record { queue = c .queue; left = c .left; churn = d }) (laterWith s p n)
+
+abbrev pub writtenBy : ℕ → Settings → Plan → Course → RegistryNumbers → Turning Carry Validator
+writtenBy later s p t n c v = cond (eqb later 0) (queued s p t c v) (churned s p n c v)
+
 -- What the functions on one entry promise
 
 pub record Pays (s : Settings) (p : Plan) (before after : List ℕ) (r : Paid) : Type 0 where
@@ -68,7 +93,7 @@ pub record Moves (s : Settings) (epoch : ℕ) (t : Course) (q : ExitQueue) (left
   pub steps : Steps (moveWith s epoch t) (q, left) before after (r .refusal) (r .queue, r .left)
   pub few : r .queue .number ≤ q .number + 1
 
-pub record Writes (s : Settings) (p : Plan) (t : Course) (q : ExitQueue) (left : ℕ) (before after : List ℕ) (r : Written) : Type 0 where
-  pub steps : Steps (writtenWith s p t) (q, left) before after (r .refusal) (r .queue, r .left)
-  pub few : r .queue .number ≤ q .number + 1
+pub record Writes (later : ℕ) (s : Settings) (p : Plan) (t : Course) (n : RegistryNumbers) (c : Carry) (before after : List ℕ) (r : Written) : Type 0 where
+  pub steps : Steps (writtenBy later s p t n) c before after (r .refusal) (r .carry)
+  pub few : r .carry .queue .number ≤ c .queue .number + 1
   pub answer : r .refusal ≡ 0 → AnswerFor s p (decodeOne before) (r .answer)

@@ -27,38 +27,33 @@ loop-holds c =
 
 stops-at-requires : tie.Need-stops-at-requires Inv-loop μ-loop
 stops-at-requires c κs =
-    let at-loop : tie.At-loop Inv-loop μ-loop = search needs in
     let at-in : tie.In-loop Inv-loop μ-loop = search needs in
-    (at-loop .loop .inv .2 .long, source-placed _ _ _ (omega arith) (at-loop .loop .inv .1))
+    (at-in .before .loop .inv .2 .long, source-placed _ _ _ (omega arith) (at-in .before .loop .inv .1))
 
 returns : tie.Need-returns Inv-loop μ-loop
 returns c =
-    let at-loop : tie.At-loop Inv-loop μ-loop = search needs in
     let at-in : tie.In-loop Inv-loop μ-loop = search needs in
     let at-stops : tie.After-stops-at Inv-loop μ-loop = search needs in
-    let g = at-loop .loop .inv .2 in
+    let g = at-in .before .loop .inv .2 in
     let stopped = at-stops .stops-at .ensures in
-    (going-left g (omega arith) refl refl stopped (c .if1 .taken), booking-left g (at-loop .loop .inv .3) (omega arith) refl refl stopped (c .if1 .taken))
+    (going-left g (omega arith) refl refl stopped (c .if1 .taken), booking-left g (at-in .before .loop .inv .3) (omega arith) refl refl stopped (c .if1 .taken))
 
 moved-from-requires : tie.Need-moved-from-requires Inv-loop μ-loop
 moved-from-requires c κs =
-    let at-loop : tie.At-loop Inv-loop μ-loop = search needs in
     let at-in : tie.In-loop Inv-loop μ-loop = search needs in
-    (at-loop .loop .inv .2 .long, source-placed _ _ _ (omega arith) (at-loop .loop .inv .1))
+    (at-in .before .loop .inv .2 .long, source-placed _ _ _ (omega arith) (at-in .before .loop .inv .1))
 
 book-move-requires : tie.Need-book-move-requires Inv-loop μ-loop
 book-move-requires c κs =
-    let at-loop : tie.At-loop Inv-loop μ-loop = search needs in
     let at-in : tie.In-loop Inv-loop μ-loop = search needs in
-    let p = at-loop .loop .inv .1 in
-    (source-placed _ _ _ (omega arith) p, target-placed _ _ _ (omega arith) p, omega (arith, at-loop .loop .inv .2 .long))
+    let p = at-in .before .loop .inv .1 in
+    (source-placed _ _ _ (omega arith) p, target-placed _ _ _ (omega arith) p, omega (arith, at-in .before .loop .inv .2 .long))
 
 consolidation-turn-requires : tie.Need-consolidation-turn-requires Inv-loop μ-loop
 consolidation-turn-requires c κs =
-    let at-loop : tie.At-loop Inv-loop μ-loop = search needs in
     let at-in : tie.In-loop Inv-loop μ-loop = search needs in
-    let p = at-loop .loop .inv .1 in
-    (at-loop .loop .inv .2 .long, source-placed _ _ _ (omega arith) p, target-placed _ _ _ (omega arith) p)
+    let p = at-in .before .loop .inv .1 in
+    (at-in .before .loop .inv .2 .long, source-placed _ _ _ (omega arith) p, target-placed _ _ _ (omega arith) p)
 
 returns-2 : tie.Need-returns-2 Inv-loop μ-loop
 returns-2 c =

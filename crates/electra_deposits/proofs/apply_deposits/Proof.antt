@@ -21,9 +21,8 @@ loop-holds c =
 
 deposit-at-requires : tie.Need-deposit-at-requires Inv-loop μ-loop
 deposit-at-requires c κs =
-    let at-loop : tie.At-loop Inv-loop μ-loop = search needs in
     let at-in : tie.In-loop Inv-loop μ-loop = search needs in
-    omega (arith, at-loop .loop .inv .0)
+    omega (arith, at-in .before .loop .inv .0)
 
 returns : tie.Need-returns Inv-loop μ-loop
 returns c =
@@ -81,25 +80,4 @@ returns-4 c =
 pub apply-deposits-spec : {M : Type 1} → statement M
 apply-deposits-spec =
     tie.close
-    (tie.spec
-    Inv-loop
-    μ-loop
-    loop-holds
-    deposit-at-requires
-    (λ c κs. search needs)
-    (λ c κs. search needs)
-    (λ c. omega arith)
-    returns
-    deposit-turn-requires
-    (λ c κs. search needs)
-    (λ c. omega arith)
-    returns-2
-    (λ c κs. search needs)
-    (λ c. omega arith)
-    returns-3
-    add-i
-    (λ c. omega arith)
-    loop-again
-    (λ c κs. search needs)
-    (λ c. omega arith)
-    returns-4)
+    (tie.spec Inv-loop μ-loop loop-holds deposit-at-requires (λ c κs. search needs) (λ c κs. search needs) (λ c. omega arith) returns deposit-turn-requires (λ c κs. search needs) (λ c. omega arith) returns-2 (λ c κs. search needs) (λ c. omega arith) returns-3 add-i (λ c. omega arith) loop-again (λ c κs. search needs) (λ c. omega arith) returns-4)

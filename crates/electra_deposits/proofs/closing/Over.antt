@@ -60,7 +60,7 @@ drop-encoded zero ds = refl
 drop-encoded (suc i) [] = drop-nil (5 * suc i)
 drop-encoded (suc i) (d ∷ ds) = rw (five-suc i) (drop-encoded i ds)
 
-one-encoded : (xs : List ℕ) → 5 ≤ length xs → encodeDeposit (decodeDeposit xs) ≡ take 5 xs
+pub one-encoded : (xs : List ℕ) → 5 ≤ length xs → encodeDeposit (decodeDeposit xs) ≡ take 5 xs
 unfolding from
 one-encoded xs h = from-take 5 0 xs (omega arith)
 

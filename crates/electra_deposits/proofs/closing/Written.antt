@@ -7,19 +7,19 @@ use native.Mathlib.Omega.{arith}
 use native.Mathlib.Numerals.{add-one}
 use lib.Dec.{ltb}
 use lib.ListN.{length, getD, take, drop, set, length-append, length-take, length-drop}
-use lib.Seq.{take-suc}
+use lib.Seq.{take-suc, take-all}
 use Rattle.definitions.specs.Lists.{filter}
 use Rattle.definitions.specs.Record.{nobody, decode, «FAR_FUTURE_EPOCH»}
 use Rattle.laws.proofs.Encode.{length-decode}
 use Rattle.laws.proofs.Loops.Filtered.{filter-le}
 use Rattle.definitions_electra.specs.declared.PendingDeposit.{PendingDeposit}
-use Rattle.definitions_electra.specs.Record.{encodeDeposit, encodeDeposits, decodeDeposits}
+use Rattle.definitions_electra.specs.Record.{encodeDeposit, encodeDeposits, decodeDeposit, decodeDeposits}
 use Rattle.definitions_electra.specs.Calls.{over}
 use Rattle.electra_deposits.specs.Alone.{isPostponed, withdrawnAt, exitedAt, none}
 use Rattle.laws_electra.proofs.Deposits.{length-deposits}
-use Rattle.electra_deposits.proofs.Postponed.{with-none}
+use Rattle.electra_deposits.proofs.Postponed.{with-none, filter-append}
 use Rattle.electra_deposits.specs.Written.{Queued, Adds, Postponing}
-use Rattle.electra_deposits.proofs.closing.Over.{tail-lent, tail-back, front-over, behind-over, over-append, length-encoded, encoded-append, rest-encoded}
+use Rattle.electra_deposits.proofs.closing.Over.{tail-lent, tail-back, front-over, behind-over, over-append, length-encoded, encoded-append, one-encoded, rest-encoded}
 
 -- The test
 
@@ -42,13 +42,7 @@ module _ (next : ℕ) (xs : List ℕ) (d : PendingDeposit) (long : length xs ≡
 -- Five numbers
 
 pub five : (e : List ℕ) (d : PendingDeposit) → length e ≡ 5 → set (set (set (set (set e 0 (d .pubkey)) 1 (d .compounding)) 2 (d .amount)) 3 (d .slot)) 4 (d .valid) ≡ encodeDeposit d
-five (a ∷ b ∷ c ∷ x ∷ y ∷ []) d l = refl
-five [] d l = absurd (omega arith)
-five (a ∷ []) d l = absurd (omega arith)
-five (a ∷ b ∷ []) d l = absurd (omega arith)
-five (a ∷ b ∷ c ∷ []) d l = absurd (omega arith)
-five (a ∷ b ∷ c ∷ x ∷ []) d l = absurd (omega arith)
-five (a ∷ b ∷ c ∷ x ∷ y ∷ z ∷ zs) d l = absurd (omega arith)
+five e d l = let z : e ≡ encodeDeposit (decodeDeposit e) = sym (one-encoded e (omega arith) ∙ take-all 5 e (omega arith)) in rw z
 
 -- One more
 
@@ -71,15 +65,6 @@ adds-one {e = e} d count xs o h =
     }
 
 -- The loop
-
-filter-append : {A : Type 0} (p : A → Bool) (xs ys : List A) → filter p (xs ++ ys) ≡ filter p xs ++ filter p ys
-unfolding filter
-filter-append p [] ys = refl
-filter-append {A} p (x ∷ xs) ys = go (p x) (filter-append p xs ys)
-  where
-    go : (t : Bool) → filter p (xs ++ ys) ≡ filter p xs ++ filter p ys → cond t (x ∷ filter p (xs ++ ys)) (filter p (xs ++ ys)) ≡ cond t (x ∷ filter p xs) (filter p xs) ++ filter p ys
-    go true e = ap (λ (t : List A). x ∷ t) e
-    go false e = e
 
 filter-next : {A : Type 0} (p : A → Bool) (xs : List A) (i : ℕ) (d : A) → i < length xs → filter p (take (i + 1) xs) ≡ filter p (take i xs) ++ cond (p (getD xs i d)) (getD xs i d ∷ []) []
 unfolding filter

@@ -4,15 +4,15 @@ use mathlib.Core.List.{List, []}
 use Prim.Native.Nat.{ℕ, _/_, _≤_}
 use native.Mathlib.Omega.{arith}
 use lib.ListN.{length, drop-of-length-le}
-use Rattle.definitions.specs.Record.{Validator, «FAR_FUTURE_EPOCH», decode}
+use Rattle.definitions.specs.Record.{«FAR_FUTURE_EPOCH», decode}
 use Rattle.definitions.specs.Checked.{Checked, value, refused, Refusal, overflow, numberOf, bind, codeOf}
 use Rattle.definitions.specs.Answers.{Answers}
 use Rattle.definitions.specs.Refusals.{afterTests, closingBuffer}
-use Rattle.definitions.specs.Rust.Phase0.Helpers.{«compute_start_slot_at_epoch», «get_total_active_balance»}
-use Rattle.laws.proofs.Checked.{number-not-zero, not-value, value-same, bind-bind, bound, add64-value, add64-below}
+use Rattle.definitions.specs.Rust.Phase0.Helpers.{«compute_start_slot_at_epoch»}
+use Rattle.laws.proofs.Checked.{not-value, value-same, bind-bind, bound, add64-value, add64-below}
 use Rattle.arithmetic.proofs.Operations.{OnlyOverflow, only-value, only-add64, only-mul64, only-bind}
 use Rattle.refusals.proofs.Answers.{passed, after-refused, closing-untouched}
-use Rattle.totals.proofs.Sums.{only-total}
+use Rattle.electra_registry.proofs.Limits.{only-limit}
 use Rattle.definitions_electra.specs.declared.ElectraRules.{ElectraRules}
 use Rattle.definitions_electra.specs.declared.DepositNumbers.{DepositNumbers}
 use Rattle.definitions_electra.specs.declared.DepositsAnswer.{DepositsAnswer}
@@ -22,7 +22,6 @@ use Rattle.definitions_electra.specs.Refusals.{keysShaped}
 use Rattle.definitions_electra.specs.Calls.{lentFinality, noChurn, lentState, over, registryIn, depositsWork, depositsAnswer, DepositsClose}
 use Rattle.definitions_electra.specs.Document.Electra.Helpers.{«get_max_effective_balance»}
 use Rattle.definitions_electra.specs.Document.Electra.EpochProcessing.{Queueing, «get_validator_from_deposit», «add_validator_to_registry», breaksBefore, depositsStop}
-use Rattle.definitions_electra.specs.Evaluated.Electra.Helpers.{«get_activation_exit_churn_limit»}
 use Rattle.definitions_electra.specs.Evaluated.Electra.EpochProcessing.{«apply_pending_deposit», processDeposit, queueing, «process_pending_deposits»}
 use Rattle.electra_refusals.proofs.Passed.{DepositsPassed}
 use Rattle.electra_deposits.specs.declared.adding.NewNumbers.{NewNumbers}
@@ -32,14 +31,11 @@ use Rattle.electra_deposits.specs.declared.step.QueueAnswer.the-variants
 use Rattle.electra_deposits.specs.Alone.{queueingOf}
 use Rattle.electra_deposits.specs.Room.{rulesBy, keyed}
 use Rattle.electra_deposits.specs.Step.{queueAnswerFor, newOf, lentFor, lentRegistry, Lent, textBy, Left, leftBy, stepBy, Ends, Runs}
+use Rattle.laws_electra.proofs.Cases.{gives, refuses, bind-given}
 
 -- What the loop goes by
 
-pub only-limit : (r : ElectraRules) (stateSlot : ℕ) (vs : List Validator) → OnlyOverflow («get_activation_exit_churn_limit» r stateSlot vs)
-unfolding «get_activation_exit_churn_limit» «get_total_active_balance»
-only-limit r stateSlot vs = only-bind (only-total _ _) (λ t. only-value _)
-
-only-queueing : (r : ElectraRules) (st : ElectraState) → OnlyOverflow (queueing r st)
+pub only-queueing : (r : ElectraRules) (st : ElectraState) → OnlyOverflow (queueing r st)
 unfolding queueing «compute_start_slot_at_epoch»
 only-queueing r st =
     only-bind (only-add64 _ _) (λ next. only-bind (only-limit _ _ _) (λ limit. only-bind (only-add64 _ _) (λ a. only-bind (only-mul64 _ _) (λ f. only-value _))))
@@ -78,13 +74,9 @@ module _ {most : ℕ} {m : Checked Queueing} {a : QueueAnswer} (h : Answers (que
 
 -- The rules by the numbers that the loop reads
 
-rules-same : (r : ElectraRules) (q : Queueing) (reg : Registry) (ds : List PendingDeposit) → leftBy (rulesBy (newOf r) (r .electra .«max_pending_deposits_per_epoch»)) q reg ds ≡ leftBy r q reg ds
-unfolding leftBy textBy depositsStop breaksBefore processDeposit «apply_pending_deposit» «add_validator_to_registry» «get_validator_from_deposit» «get_max_effective_balance»
+pub rules-same : (r : ElectraRules) (q : Queueing) (reg : Registry) (ds : List PendingDeposit) → textBy (rulesBy (newOf r) (r .electra .«max_pending_deposits_per_epoch»)) q reg ds ≡ textBy r q reg ds
+unfolding textBy depositsStop breaksBefore processDeposit «apply_pending_deposit» «add_validator_to_registry» «get_validator_from_deposit» «get_max_effective_balance»
 rules-same r q reg ds = refl
-
-first-given : {A B : Type 0} (a : A) (k : A → Checked B) → bind (value a) k ≡ k a
-unfolding bind
-first-given a k = refl
 
 module _ (r : ElectraRules) (stateSlot finalizedEpoch : ℕ) (numbers : DepositNumbers) (registry compounding deposits : List ℕ) where
   abbrev state : ElectraState
@@ -93,7 +85,7 @@ module _ (r : ElectraRules) (stateSlot finalizedEpoch : ℕ) (numbers : DepositN
   -- the text's step is the run's, put into the state
   work-is : depositsWork r stateSlot finalizedEpoch numbers registry compounding deposits ≡ bind (stepBy r stateSlot finalizedEpoch numbers registry compounding deposits) (λ l. value (withDeposits (l .registry) (l .toConsume) (l .queue) state))
   unfolding depositsWork «process_pending_deposits» stepBy leftBy textBy queueing
-  work-is = simp (bind-bind, first-given)
+  work-is = simp (bind-bind, bind-given)
 
   refused-step : queueing r (lentFor stateSlot finalizedEpoch numbers registry) ≡ refused overflow → stepBy r stateSlot finalizedEpoch numbers registry compounding deposits ≡ refused overflow
   unfolding stepBy bind
@@ -106,7 +98,7 @@ module _ (r : ElectraRules) (stateSlot finalizedEpoch : ℕ) (numbers : DepositN
         record { code = sym (ap codeOf g); ends = λ l t. absurd (not-value (sym g ∙ t)); back = λ o. refl; back-too = λ o. refl }
 
     pub step-run : {q : QueueNumbers} {k : NewNumbers} → a ≡ QueueValue q → k ≡ newOf r → {xs₀ cs₀ ds₀ xs cs ds : List ℕ} {b : DepositsAnswer} → Runs (leftBy (rulesBy k (q .most)) (queueingOf q) (lentRegistry registry compounding) (decodeDeposits deposits)) registry compounding xs₀ cs₀ ds₀ xs cs ds b → Runs (stepBy r stateSlot finalizedEpoch numbers registry compounding deposits) registry compounding xs₀ cs₀ ds₀ xs cs ds b
-    unfolding stepBy bind
+    unfolding stepBy leftBy bind
     step-run {q} {k} e f t =
         let g = queue-given h e in
         let same = rules-same r (queueingOf q) (lentRegistry registry compounding) (decodeDeposits deposits) in
@@ -128,11 +120,9 @@ module _ (r : ElectraRules) (stateSlot finalizedEpoch : ℕ) (numbers : DepositN
     given l e = record { answer = e .answer; validators = e .registry; credentials = e .compounding; queue = e .queue }
 
     pub close-done : b .refusal ≡ 0 → DepositsClose (value tt) (depositsWork r stateSlot finalizedEpoch numbers registry compounding deposits) numbers registry compounding deposits xs₀ xs cs₀ cs ds₀ ds b
-    close-done z = go (stepBy r stateSlot finalizedEpoch numbers registry compounding deposits) refl
-      where
-        go : (m : Checked Left) → stepBy r stateSlot finalizedEpoch numbers registry compounding deposits ≡ m → DepositsClose (value tt) (depositsWork r stateSlot finalizedEpoch numbers registry compounding deposits) numbers registry compounding deposits xs₀ xs cs₀ cs ds₀ ds b
-        go (value l) e = rw (work-given e) (given l (h .ends l e))
-        go (refused p) e = absurd (number-not-zero p (sym (h .code ∙ ap codeOf e) ∙ z))
+    close-done z =
+        let o = gives (stepBy r stateSlot finalizedEpoch numbers registry compounding deposits) (sym (h .code) ∙ z) in
+        rw (work-given (o .gave)) (given (o .first) (h .ends (o .first) (o .gave)))
 
     put-back : (p : Refusal) {ys es fs : List ℕ} → over registry xs ≡ over registry xs₀ → over compounding cs ≡ over compounding cs₀ → ys ≡ over registry xs → es ≡ over compounding cs → fs ≡ over deposits ds → length ds ≡ length deposits → length ds₀ ≡ length deposits → {x : ℕ} → x ≡ numberOf p → DepositsClose (value tt) (refused p) numbers registry compounding deposits xs₀ ys cs₀ es ds₀ fs (record { refusal = x; «deposit_balance_to_consume» = numbers .«deposit_balance_to_consume»; validators = length registry / 10; deposits = length deposits / 5 })
     unfolding afterTests bind closingBuffer depositsAnswer
@@ -142,11 +132,9 @@ module _ (r : ElectraRules) (stateSlot finalizedEpoch : ℕ) (numbers : DepositN
         record { answer = rw n; validators = f ∙ back; credentials = g ∙ back-too; queue = i ∙ rw (drop-of-length-le ds le, drop-of-length-le ds₀ le₀) }
 
     pub close-back : (b .refusal ≡ 0 → ⊥) → {ys es fs : List ℕ} → ys ≡ over registry xs → es ≡ over compounding cs → fs ≡ over deposits ds → length ds ≡ length deposits → length ds₀ ≡ length deposits → DepositsClose (value tt) (depositsWork r stateSlot finalizedEpoch numbers registry compounding deposits) numbers registry compounding deposits xs₀ ys cs₀ es ds₀ fs (record { refusal = b .refusal; «deposit_balance_to_consume» = numbers .«deposit_balance_to_consume»; validators = length registry / 10; deposits = length deposits / 5 })
-    close-back z {ys} {es} {fs} f g i l m = go (stepBy r stateSlot finalizedEpoch numbers registry compounding deposits) refl
-      where
-        go : (m : Checked Left) → stepBy r stateSlot finalizedEpoch numbers registry compounding deposits ≡ m → DepositsClose (value tt) (depositsWork r stateSlot finalizedEpoch numbers registry compounding deposits) numbers registry compounding deposits xs₀ ys cs₀ es ds₀ fs (record { refusal = b .refusal; «deposit_balance_to_consume» = numbers .«deposit_balance_to_consume»; validators = length registry / 10; deposits = length deposits / 5 })
-        go (value l) e = absurd (z (h .code ∙ ap codeOf e))
-        go (refused p) e = rw (work-refused e) (put-back p (h .back z) (h .back-too z) f g i l m (h .code ∙ ap codeOf e))
+    close-back z f g i l m =
+        let o = refuses (stepBy r stateSlot finalizedEpoch numbers registry compounding deposits) (λ y. z (h .code ∙ y)) in
+        rw (work-refused (o .is)) (put-back (o .why) (h .back z) (h .back-too z) f g i l m (h .code ∙ ap codeOf (o .is)))
 
 -- The tests
 

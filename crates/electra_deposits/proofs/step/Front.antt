@@ -18,7 +18,7 @@ use Rattle.electra_deposits.specs.Written.{closingQueue, Queued}
 use Rattle.electra_deposits.specs.Step.{Lent, Fronted, Finished}
 use Rattle.electra_deposits.proofs.closing.Over.{front-over, behind-over}
 
-encode-append : (vs ws : List Validator) → encode (vs ++ ws) ≡ encode vs ++ encode ws
+pub encode-append : (vs ws : List Validator) → encode (vs ++ ws) ≡ encode vs ++ encode ws
 unfolding encode
 encode-append [] ws = refl
 encode-append (v ∷ vs) ws = ap (λ (t : List ℕ). encodeOne v ++ t) (encode-append vs ws)

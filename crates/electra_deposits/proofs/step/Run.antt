@@ -9,9 +9,9 @@ use Rattle.definitions.specs.declared.Number.{Number}
 use Rattle.definitions.specs.declared.Number.the-variants.{Value, Refused}
 use Rattle.definitions.specs.Lists.{range}
 use Rattle.definitions.specs.Record.{«FAR_FUTURE_EPOCH», encode, decode}
-use Rattle.definitions.specs.Checked.{Checked, value, refused, Refusal, overflow, numberOf, bind, codeOf, sub64}
+use Rattle.definitions.specs.Checked.{value, refused, Refusal, overflow, numberOf, bind, codeOf, sub64}
 use Rattle.definitions.specs.Answers.{Says}
-use Rattle.laws.proofs.Checked.{number-not-zero, not-value, value-same}
+use Rattle.laws.proofs.Checked.{not-value, value-same}
 use Rattle.laws.proofs.Encode.{length-encode, decode-encode}
 use Rattle.arithmetic.proofs.Operations.{OnlyOverflow, only-value, only-sub64}
 use Rattle.arithmetic.proofs.Laws.{says-value, says-overflow}
@@ -28,7 +28,8 @@ use Rattle.electra_deposits.specs.Alone.{Running, queueingOf, alone}
 use Rattle.electra_deposits.specs.Room.{rulesBy, opening, joined, Holds}
 use Rattle.electra_deposits.specs.Written.{closingQueue}
 use Rattle.electra_deposits.specs.Step.{lentRegistry, Lent, textBy, queueAfter, leftBy, Fronted, Finished, Runs}
-use Rattle.electra_deposits.proofs.Alike.{Alike}
+use Rattle.laws_electra.proofs.Cases.{refuses as because}
+use Rattle.electra_deposits.proofs.Alike.{Alike, Both, both-gave, same-code}
 use Rattle.electra_deposits.proofs.Twin.{Twin}
 use Rattle.electra_deposits.proofs.Text.{done, within, postponed, joined-is, twin, twin-first}
 use Rattle.electra_deposits.proofs.closing.Over.{over-over, front-over}
@@ -40,7 +41,11 @@ left-reached a b e h = rw e h
 pub left-none : {reached : Bool} (a b : ℕ) → reached ≡ false → Says (cond reached (sub64 a b) (value 0)) (Value 0)
 left-none a b e = rw e (record { is = refl })
 
-left-same : (available : ℕ) (p : Processing) {s : ℕ} {t : Bool} → s ≡ p .«processed_amount» → t ≡ p .«is_churn_limit_reached» → leftToConsume available p ≡ cond t (sub64 available s) (value 0)
+pub only-left : (a b : ℕ) (reached : Bool) → OnlyOverflow (cond reached (sub64 a b) (value 0))
+only-left a b true = only-sub64 a b
+only-left a b false = only-value 0
+
+pub left-same : (available : ℕ) (p : Processing) {s : ℕ} {t : Bool} → s ≡ p .«processed_amount» → t ≡ p .«is_churn_limit_reached» → leftToConsume available p ≡ cond t (sub64 available s) (value 0)
 unfolding leftToConsume
 left-same available p e f = rw (e, f)
 
@@ -50,21 +55,8 @@ module _ (k : NewNumbers) (q : QueueNumbers) {registry compounding deposits xs�
     back : over registry xs ≡ over registry xs₀
     back = ap (λ (t : List ℕ). over registry t) (f .is) ∙ over-over registry (f .front) xs₀ (omega (arith, f .is-long))
 
-    -- not refused: both gave something
-    pub record Agreed : Type 0 where
-      pub run : Running
-      pub end : Processing
-      pub gave : alone q registry deposits ≡ value run
-      pub is : textBy (rulesBy k (q .most)) (queueingOf q) (lentRegistry registry compounding) (decodeDeposits deposits) ≡ value end
-      pub alike : Twin (length registry / 10) (decode registry) run end
-
-    pub agreed : r .refusal ≡ 0 → Agreed
-    agreed z = go _ _ refl refl (twin k q registry compounding deposits (h .tens) (h .credentials) far)
-      where
-        go : (m₁ : Checked Running) (m₂ : Checked Processing) → alone q registry deposits ≡ m₁ → textBy (rulesBy k (q .most)) (queueingOf q) (lentRegistry registry compounding) (decodeDeposits deposits) ≡ m₂ → Alike (Twin (length registry / 10) (decode registry)) m₁ m₂ → Agreed
-        go (value a) (value b) e g w = record { run = a; end = b; gave = e; is = g; alike = w .is }
-        go (value a) (refused b) e g w = absurd (w .is)
-        go (refused a) m₂ e g w = absurd (number-not-zero a (sym (f .deposits .code ∙ ap codeOf e) ∙ z))
+    both : Alike (Twin (length registry / 10) (decode registry)) (alone q registry deposits) (textBy (rulesBy k (q .most)) (queueingOf q) (lentRegistry registry compounding) (decodeDeposits deposits))
+    both = twin k q registry compounding deposits (h .tens) (h .credentials) far
 
     -- refused: so is the step
     left-refused : {b : Refusal} → textBy (rulesBy k (q .most)) (queueingOf q) (lentRegistry registry compounding) (decodeDeposits deposits) ≡ refused b → leftBy (rulesBy k (q .most)) (queueingOf q) (lentRegistry registry compounding) (decodeDeposits deposits) ≡ refused b
@@ -75,64 +67,64 @@ module _ (k : NewNumbers) (q : QueueNumbers) {registry compounding deposits xs�
     refuses g e = record { code = e ∙ sym (ap codeOf g); ends = λ l t. absurd (not-value (sym g ∙ t)); back = λ o. back; back-too = λ o. refl }
 
     pub run-refused : (r .refusal ≡ 0 → ⊥) → {ds : List ℕ} {x y z : ℕ} → Runs (leftBy (rulesBy k (q .most)) (queueingOf q) (lentRegistry registry compounding) (decodeDeposits deposits)) registry compounding xs₀ cs₀ ds xs cs₀ ds (record { refusal = r .refusal; «deposit_balance_to_consume» = x; validators = y; deposits = z })
-    run-refused z {ds} {x} {y} {z = v} = go _ _ refl refl (twin k q registry compounding deposits (h .tens) (h .credentials) far)
-      where
-        go : (m₁ : Checked Running) (m₂ : Checked Processing) → alone q registry deposits ≡ m₁ → textBy (rulesBy k (q .most)) (queueingOf q) (lentRegistry registry compounding) (decodeDeposits deposits) ≡ m₂ → Alike (Twin (length registry / 10) (decode registry)) m₁ m₂ → Runs (leftBy (rulesBy k (q .most)) (queueingOf q) (lentRegistry registry compounding) (decodeDeposits deposits)) registry compounding xs₀ cs₀ ds xs cs₀ ds (record { refusal = r .refusal; «deposit_balance_to_consume» = x; validators = y; deposits = v })
-        go (value a) m₂ e g w = absurd (z (f .deposits .code ∙ ap codeOf e))
-        go (refused a) (value b) e g w = absurd (w .is)
-        go (refused a) (refused b) e g w = refuses (left-refused g) (f .deposits .code ∙ ap codeOf e ∙ ap numberOf (w .is))
+    run-refused z =
+        let code = f .deposits .code ∙ same-code both in
+        let o = because _ (λ y. z (code ∙ y)) in
+        refuses (left-refused (o .is)) (code ∙ ap codeOf (o .is))
 
     module _ (z : r .refusal ≡ 0) where
-      o : Agreed
-      o = agreed z
+      o : Both (Twin (length registry / 10) (decode registry)) (alone q registry deposits) (textBy (rulesBy k (q .most)) (queueingOf q) (lentRegistry registry compounding) (decodeDeposits deposits))
+      o = both-gave both (sym (f .deposits .code) ∙ z)
 
-      index-is : r .index ≡ o .end .«next_deposit_index»
-      index-is = f .deposits .held (o .run) (o .gave) .index ∙ o .alike .index
+      abbrev run : Running
+      run = o .left .first
+
+      abbrev end : Processing
+      end = o .right .first
+
+      index-is : r .index ≡ end .«next_deposit_index»
+      index-is = f .deposits .held run (o .left .gave) .index ∙ o .alike .index
 
       pub run-within : r .index ≤ length deposits / 5
-      run-within = omega (arith, index-is, within k q registry compounding deposits (h .tens) (h .credentials) (o .is))
+      run-within = omega (arith, index-is, within k q registry compounding deposits (h .tens) (h .credentials) (o .right .gave))
 
-      left-is : leftToConsume (q .available) (o .end) ≡ cond (r .reached) (sub64 (q .available) (r .processed)) (value 0)
+      left-is : leftToConsume (q .available) end ≡ cond (r .reached) (sub64 (q .available) (r .processed)) (value 0)
       left-is =
-          let s = f .deposits .held (o .run) (o .gave) in
-          left-same (q .available) (o .end) (s .processed ∙ o .alike .processed) (s .reached ∙ o .alike .reached)
+          let s = f .deposits .held run (o .left .gave) in
+          left-same (q .available) end (s .processed ∙ o .alike .processed) (s .reached ∙ o .alike .reached)
 
-      opens : {cs : List ℕ} → cs ≡ over compounding cs₀ → opening (length registry / 10) xs cs ≡ record { validators = o .run .validators; pubkeys = range 0 (length registry / 10); compounding = compounding }
+      opens : {cs : List ℕ} → cs ≡ over compounding cs₀ → opening (length registry / 10) xs cs ≡ record { validators = run .validators; pubkeys = range 0 (length registry / 10); compounding = compounding }
       opens e =
           let n = length registry / 10 in
           let l : length xs ≡ 10 * length cs₀ = ap length (f .is) ∙ long-over (f .front) xs₀ (omega (arith, f .is-long, h .tens, h .room, h .room-too)) ∙ h .room in
           let a : take (10 * n) xs ≡ f .front = ap (take (10 * n)) (f .is) ∙ front-over (f .front) xs₀ (10 * n) (f .is-long ∙ h .tens) in
-          let b : decode (f .front) ≡ o .run .validators = ap decode (f .deposits .held (o .run) (o .gave) .registry) ∙ decode-encode (o .run .validators) in
+          let b : decode (f .front) ≡ run .validators = ap decode (f .deposits .held run (o .left .gave) .registry) ∙ decode-encode (run .validators) in
           let c : take n (over compounding cs₀) ≡ compounding = front-over compounding cs₀ n (h .credentials) in
           rw (e, front-decoded (length cs₀) xs l n (omega (arith, h .room-too)), a, b, c)
 
       module _ {number : Number} (says : Says (cond (r .reached) (sub64 (q .available) (r .processed)) (value 0)) number) where
-        only-left : (t : Bool) → OnlyOverflow (cond t (sub64 (q .available) (r .processed)) (value 0))
-        only-left true = only-sub64 (q .available) (r .processed)
-        only-left false = only-value 0
-
         left-over : {x : ℕ} → number ≡ Refused x → leftBy (rulesBy k (q .most)) (queueingOf q) (lentRegistry registry compounding) (decodeDeposits deposits) ≡ refused overflow
         unfolding leftBy bind
-        left-over e = rw (o .is, left-is, says-overflow says (only-left (r .reached)) e .0)
+        left-over e = rw (o .right .gave, left-is, says-overflow says (only-left (q .available) (r .processed) (r .reached)) e .0)
 
         pub run-over : {x : ℕ} → number ≡ Refused x → {ds : List ℕ} {y v w : ℕ} → Runs (leftBy (rulesBy k (q .most)) (queueingOf q) (lentRegistry registry compounding) (decodeDeposits deposits)) registry compounding xs₀ cs₀ ds xs cs₀ ds (record { refusal = 5; «deposit_balance_to_consume» = y; validators = v; deposits = w })
         run-over e = refuses (left-over e) refl
 
-        left-given : {carried : ℕ} → number ≡ Value carried → leftBy (rulesBy k (q .most)) (queueingOf q) (lentRegistry registry compounding) (decodeDeposits deposits) ≡ value (record { registry = o .end .registry; toConsume = carried; queue = queueAfter (o .end) (decodeDeposits deposits) })
+        left-given : {carried : ℕ} → number ≡ Value carried → leftBy (rulesBy k (q .most)) (queueingOf q) (lentRegistry registry compounding) (decodeDeposits deposits) ≡ value (record { registry = end .registry; toConsume = carried; queue = queueAfter end (decodeDeposits deposits) })
         unfolding leftBy bind
-        left-given e = rw (o .is, left-is, says-value says e)
+        left-given e = rw (o .right .gave, left-is, says-value says e)
 
         pub run-done : {carried : ℕ} → number ≡ Value carried → {ds₀ ys es ds : List ℕ} {a : DepositsAnswer} → Finished (q .«next_epoch») k registry deposits (r .index) carried xs (over compounding cs₀) ds₀ ys es ds a → length es ≡ length cs₀ → Runs (leftBy (rulesBy k (q .most)) (queueingOf q) (lentRegistry registry compounding) (decodeDeposits deposits)) registry compounding xs₀ cs₀ ds₀ ys es ds a
         run-done {carried} e {ds₀} {ys} {es} {ds} {a} g same =
-            let p = o .end in
+            let p = end in
             let n = length registry / 10 in
-            let b : Holds xs (over compounding cs₀) (p .registry) ys es (g .count) = g .added .holds (p .registry) (ap (λ (x : Registry). joined (rulesBy k 0) n x (take (r .index) (decodeDeposits deposits))) (opens {cs = over compounding cs₀} refl) ∙ ap (λ (i : ℕ). joined (rulesBy k 0) n (record { validators = o .run .validators; pubkeys = range 0 n; compounding = compounding }) (take i (decodeDeposits deposits))) index-is ∙ joined-is k q registry compounding deposits (h .tens) (h .credentials) (o .is) (o .run .validators) (twin-first (o .alike)) (o .alike .pair .alone)) in
-            let w = done k q registry compounding deposits (h .tens) (h .credentials) (o .is) .kept in
+            let b : Holds xs (over compounding cs₀) (p .registry) ys es (g .count) = g .added .holds (p .registry) (ap (λ (x : Registry). joined (rulesBy k 0) n x (take (r .index) (decodeDeposits deposits))) (opens {cs = over compounding cs₀} refl) ∙ ap (λ (i : ℕ). joined (rulesBy k 0) n (record { validators = run .validators; pubkeys = range 0 n; compounding = compounding }) (take i (decodeDeposits deposits))) index-is ∙ joined-is k q registry compounding deposits (h .tens) (h .credentials) (o .right .gave) (run .validators) (twin-first (o .alike)) (o .alike .pair .alone)) in
+            let w = done k q registry compounding deposits (h .tens) (h .credentials) (o .right .gave) .kept in
             let v : g .count ≡ length (p .registry .validators) = b .count ∙ sym (w .long) in
             let c : g .count ≡ length (p .registry .compounding) = b .count ∙ sym (w .long-too) in
             let lx : length xs ≡ 10 * length cs₀ = ap length (f .is) ∙ long-over (f .front) xs₀ (omega (arith, f .is-long, h .tens, h .room, h .room-too)) ∙ h .room in
             let few : g .count ≤ length cs₀ = (let l : length es ≡ length (p .registry .compounding ++ drop (g .count) (over compounding cs₀)) = ap length (b .compounding) in omega (arith, same, l, length-append (p .registry .compounding) (drop (g .count) (over compounding cs₀)), c)) in
-            let queue-is : closingQueue n (q .«next_epoch») (decode registry) (r .index) (decodeDeposits deposits) ≡ queueAfter p (decodeDeposits deposits) = ap (λ (i : ℕ). closingQueue n (q .«next_epoch») (decode registry) i (decodeDeposits deposits)) index-is ∙ ap (λ (t : List PendingDeposit). drop (p .«next_deposit_index») (decodeDeposits deposits) ++ t) (sym (postponed k q registry compounding deposits (h .tens) (h .credentials) (o .is))) in
+            let queue-is : closingQueue n (q .«next_epoch») (decode registry) (r .index) (decodeDeposits deposits) ≡ queueAfter p (decodeDeposits deposits) = ap (λ (i : ℕ). closingQueue n (q .«next_epoch») (decode registry) i (decodeDeposits deposits)) index-is ∙ ap (λ (t : List PendingDeposit). drop (p .«next_deposit_index») (decodeDeposits deposits) ++ t) (sym (postponed k q registry compounding deposits (h .tens) (h .credentials) (o .right .gave))) in
             let m = left-given e in
             let answered : ℕ → ℕ → DepositsAnswer = λ x y. record { refusal = 0; «deposit_balance_to_consume» = carried; validators = x; deposits = y } in
             let front-short : length (f .front) ≤ length (encode (p .registry .validators)) = omega (arith, f .is-long, h .tens, length-encode (p .registry .validators), w .long, w .least) in

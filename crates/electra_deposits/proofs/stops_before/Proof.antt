@@ -35,8 +35,4 @@ returns-4 c =
 pub stops-before-spec : {M : Type 1} → statement M
 stops-before-spec =
     tie.close
-    (tie.spec
-    returns
-    returns-2
-    returns-3
-    returns-4)
+    (tie.spec returns returns-2 returns-3 returns-4)

@@ -18,10 +18,4 @@ returns-2 c =
 pub withdrawn-at-spec : {M : Type 1} → statement M
 withdrawn-at-spec =
     tie.close
-    (tie.spec
-    returns
-    (λ c. search needs)
-    (λ c. search needs)
-    (λ c. search needs)
-    (λ c. search needs)
-    returns-2)
+    (tie.spec returns (λ c. search needs) (λ c. search needs) (λ c. search needs) (λ c. search needs) returns-2)

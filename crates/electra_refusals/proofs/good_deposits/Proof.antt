@@ -22,19 +22,17 @@ returns : tie.Need-returns Inv-loop μ-loop
 unfolding goodDeposits goodDeposit
 returns c =
     let at-start : tie.Start Inv-loop μ-loop = search needs in
-    let at-loop : tie.At-loop Inv-loop μ-loop = search needs in
     let at-in : tie.In-loop Inv-loop μ-loop = search needs in
     let ds = at-start .args .deposits .now in
-    sym (passed-stop (at-loop .loop .inv) (omega (arith, length-deposits ds)) none (deposit-tested goodDeposit ds (at-in .loop-test .taken) (fails (c .before .good-deposit .ensures) (c .if1 .taken))))
+    sym (passed-stop (at-in .before .loop .inv) (omega (arith, length-deposits ds)) none (deposit-tested goodDeposit ds (at-in .loop-test .taken) (fails (c .before .good-deposit .ensures) (c .if1 .taken))))
 
 loop-again : tie.Need-loop-again Inv-loop μ-loop
 unfolding goodDeposit
 loop-again c =
     let at-start : tie.Start Inv-loop μ-loop = search needs in
-    let at-loop : tie.At-loop Inv-loop μ-loop = search needs in
     let at-in : tie.In-loop Inv-loop μ-loop = search needs in
     let ds = at-start .args .deposits .now in
-    passed-more (at-loop .loop .inv) (omega (arith, length-deposits ds)) none (deposit-tested goodDeposit ds (at-in .loop-test .taken) (passes (c .before .good-deposit .ensures) (c .if1 .left)))
+    passed-more (at-in .before .loop .inv) (omega (arith, length-deposits ds)) none (deposit-tested goodDeposit ds (at-in .loop-test .taken) (passes (c .before .good-deposit .ensures) (c .if1 .left)))
 
 returns-2 : tie.Need-returns-2 Inv-loop μ-loop
 unfolding goodDeposits
@@ -45,23 +43,4 @@ returns-2 c =
 pub good-deposits-spec : {M : Type 1} → statement M
 good-deposits-spec =
     tie.close
-    (tie.spec
-    Inv-loop
-    μ-loop
-    loop-holds
-    (λ c. omega arith)
-    (λ c. omega arith)
-    (λ c. omega arith)
-    (λ c. omega arith)
-    (λ c. omega arith)
-    (λ c. omega arith)
-    (λ c. omega arith)
-    (λ c. omega arith)
-    (λ c. omega arith)
-    (λ c. omega arith)
-    (λ c κs. search needs)
-    returns
-    (λ c. omega arith)
-    (λ c. omega arith)
-    loop-again
-    returns-2)
+    (tie.spec Inv-loop μ-loop loop-holds (λ c. omega arith) (λ c. omega arith) (λ c. omega arith) (λ c. omega arith) (λ c. omega arith) (λ c. omega arith) (λ c. omega arith) (λ c. omega arith) (λ c. omega arith) (λ c. omega arith) (λ c κs. search needs) returns (λ c. omega arith) (λ c. omega arith) loop-again returns-2)

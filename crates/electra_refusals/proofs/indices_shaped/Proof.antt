@@ -25,29 +25,26 @@ returns : tie.Need-returns Inv-loop μ-loop
 unfolding indicesShaped
 returns c =
     let at-start : tie.Start Inv-loop μ-loop = search needs in
-    let at-loop : tie.At-loop Inv-loop μ-loop = search needs in
     let at-in : tie.In-loop Inv-loop μ-loop = search needs in
     let ps = at-start .args .consolidations .now in
-    sym (passed-stop (at-loop .loop .inv) (omega (arith, length-pairs ps)) none (pair-tested (within _) ps (at-in .loop-test .taken) (rw (le-ltb _ _ (c .if1 .taken)))))
+    sym (passed-stop (at-in .before .loop .inv) (omega (arith, length-pairs ps)) none (pair-tested (within _) ps (at-in .loop-test .taken) (rw (le-ltb _ _ (c .if1 .taken)))))
 
 returns-2 : tie.Need-returns-2 Inv-loop μ-loop
 unfolding indicesShaped
 returns-2 c =
     let at-start : tie.Start Inv-loop μ-loop = search needs in
-    let at-loop : tie.At-loop Inv-loop μ-loop = search needs in
     let at-in : tie.In-loop Inv-loop μ-loop = search needs in
     let at-else1 : tie.Else1 Inv-loop μ-loop = search needs in
     let ps = at-start .args .consolidations .now in
-    sym (passed-stop (at-loop .loop .inv) (omega (arith, length-pairs ps)) none (pair-tested (within _) ps (at-in .loop-test .taken) (rw (lt-ltb _ _ (at-else1 .if1 .left), le-ltb _ _ (c .if2 .taken)))))
+    sym (passed-stop (at-in .before .loop .inv) (omega (arith, length-pairs ps)) none (pair-tested (within _) ps (at-in .loop-test .taken) (rw (lt-ltb _ _ (at-else1 .if1 .left), le-ltb _ _ (c .if2 .taken)))))
 
 loop-again : tie.Need-loop-again Inv-loop μ-loop
 loop-again c =
     let at-start : tie.Start Inv-loop μ-loop = search needs in
-    let at-loop : tie.At-loop Inv-loop μ-loop = search needs in
     let at-in : tie.In-loop Inv-loop μ-loop = search needs in
     let at-else1 : tie.Else1 Inv-loop μ-loop = search needs in
     let ps = at-start .args .consolidations .now in
-    passed-more (at-loop .loop .inv) (omega (arith, length-pairs ps)) none (pair-tested (within _) ps (at-in .loop-test .taken) (and-both (lt-ltb _ _ (at-else1 .if1 .left)) (lt-ltb _ _ (c .if2 .left))))
+    passed-more (at-in .before .loop .inv) (omega (arith, length-pairs ps)) none (pair-tested (within _) ps (at-in .loop-test .taken) (and-both (lt-ltb _ _ (at-else1 .if1 .left)) (lt-ltb _ _ (c .if2 .left))))
 
 returns-3 : tie.Need-returns-3 Inv-loop μ-loop
 unfolding indicesShaped
@@ -58,20 +55,4 @@ returns-3 c =
 pub indices-shaped-spec : {M : Type 1} → statement M
 indices-shaped-spec =
     tie.close
-    (tie.spec
-    Inv-loop
-    μ-loop
-    loop-holds
-    (λ c. omega arith)
-    (λ c. omega arith)
-    (λ c. omega arith)
-    returns
-    (λ c. omega arith)
-    (λ c. omega arith)
-    (λ c. omega arith)
-    (λ c. omega arith)
-    returns-2
-    (λ c. omega arith)
-    (λ c. omega arith)
-    loop-again
-    returns-3)
+    (tie.spec Inv-loop μ-loop loop-holds (λ c. omega arith) (λ c. omega arith) (λ c. omega arith) returns (λ c. omega arith) (λ c. omega arith) (λ c. omega arith) (λ c. omega arith) returns-2 (λ c. omega arith) (λ c. omega arith) loop-again returns-3)

@@ -24,22 +24,20 @@ returns : tie.Need-returns Inv-loop μ-loop
 unfolding keysShaped
 returns c =
     let at-start : tie.Start Inv-loop μ-loop = search needs in
-    let at-loop : tie.At-loop Inv-loop μ-loop = search needs in
     let at-in : tie.In-loop Inv-loop μ-loop = search needs in
     let a = at-start .args in
     let xs = a .registry .now in
     let ds = a .deposits .now in
-    sym (passed-stop (at-loop .loop .inv) (omega (arith, length-deposits ds)) none (deposit-tested (λ x. ltb (x .pubkey) (countOf xs + depositsOf ds)) ds (at-in .loop-test .taken) (le-ltb _ _ (c .if1 .taken))))
+    sym (passed-stop (at-in .before .loop .inv) (omega (arith, length-deposits ds)) none (deposit-tested (λ x. ltb (x .pubkey) (countOf xs + depositsOf ds)) ds (at-in .loop-test .taken) (le-ltb _ _ (c .if1 .taken))))
 
 loop-again : tie.Need-loop-again Inv-loop μ-loop
 loop-again c =
     let at-start : tie.Start Inv-loop μ-loop = search needs in
-    let at-loop : tie.At-loop Inv-loop μ-loop = search needs in
     let at-in : tie.In-loop Inv-loop μ-loop = search needs in
     let a = at-start .args in
     let xs = a .registry .now in
     let ds = a .deposits .now in
-    passed-more (at-loop .loop .inv) (omega (arith, length-deposits ds)) none (deposit-tested (λ x. ltb (x .pubkey) (countOf xs + depositsOf ds)) ds (at-in .loop-test .taken) (lt-ltb _ _ (c .if1 .left)))
+    passed-more (at-in .before .loop .inv) (omega (arith, length-deposits ds)) none (deposit-tested (λ x. ltb (x .pubkey) (countOf xs + depositsOf ds)) ds (at-in .loop-test .taken) (lt-ltb _ _ (c .if1 .left)))
 
 returns-2 : tie.Need-returns-2 Inv-loop μ-loop
 unfolding keysShaped
@@ -50,16 +48,4 @@ returns-2 c =
 pub keys-shaped-spec : {M : Type 1} → statement M
 keys-shaped-spec =
     tie.close
-    (tie.spec
-    Inv-loop
-    μ-loop
-    (λ c. omega arith)
-    loop-holds
-    (λ c. omega arith)
-    (λ c. omega arith)
-    (λ c. omega arith)
-    returns
-    (λ c. omega arith)
-    (λ c. omega arith)
-    loop-again
-    returns-2)
+    (tie.spec Inv-loop μ-loop (λ c. omega arith) loop-holds (λ c. omega arith) (λ c. omega arith) (λ c. omega arith) returns (λ c. omega arith) (λ c. omega arith) loop-again returns-2)

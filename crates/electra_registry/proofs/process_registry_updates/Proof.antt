@@ -43,12 +43,4 @@ returns-2 c =
 pub process-registry-updates-spec : {M : Type 1} → statement M
 process-registry-updates-spec =
     tie.close
-    (tie.spec
-    (λ c κs. search needs)
-    (λ c. search needs)
-    returns
-    copy-requires
-    update-registry-requires
-    put-back-requires
-    (λ c. search needs)
-    returns-2)
+    (tie.spec (λ c κs. search needs) (λ c. search needs) returns copy-requires update-registry-requires put-back-requires (λ c. search needs) returns-2)

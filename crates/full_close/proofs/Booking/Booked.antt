@@ -36,8 +36,7 @@ use Rattle.write_pass.specs.Filled.{eightBy, nineBy, nineAt, Filled}
 use Rattle.write_steps.specs.Numbers.{planOf, leakOf, BookedBy}
 use Rattle.write_steps.specs.RegistrySteps.{registrySteps}
 use Rattle.write_steps.proofs.Leak.{leak-some}
-use Rattle.write_steps.proofs.Kept.{score-keeps, totals-kept}
-use Rattle.write_steps.proofs.Rewards.{scores}
+use Rattle.write_steps.proofs.Eights.{eight-is as eights-are}
 use Rattle.write_steps.proofs.Steps.{pays}
 use Rattle.full_close.specs.StepAmounts.{stepAmounts}
 use Rattle.full_close.proofs.Booking.Way.{way, updated-long}
@@ -87,41 +86,8 @@ module _ {by : ActivationLimit} {s : Settings} {slot fin : ℕ} {ys : List ℕ} 
       paid-at : payOf s plan v ≡ value (getD (w .paid) i nobody)
       paid-at = each-at (payOf s plan) nobody nobody vs paid-all i l
 
-      eight-first : current ≡ 0 → eightBy s plan v ≡ value (getD (by-rewards w .eights) i [])
-      unfolding eightBy bookedByRewards
-      eight-first z =
-          let zeros : List ℕ = replicate 8 0 in
-          let are : map (λ v. zeros) (w .scored) ≡ by-rewards w .eights = value-same (rw (eq-eqb current 0 z) at (by-rewards w .are)) in
-          rw (eq-eqb current 0 z) (ap value (sym (at-map (λ v. zeros) nobody [] (w .scored) i (omega (arith, l, scored-long))) ∙ ap (λ (es : List (List ℕ)). getD es i []) are))
-
-      module _ (n : current ≡ 0 → ⊥) where
-        scored-all : mapChecked (scoredBy s plan) vs ≡ value (w .scored)
-        scored-all = sym (scores s (s .«inactivity_penalty_quotient_altair») slot fin refl n refl (leaks n) vs) ∙ w .scores
-
-        -- the eight numbers of a validator as the scores left it
-        eightOf : Validator → Checked (List ℕ)
-        eightOf u = bind (allDeltas s (plan .quotient) current previous (totalsOf (plan .shared) (plan .source)) (totalsOf (plan .shared) (plan .target)) (totalsOf (plan .shared) (plan .head)) u) (λ ds. value (booked (u .balance) ds))
-
-        -- the rewards read the totals of the registry that the scores left, which are the opening's
-        booked-all : bookedByRewards s (s .«inactivity_penalty_quotient_altair») slot fin (w .scored) ≡ mapChecked eightOf (w .scored)
-        unfolding bookedByRewards flagTotals «get_unslashed_participating_indices» «get_total_active_balance» bind eightOf
-        booked-all =
-            let h = totals-kept (scoredBy s plan) vs scored-all (score-keeps s current previous leaking) s current previous totals in
-            rw (ne-eqb current 0 n, h .source, h .active, leaks n, h .target, h .head)
-
-        eight-later : eightBy s plan v ≡ value (getD (by-rewards w .eights) i [])
-        unfolding eightBy bind eightOf
-        eight-later =
-            let scored-at = each-at (scoredBy s plan) nobody nobody vs scored-all i l in
-            let booked-at = each-at eightOf nobody [] (w .scored) (sym booked-all ∙ by-rewards w .are) i (omega (arith, l, scored-long)) in
-            rw (ne-eqb current 0 n, scored-at) booked-at
-
       eight-is : eightBy s plan v ≡ value (getD (by-rewards w .eights) i [])
-      eight-is = go (eqb current 0) refl
-        where
-          go : (q : Bool) → eqb current 0 ≡ q → eightBy s plan v ≡ value (getD (by-rewards w .eights) i [])
-          go true q = eight-first (eqb-true current 0 q)
-          go false q = eight-later (λ z. true≢false (sym (eq-eqb current 0 z) ∙ q))
+      eight-is = eights-are s slot fin vs (w .scored) (w .scores) scored-long totals leaking leak a b c adjusted (thresholds .downward) (thresholds .upward) (by-rewards w .are) i l
 
       nine-is : nineBy s plan v (getD ws i nobody) ≡ nineOf nineLists i
       unfolding nineBy

@@ -10,15 +10,15 @@ use Rattle.definitions.specs.Lists.{range}
 use Rattle.write_turn.specs.Sweep.{Moved, Turning, sweep, dropped}
 use Rattle.write_turn.proofs.Sweeps.Fused.{more}
 
-getD-middle : {A : Type 0} (us : List A) (v : A) (vs : List A) (d : A) → getD (us ++ (v ∷ vs)) (length us) d ≡ v
+pub getD-middle : {A : Type 0} (us : List A) (v : A) (vs : List A) (d : A) → getD (us ++ (v ∷ vs)) (length us) d ≡ v
 getD-middle [] v vs d = refl
 getD-middle (u ∷ us) v vs d = getD-middle us v vs d
 
-set-middle : {A : Type 0} (us : List A) (v w : A) (vs : List A) → set (us ++ (v ∷ vs)) (length us) w ≡ us ++ (w ∷ vs)
+pub set-middle : {A : Type 0} (us : List A) (v w : A) (vs : List A) → set (us ++ (v ∷ vs)) (length us) w ≡ us ++ (w ∷ vs)
 set-middle [] v w vs = refl
 set-middle {A} (u ∷ us) v w vs = ap (λ (t : List A). u ∷ t) (set-middle us v w vs)
 
-snoc : {A : Type 0} (us : List A) (w : A) (vs : List A) → us ++ (w ∷ vs) ≡ (us ++ (w ∷ [])) ++ vs
+pub snoc : {A : Type 0} (us : List A) (w : A) (vs : List A) → us ++ (w ∷ vs) ≡ (us ++ (w ∷ [])) ++ vs
 snoc [] w vs = refl
 snoc {A} (u ∷ us) w vs = ap (λ (t : List A). u ∷ t) (snoc us w vs)
 

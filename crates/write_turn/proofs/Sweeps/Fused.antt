@@ -4,7 +4,7 @@ use mathlib.Core.List.{List, [], _∷_}
 use Rattle.definitions.specs.Checked.{Refusal, Checked, value, refused, bind, mapChecked}
 use Rattle.arithmetic.proofs.Operations.{OnlyOverflow, only-value, only-bind}
 use Rattle.write_turn.proofs.Sweeps.Pure.{only-map}
-use Rattle.write_turn.specs.Sweep.{Moved, Turning, sweep, after, first, last}
+use Rattle.write_turn.specs.Sweep.{Moved, Turning, sweep, after, first, last, along}
 
 pub only-sweep : {C A : Type 0} {f : Turning C A} → ((c : C) (x : A) → OnlyOverflow (f c x)) → (c : C) (xs : List A) → OnlyOverflow (sweep f c xs)
 unfolding sweep
@@ -83,3 +83,24 @@ module _ {C A : Type 0} {f : Turning C A} {g : A → Checked A} (of : (c : C) (x
       begun : ((e : C) → sweep (last f g) e xs ≡ last (sweep f) (mapChecked g) e xs) → (m : Checked (Moved C A)) → bind (bind m (λ m. bind (g (m .held)) (keeping (m .carry)))) (λ q. bind (sweep (last f g) (q .carry) xs) (more (q .held))) ≡ bind (bind m (λ m. bind (sweep f (m .carry) xs) (more (m .held)))) (λ q. bind (mapChecked g (q .held)) (keeping (q .carry)))
       begun ih (refused p) = refl
       begun ih (value m) = go ih m (g (m .held)) refl (sweep f (m .carry) xs) refl
+
+-- a pass by a part of what is carried
+module _ {C D A : Type 0} (part : C → D) (put : C → D → C) (back : (c : C) (d : D) → part (put c d) ≡ d) (over : (c : C) (d e : D) → put (put c d) e ≡ put c e) (none : (c : C) → c ≡ put c (part c)) (f : Turning D A) where
+  abbrev putting : C → Moved D (List A) → Checked (Moved C (List A))
+  putting c m = value (record { carry = put c (m .carry); held = m .held })
+
+  pub swept-along : (c : C) (xs : List A) → sweep (along part put f) c xs ≡ along part put (sweep f) c xs
+  unfolding sweep bind
+  swept-along c [] = ap (λ (a : C). keeping a []) (none c)
+  swept-along c (x ∷ xs) = begun (λ e. swept-along e xs) (f (part c) x)
+    where
+      ended : (d : D) (y : A) (m : Checked (Moved D (List A))) → bind (bind m (putting (put c d))) (more y) ≡ bind (bind m (more y)) (putting c)
+      ended d y (value r) = ap (λ (a : C). keeping a (y ∷ r .held)) (over c d (r .carry))
+      ended d y (refused p) = refl
+
+      turned : Moved D A → Checked (Moved C A)
+      turned m = value (record { carry = put c (m .carry); held = m .held })
+
+      begun : ((e : C) → sweep (along part put f) e xs ≡ along part put (sweep f) e xs) → (m : Checked (Moved D A)) → bind (bind m turned) (λ q. bind (sweep (along part put f) (q .carry) xs) (more (q .held))) ≡ bind (bind m (λ m. bind (sweep f (m .carry) xs) (more (m .held)))) (putting c)
+      begun ih (refused p) = refl
+      begun ih (value m) = rw (ih (put c (m .carry)), back c (m .carry)) (ended (m .carry) (m .held) (sweep f (m .carry) xs))

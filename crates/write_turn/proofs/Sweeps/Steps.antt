@@ -6,7 +6,7 @@ use Rattle.definitions.specs.Checked.{Refusal, Checked, value, refused, numberO
 use Rattle.definitions.specs.Record.{Validator, decodeOne, encodeOne}
 use Rattle.laws.proofs.Checked.{number-not-zero, not-value, value-same}
 use Rattle.write_turn.specs.Runs.{Runs}
-use Rattle.write_turn.specs.Sweep.{Moved, Turning, after, first, last}
+use Rattle.write_turn.specs.Sweep.{Moved, Turning, after, first, last, along}
 use Rattle.write_turn.specs.Steps.{Steps}
 use Rattle.write_turn.proofs.Sweeps.Fused.{paired, keeping}
 
@@ -97,6 +97,18 @@ module _ {C : Type 0} {f : Turning C Validator} {before between : List ℕ} {r :
         go : (m : Checked (Moved C Validator)) → f c (decodeOne before) ≡ m → Steps (last f g) c before done r a
         go (value w) e = absurd (z (h .code ∙ ap codeOf e))
         go (refused p) e = steps-refused (last f g) (ap (λ (m : Checked (Moved C Validator)). bind m (λ m. bind (g (m .held)) (keeping (m .carry)))) e) (h .code ∙ ap codeOf e)
+
+-- by a part of what is carried
+pub steps-along : {C D : Type 0} (part : C → D) (put : C → D → C) (f : Turning D Validator) {c : C} {d : D} {before after : List ℕ} {r : ℕ} → Steps f (part c) before after r d → Steps (along part put f) c before after r (put c d)
+unfolding bind
+steps-along {C} {D} part put f {c} {d} {before} {after} {r} h = go (f (part c) (decodeOne before)) refl
+  where
+    by : Checked (Moved D Validator) → Checked (Moved C Validator)
+    by m = bind m (λ m. value (record { carry = put c (m .carry); held = m .held }))
+
+    go : (m : Checked (Moved D Validator)) → f (part c) (decodeOne before) ≡ m → Steps (along part put f) c before after r (put c d)
+    go (value m) e = steps-value (along part put f) (ap by e) (h .code ∙ ap codeOf e) (h .held m e) (ap (put c) (h .carried m e))
+    go (refused p) e = steps-refused (along part put f) (ap by e) (h .code ∙ ap codeOf e)
 
 -- the ten numbers that it was lent are a copy of others
 pub steps-copied : {C : Type 0} {f : Turning C Validator} {c d : C} {from copied after : List ℕ} {r : ℕ} → copied ≡ from → Steps f c copied after r d → Steps f c from after r d

@@ -5,7 +5,7 @@ use Prim.Native.Nat.{_-_, _/_, _≤_, _<_}
 use lib.ListN.{length}
 use borrow.Author.Needs.{needs}
 use Rattle.electra_deposits.specs.Room.{keyed}
-use Rattle.electra_deposits.proofs.Table.{Adding, adding-none, adding-all, adding-stop, adding-more, room-left, table-long, place-below, key-here}
+use Rattle.electra_deposits.proofs.Table.{Adding, adding-none, adding-within, adding-all, adding-stop, adding-more, room-left, table-long, place-below, key-here}
 use Rattle.electra_deposits.proofs.adding.add_deposits.Statement.{statement}
 use Rattle.electra_deposits.proofs.adding.add_deposits.Tie as tie
 
@@ -25,9 +25,8 @@ loop-holds c =
 
 deposit-at-requires : tie.Need-deposit-at-requires Inv-loop μ-loop
 deposit-at-requires c κs =
-    let at-loop : tie.At-loop Inv-loop μ-loop = search needs in
     let at-in : tie.In-loop Inv-loop μ-loop = search needs in
-    omega (arith, at-loop .loop .inv .0)
+    omega (arith, at-in .before .loop .inv .0)
 
 join-requires : tie.Need-join-requires Inv-loop μ-loop
 join-requires c κs =
@@ -35,7 +34,7 @@ join-requires c κs =
     let at-in : tie.In-loop Inv-loop μ-loop = search needs in
     let inv = at-in .before .loop .inv in
     let l = at-in .loop-test .taken in
-    let key = key-here (inv .6) (inv .0) l (at-d .deposit-at .ensures) (inv .1) in
+    let key = key-here _ _ (inv .0) l (at-d .deposit-at .ensures) _ (inv .1) in
     ((inv .6 .long, room-left (inv .6) (inv .0) l, inv .2), (omega (arith, key, table-long (inv .6) (inv .0) l), place-below (inv .6) (inv .0) l _ key))
 
 returns : tie.Need-returns Inv-loop μ-loop
@@ -44,7 +43,7 @@ returns c =
     let at-d : tie.After-deposit-at Inv-loop μ-loop = search needs in
     let at-in : tie.In-loop Inv-loop μ-loop = search needs in
     let inv = at-in .before .loop .inv in
-    adding-stop (inv .6) (inv .0) (at-in .loop-test .taken) (at-d .deposit-at .ensures) (inv .1) (at-join .join .ensures) (c .if1 .taken)
+    (adding-stop (inv .6) (inv .0) (at-in .loop-test .taken) (at-d .deposit-at .ensures) (inv .1) (at-join .join .ensures) (c .if1 .taken), adding-within (inv .6) (inv .0))
 
 loop-again : tie.Need-loop-again Inv-loop μ-loop
 loop-again c =
@@ -60,25 +59,9 @@ returns-2 : tie.Need-returns-2 Inv-loop μ-loop
 returns-2 c =
     let at-loop : tie.At-loop Inv-loop μ-loop = search needs in
     let inv = at-loop .loop .inv in
-    adding-all (inv .6) (inv .0) (c .loop-test .left)
+    (adding-all (inv .6) (inv .0) (c .loop-test .left), adding-within (inv .6) (inv .0))
 
 pub add-deposits-spec : {M : Type 1} → statement M
 add-deposits-spec =
     tie.close
-    (tie.spec
-    Inv-loop
-    μ-loop
-    loop-holds
-    deposit-at-requires
-    join-requires
-    (λ c. omega arith)
-    (λ c. omega arith)
-    (λ c. omega arith)
-    returns
-    (λ c. omega arith)
-    (λ c. omega arith)
-    loop-again
-    (λ c. omega arith)
-    (λ c. omega arith)
-    (λ c. omega arith)
-    returns-2)
+    (tie.spec Inv-loop μ-loop loop-holds deposit-at-requires join-requires (λ c. omega arith) (λ c. omega arith) (λ c. omega arith) returns (λ c. omega arith) (λ c. omega arith) loop-again (λ c. omega arith) (λ c. omega arith) (λ c. omega arith) returns-2)

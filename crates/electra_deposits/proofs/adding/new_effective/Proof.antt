@@ -25,10 +25,4 @@ returns-2 c =
 pub new-effective-spec : {M : Type 1} → statement M
 new-effective-spec =
     tie.close
-    (tie.spec
-    (λ c. search needs)
-    sub-rounded
-    (λ c κs. search needs)
-    returns
-    (λ c κs. search needs)
-    returns-2)
+    (tie.spec (λ c. search needs) sub-rounded (λ c κs. search needs) returns (λ c κs. search needs) returns-2)

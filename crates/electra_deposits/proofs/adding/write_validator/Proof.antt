@@ -31,16 +31,4 @@ returns c =
 pub write-validator-spec : {M : Type 1} → statement M
 write-validator-spec =
     tie.close
-    (tie.spec
-    (λ c. search needs)
-    (λ c. search needs)
-    (λ c. search needs)
-    (λ c. search needs)
-    slice-write-entry-5
-    slice-write-entry-6
-    slice-write-entry-7
-    slice-write-entry-8
-    slice-write-entry-9
-    slice-write-entry-10
-    (λ c. search needs)
-    returns)
+    (tie.spec (λ c. search needs) (λ c. search needs) (λ c. search needs) (λ c. search needs) slice-write-entry-5 slice-write-entry-6 slice-write-entry-7 slice-write-entry-8 slice-write-entry-9 slice-write-entry-10 (λ c. search needs) returns)

@@ -17,8 +17,4 @@ returns-2 c =
 pub is-postponed-spec : {M : Type 1} → statement M
 is-postponed-spec =
     tie.close
-    (tie.spec
-    (λ c κs. search needs)
-    returns
-    (λ c κs. search needs)
-    returns-2)
+    (tie.spec (λ c κs. search needs) returns (λ c κs. search needs) returns-2)

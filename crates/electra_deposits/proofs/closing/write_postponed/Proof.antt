@@ -52,15 +52,4 @@ returns c =
 pub write-postponed-spec : {M : Type 1} → statement M
 write-postponed-spec =
     tie.close
-    (tie.spec
-    Inv-loop
-    μ-loop
-    loop-holds
-    (λ c κs. omega arith)
-    is-postponed-requires
-    add-if-requires
-    (λ c. omega arith)
-    (λ c. omega arith)
-    loop-again
-    (λ c. omega arith)
-    returns)
+    (tie.spec Inv-loop μ-loop loop-holds (λ c κs. omega arith) is-postponed-requires add-if-requires (λ c. omega arith) (λ c. omega arith) loop-again (λ c. omega arith) returns)

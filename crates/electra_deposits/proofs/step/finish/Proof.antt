@@ -23,19 +23,9 @@ write-queue-requires c κs =
 returns : tie.Need-returns
 returns c =
     let a = c .before .before .before .before .before .before .before .before .before .before .before .before .before .before .before .before .before .before .before .before .before .before .before .before .before .before .before .before .before .before .args in
-    rw (c .answer-of .ensures) (finished (a .next-epoch) (a .k) (a .registry .now) (a .deposits .now) (a .index) (a .carried) (c .before .before .before .before .before .before .before .before .before .before .before .before .before .before .before .before .before .before .before .before .before .copy-front .ensures) (c .before .before .before .before .before .before .before .before .before .before .before .add-deposits .ensures) (c .before .before .before .write-queue .ensures))
+    rw (c .answer-of .ensures) (finished (a .next-epoch) (a .k) (a .registry .now) (a .deposits .now) (a .index) (a .carried) (c .before .before .before .before .before .before .before .before .before .before .before .before .before .before .before .before .before .before .before .before .before .copy-front .ensures) (c .before .before .before .before .before .before .before .before .before .before .before .add-deposits .ensures .0) (c .before .before .before .write-queue .ensures))
 
 pub finish-spec : {M : Type 1} → statement M
 finish-spec =
     tie.close
-    (tie.spec
-    copy-front-requires
-    (λ c κs. search needs)
-    add-deposits-requires
-    write-queue-requires
-    (λ c κs. search needs)
-    (λ c. search needs)
-    (λ c. search needs)
-    (λ c. search needs)
-    (λ c. search needs)
-    returns)
+    (tie.spec copy-front-requires (λ c κs. search needs) add-deposits-requires write-queue-requires (λ c κs. search needs) (λ c. search needs) (λ c. search needs) (λ c. search needs) (λ c. search needs) returns)

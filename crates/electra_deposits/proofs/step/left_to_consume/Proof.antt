@@ -14,7 +14,4 @@ returns-2 c =
 pub left-to-consume-spec : {M : Type 1} → statement M
 left-to-consume-spec =
     tie.close
-    (tie.spec
-    (λ c κs. search needs)
-    returns
-    returns-2)
+    (tie.spec (λ c κs. search needs) returns returns-2)

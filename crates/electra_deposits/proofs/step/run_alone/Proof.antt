@@ -20,11 +20,4 @@ returns c =
 pub run-alone-spec : {M : Type 1} → statement M
 run-alone-spec =
     tie.close
-    (tie.spec
-    (λ c κs. search needs)
-    (λ c. search needs)
-    (λ c. search needs)
-    (λ c. search needs)
-    apply-deposits-requires
-    (λ c. search needs)
-    returns)
+    (tie.spec (λ c κs. search needs) (λ c. search needs) (λ c. search needs) (λ c. search needs) apply-deposits-requires (λ c. search needs) returns)

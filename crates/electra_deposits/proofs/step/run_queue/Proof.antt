@@ -42,20 +42,4 @@ returns-3 c =
 pub run-queue-spec : {M : Type 1} → statement M
 run-queue-spec =
     tie.close
-    (tie.spec
-    run-alone-requires
-    (λ c κs. search needs)
-    (λ c. search needs)
-    returns
-    (λ c κs. search needs)
-    (λ c. search needs)
-    (λ c. search needs)
-    (λ c κs. search needs)
-    (λ c. search needs)
-    returns-2
-    finish-requires
-    (λ c. search needs)
-    (λ c. search needs)
-    (λ c. search needs)
-    (λ c. search needs)
-    returns-3)
+    (tie.spec run-alone-requires (λ c κs. search needs) (λ c. search needs) returns (λ c κs. search needs) (λ c. search needs) (λ c. search needs) (λ c κs. search needs) (λ c. search needs) returns-2 finish-requires (λ c. search needs) (λ c. search needs) (λ c. search needs) (λ c. search needs) returns-3)

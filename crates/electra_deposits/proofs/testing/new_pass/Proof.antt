@@ -4,8 +4,10 @@ use mathlib.Core.Bool.{true}
 use Prim.Native.Nat.{_-_, _/_, _≤_, _<_}
 use lib.ListN.{length}
 use borrow.Author.Needs.{needs}
+use borrow.Author.Tests.{not-true, not-false}
 use Rattle.electra_deposits.specs.Room.{keyed}
-use Rattle.electra_deposits.proofs.Tests.{Testing, testing-none, testing-all, testing-more, testing-stop, key-here, added-few, not-true, not-false}
+use Rattle.electra_deposits.proofs.Tests.{Testing, testing-none, testing-all, testing-more, testing-stop, added-few}
+use Rattle.electra_deposits.proofs.Table.{key-here}
 use Rattle.electra_deposits.proofs.testing.new_pass.Statement.{statement}
 use Rattle.electra_deposits.proofs.testing.new_pass.Tie as tie
 
@@ -24,16 +26,15 @@ loop-holds c =
 
 deposit-at-requires : tie.Need-deposit-at-requires Inv-loop μ-loop
 deposit-at-requires c κs =
-    let at-loop : tie.At-loop Inv-loop μ-loop = search needs in
     let at-in : tie.In-loop Inv-loop μ-loop = search needs in
-    omega (arith, at-loop .loop .inv .0)
+    omega (arith, at-in .before .loop .inv .0)
 
 test-deposit-requires : tie.Need-test-deposit-requires Inv-loop μ-loop
 test-deposit-requires c κs =
     let at-d : tie.After-deposit-at Inv-loop μ-loop = search needs in
     let at-in : tie.In-loop Inv-loop μ-loop = search needs in
     let inv = at-in .before .loop .inv in
-    let key = key-here (inv .4) (inv .0) (at-in .loop-test .taken) (at-d .deposit-at .ensures) (inv .1) in
+    let key = key-here _ _ (inv .0) (at-in .loop-test .taken) (at-d .deposit-at .ensures) _ (inv .1) in
     (omega (arith, key, inv .4 .long), inv .2)
 
 returns : tie.Need-returns Inv-loop μ-loop
@@ -72,17 +73,4 @@ returns-2 c =
 pub new-pass-spec : {M : Type 1} → statement M
 new-pass-spec =
     tie.close
-    (tie.spec
-    Inv-loop
-    μ-loop
-    loop-holds
-    deposit-at-requires
-    test-deposit-requires
-    (λ c. omega arith)
-    returns
-    add-added
-    (λ c. omega arith)
-    (λ c. omega arith)
-    loop-again
-    (λ c. omega arith)
-    returns-2)
+    (tie.spec Inv-loop μ-loop loop-holds deposit-at-requires test-deposit-requires (λ c. omega arith) returns add-added (λ c. omega arith) (λ c. omega arith) loop-again (λ c. omega arith) returns-2)

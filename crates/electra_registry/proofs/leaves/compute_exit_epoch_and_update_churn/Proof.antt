@@ -44,12 +44,4 @@ returns-3 c =
 pub compute-exit-epoch-and-update-churn-spec : {M : Type 1} → statement M
 compute-exit-epoch-and-update-churn-spec =
     tie.close
-    (tie.spec
-    (λ c κs. search needs)
-    returns
-    registry-numbers-requires
-    (λ c κs. search needs)
-    (λ c. search needs)
-    (λ c. search needs)
-    returns-2
-    returns-3)
+    (tie.spec (λ c κs. search needs) returns registry-numbers-requires (λ c κs. search needs) (λ c. search needs) (λ c. search needs) returns-2 returns-3)

@@ -50,17 +50,4 @@ returns-2 c =
 pub initiate-validator-exit-spec : {M : Type 1} → statement M
 initiate-validator-exit-spec =
     tie.close
-    (tie.spec
-    (λ c κs. search needs)
-    (λ c. search needs)
-    returns
-    registry-numbers-requires
-    (λ c. (let at-else1 : tie.Else1 = search needs in omega (arith, few at-else1)))
-    (λ c. (let at-else1 : tie.Else1 = search needs in omega (arith, few at-else1)))
-    (λ c. (let at-else1 : tie.Else1 = search needs in omega (arith, few at-else1)))
-    (λ c. search needs)
-    (λ c. search needs)
-    part-exit-by-balance-end
-    (λ c κs. search needs)
-    (λ c. search needs)
-    returns-2)
+    (tie.spec (λ c κs. search needs) (λ c. search needs) returns registry-numbers-requires (λ c. (let at-else1 : tie.Else1 = search needs in omega (arith, few at-else1))) (λ c. (let at-else1 : tie.Else1 = search needs in omega (arith, few at-else1))) (λ c. (let at-else1 : tie.Else1 = search needs in omega (arith, few at-else1))) (λ c. search needs) (λ c. search needs) part-exit-by-balance-end (λ c κs. search needs) (λ c. search needs) returns-2)
