@@ -1,5 +1,5 @@
 -- One stored closing for all, registry included, is shut out: two records of five validators that are both closed, and whose closing
--- registries differ.
+-- registries differ. So is a registry that stays as it was opened, by one of them.
 use mathlib.Core.Path.{_≡_, refl, sym, ap, _∙_}
 use mathlib.Core.List.{List, [], _∷_}
 use Prim.Native.Nat.{ℕ}
@@ -22,4 +22,11 @@ unfolding computing
 not-one-stored stored h =
     let same = h behind refl ∙ sym (h before refl) in
     let activation : _≡_ {A = ℕ} «FAR_FUTURE_EPOCH» 8 = ap (λ xs. getD xs 13 0) same in
+    omega arith
+
+-- the opening handed back; justification done and the other seven steps skipped
+pub not-as-opened : ((c : Call) → close c .refusal ≡ 0 → close c .closingRegistry ≡ c .registry) → ⊥
+unfolding computing
+not-as-opened h =
+    let activation : _≡_ {A = ℕ} 8 «FAR_FUTURE_EPOCH» = ap (λ xs. getD xs 13 0) (h before refl) in
     omega arith
