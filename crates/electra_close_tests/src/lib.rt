@@ -3,7 +3,7 @@ ghost use mathlib.Core.Path.{_≡_};
 ghost use Rattle.definitions.specs.Checked.{codeOf};
 ghost use Rattle.definitions.specs.Lists.{every};
 ghost use Rattle.definitions_electra_close.specs.Close.{electraTests};
-ghost use Rattle.electra_close_tests.specs.Called.{electraCalled};
+ghost use Rattle.definitions_electra_close.specs.Calls.{electraCalled};
 ghost use Rattle.electra_close_tests.specs.Shaped.{lentTests, roomFor, closingTests};
 use definitions::Finality;
 use definitions_electra::DepositNumbers;

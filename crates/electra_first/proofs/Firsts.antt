@@ -8,7 +8,6 @@ use Rattle.definitions.specs.declared.Finality.{Finality}
 use Rattle.definitions.specs.declared.CloseAnswer.{CloseAnswer}
 use Rattle.definitions.specs.Record.{Validator, encode, decode}
 use Rattle.definitions.specs.Checked.{Checked, value, refused, bind, codeOf}
-use Rattle.definitions.specs.Refusals.{afterTests, goodFinality}
 use Rattle.definitions.specs.Raised.{raisedTotals, raisedUnlessRefused, closeAnswerFor}
 use Rattle.definitions.specs.Rust.Altair.EpochProcessing.{«process_justification_and_finalization»}
 use Rattle.definitions.specs.Close.{justificationStep, step, limitedStep}
@@ -22,14 +21,10 @@ use Rattle.electra_first.specs.declared.First.{First}
 use Rattle.electra_first.specs.First.{Four, fourBy, Nine, FourRan, Five, fiveBy, FirstHeld, FirstRan}
 use Rattle.electra_first.proofs.Stops.{stop-code, stop-value}
 
-module _ (r : ElectraRules) (s : Settings) (f : Finality) (churn : ExitChurn) (registry slashings roots : List ℕ) (tests : Checked (Unit {0})) (passed : tests ≡ value tt) {j : CloseAnswer}
-    (e : j ≡ closeAnswerFor (afterTests tests («process_justification_and_finalization» s roots f (decode registry))) f (raisedTotals s (f .slot) (decode registry))) where
+module _ (r : ElectraRules) (s : Settings) (f : Finality) (churn : ExitChurn) (registry slashings roots : List ℕ) {j : CloseAnswer}
+    (told : j ≡ closeAnswerFor («process_justification_and_finalization» s roots f (decode registry)) f (raisedTotals s (f .slot) (decode registry))) where
   abbrev by : Checked Finality → CloseAnswer
   by w = closeAnswerFor w f (raisedTotals s (f .slot) (decode registry))
-
-  told : j ≡ by («process_justification_and_finalization» s roots f (decode registry))
-  unfolding afterTests bind
-  told = e ∙ rw passed
 
   code : j .refusal ≡ codeOf («process_justification_and_finalization» s roots f (decode registry))
   code = ap (λ (a : CloseAnswer). a .refusal) told
@@ -58,9 +53,17 @@ module _ (r : ElectraRules) (s : Settings) (f : Finality) (churn : ExitChurn) (r
   unfolding fiveBy
   first-refused z k = record { code = k ∙ stop-code _ _ code z; held = λ v q. absurd (stop-value _ _ code z q) }
 
-  pub first-goes : {closing after amounts : List ℕ} {u : ExitChurnAnswer} {test : ℕ} → closing ≡ registry → j .refusal ≡ 0 → test ≡ finalizingTest s f (value (j .finality)) → FourRan s (j .finality .slot) (j .finality .«finalized_checkpoint» .epoch) (fourBy r s (j .finality .slot) (j .finality .«finalized_checkpoint» .epoch) slashings churn (decode closing)) after amounts u → FirstRan s f (decode registry) (fiveBy r s f churn (decode registry) slashings roots) after amounts (record { refusal = u .refusal; finality = j .finality; raised = j .raised; test = test; churn = u .churn })
+  -- the four are refused
+  pub four-stop : {x : First} {after amounts : List ℕ} {u : ExitChurnAnswer} → j .refusal ≡ 0 → FourRan s (j .finality .slot) (j .finality .«finalized_checkpoint» .epoch) (fourBy r s (j .finality .slot) (j .finality .«finalized_checkpoint» .epoch) slashings churn (decode registry)) after amounts u → (u .refusal ≡ 0 → ⊥) → x .refusal ≡ u .refusal → FirstRan s f (decode registry) (fiveBy r s f churn (decode registry) slashings roots) after amounts x
   unfolding fiveBy bind
-  first-goes {closing} {after} {amounts} {u} {test} same z t h = rw (justified z) (on (fourBy r s (j .finality .slot) (j .finality .«finalized_checkpoint» .epoch) slashings churn (decode registry)) (rw same at h))
+  four-stop z h y k =
+      let four = fourBy r s (j .finality .slot) (j .finality .«finalized_checkpoint» .epoch) slashings churn (decode registry) in
+      let made : Four → Checked Five = λ four. value (record { finality = j .finality; four = four }) in
+      rw (justified z) (record { code = k ∙ stop-code four made (h .code) y; held = λ v q. absurd (stop-value four made (h .code) y q) })
+
+  pub first-goes : {after amounts : List ℕ} {u : ExitChurnAnswer} {test : ℕ} → j .refusal ≡ 0 → test ≡ finalizingTest s f (value (j .finality)) → FourRan s (j .finality .slot) (j .finality .«finalized_checkpoint» .epoch) (fourBy r s (j .finality .slot) (j .finality .«finalized_checkpoint» .epoch) slashings churn (decode registry)) after amounts u → FirstRan s f (decode registry) (fiveBy r s f churn (decode registry) slashings roots) after amounts (record { refusal = u .refusal; finality = j .finality; raised = j .raised; test = test; churn = u .churn })
+  unfolding fiveBy bind
+  first-goes {after} {amounts} {u} {test} z t h = rw (justified z) (on (fourBy r s (j .finality .slot) (j .finality .«finalized_checkpoint» .epoch) slashings churn (decode registry)) h)
     where
       made : First
       made = record { refusal = u .refusal; finality = j .finality; raised = j .raised; test = test; churn = u .churn }

@@ -1,9 +1,10 @@
 -- Laws of the first five steps.
 pub mod Stops
 mod Columns
-mod Pays
-mod Takes
-mod Fours
+mod Turning
+mod Fused
+mod Booked
+mod Accepted
 mod Firsts
 pub mod RegistryIn
 pub mod Text

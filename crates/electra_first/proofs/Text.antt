@@ -60,7 +60,7 @@ module _ (r : ElectraRules) (st : ElectraState) where
   on-altair g vs churn (value ws) = refl
   on-altair g vs churn (refused p) = refl
 
-  justified : electraStep r st (kept justificationStep) ≡ bind («process_justification_and_finalization» (inPlace (r .bellatrix) (r .settings)) (st .altair .«block_roots») (st .altair .finality) (st .altair .validators)) (λ g. value (stateAt g (st .altair .validators) (st .churn)))
+  pub justified : electraStep r st (kept justificationStep) ≡ bind («process_justification_and_finalization» (inPlace (r .bellatrix) (r .settings)) (st .altair .«block_roots») (st .altair .finality) (st .altair .validators)) (λ g. value (stateAt g (st .altair .validators) (st .churn)))
   unfolding electraStep limitedStep bind
   justified = by («process_justification_and_finalization» (inPlace (r .bellatrix) (r .settings)) (st .altair .«block_roots») (st .altair .finality) (st .altair .validators))
     where
@@ -69,19 +69,19 @@ module _ (r : ElectraRules) (st : ElectraState) where
       by (refused p) = refl
 
   module _ (g : Finality) (vs : List Validator) (churn : ExitChurn) where
-    scored : electraStep r (stateAt g vs churn) (kept inactivityStep) ≡ bind («process_inactivity_updates» (inPlace (r .bellatrix) (r .settings)) (g .slot) (g .«finalized_checkpoint» .epoch) vs) (λ ws. value (stateAt g ws churn))
+    pub scored : electraStep r (stateAt g vs churn) (kept inactivityStep) ≡ bind («process_inactivity_updates» (inPlace (r .bellatrix) (r .settings)) (g .slot) (g .«finalized_checkpoint» .epoch) vs) (λ ws. value (stateAt g ws churn))
     unfolding electraStep limitedStep
     scored = on-altair g vs churn («process_inactivity_updates» (inPlace (r .bellatrix) (r .settings)) (g .slot) (g .«finalized_checkpoint» .epoch) vs)
 
-    paid : electraStep r (stateAt g vs churn) (kept rewardsStep) ≡ bind («process_rewards_and_penalties» (inPlace (r .bellatrix) (r .settings)) (r .bellatrix .«inactivity_penalty_quotient_bellatrix») (g .slot) (g .«finalized_checkpoint» .epoch) vs) (λ ws. value (stateAt g ws churn))
+    pub paid : electraStep r (stateAt g vs churn) (kept rewardsStep) ≡ bind («process_rewards_and_penalties» (inPlace (r .bellatrix) (r .settings)) (r .bellatrix .«inactivity_penalty_quotient_bellatrix») (g .slot) (g .«finalized_checkpoint» .epoch) vs) (λ ws. value (stateAt g ws churn))
     unfolding electraStep limitedStep
     paid = on-altair g vs churn («process_rewards_and_penalties» (inPlace (r .bellatrix) (r .settings)) (r .bellatrix .«inactivity_penalty_quotient_bellatrix») (g .slot) (g .«finalized_checkpoint» .epoch) vs)
 
-    updated : electraStep r (stateAt g vs churn) registryUpdates ≡ bind (exitsOf r (g .slot) (g .«finalized_checkpoint» .epoch) churn vs) (λ e. value (stateAt g (e .validators) (e .churn)))
+    pub updated : electraStep r (stateAt g vs churn) registryUpdates ≡ bind (exitsOf r (g .slot) (g .«finalized_checkpoint» .epoch) churn vs) (λ e. value (stateAt g (e .validators) (e .churn)))
     unfolding electraStep
     updated = registry-in r (stateAt g vs churn)
 
-    lessened : electraStep r (stateAt g vs churn) slashings ≡ bind (slashedRegistry (r .settings) (r .bellatrix .«proportional_slashing_multiplier_bellatrix») (g .slot) (st .altair .slashings) vs) (λ ws. value (stateAt g ws churn))
+    pub lessened : electraStep r (stateAt g vs churn) slashings ≡ bind (slashedRegistry (r .settings) (r .bellatrix .«proportional_slashing_multiplier_bellatrix») (g .slot) (st .altair .slashings) vs) (λ ws. value (stateAt g ws churn))
     unfolding electraStep
     lessened = step-by r (stateAt g vs churn)
 

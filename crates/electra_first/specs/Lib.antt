@@ -2,3 +2,4 @@
 pub mod Paid
 pub mod Taken
 pub mod First
+pub mod Numbers

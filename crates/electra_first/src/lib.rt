@@ -1,132 +1,127 @@
-// The first five steps of a close under Electra, in place, with the amounts that they book: R-4's nine in rows of twelve. On refusal registry and
-// amounts are left half done: the caller puts the opening back.
+// The first five steps of a close under Electra, from the opening to the closing registry, with the amounts that they book: R-4's nine in rows of
+// twelve. One survey and one pass that writes, as Altair's close. On refusal closing registry and amounts are left half done: the caller puts the
+// opening back.
 ghost use mathlib.Core.Path.{_≡_};
 ghost use mathlib.Core.Bool.{true};
 ghost use Prim.Native.Nat.{_*_, _/_, _^_, _<_};
 ghost use lib.ListN.{length};
 ghost use Rattle.definitions.specs.Record.{decode};
-ghost use Rattle.definitions.specs.Refusals.{goodSettings};
+ghost use Rattle.definitions.specs.Checked.{value, codeOf};
+ghost use Rattle.definitions.specs.Rules.{inPlace};
+ghost use Rattle.definitions.specs.LeafRefusals.{weighTests};
+ghost use Rattle.definitions.specs.Refusals.{goodSettings, goodFinality, justificationTests};
+ghost use Rattle.definitions.specs.Rust.Phase0.Helpers.{«get_current_epoch», «get_previous_epoch»};
 ghost use Rattle.definitions_electra.specs.Refusals.{goodElectra};
-ghost use Rattle.definitions.specs.Checked.{value};
-ghost use Rattle.definitions.specs.Refusals.{goodFinality, justificationTests};
-ghost use Rattle.electra_first.specs.Paid.{Pays};
+ghost use Rattle.selection.specs.Keep.{Blank};
+ghost use Rattle.survey.specs.Sums.{TotalsOf};
+ghost use Rattle.survey.specs.Found.{Finds};
+ghost use Rattle.electra_first.specs.Numbers.{numbersBy};
 ghost use Rattle.electra_first.specs.First.{fourBy, FourRan, fiveBy, FirstRan};
-ghost use Rattle.electra_first.specs.Taken.{takenBy, Takes};
-use close_by_steps::step_amounts::rewards_booked;
+use definitions::FAR_FUTURE_EPOCH;
 use definitions::Finality;
+use definitions::Number;
 use definitions::Raised;
 use definitions::Settings;
+use definitions::Truth;
 use definitions_electra::ElectraRules;
 use definitions_electra::ExitChurn;
 use definitions_electra::ExitChurnAnswer;
-use electra_amounts::book;
 use electra_amounts::spread;
-use electra_registry::update_registry;
-use electra_slashings::slashings_core;
+use electra_registry::churn_limit;
+use electra_registry::updates::RegistryNumbers;
+use epochs::current_epoch;
+use epochs::previous_epoch;
 use finality::finalizing::finalizing_test;
-use justification::process_justification_and_finalization;
-use participation::inactivity::inactivity_core;
-use refusals::buffers::copy;
+use justification::justification_core;
+use registry_close::total_of;
+use slashings::adjusted_balance;
+use survey::Findings;
+use survey::Totals;
+use survey::all_fit;
+use survey::raised_totals;
+use survey::survey_registry;
+use write_pass::write_later;
+use write_steps::leak_of;
+use write_steps::make_plan;
 
-// Inactivity and rewards.
-pub fn scores_and_rewards(
-    s: Settings,
-    state_slot: u64,
-    finalized_epoch: u64,
-    registry: &mut [u64],
-    amounts: &mut [u64],
-) -> u64
-    requires { ⌜ (goodSettings s ≡ true) × (0 < s .«inactivity_penalty_quotient_altair») ⌝ }
-    requires { ⌜ (length (now registry) ≡ 10 * (length (now registry) / 10)) × (length (now amounts) ≡ 12 * (length (now registry) / 10)) ⌝ }
-    ensures { λ r. ⌜ Pays s «state_slot» «finalized_epoch» (now (registry .entry)) (now (registry .exit)) (now (amounts .exit)) r ⌝ }
+// The numbers of the registry step, by the total active balance of the opening, which no step before it moves.
+fn numbers_by(rules: ElectraRules, epoch: u64, finalized_epoch: u64, total: u64) -> RegistryNumbers
+    requires { ⌜ (goodElectra rules ≡ true) × (epoch < 2 ^ 48) ⌝ }
+    ensures { λ r. ⌜ r ≡ numbersBy rules epoch «finalized_epoch» total ⌝ }
 {
-    let nines = 9 * (registry.len() / 10);
-    let scored = inactivity_core(s, state_slot, finalized_epoch, registry);
-    if scored != 0 {
-        return scored;
+    let s = rules.settings;
+    let e = rules.electra;
+    let least = epoch + 1 + s.max_seed_lookahead;
+    RegistryNumbers {
+        epoch: epoch,
+        finalized_epoch: finalized_epoch,
+        least: least,
+        limit: churn_limit(rules, total),
+        delay: s.min_validator_withdrawability_delay,
+        min_activation_balance: e.min_activation_balance,
+        ejection_balance: s.ejection_balance,
     }
-    let paid = rewards_booked(
-        s,
-        s.inactivity_penalty_quotient_altair,
-        state_slot,
-        finalized_epoch,
-        registry,
-        &mut amounts[0..nines],
-    );
-    if paid != 0 {
-        return paid;
-    }
-    spread(amounts);
-    0
 }
 
-// The registry step and slashings.
-pub fn updates_and_slashings(
-    rules: ElectraRules,
-    state_slot: u64,
-    finalized_epoch: u64,
-    churn: ExitChurn,
-    slashings: &[u64],
-    registry: &mut [u64],
-    amounts: &mut [u64],
-) -> ExitChurnAnswer
-    requires { ⌜ (goodElectra rules ≡ true) × («state_slot» < 2 ^ 48) ⌝ }
-    requires { ⌜ (length (now registry) ≡ 10 * (length (now registry) / 10)) × (length (now amounts) ≡ 12 * (length (now registry) / 10)) ⌝ }
-    ensures { λ r. ⌜
-        Takes (takenBy rules «state_slot» «finalized_epoch» (now (slashings .entry)) churn (decode (now (registry .entry)))) churn
-        (now (registry .exit)) (now (amounts .entry)) (now (amounts .exit)) r ⌝ }
-{
-    let updated = update_registry(rules, state_slot, finalized_epoch, churn, registry);
-    if updated.refusal != 0 {
-        return updated;
-    }
-    book(0, 8, &registry[..], amounts);
-    let multiplier = rules.bellatrix.proportional_slashing_multiplier_bellatrix;
-    let taken = slashings_core(rules.settings, multiplier, state_slot, slashings, registry);
-    if taken != 0 {
-        return ExitChurnAnswer {
-            refusal: taken,
-            churn: churn,
-        };
-    }
-    book(1, 8, &registry[..], amounts);
-    updated
-}
-
-// The four over the registry.
-pub fn four_steps(
+// The four over the registry in one pass, from the opening's totals.
+fn four_steps(
     rules: ElectraRules,
     s: Settings,
     state_slot: u64,
     finalized_epoch: u64,
     churn: ExitChurn,
+    totals: Totals,
     slashings: &[u64],
-    registry: &mut [u64],
+    opening: &[u64],
+    closing: &mut [u64],
     amounts: &mut [u64],
 ) -> ExitChurnAnswer
-    requires { ⌜ (goodElectra rules ≡ true) × («state_slot» < 2 ^ 48) × (goodSettings s ≡ true) × (0 < s .«inactivity_penalty_quotient_altair») ⌝ }
-    requires { ⌜ (length (now registry) ≡ 10 * (length (now registry) / 10)) × (length (now amounts) ≡ 12 * (length (now registry) / 10)) ⌝ }
+    requires { ⌜
+        (goodElectra rules ≡ true) × («state_slot» < 2 ^ 48) × (goodSettings s ≡ true) × (s ≡ inPlace (rules .bellatrix) (rules .settings)) ⌝ }
+    requires { ⌜
+        (length (now opening) ≡ 10 * (length (now opening) / 10))
+        × (length (now closing) ≡ length (now opening))
+        × (length (now amounts) ≡ 12 * (length (now opening) / 10)) ⌝ }
+    requires { ⌜ TotalsOf s («get_current_epoch» s «state_slot») («get_previous_epoch» s «state_slot») (decode (now opening)) totals ⌝ }
     ensures { λ r. ⌜
         FourRan s «state_slot» «finalized_epoch»
-        (fourBy rules s «state_slot» «finalized_epoch» (now (slashings .entry)) churn (decode (now (registry .entry))))
-        (now (registry .exit)) (now (amounts .exit)) r ⌝ }
+        (fourBy rules s «state_slot» «finalized_epoch» (now (slashings .entry)) churn (decode (now (opening .entry))))
+        (now (closing .exit)) (now (amounts .exit)) r ⌝ }
 {
-    let paid = scores_and_rewards(s, state_slot, finalized_epoch, registry, amounts);
-    if paid != 0 {
+    let current = current_epoch(s, state_slot);
+    let previous = previous_epoch(s, state_slot);
+    let Truth::Value(leaking) = leak_of(s, current, state_slot, finalized_epoch) else {
         return ExitChurnAnswer {
-            refusal: paid,
+            refusal: 5,
             churn: churn,
         };
+    };
+    let multiplier = rules.bellatrix.proportional_slashing_multiplier_bellatrix;
+    let Number::Value(adjusted) = adjusted_balance(multiplier, totals.active, slashings) else {
+        return ExitChurnAnswer {
+            refusal: 5,
+            churn: churn,
+        };
+    };
+    let increments = totals.active / s.effective_balance_increment;
+    let p = make_plan(
+        s,
+        current,
+        previous,
+        leaking,
+        totals,
+        adjusted / increments,
+        0,
+        0,
+    );
+    let n = numbers_by(rules, current, finalized_epoch, totals.active);
+    let nines = 9 * (opening.len() / 10);
+    let done = write_later(s, p, n, churn, opening, closing, &mut amounts[0..nines]);
+    if done.refusal != 0 {
+        return done;
     }
-    updates_and_slashings(
-        rules,
-        state_slot,
-        finalized_epoch,
-        churn,
-        slashings,
-        registry,
-        amounts,
-    )
+    spread(amounts);
+    done
 }
 
 // What the first five answer by value: 0 or a refusal's number, and where it is 0 the finality, the raised totals, the finality test's number and
@@ -137,6 +132,128 @@ pub struct First {
     pub raised: Raised,
     pub test: u64,
     pub churn: ExitChurn,
+}
+
+// From a survey of the opening: justification by its sums, and the four by its totals.
+fn five_surveyed(
+    rules: ElectraRules,
+    s: Settings,
+    finality: Finality,
+    churn: ExitChurn,
+    found: Findings,
+    registry: &[u64],
+    slashings: &[u64],
+    roots: &[u8],
+    closing: &mut [u64],
+    amounts: &mut [u64],
+    kept: &[u64],
+) -> First
+    requires { ⌜
+        (goodElectra rules ≡ true) × (goodSettings s ≡ true) × (s ≡ inPlace (rules .bellatrix) (rules .settings)) × (goodFinality finality ≡ true) ⌝ }
+    requires { ⌜ codeOf (weighTests s (now roots) finality) ≡ 0 ⌝ }
+    requires { ⌜
+        (length (now registry) ≡ 10 * (length (now registry) / 10))
+        × (length (now closing) ≡ length (now registry))
+        × (length (now amounts) ≡ 12 * (length (now registry) / 10)) ⌝ }
+    requires { ⌜ Finds s («get_current_epoch» s (finality .slot)) («get_previous_epoch» s (finality .slot)) (now registry) (now kept) found ⌝ }
+    ensures { λ r. ⌜
+        FirstRan s finality (decode (now (registry .entry)))
+        (fiveBy rules s finality churn (decode (now (registry .entry))) (now (slashings .entry)) (now (roots .entry)))
+        (now (closing .exit)) (now (amounts .exit)) r ⌝ }
+{
+    let increment = s.effective_balance_increment;
+    let sums = found.sums;
+    let over = found.over;
+    let active = total_of(sums.active, over.active, increment);
+    let target = total_of(sums.target, over.target, increment);
+    let current_target = total_of(sums.current_target, over.current_target, increment);
+    let justified = justification_core(s, roots, finality, active, target, current_target);
+    let raised = justified.raised;
+    if justified.refusal != 0 {
+        return First {
+            refusal: justified.refusal,
+            finality: finality,
+            raised: raised,
+            test: 0,
+            churn: churn,
+        };
+    }
+    let after = justified.finality;
+    if !all_fit(over) {
+        return First {
+            refusal: 5,
+            finality: finality,
+            raised: raised,
+            test: 0,
+            churn: churn,
+        };
+    }
+    let test = finalizing_test(s, finality, after);
+    let finalized = after.finalized_checkpoint;
+    let done = four_steps(
+        rules,
+        s,
+        after.slot,
+        finalized.epoch,
+        churn,
+        raised_totals(sums, increment),
+        slashings,
+        registry,
+        closing,
+        amounts,
+    );
+    let moved = done.churn;
+    First {
+        refusal: done.refusal,
+        finality: after,
+        raised: raised,
+        test: test,
+        churn: moved,
+    }
+}
+
+// `kept` has room for what a survey keeps of Altair's activation queue; here nobody reads it.
+fn five_kept(
+    rules: ElectraRules,
+    s: Settings,
+    finality: Finality,
+    churn: ExitChurn,
+    registry: &[u64],
+    slashings: &[u64],
+    roots: &[u8],
+    closing: &mut [u64],
+    amounts: &mut [u64],
+    kept: &mut [u64],
+) -> First
+    requires { ⌜
+        (goodElectra rules ≡ true) × (goodSettings s ≡ true) × (s ≡ inPlace (rules .bellatrix) (rules .settings)) × (goodFinality finality ≡ true) ⌝ }
+    requires { ⌜ codeOf (weighTests s (now roots) finality) ≡ 0 ⌝ }
+    requires { ⌜
+        (length (now registry) ≡ 10 * (length (now registry) / 10))
+        × (length (now closing) ≡ length (now registry))
+        × (length (now amounts) ≡ 12 * (length (now registry) / 10)) ⌝ }
+    requires { ⌜ (length (now kept) ≡ 64) × Blank (now kept) ⌝ }
+    ensures { λ r. ⌜
+        FirstRan s finality (decode (now (registry .entry)))
+        (fiveBy rules s finality churn (decode (now (registry .entry))) (now (slashings .entry)) (now (roots .entry)))
+        (now (closing .exit)) (now (amounts .exit)) r ⌝ }
+{
+    let current = current_epoch(s, finality.slot);
+    let previous = previous_epoch(s, finality.slot);
+    let found = survey_registry(s, current, previous, registry, kept);
+    five_surveyed(
+        rules,
+        s,
+        finality,
+        churn,
+        found,
+        registry,
+        slashings,
+        roots,
+        closing,
+        amounts,
+        kept,
+    )
 }
 
 // `s` is the settings with the Bellatrix pair in place; `closing` is lent for the registry.
@@ -151,7 +268,8 @@ pub fn first_five(
     closing: &mut [u64],
     amounts: &mut [u64],
 ) -> First
-    requires { ⌜ (goodElectra rules ≡ true) × (goodSettings s ≡ true) × (0 < s .«inactivity_penalty_quotient_altair») × (goodFinality finality ≡ true) ⌝ }
+    requires { ⌜
+        (goodElectra rules ≡ true) × (goodSettings s ≡ true) × (s ≡ inPlace (rules .bellatrix) (rules .settings)) × (goodFinality finality ≡ true) ⌝ }
     requires { ⌜ justificationTests s (now roots) finality (now registry) ≡ value tt ⌝ }
     requires { ⌜
         (length (now registry) ≡ 10 * (length (now registry) / 10))
@@ -162,38 +280,17 @@ pub fn first_five(
         (fiveBy rules s finality churn (decode (now (registry .entry))) (now (slashings .entry)) (now (roots .entry)))
         (now (closing .exit)) (now (amounts .exit)) r ⌝ }
 {
-    copy(registry, closing);
-    let justified = process_justification_and_finalization(s, roots, finality, registry);
-    let refusal = justified.refusal;
-    let raised = justified.raised;
-    if refusal != 0 {
-        return First {
-            refusal: refusal,
-            finality: finality,
-            raised: raised,
-            test: 0,
-            churn: churn,
-        };
-    }
-    let after = justified.finality;
-    let test = finalizing_test(s, finality, after);
-    let finalized = after.finalized_checkpoint;
-    let done = four_steps(
+    let mut kept = [FAR_FUTURE_EPOCH; 64];
+    five_kept(
         rules,
         s,
-        after.slot,
-        finalized.epoch,
+        finality,
         churn,
+        registry,
         slashings,
+        roots,
         closing,
         amounts,
-    );
-    let moved = done.churn;
-    First {
-        refusal: done.refusal,
-        finality: after,
-        raised: raised,
-        test: test,
-        churn: moved,
-    }
+        &mut kept[0..64],
+    )
 }

@@ -13,7 +13,8 @@ use Rattle.definitions_electra.specs.Calls.{over}
 use Rattle.definitions_electra.specs.Evaluated.Electra.EpochProcessing.{«process_epoch»}
 use Rattle.definitions_electra_close.specs.declared.ElectraAnswer.{ElectraAnswer}
 use Rattle.definitions_electra_close.specs.Close.{ElectraCall, ElectraOutcome, electraStateOf, electraTests, electraClosed, electraAnswer, electraClose}
-use Rattle.electra_refused.specs.Outcome.{electraOutcome, asOpened}
+use Rattle.definitions_electra_close.specs.Calls.{electraOutcome}
+use Rattle.electra_refused.specs.Outcome.{asOpened}
 
 -- what is behind nothing
 over-whole : (xs ys : List ℕ) → length xs ≡ length ys → xs ≡ over xs ys

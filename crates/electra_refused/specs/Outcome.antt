@@ -1,4 +1,4 @@
--- What an Electra close came back with, as the definition's record; and its answer where it is refused.
+-- What an Electra close answers where it is refused.
 use mathlib.Core.List.{List}
 use Prim.Native.Nat.{ℕ, _/_}
 use lib.ListN.{length}
@@ -8,19 +8,6 @@ use Rattle.definitions_electra.specs.declared.ExitChurn.{ExitChurn}
 use Rattle.definitions_electra.specs.declared.DepositNumbers.{DepositNumbers}
 use Rattle.definitions_electra.specs.Refusals.{countOf, depositsOf}
 use Rattle.definitions_electra_close.specs.declared.ElectraAnswer.{ElectraAnswer}
-use Rattle.definitions_electra_close.specs.Close.{ElectraOutcome}
-
-abbrev pub electraOutcome : ElectraAnswer → List ℕ → List ℕ → List ℕ → List ℕ → List ℕ → List ℕ → ElectraOutcome
-electraOutcome answer registry compounding slashings deposits consolidations amounts =
-    record {
-      answer = answer;
-      closingRegistry = registry;
-      closingCompounding = compounding;
-      closingSlashings = slashings;
-      closingDeposits = deposits;
-      closingConsolidations = consolidations;
-      amounts = amounts;
-    }
 
 abbrev pub asOpened : ℕ → Finality → ExitChurn → DepositNumbers → List ℕ → List ℕ → List ℕ → ElectraAnswer
 asOpened refusal f churn numbers registry deposits consolidations =

@@ -6,7 +6,7 @@ use Prim.Native.Nat.{ℕ, _+_, _≤_, min}
 use native.Mathlib.Omega.{arith}
 use lib.Dec.{ltb, eqb}
 use lib.ListN.{length, getD, take, set, length-set, length-append, length-take}
-use lib.Seq.{take-append-le}
+use lib.Seq.{take-all, take-append-le}
 use Rattle.definitions.specs.Lists.{all}
 use Rattle.definitions.specs.Record.{Validator, nobody}
 use Rattle.definitions.specs.Checked.{Checked, value, refused, bind, add64}
@@ -19,6 +19,7 @@ use Rattle.definitions_electra.specs.Document.Electra.EpochProcessing.{«add_va
 use Rattle.definitions_electra.specs.Evaluated.Electra.EpochProcessing.{«apply_pending_deposit», processDeposit}
 use Rattle.laws_electra_close.proofs.Beside.{fold-keeps}
 use Rattle.electra_steps.specs.Last.{Six, sixBy}
+use Rattle.electra_steps.specs.Finds.{Finds}
 use Rattle.electra_steps.proofs.Whole.{Parted}
 
 pub record Least (n : ℕ) (cs : List ℕ) (reg : Registry) : Type 0 where
@@ -28,6 +29,15 @@ pub record Least (n : ℕ) (cs : List ℕ) (reg : Registry) : Type 0 where
 
 record Going (n : ℕ) (cs : List ℕ) (p : Processing) : Type 0 where
   registry : Least n cs (p .registry)
+
+-- what the sixth step finds
+pub found : {n : ℕ} {deposits : List ℕ} {st : ElectraState} → Finds n deposits st → Least n (st .compounding) (registryOf st)
+found {n} {st = st} f = record { least = omega (arith, f .validators); same = f .credentials ∙ sym (f .validators); front = take-all n (st .compounding) (omega (arith, f .credentials)) }
+
+pub any : {A : Type 0} (xs : List A) → all (λ x. true) xs ≡ true
+unfolding all
+any [] = refl
+any (x ∷ xs) = any xs
 
 module _ (r : ElectraRules) (n : ℕ) (cs : List ℕ) where
   applied : (reg : Registry) (d : PendingDeposit) → Least n cs reg → (after : Registry) → «apply_pending_deposit» r reg d ≡ value after → Least n cs after
@@ -71,11 +81,6 @@ module _ (r : ElectraRules) (n : ℕ) (cs : List ℕ) where
           on : (t : Bool) → cond t (value (limitReached p)) (bind m (λ applied. value (movedOn applied processed (p .«deposits_to_postpone») p))) ≡ value after → Going n cs after
           on true e = by (h .registry) (value-same e)
           on false e = put processed m g e
-
-  any : (ds : List PendingDeposit) → all (λ d. true) ds ≡ true
-  unfolding all
-  any [] = refl
-  any (d ∷ ds) = any ds
 
   -- of what the sixth step leaves
   pub left-over : (st : ElectraState) → Least n cs (registryOf st) → (x : Six) → sixBy r st ≡ value x → Least n cs (x .processing .registry)

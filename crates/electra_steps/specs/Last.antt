@@ -2,6 +2,7 @@
 use mathlib.Core.List.{List, _++_}
 use Prim.Native.Nat.{ℕ}
 use lib.ListN.{take, drop}
+use Rattle.definitions.specs.declared.Settings.{Settings}
 use Rattle.definitions.specs.Record.{Validator}
 use Rattle.definitions.specs.Checked.{Checked, value, bind, add64}
 use Rattle.definitions.specs.Rules.{inPlace}
@@ -55,6 +56,10 @@ abbrev pub afterEight : ElectraState → Eight → ElectraState
 afterEight st y =
     withConsolidations (y .balanced ++ y .added) (drop (y .moved .«next_pending_consolidation») (st .«pending_consolidations»)) st
 
+-- the settings with the pair in place
+abbrev pub under : ElectraRules → Settings
+under r = inPlace (r .bellatrix) (r .settings)
+
 -- the ninth and the tenth, which cannot refuse
 abbrev pub afterTen : ElectraRules → ElectraState → ElectraState
 afterTen r st =
@@ -62,7 +67,7 @@ afterTen r st =
     (record {
       finality = st .altair .finality;
       validators = «process_participation_flag_updates» (st .altair .validators);
-      slashings = resetSlashings (inPlace (r .bellatrix) (r .settings)) (st .altair .finality .slot) (st .altair .slashings);
+      slashings = resetSlashings (under r) (st .altair .finality .slot) (st .altair .slashings);
       «block_roots» = st .altair .«block_roots»;
     })
     st

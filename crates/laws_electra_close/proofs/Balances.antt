@@ -1,12 +1,13 @@
 -- Effective balances and flags of a registry in two parts: those of the opening, and those whom the deposits have added.
 use mathlib.Core.Path.{_≡_, refl, sym, ap, ap₂, _∙_}
 use mathlib.Core.List.{List, [], _∷_, _++_, map}
-use Prim.Native.Nat.{ℕ, suc, _+_, _-_}
+use Prim.Native.Nat.{ℕ, zero, suc, _+_, _-_, _<_}
 use native.Mathlib.Omega.{arith}
-use lib.ListN.{length}
+use lib.ListN.{length, getD}
 use Rattle.definitions.specs.Record.{Validator}
 use Rattle.definitions.specs.Checked.{Checked, value, refused, bind}
 use Rattle.definitions.specs.Rust.Altair.EpochProcessing.{«process_participation_flag_updates»}
+use Rattle.laws_close.specs.Nine.{balanceAt}
 use Rattle.definitions_electra.specs.declared.ElectraRules.{ElectraRules}
 use Rattle.definitions_electra.specs.Evaluated.Electra.EpochProcessing.{updateEffectiveBalance, updateEffectiveBalances}
 use Rattle.definitions_electra_close.specs.Amounts.{depositAmounts}
@@ -40,3 +41,12 @@ deposited-split [] [] ws e = refl
 deposited-split (v ∷ vs) [] ws e = absurd (omega (arith, e))
 deposited-split [] (u ∷ us) ws e = absurd (omega (arith, e))
 deposited-split (v ∷ vs) (u ∷ us) ws e = ap₂ _∷_ refl (deposited-split vs us ws (omega (arith, e)))
+
+-- what was added to the balance; of a new validator all of it
+pub deposited-at : (vs ws : List Validator) (i : ℕ) → i < length ws → getD (depositAmounts vs ws) i 0 ≡ balanceAt ws i - balanceAt vs i
+unfolding depositAmounts
+deposited-at vs [] i l = absurd (omega arith)
+deposited-at [] (w ∷ ws) zero l = omega arith
+deposited-at [] (w ∷ ws) (suc i) l = deposited-at [] ws i (omega arith)
+deposited-at (v ∷ vs) (w ∷ ws) zero l = refl
+deposited-at (v ∷ vs) (w ∷ ws) (suc i) l = deposited-at vs ws i (omega arith)

@@ -19,12 +19,13 @@ use Rattle.definitions_electra.specs.Record.{PendingConsolidation, ElectraState
 use Rattle.definitions_electra.specs.Evaluated.Electra.EpochProcessing.{electraStep}
 use Rattle.definitions_electra_close.specs.Amounts.{rewardAmounts, depositAmounts, twelve, rows, electraAmounts}
 use Rattle.theorems_electra_close.specs.Accounted.{rowOf, depositedIn, outIn, intoIn, Exactly, Modulo, AsSummed, Accounted, EveryClose, OnMainnet}
-use Rattle.theorems_electra_close.proofs.Lists.{front-at, zeros, any-default, beyond}
-use Rattle.theorems_electra_close.proofs.Registry.{Left, left-then, effectives, Steady, steady-then, registry-steady}
-use Rattle.theorems_electra_close.proofs.Slashings.{Slashed, slashed}
+use Rattle.laws_electra_close.proofs.Lists.{zeros, any-default, beyond, eight-all}
+use Rattle.theorems_electra_close.proofs.Lists.{front-at}
+use Rattle.laws_electra_close.proofs.Registry.{Left, left-then, effectives, Steady, steady-then, registry-steady}
+use Rattle.laws_electra_close.proofs.Slashings.{Slashed, slashed}
 use Rattle.theorems_electra_close.proofs.Deposits.{Deposited, deposited, deposit-at}
 use Rattle.theorems_electra_close.proofs.Effective.{effective-left}
-use Rattle.theorems_electra_close.proofs.Rows.{rows-long, row-at, eight-all}
+use Rattle.theorems_electra_close.proofs.Rows.{rows-long, row-at}
 use Rattle.theorems_electra_close.proofs.Steps.{Ten, ten, two, four, five, six, Paid, paid, justification-steady, inactivity-steady, reset-left, rotation-left, Merged, merged}
 
 -- Twelve numbers of one validator

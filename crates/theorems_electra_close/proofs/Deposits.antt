@@ -20,7 +20,8 @@ use Rattle.definitions_electra.specs.Document.Electra.Helpers.{«has_compoundin
 use Rattle.definitions_electra.specs.Document.Electra.EpochProcessing.{«get_validator_from_deposit», «add_validator_to_registry», isKnown, placeIn, putValidator, Processing, started, Queueing, isWithdrawn, isExited, movedOn, limitReached, depositsStop}
 use Rattle.definitions_electra.specs.Evaluated.Electra.EpochProcessing.{«apply_pending_deposit», processDeposit, queueing, leftToConsume, «process_pending_deposits»}
 use Rattle.definitions_electra_close.specs.Amounts.{depositAmounts}
-use Rattle.theorems_electra_close.proofs.Lists.{set-keeps, front-at}
+use Rattle.laws_electra_close.proofs.Lists.{set-keeps}
+use Rattle.theorems_electra_close.proofs.Lists.{front-at}
 use Rattle.theorems_electra_close.proofs.Moves.{Below, effective-set}
 
 pub record Grown (r : ElectraRules) (a b : Registry) : Type 0 where

@@ -16,7 +16,7 @@ use Rattle.definitions_electra.specs.declared.ElectraRules.{ElectraRules}
 use Rattle.definitions_electra.specs.Record.{ElectraState, withVs}
 use Rattle.definitions_electra.specs.Document.Electra.Helpers.{«get_max_effective_balance»}
 use Rattle.definitions_electra.specs.Evaluated.Electra.EpochProcessing.{updateEffectiveBalance, updateEffectiveBalances, «process_effective_balance_updates»}
-use Rattle.theorems_electra_close.proofs.Registry.{Left, left-same, left-then}
+use Rattle.laws_electra_close.proofs.Registry.{Left, left-same, left-then}
 
 same-balance : (r : ElectraRules) (compounding : ℕ) (v : Validator) {w : Validator} → updateEffectiveBalance r compounding v ≡ value w → w .balance ≡ v .balance
 unfolding updateEffectiveBalance

@@ -1,7 +1,5 @@
 mod Lists
 mod Moves
-mod Registry
-mod Slashings
 mod Deposits
 mod Effective
 mod Rows

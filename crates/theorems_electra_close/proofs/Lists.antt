@@ -2,11 +2,11 @@
 use mathlib.Core.Path.{_≡_, refl, sym, ap, _∙_}
 use mathlib.Core.Bool.{Bool, true, false, cond}
 use mathlib.Core.List.{List, [], _∷_, _++_}
-use Prim.Native.Nat.{ℕ, zero, suc, _+_, _%_, _^_, _≤_, _<_}
+use Prim.Native.Nat.{ℕ, zero, suc, _+_, _%_, _^_, _<_}
 use native.Mathlib.Omega.{arith}
 use borrow.Author.Tests.{eqb-true, eqb-false}
 use lib.Dec.{eqb}
-use lib.ListN.{length, getD, set, replicate}
+use lib.ListN.{length, getD, set}
 use lib.Seq.{getD-set-same, getD-set-other}
 use Rattle.definitions_electra_close.specs.Amounts.{addAt}
 use Rattle.theorems_electra_close.specs.Accounted.{plainAt}
@@ -18,14 +18,6 @@ set-at {A} d xs j x i l = go (eqb i j) refl
     go : (t : Bool) → eqb i j ≡ t → getD (set xs j x) i d ≡ cond t x (getD xs i d)
     go true e = let q = eqb-true i j e in rw q (getD-set-same xs j x d (rw q at l))
     go false e = getD-set-other xs j i x d (eqb-false i j e)
-
--- what the one put in the place keeps of the one that stood there, every place keeps
-pub set-keeps : {A : Type 0} (R : A → A → Type 0) → ((x : A) → R x x) → (d : A) (xs : List A) (j : ℕ) (y : A) → R (getD xs j d) y → (i : ℕ) → R (getD xs i d) (getD (set xs j y) i d)
-set-keeps R same d [] j y h i = same d
-set-keeps R same d (x ∷ xs) zero y h zero = h
-set-keeps R same d (x ∷ xs) zero y h (suc i) = same (getD xs i d)
-set-keeps R same d (x ∷ xs) (suc j) y h zero = same x
-set-keeps R same d (x ∷ xs) (suc j) y h (suc i) = set-keeps R same d xs j y h i
 
 pub front-at : {A : Type 0} (d : A) (xs ys : List A) (i : ℕ) → i < length xs → getD (xs ++ ys) i d ≡ getD xs i d
 front-at d [] ys i l = absurd (omega arith)
@@ -50,20 +42,3 @@ cut-at xs ys j x i l m h = set-at 0 xs j ((getD xs j 0 + x) % (2 ^ 64)) i l ∙ 
     go : (t : Bool) → eqb i j ≡ t → cond t ((getD xs j 0 + x) % (2 ^ 64)) (getD xs i 0) ≡ (getD ys i 0 + cond t x 0) % (2 ^ 64)
     go true e = let q = eqb-true i j e in let c = h i l in rw (← q) (omega (arith, c))
     go false e = let c = h i l in omega (arith, c)
-
-pub zeros : (n i : ℕ) → _≡_ {A = ℕ} (getD (replicate n 0) i 0) 0
-zeros zero i = refl
-zeros (suc n) zero = refl
-zeros (suc n) (suc i) = zeros n i
-
--- the default does not matter
-pub any-default : {A : Type 0} (xs : List A) (i : ℕ) (d e : A) → i < length xs → getD xs i d ≡ getD xs i e
-any-default [] i d e l = absurd (omega arith)
-any-default (x ∷ xs) zero d e l = refl
-any-default (x ∷ xs) (suc i) d e l = any-default xs i d e (omega arith)
-
--- nobody stands behind the end
-pub beyond : {A : Type 0} (xs : List A) (i : ℕ) (d : A) → length xs ≤ i → getD xs i d ≡ d
-beyond [] i d l = refl
-beyond (x ∷ xs) zero d l = absurd (omega arith)
-beyond (x ∷ xs) (suc i) d l = beyond xs i d (omega arith)

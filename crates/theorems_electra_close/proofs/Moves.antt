@@ -22,7 +22,8 @@ use Rattle.definitions_electra.specs.Document.Electra.EpochProcessing.{Consolid
 use Rattle.definitions_electra.specs.Evaluated.Electra.EpochProcessing.{consolidate, processConsolidation}
 use Rattle.definitions_electra_close.specs.Amounts.{Moved, addAt, moveConsolidation}
 use Rattle.theorems_electra_close.specs.Accounted.{plainAt, movePlainly}
-use Rattle.theorems_electra_close.proofs.Lists.{set-at, set-keeps, share, plain-at, cut-at}
+use Rattle.laws_electra_close.proofs.Lists.{set-keeps}
+use Rattle.theorems_electra_close.proofs.Lists.{set-at, share, plain-at, cut-at}
 
 abbrev movedBy : List Validator → PendingConsolidation → ℕ
 movedBy vs c = cond (isSlashed (getD vs (c .«source_index») nobody)) 0 (consolidatedBalance (getD vs (c .«source_index») nobody))

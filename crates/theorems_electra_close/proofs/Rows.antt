@@ -1,9 +1,9 @@
 -- Rows of twelve in the whole list.
 use mathlib.Core.Path.{_≡_, refl, sym, ap, _∙_}
-use mathlib.Core.List.{List, [], _∷_, _++_}
+use mathlib.Core.List.{List, _++_}
 use Prim.Native.Nat.{ℕ, zero, suc, _+_, _*_, _<_}
 use native.Mathlib.Omega.{arith}
-use lib.ListN.{length, getD, take, drop, replicate, length-append}
+use lib.ListN.{length, take, drop, length-append}
 use lib.Seq.{take-append-seam, drop-append-seam, drop-drop}
 use Rattle.definitions.specs.Lists.{range}
 use Rattle.definitions_electra_close.specs.Amounts.{rows}
@@ -27,9 +27,3 @@ module _ (row : ℕ → List ℕ) (each : (i : ℕ) → length (row i) ≡ 12) w
       let e : 12 * suc i ≡ 12 + 12 * i = omega arith in
       let f : suc k + i ≡ k + suc i = omega arith in
       ap (λ (m : ℕ). take 12 (drop m xs)) e ∙ ap (take 12) (sym (drop-drop (12 * i) 12 xs)) ∙ ap (λ (ys : List ℕ). take 12 (drop (12 * i) ys)) first ∙ row-at (suc k) n i (omega arith) ∙ ap row f
-
--- eight numbers each, and zeros behind them
-pub eight-all : (es : List (List ℕ)) → ((i : ℕ) → i < length es → length (getD es i []) ≡ 8) → (i : ℕ) → length (getD es i (replicate 8 0)) ≡ 8
-eight-all [] h i = refl
-eight-all (e ∷ es) h zero = h 0 (omega arith)
-eight-all (e ∷ es) h (suc i) = eight-all es (λ j l. h (suc j) (omega arith)) i

@@ -23,9 +23,9 @@ use Rattle.definitions_electra.specs.Document.Electra.EpochProcessing.{currentE
 use Rattle.definitions_electra.specs.Evaluated.Electra.EpochProcessing.{processConsolidation, «process_pending_consolidations», kept, registryUpdates, slashings, pendingDeposits, pendingConsolidations, effectiveBalances, electraStep, closeUpTo, «process_epoch»}
 use Rattle.definitions_electra_close.specs.Amounts.{consolidationAmounts}
 use Rattle.theorems_electra_close.specs.Accounted.{plainMoves}
-use Rattle.theorems_electra_close.proofs.Lists.{zeros}
+use Rattle.laws_electra_close.proofs.Lists.{zeros}
 use Rattle.theorems_electra_close.proofs.Moves.{Sums, Looped, looped}
-use Rattle.theorems_electra_close.proofs.Registry.{Left, left-same, left-then, effectives, Steady, steady-same, steady-then}
+use Rattle.laws_electra_close.proofs.Registry.{Left, left-same, left-then, effectives, Steady, steady-same, steady-then}
 
 pub record Ten (r : ElectraRules) (st done : ElectraState) : Type 0 where
   pub justified : ElectraState

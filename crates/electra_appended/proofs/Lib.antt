@@ -1,0 +1,4 @@
+-- Laws of those added.
+mod Updated
+mod Six
+mod Appended

@@ -1,0 +1,2 @@
+-- What contracts of those added cite.
+pub mod Appended

@@ -1,0 +1,3 @@
+-- What contracts of the close under Electra cite.
+pub mod Finish
+pub mod Steps

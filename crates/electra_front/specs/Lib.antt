@@ -1,0 +1,3 @@
+-- What contracts of the steps on the opening's validators cite.
+pub mod Later
+pub mod Front

@@ -1,0 +1,3 @@
+-- Laws of the end of a close.
+pub mod Epochs
+mod Written

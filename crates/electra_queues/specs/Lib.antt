@@ -1,0 +1,2 @@
+-- What contracts of the end of a close cite.
+pub mod Queues

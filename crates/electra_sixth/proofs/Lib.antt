@@ -1,0 +1,3 @@
+-- Laws of the sixth step.
+mod Named
+mod InFront

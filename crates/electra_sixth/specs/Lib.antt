@@ -1,0 +1,3 @@
+-- What the contract of the sixth step cites.
+pub mod Sixth
+pub mod Named

@@ -1,0 +1,4 @@
+-- The amounts are the text's.
+pub mod Between
+pub mod Moves
+pub mod Amounts

@@ -1,0 +1,1 @@
+// The twelve amounts of a close under Electra by its parts: specs/. That they are the text's: proofs/.
