@@ -93,7 +93,7 @@ stage: all $(PROGRAMS)/try_outage
 	$(fill) packaging/README.md >$(stage)/share/doc/altair/README.md
 	for file in CHANGELOG.md docs/RECORD_FILE.md docs/POOLS.md; do $(installed) $$file >$(stage)/share/doc/altair/$${file##*/} || exit; done
 	install -m 644 -t $(stage)/share/doc/altair LICENSE.md NOTICE
-	install -m 644 -t $(stage)/share/doc/altair/samples samples/example.json samples/*.txt
+	install -m 644 -t $(stage)/share/doc/altair/samples samples/example.json samples/electra.json samples/*.txt
 	cp -R bindings/rust/Cargo.lock bindings/rust/build.rs bindings/rust/src bindings/rust/examples $(stage)/share/altair/rust
 	sed 's#\.\./\.\./LICENSE#../../doc/altair/LICENSE#' bindings/rust/Cargo.toml >$(stage)/share/altair/rust/Cargo.toml
 	$(installed) -i $(stage)/share/altair/rust/examples/*.rs

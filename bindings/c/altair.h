@@ -153,6 +153,17 @@ enum altair_mark {
     ALTAIR_BOTH_UNKNOWN = 3
 };
 
+/* What an Electra close books of a validator is twelve numbers of its amounts; validator i has those from
+ * ELECTRA_AMOUNTS_LENGTH * i on: the nine of enum altair_amount, what deposits added, and what consolidations took to
+ * another and brought from another. Opening balance, 0 of one that a deposit made, plus rewards, deposited and
+ * consolidated_in less what was taken and consolidated_out is the closing balance. */
+enum altair_electra_amount {
+    ALTAIR_DEPOSITED = 9,
+    ALTAIR_CONSOLIDATED_OUT = 10,
+    ALTAIR_CONSOLIDATED_IN = 11,
+    ALTAIR_ELECTRA_AMOUNTS_LENGTH = 12
+};
+
 /* A deposit of the queue is five numbers: its key, 1 where its credentials begin with 0x02, its amount in Gwei, its
  * slot, and 1 where its signature is valid. Deposit i has those from DEPOSIT_LENGTH * i on. */
 enum altair_deposit {
@@ -494,6 +505,22 @@ typedef struct altair_consolidations_answer {
     uint64_t refusal;
     uint64_t consolidations;
 } altair_consolidations_answer;
+
+/* The finality after the close, which totals were raised, and which of the four finality tests, 1 to 4 in their
+ * order, last set the finalized checkpoint, or 0; how many validators there are, how many deposits and consolidations
+ * are left, what the next close may process of deposits more, in Gwei, and the two numbers of the exit queue. Beside
+ * a refusal they are the opening's, none raised and test 0. */
+typedef struct altair_electra_answer {
+    uint64_t refusal;
+    altair_finality finality;
+    altair_raised raised;
+    uint64_t test;
+    uint64_t validators;
+    uint64_t deposits;
+    uint64_t consolidations;
+    uint64_t deposit_balance_to_consume;
+    altair_exit_churn churn;
+} altair_electra_answer;
 
 /* The number of the interface of the library that was linked: ALTAIR_VERSION of its header. It refuses nothing. */
 uint64_t altair_version(void);
@@ -872,6 +899,32 @@ altair_full_answer deneb_close(altair_deneb_rules rules, altair_finality finalit
                                uint64_t *closing_slashings, size_t closing_slashings_length, uint64_t *amounts,
                                size_t amounts_length);
 
+/* -- Electra's close --------------------------------------------------------------------------------------------- */
+
+/* Closes an epoch of Electra or Fulu: the closed record's finality, which totals were raised and which test
+ * finalized, how many validators there are then, how many deposits and consolidations are left, and the queues' three
+ * numbers. compounding, deposits, consolidations and places are those of electra_process_pending_deposits and
+ * electra_process_pending_consolidations. Closing buffers hold the closed record and amounts what each rule gave and
+ * took, twelve numbers a validator (enum altair_electra_amount), at their front; what stands behind it stays. A
+ * deposit that is left has its five numbers, its key in the opening's numbering; validators that deposits made stand
+ * behind those of the opening, in the order of their first valid deposits. Lengths: closing_registry 10 * (N + D),
+ * closing_compounding N + D, amounts 12 * (N + D). Refused with 1, 2, 3, 4 or 5. After 1, 2 and 3 all buffers hold
+ * what they held; after 4 and 5 closing buffers hold the opening's numbers at their front and amounts 12 * N zeros,
+ * and behind them what they held. places may hold anything. Beside a refusal the answer has what was handed in: the
+ * finality, the counts and the queues' numbers. */
+altair_electra_answer electra_close(altair_electra_rules rules, altair_finality finality, altair_exit_churn churn,
+                                    altair_deposit_numbers numbers, const uint64_t *registry, size_t registry_length,
+                                    const uint64_t *compounding, size_t compounding_length, const uint64_t *slashings,
+                                    size_t slashings_length, const uint8_t *roots, size_t roots_length,
+                                    const uint64_t *deposits, size_t deposits_length, const uint64_t *consolidations,
+                                    size_t consolidations_length, uint64_t *closing_registry,
+                                    size_t closing_registry_length, uint64_t *closing_compounding,
+                                    size_t closing_compounding_length, uint64_t *closing_slashings,
+                                    size_t closing_slashings_length, uint64_t *closing_deposits,
+                                    size_t closing_deposits_length, uint64_t *closing_consolidations,
+                                    size_t closing_consolidations_length, uint64_t *amounts, size_t amounts_length,
+                                    uint64_t *places, size_t places_length);
+
 /* -- Electra's steps --------------------------------------------------------------------------------------------- */
 
 /* closing holds the registry after one loop in register order: who is queued, who is ejected by balance, and who is
@@ -1062,6 +1115,22 @@ altair_full_answer altair_checked_deneb_close(altair_deneb_rules rules, altair_f
                                               size_t closing_registry_length, uint64_t *closing_slashings,
                                               size_t closing_slashings_length, uint64_t *amounts,
                                               size_t amounts_length);
+
+altair_electra_answer altair_checked_electra_close(altair_electra_rules rules, altair_finality finality,
+                                                   altair_exit_churn churn, altair_deposit_numbers numbers,
+                                                   const uint64_t *registry, size_t registry_length,
+                                                   const uint64_t *compounding, size_t compounding_length,
+                                                   const uint64_t *slashings, size_t slashings_length,
+                                                   const uint8_t *roots, size_t roots_length,
+                                                   const uint64_t *deposits, size_t deposits_length,
+                                                   const uint64_t *consolidations, size_t consolidations_length,
+                                                   uint64_t *closing_registry, size_t closing_registry_length,
+                                                   uint64_t *closing_compounding, size_t closing_compounding_length,
+                                                   uint64_t *closing_slashings, size_t closing_slashings_length,
+                                                   uint64_t *closing_deposits, size_t closing_deposits_length,
+                                                   uint64_t *closing_consolidations,
+                                                   size_t closing_consolidations_length, uint64_t *amounts,
+                                                   size_t amounts_length, uint64_t *places, size_t places_length);
 
 altair_exit_churn_answer altair_checked_electra_process_registry_updates(altair_electra_rules rules,
                                                                          uint64_t state_slot,
@@ -1301,6 +1370,20 @@ altair_fault altair_why_deneb_close(altair_deneb_rules rules, altair_finality fi
                                     uint64_t *closing_registry, size_t closing_registry_length,
                                     uint64_t *closing_slashings, size_t closing_slashings_length, uint64_t *amounts,
                                     size_t amounts_length);
+
+altair_fault altair_why_electra_close(altair_electra_rules rules, altair_finality finality, altair_exit_churn churn,
+                                      altair_deposit_numbers numbers, const uint64_t *registry,
+                                      size_t registry_length, const uint64_t *compounding, size_t compounding_length,
+                                      const uint64_t *slashings, size_t slashings_length, const uint8_t *roots,
+                                      size_t roots_length, const uint64_t *deposits, size_t deposits_length,
+                                      const uint64_t *consolidations, size_t consolidations_length,
+                                      uint64_t *closing_registry, size_t closing_registry_length,
+                                      uint64_t *closing_compounding, size_t closing_compounding_length,
+                                      uint64_t *closing_slashings, size_t closing_slashings_length,
+                                      uint64_t *closing_deposits, size_t closing_deposits_length,
+                                      uint64_t *closing_consolidations, size_t closing_consolidations_length,
+                                      uint64_t *amounts, size_t amounts_length, uint64_t *places,
+                                      size_t places_length);
 
 altair_fault altair_why_electra_process_registry_updates(altair_electra_rules rules, uint64_t state_slot,
                                                          uint64_t finalized_epoch, altair_exit_churn churn,

@@ -55,6 +55,7 @@ _Static_assert(sizeof(altair_exit_churn_answer) == 24, "altair_exit_churn_answer
 _Static_assert(sizeof(altair_deposit_numbers) == 24, "altair_deposit_numbers");
 _Static_assert(sizeof(altair_deposits_answer) == 32, "altair_deposits_answer");
 _Static_assert(sizeof(altair_consolidations_answer) == 16, "altair_consolidations_answer");
+_Static_assert(sizeof(altair_electra_answer) == 224, "altair_electra_answer");
 
 altair_full_answer altair_checked_close(const uint64_t *store, size_t store_length, uint64_t count,
                                         altair_finality finality, altair_queue queue, const uint64_t *registry,
@@ -223,6 +224,33 @@ altair_full_answer altair_checked_deneb_close(altair_deneb_rules rules, altair_f
     return deneb_close(rules, finality, queue, registry, registry_length, slashings, slashings_length, roots,
                        roots_length, closing_registry, closing_registry_length, closing_slashings,
                        closing_slashings_length, amounts, amounts_length);
+}
+
+altair_electra_answer altair_checked_electra_close(altair_electra_rules rules, altair_finality finality,
+                                                   altair_exit_churn churn, altair_deposit_numbers numbers,
+                                                   const uint64_t *registry, size_t registry_length,
+                                                   const uint64_t *compounding, size_t compounding_length,
+                                                   const uint64_t *slashings, size_t slashings_length,
+                                                   const uint8_t *roots, size_t roots_length,
+                                                   const uint64_t *deposits, size_t deposits_length,
+                                                   const uint64_t *consolidations, size_t consolidations_length,
+                                                   uint64_t *closing_registry, size_t closing_registry_length,
+                                                   uint64_t *closing_compounding, size_t closing_compounding_length,
+                                                   uint64_t *closing_slashings, size_t closing_slashings_length,
+                                                   uint64_t *closing_deposits, size_t closing_deposits_length,
+                                                   uint64_t *closing_consolidations,
+                                                   size_t closing_consolidations_length, uint64_t *amounts,
+                                                   size_t amounts_length, uint64_t *places, size_t places_length) {
+    if (!APART(READ(registry), READ(compounding), READ(slashings), READ(roots), READ(deposits), READ(consolidations),
+               WRITTEN(closing_registry), WRITTEN(closing_compounding), WRITTEN(closing_slashings),
+               WRITTEN(closing_deposits), WRITTEN(closing_consolidations), WRITTEN(amounts), WRITTEN(places)))
+        return (altair_electra_answer){.refusal = ALTAIR_BAD_SHAPE, .finality = finality, .validators = registry_length / 10, .deposits = deposits_length / 5, .consolidations = consolidations_length / 2, .deposit_balance_to_consume = numbers.deposit_balance_to_consume, .churn = churn};
+    return electra_close(rules, finality, churn, numbers, registry, registry_length, compounding, compounding_length,
+                         slashings, slashings_length, roots, roots_length, deposits, deposits_length, consolidations,
+                         consolidations_length, closing_registry, closing_registry_length, closing_compounding,
+                         closing_compounding_length, closing_slashings, closing_slashings_length, closing_deposits,
+                         closing_deposits_length, closing_consolidations, closing_consolidations_length, amounts,
+                         amounts_length, places, places_length);
 }
 
 altair_exit_churn_answer altair_checked_electra_process_registry_updates(altair_electra_rules rules,
@@ -995,6 +1023,62 @@ altair_fault altair_why_deneb_close(altair_deneb_rules rules, altair_finality fi
           "as many numbers as slashings has");
     FAULT(amounts_length != 9 * (registry_length / 10), "amounts", 9 * (registry_length / 10),
           "nine numbers a validator");
+    return fine;
+}
+
+altair_fault altair_why_electra_close(altair_electra_rules rules, altair_finality finality, altair_exit_churn churn,
+                                      altair_deposit_numbers numbers, const uint64_t *registry,
+                                      size_t registry_length, const uint64_t *compounding, size_t compounding_length,
+                                      const uint64_t *slashings, size_t slashings_length, const uint8_t *roots,
+                                      size_t roots_length, const uint64_t *deposits, size_t deposits_length,
+                                      const uint64_t *consolidations, size_t consolidations_length,
+                                      uint64_t *closing_registry, size_t closing_registry_length,
+                                      uint64_t *closing_compounding, size_t closing_compounding_length,
+                                      uint64_t *closing_slashings, size_t closing_slashings_length,
+                                      uint64_t *closing_deposits, size_t closing_deposits_length,
+                                      uint64_t *closing_consolidations, size_t closing_consolidations_length,
+                                      uint64_t *amounts, size_t amounts_length, uint64_t *places,
+                                      size_t places_length) {
+    (void)finality; (void)churn; (void)numbers; (void)registry; (void)compounding; (void)slashings; (void)roots;
+    (void)closing_registry; (void)closing_compounding; (void)closing_slashings; (void)closing_deposits;
+    (void)closing_consolidations; (void)amounts; (void)places;
+    FAULT(!VECTOR(rules.settings.slots_per_historical_root), "rules", ALTAIR_LONGEST_VECTOR,
+          "slots_per_historical_root from 1 to 65536");
+    FAULT(!VECTOR(rules.settings.epochs_per_slashings_vector), "rules", ALTAIR_LONGEST_VECTOR,
+          "epochs_per_slashings_vector from 1 to 65536");
+    FAULT(registry_length % 10 != 0, "registry", registry_length / 10 * 10, "ten numbers a validator");
+    FAULT(registry_length / 10 > ALTAIR_MOST_VALIDATORS, "registry", 10 * ALTAIR_MOST_VALIDATORS,
+          "ten numbers a validator, of at most 2^24");
+    FAULT(compounding_length != (registry_length / 10), "compounding", (registry_length / 10),
+          "a number a validator");
+    FAULT(slashings_length != rules.settings.epochs_per_slashings_vector, "slashings",
+          rules.settings.epochs_per_slashings_vector, "as many numbers as epochs_per_slashings_vector");
+    FAULT(roots_length != 32 * rules.settings.slots_per_historical_root, "roots",
+          32 * rules.settings.slots_per_historical_root, "32 bytes a root, as many as slots_per_historical_root");
+    FAULT(deposits_length % 5 != 0, "deposits", deposits_length / 5 * 5, "five numbers a deposit");
+    FAULT((deposits_length / 5) > ALTAIR_MOST_VALIDATORS, "deposits", 5 * ALTAIR_MOST_VALIDATORS,
+          "five numbers a deposit, of at most 2^24");
+    FAULT(REACHES(deposits, 5, 0, (registry_length / 10) + (deposits_length / 5)), "deposits",
+          (registry_length / 10) + (deposits_length / 5), "keys below the number of validators and deposits");
+    FAULT(consolidations_length % 2 != 0, "consolidations", consolidations_length / 2 * 2,
+          "two numbers a consolidation");
+    FAULT((consolidations_length / 2) > ALTAIR_MOST_VALIDATORS, "consolidations", 2 * ALTAIR_MOST_VALIDATORS,
+          "two numbers a consolidation, of at most 2^24");
+    FAULT(REACHES(consolidations, 1, 0, (registry_length / 10)), "consolidations", (registry_length / 10),
+          "validators' numbers, below the number of validators");
+    FAULT(closing_registry_length != 10 * ((registry_length / 10) + (deposits_length / 5)), "closing_registry",
+          10 * ((registry_length / 10) + (deposits_length / 5)), "ten numbers a validator and a deposit");
+    FAULT(closing_compounding_length != (registry_length / 10) + (deposits_length / 5), "closing_compounding",
+          (registry_length / 10) + (deposits_length / 5), "a number a validator and a deposit");
+    FAULT(closing_slashings_length != slashings_length, "closing_slashings", slashings_length,
+          "as many numbers as slashings has");
+    FAULT(closing_deposits_length != deposits_length, "closing_deposits", deposits_length,
+          "as many numbers as deposits has");
+    FAULT(closing_consolidations_length != consolidations_length, "closing_consolidations", consolidations_length,
+          "as many numbers as consolidations has");
+    FAULT(amounts_length != 12 * ((registry_length / 10) + (deposits_length / 5)), "amounts",
+          12 * ((registry_length / 10) + (deposits_length / 5)), "twelve numbers a validator and a deposit");
+    FAULT(places_length != (deposits_length / 5), "places", (deposits_length / 5), "a number a deposit");
     return fine;
 }
 

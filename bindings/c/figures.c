@@ -714,6 +714,42 @@ static void electra(void) {
     SAME(closing[ALTAIR_EFFECTIVE_BALANCE], 64 * ETH), SAME(closing[10 + ALTAIR_EFFECTIVE_BALANCE], 32 * ETH);
 }
 
+/* Electra's close: a top-up, a new key, a deposit of one that leaves now, and a consolidation */
+static void electra_whole(void) {
+    const altair_electra_rules rules = {ALTAIR_MAINNET, ALTAIR_MAINNET_BELLATRIX, ALTAIR_MAINNET_ELECTRA};
+    enum { DEPOSITS = 3, ROOM = 5 + DEPOSITS };
+    uint64_t five[FIVE], closing[10 * ROOM], slashings[8192] = {0}, left[8192], compounding[5] = {1}, marks[ROOM];
+    static uint8_t roots[32 * 8192];
+    const uint64_t deposits[] = {3, 0, ETH, 0, 1, 5, 1, 33 * ETH + 1, 32, 1, 2, 0, 2 * ETH, 0, 1}, pair[] = {1, 0};
+    uint64_t rest[5 * DEPOSITS], pairs[2], amounts[ALTAIR_ELECTRA_AMOUNTS_LENGTH * ROOM], places[DEPOSITS];
+    fill(five, 5);
+    five[10 + ALTAIR_EXIT_EPOCH] = 2, five[10 + ALTAIR_WITHDRAWABLE_EPOCH] = 4, five[10 + ALTAIR_BALANCE] = 31 * ETH;
+    five[20 + ALTAIR_EFFECTIVE_BALANCE] = five[20 + ALTAIR_BALANCE] = 16 * ETH;
+    const altair_finality finality = {.slot = 127, .finalized_checkpoint = {.epoch = 1}};
+#define WHOLE(registry_length)                                                                                                    \
+    electra_close(rules, finality, (altair_exit_churn){0, 0}, (altair_deposit_numbers){0, 6, 6}, five, registry_length, compounding, 5, slashings, \
+                  8192, roots, sizeof roots, deposits, 5 * DEPOSITS, pair, 2, closing, 10 * ROOM, marks, ROOM, left, 8192, rest,  \
+                  5 * DEPOSITS, pairs, 2, amounts, ALTAIR_ELECTRA_AMOUNTS_LENGTH * ROOM, places, DEPOSITS)
+    const altair_electra_answer closed = WHOLE(FIVE);
+    SAME(closed.refusal, 0), SAME(closed.validators, 6), SAME(closed.deposits, 1), SAME(closed.consolidations, 0);
+    SAME(closed.churn.exit_balance_to_consume, 112 * ETH), SAME(closed.churn.earliest_exit_epoch, 8);
+    SAME(closed.deposit_balance_to_consume, 0), SAME(closed.raised.active, 0);
+    SAME(rest[ALTAIR_DEPOSIT_PUBKEY], 2), SAME(rest[ALTAIR_DEPOSIT_AMOUNT], 2 * ETH), SAME(marks[0], 1), SAME(marks[5], 1);
+    SAME(closing[20 + ALTAIR_EXIT_EPOCH], 8), SAME(closing[50 + ALTAIR_EFFECTIVE_BALANCE], 33 * ETH);
+    SAME(closing[ALTAIR_EFFECTIVE_BALANCE], 63 * ETH), SAME(closing[10 + ALTAIR_BALANCE], 0);
+    for (size_t i = 0; i < 6; i++) {
+        const uint64_t *a = amounts + ALTAIR_ELECTRA_AMOUNTS_LENGTH * i;
+        uint64_t balance = i < 5 ? five[10 * i + ALTAIR_BALANCE] : 0;
+        balance += a[0] - a[1] + a[2] - a[3] + a[4] - a[5] + a[6] - a[7] - a[ALTAIR_SLASHING_TAKEN];
+        SAME(balance + a[ALTAIR_DEPOSITED] - a[ALTAIR_CONSOLIDATED_OUT] + a[ALTAIR_CONSOLIDATED_IN], closing[10 * i + ALTAIR_BALANCE]);
+    }
+    SAME(amounts[12 * 3 + ALTAIR_DEPOSITED], ETH), SAME(amounts[12 * 5 + ALTAIR_DEPOSITED], 33 * ETH + 1);
+    SAME(amounts[12 + ALTAIR_CONSOLIDATED_OUT], 31 * ETH), SAME(amounts[ALTAIR_CONSOLIDATED_IN], 31 * ETH);
+    const altair_electra_answer refused = WHOLE(FIVE - 1);
+    SAME(refused.refusal, 1), SAME(refused.validators, 4), SAME(refused.deposits, DEPOSITS), SAME(refused.finality.slot, 127);
+#undef WHOLE
+}
+
 /* five that wait, by their eligibility epochs: the last of them has four ahead, and a churn limit of 4 lets it in at the second close */
 static void waiting(void) {
     uint64_t five[FIVE];
@@ -742,6 +778,7 @@ int main(void) {
     net_changes();
     deneb();
     electra();
+    electra_whole();
     waiting();
     in_c();
     printf("%d figures agreed, %d did not\n", agreed, parted);

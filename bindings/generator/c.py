@@ -67,6 +67,12 @@ def places(enum):
         yield enum.get("prefix") + name, int(said) if said else place
 
 
+def struct_fields(interface, enum):
+    """The fields of the struct that an enumeration is the places of: of the one that it stands behind, and its own but the length."""
+    other = next((e for e in interface.enums if e.title == enum.get("behind")), None)
+    return [*(struct_fields(interface, other) if other else []), *[name.lower() for name, _ in places(enum)][:-1]]
+
+
 def refusal_comment(interface):
     text = ["/* " + interface.preamble.lines("text")[0]]
     text += [(" * " + line).rstrip() for line in interface.preamble.lines("text")[1:]]

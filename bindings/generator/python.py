@@ -4,7 +4,7 @@ import json
 import re
 import textwrap
 
-from .c import filled, places
+from .c import filled, places, struct_fields
 from .read import promise, stop
 
 WIDTH = 132
@@ -78,7 +78,7 @@ def words(interface):
         text = textwrap.wrap("# " + plain(enum.get("text")), WIDTH, subsequent_indent="# ")
         parts.append("\n".join([*text, *(f"{name} = {n}" for name, n in places(enum))]))
         if enum.get("struct"):
-            rows = [f"    {name.lower()}: int" for name, _ in places(enum)][:-1]
+            rows = [f"    {name}: int" for name in struct_fields(interface, enum)]
             parts.append("\n" + "\n".join([f"class _{enum.get('struct')}(NamedTuple):", docstring(enum.get("text")), "", *rows]) + "\n")
     public = ["REFUSALS", *(constant.title for constant in interface.constants), *(name for enum in interface.enums for name, _ in places(enum))]
     for s in interface.used:
@@ -237,7 +237,8 @@ def calls(interface):
     for section, functions in interface.sections.items():
         table += [f"    # {section.title}"] if section else []
         table += [signature(interface, f) for f in functions]
-    tuples = sorted({given(s) for s in interface.used if is_tuple(s)} | {"Running", "Told", "Closed", "Queued", "Votes"})
+    gives = {f.entry.get("python gives") for f in interface.functions} - {""}
+    tuples = sorted({given(s) for s in interface.used if is_tuple(s)} | {"Running", "Told", *gives})
     parts = [f'"""The calls: the table of their signatures, and the functions. {WRITTEN}"""\n'
              "from typing import Any, Optional, Sequence, Tuple, Union\n\nfrom . import _lengths as lengths\n"
              "from ._arguments import (CHANGED_STORE, FLAGS, NUMBER, ROOT, SIGNED, STORE, TRUTH, Bytes, Changed, Kept, Numbers, Octets,\n"

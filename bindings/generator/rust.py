@@ -2,7 +2,7 @@
 import re
 import textwrap
 
-from .c import is_told, places
+from .c import is_told, places, struct_fields
 from .read import promise
 
 WIDTH = 120
@@ -132,7 +132,7 @@ def types(interface):
         else:
             parts += [f"/// How many numbers each has.\npub const {name}: usize = {n};" for name, n in places(enum) if name.endswith("LENGTH")]
         if enum.get("struct"):
-            rows = [f"    pub {name.lower()}: u64," for name, _ in places(enum)][:-1]
+            rows = [f"    pub {name}: u64," for name in struct_fields(interface, enum)]
             parts.append("\n".join([doc(enum.get("text")), "#[repr(C)]", "#[derive(Clone, Copy, Debug, Default, PartialEq, Eq)]",
                                     f"pub struct {enum.get('struct')} {{", *rows, "}"]))
     for s in interface.used:

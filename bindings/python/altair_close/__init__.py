@@ -15,11 +15,13 @@ with the number and, where that is 1, the argument and the length called for. Py
 # `X as X`: a type checker takes no other name as handed on
 from ._words import *
 from ._calls import *
-from ._close import close as close, deneb_close as deneb_close, listing_lines as listing_lines
+from ._close import close as close, deneb_close as deneb_close, electra_close as electra_close, listing_lines as listing_lines
 from ._desk import Desk as Desk, Ended as Ended, carry_out as carry_out, close_step as close_step, take_order as take_order
+from ._electra import ClosedElectraRecord as ClosedElectraRecord, ElectraRecord as ElectraRecord
 from ._record import ClosedRecord as ClosedRecord, Record as Record, read_file as read_file
 from ._refusals import Fault as Fault, Refused as Refused
 from ._shelf import close_files as close_files, close_shelf as close_shelf
 from ._store import add_rules as add_rules
-from ._types import PRESETS as PRESETS, Amounts as Amounts, Closed as Closed, Entry as Entry, Queued as Queued, Running as Running
+from ._types import PRESETS as PRESETS, Amounts as Amounts, Closed as Closed, ElectraAmounts as ElectraAmounts
+from ._types import ElectraClosed as ElectraClosed, Entry as Entry, Queued as Queued, Running as Running
 from ._types import Shelf as Shelf, Store as Store, Told as Told, Votes as Votes

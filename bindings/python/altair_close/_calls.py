@@ -6,9 +6,10 @@ from ._arguments import (CHANGED_STORE, FLAGS, NUMBER, ROOT, SIGNED, STORE, TRUT
                          as_long_as, struct_of)
 from ._lengths import longest, of
 from ._signatures import CODE, ITSELF, PROMISES, SIGNATURES, TOLD, Answer, Signature, buffers, call, pair_of
-from ._types import (Bellatrix, Checkpoint, Clock, Closed, Deltas, DenebRules, DepositNumbers, Deposited, Electra, ElectraRules,
-                     ExitChurn, ExitQueue, Finality, FullValues, Head, Header, Justified, Line, Queued, Raised, Read, Rules,
-                     Running, Settings, Told, Total, Votes, VotesValues, Wait, Buffer, BytesLike, NumbersLike, StoreLike)
+from ._types import (Bellatrix, Checkpoint, Clock, Closed, Deltas, DenebRules, DepositNumbers, Deposited, Electra, ElectraClosed,
+                     ElectraRules, ElectraValues, ExitChurn, ExitQueue, Finality, FullValues, Head, Header, Justified, Line, Queued,
+                     Raised, Read, Rules, Running, Settings, Told, Total, Votes, VotesValues, Wait, Buffer, BytesLike, NumbersLike,
+                     StoreLike)
 
 SIGNATURES.update({
     "version": Signature(ITSELF),
@@ -138,6 +139,18 @@ SIGNATURES.update({
                              closing_registry=Numbers(row=10, written=as_long_as("registry")),
                              closing_slashings=Numbers(written=as_long_as("slashings")),
                              amounts=Numbers(row=9, written=of(lambda N: 9 * N, ("registry", 10)))),
+    # Electra's close
+    "electra_close": Signature(Answer(struct_of(ElectraValues)), given=ElectraClosed.given, rules=struct_of(ElectraRules),
+                               finality=struct_of(Finality), churn=struct_of(ExitChurn), numbers=struct_of(DepositNumbers),
+                               registry=Numbers(row=10), compounding=Numbers(), slashings=Numbers(), roots=Bytes(row=32),
+                               deposits=Numbers(row=5), consolidations=Numbers(row=2),
+                               closing_registry=Numbers(row=10, written=of(lambda D, N: 10 * (N + D), ("deposits", 5), ("registry", 10)), blank=True),
+                               closing_compounding=Numbers(written=of(lambda D, N: N + D, ("deposits", 5), ("registry", 10)), blank=True),
+                               closing_slashings=Numbers(written=as_long_as("slashings")),
+                               closing_deposits=Numbers(row=5, written=as_long_as("deposits"), blank=True),
+                               closing_consolidations=Numbers(row=2, written=as_long_as("consolidations"), blank=True),
+                               amounts=Numbers(row=12, written=of(lambda D, N: 12 * (N + D), ("deposits", 5), ("registry", 10)), blank=True),
+                               places=Numbers(written=of(lambda D: D, ("deposits", 5)), scratch=True)),
     # Electra's steps
     "electra_process_registry_updates": Signature(
         Answer(struct_of(ExitChurn)), rules=struct_of(ElectraRules), state_slot=NUMBER, finalized_epoch=NUMBER,
@@ -227,6 +240,16 @@ PROMISES.update({
         "rules are those of the record's epoch. Refused with 1, 2, 3, 8, 4 or 5. After 1, 2, 3 or 8 closing_registry, "
         "closing_slashings and amounts are as they were, after 4 or 5 closing buffers hold the opening's numbers, and amounts "
         "zeros."),
+    "electra_close": ("Closes an epoch of Electra or Fulu: the closed record's finality, which totals were raised and which test finalized, how"
+        " many validators there are then, how many deposits and consolidations are left, and the queues' three numbers. "
+        "compounding, deposits, consolidations and places are those of electra_process_pending_deposits and "
+        "electra_process_pending_consolidations. Closing buffers hold the closed record and amounts what each rule gave and took,"
+        " twelve numbers a validator (enum electra_amount), at their front; what stands behind it stays. A deposit that is left "
+        "has its five numbers, its key in the opening's numbering; validators that deposits made stand behind those of the "
+        "opening, in the order of their first valid deposits. Refused with 1, 2, 3, 4 or 5. After 1, 2 and 3 all buffers hold "
+        "what they held; after 4 and 5 closing buffers hold the opening's numbers at their front and amounts 12 * N zeros, and "
+        "behind them what they held. places may hold anything. Beside a refusal the answer has what was handed in: the finality, "
+        "the counts and the queues' numbers."),
 })
 
 

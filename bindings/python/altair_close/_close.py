@@ -2,7 +2,8 @@
 from typing import Iterator, Optional, Sequence
 
 from ._signatures import SIGNATURES, buffers, call, function, lend, pair_of, promised, refused
-from ._types import VALIDATOR_LENGTH, Buffer, BytesLike, Closed, DenebRules, ExitQueue, Finality, Line, NumbersLike, StoreLike
+from ._types import (VALIDATOR_LENGTH, Buffer, BytesLike, Closed, DenebRules, DepositNumbers, ElectraClosed, ElectraRules, ExitChurn,
+                     ExitQueue, Finality, Line, NumbersLike, StoreLike)
 
 
 @promised
@@ -20,6 +21,17 @@ def deneb_close(rules: DenebRules, finality: Finality, queue: Optional[ExitQueue
     """It gives Closed. `queue` and `out` are as those of close."""
     lent = buffers(out, "registry", "slashings", "amounts")
     return call("deneb_close", rules, finality, pair_of(queue, registry), registry, slashings, roots, *lent).went_by(rules)
+
+
+@promised
+def electra_close(rules: ElectraRules, finality: Finality, churn: ExitChurn, numbers: DepositNumbers, registry: NumbersLike,
+                  compounding: NumbersLike, slashings: NumbersLike, roots: BytesLike, deposits: NumbersLike, consolidations: NumbersLike,
+                  *, out: Sequence[Optional[Buffer]] = (None,) * 6) -> ElectraClosed:
+    """It gives ElectraClosed. `out` is the six closing buffers; with D deposits the registry has room for N + D validators, as have
+    compounding and amounts, and the others are as long as the opening's. A list to work in is made."""
+    lent = buffers(out, "registry", "compounding", "slashings", "deposits", "consolidations", "amounts")
+    return call("electra_close", rules, finality, churn, numbers, registry, compounding, slashings, roots, deposits, consolidations,
+                *lent, None)
 
 
 def listing_lines(opening: NumbersLike, closing: NumbersLike) -> Iterator[Line]:

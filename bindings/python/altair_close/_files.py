@@ -10,6 +10,7 @@ import sys
 import tempfile
 from contextlib import contextmanager, suppress
 
+from . import _electra_file
 from ._errors import Bad
 from ._layout import LONGEST_FILE, SETTINGS_AT, VERSIONS, numbers
 
@@ -40,6 +41,11 @@ def read_record(name):
     return bytes(_begun(name, _record_length))
 
 
+def read_electra_record(name):
+    """The bytes of a record file with Electra's part behind it as far as they matter: of one that is longer than they say, one byte more."""
+    return bytes(_begun(name, lambda head: _record_length(head) + _electra_file.HEAD - 1, _electra_file.named_length))
+
+
 def read_record_or_text(name):
     """The bytes of a record file as far as they matter, or all of a text that begins with {; and whether it is a text."""
     begins = lambda data: data.lstrip()[:1]
@@ -48,16 +54,17 @@ def read_record_or_text(name):
     return bytes(_within(name, data, LONGEST_TEXT) if is_text else data), is_text
 
 
-def _begun(name, bound_of):
-    """The bytes of a file, and of one that is longer one more than `bound_of` says of the first 80."""
+def _begun(name, *bounds):
+    """The bytes of a file, and of one that is longer one more than the first bound says of the first 80, the next of what was then read."""
     with _opened(name) as (file, shown):
         data = bytearray(_some(file, SETTINGS_AT, shown))
-        bound = bound_of(data)
-        while len(data) <= bound:
-            piece = _some(file, min(PIECE, bound + 1 - len(data)), shown)
-            if not piece:
-                break
-            data += piece
+        for bound_of in bounds:
+            bound = bound_of(data)
+            while len(data) <= bound:
+                piece = _some(file, min(PIECE, bound + 1 - len(data)), shown)
+                if not piece:
+                    break
+                data += piece
     return data
 
 

@@ -5,14 +5,15 @@
   {0} check RECORD                                          whether the library reads a file, or why not
 
 '-' is standard input or output. A file is written in version 2, which carries the exit queue's pair, unless --version 1 is asked for;
-both are read. The text is JSON: `{0} show` shows one, and altair_close/text.py says what it holds. What is no record is refused
-with the field that is at fault; --unchecked also writes records that the library refuses.
+both are read. The text is JSON: `{0} show` shows one, and altair_close/text.py says what it holds. The file of a text with
+Electra's queues has them behind the record, for altair-close --fork electra. What is no record is refused with the field that is at
+fault; --unchecked also writes records that the library refuses.
 Exit status: 0; 1 where text or file is no record that the library takes; 2 where it could not be read or written."""
 import sys
 
-from . import _command, _layout, text
+from . import _command, _electra_file, _layout, text
 from ._errors import Stopped
-from ._files import read_record, read_text, write_whole
+from ._files import read_electra_record, read_text, write_whole
 
 
 def write(source, target, unchecked, version):
@@ -21,14 +22,14 @@ def write(source, target, unchecked, version):
 
 def refused(file):
     """Says why the library refuses the file, if it does."""
-    found = _layout.fault(file)
+    found = (_electra_file if _electra_file.is_electra(file) else _layout).fault(file)
     if found:
         _command.said("record", f"the library refuses this file under {found.refusal}, at byte {found.position}: {found.field}: {found.why}")
     return 1 if found else 0
 
 
 def show(source, target):
-    file = read_record(source)
+    file = read_electra_record(source)
     write_whole(target, (part.encode() for part in text.show(file)))
     return refused(file)
 
@@ -52,7 +53,7 @@ def chosen(words):
     works = {
         ("write", 2): lambda: write(*paths, unchecked, version),
         ("show", 2): lambda: show(*paths),
-        ("check", 1): lambda: refused(read_record(*paths)),
+        ("check", 1): lambda: refused(read_electra_record(*paths)),
     }
     return works.get((verb, len(paths)))
 

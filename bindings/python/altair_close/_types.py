@@ -3,7 +3,7 @@ from array import array
 from typing import Any, Iterator, NamedTuple, Sequence, Tuple, Union
 
 from ._words import *
-from ._words import FullValues, Read, VotesValues, _Amounts
+from ._words import ElectraValues, FullValues, Read, VotesValues, _Amounts, _ElectraAmounts
 
 PRESETS = {"mainnet": MAINNET, "minimal": MINIMAL}
 
@@ -21,7 +21,8 @@ def _call(name: str, *values: Any) -> Any:
 
 def flat(numbers: Any) -> memoryview:
     """A buffer's numbers in one row, or a list's or tuple's in a buffer of their own."""
-    return memoryview(array("Q", numbers) if isinstance(numbers, (list, tuple)) else numbers).cast("B").cast("Q")
+    view = memoryview(array("Q", numbers) if isinstance(numbers, (list, tuple)) else numbers)
+    return view.cast("B").cast("Q") if view.nbytes else memoryview(array("Q"))  # one of no rows cannot be cast
 
 
 def lent(name: str, numbers: Any, row: int) -> memoryview:
@@ -45,6 +46,16 @@ class Amounts(_Amounts):
     def net(self) -> int:
         """Closing minus opening balance."""
         return sum(self[:SLASHING_TAKEN:2]) - sum(self[1:SLASHING_TAKEN:2]) - self.slashing_taken
+
+
+class ElectraAmounts(_ElectraAmounts):
+    __doc__ = _ElectraAmounts.__doc__
+    __slots__ = ()
+
+    @property
+    def net(self) -> int:
+        """Closing minus opening balance."""
+        return Amounts(*self[:AMOUNTS_LENGTH]).net + self.deposited + self.consolidated_in - self.consolidated_out
 
 
 class Entry(NamedTuple):
@@ -172,6 +183,47 @@ class Closed(_Closed):
 
 def _closed_again(values: Any, by: Any) -> Closed:
     return Closed(*values).went_by(by)
+
+
+class _ElectraClosed(NamedTuple):
+    finality: Finality
+    churn: ExitChurn
+    deposit_balance_to_consume: int
+    registry: Any
+    compounding: Any
+    slashings: Any
+    deposits: Any
+    consolidations: Any
+    amounts: Any
+    raised: Raised
+    test: int
+
+
+class ElectraClosed(_ElectraClosed):
+    """A closed record of Electra or Fulu with its queues: the lists are memoryviews of 64-bit numbers, of each buffer the front that the
+    close has written. Validators that deposits made stand behind the others; amounts are twelve numbers a validator. A deposit's key is
+    in the opening's numbering. And which totals were raised, and which test finalized, as in Justified."""
+
+    @classmethod
+    def given(cls, values: ElectraValues, registry: Any, compounding: Any, slashings: Any, deposits: Any, consolidations: Any,
+              amounts: Any) -> "ElectraClosed":
+        def front(numbers: Any, count: int) -> memoryview:
+            return flat(numbers)[:count]
+
+        n = values.validators
+        return cls(values.finality, values.churn, values.deposit_balance_to_consume, front(registry, VALIDATOR_LENGTH * n),
+                   front(compounding, n), flat(slashings), front(deposits, DEPOSIT_LENGTH * values.deposits),
+                   front(consolidations, CONSOLIDATION_LENGTH * values.consolidations), front(amounts, ELECTRA_AMOUNTS_LENGTH * n),
+                   values.raised, values.test)
+
+    def booked(self) -> Iterator[ElectraAmounts]:
+        """The ElectraAmounts of every validator, in order."""
+        numbers = lent("amounts", self.amounts, ELECTRA_AMOUNTS_LENGTH)
+        return (ElectraAmounts(*numbers[at : at + ELECTRA_AMOUNTS_LENGTH]) for at in range(0, len(numbers), ELECTRA_AMOUNTS_LENGTH))
+
+    def __reduce__(self) -> Any:
+        finality, churn, left, *buffers, raised, test = self
+        return ElectraClosed, (finality, churn, left, *map(held, buffers), raised, test)
 
 
 class Running(NamedTuple):

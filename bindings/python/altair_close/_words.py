@@ -7,12 +7,12 @@ __all__ = ["REFUSALS", "VERSION", "FAR_FUTURE_EPOCH", "MOST_VALIDATORS", "LONGES
            "SOURCE_TAKEN", "TARGET_REWARD", "TARGET_TAKEN", "HEAD_REWARD", "HEAD_TAKEN", "INACTIVITY_REWARD", "INACTIVITY_TAKEN",
            "SLASHING_TAKEN", "AMOUNTS_LENGTH", "FORK_ALTAIR", "FORK_BELLATRIX", "ENTRY_START", "ENTRY_FORK", "ENTRY_SETTINGS",
            "ENTRY_BELLATRIX", "ENTRY_LENGTH", "PASSES_IN_NONE", "PASSES_IN_SOME", "PASSES_IN_ALL", "BOTH_KNOWN", "PREVIOUS_UNKNOWN",
-           "CURRENT_UNKNOWN", "BOTH_UNKNOWN", "DEPOSIT_PUBKEY", "DEPOSIT_COMPOUNDING", "DEPOSIT_AMOUNT", "DEPOSIT_SLOT",
-           "DEPOSIT_VALID", "DEPOSIT_LENGTH", "CONSOLIDATION_SOURCE", "CONSOLIDATION_TARGET", "CONSOLIDATION_LENGTH", "Settings",
-           "MAINNET", "MINIMAL", "Bellatrix", "MAINNET_BELLATRIX", "Rules", "Clock", "MAINNET_CLOCK", "Checkpoint", "Finality",
-           "ExitQueue", "Raised", "Justified", "Wait", "Total", "Deltas", "Header", "Head", "Line", "DenebRules", "MAINNET_DENEB",
-           "MINIMAL_DENEB", "Electra", "MAINNET_ELECTRA", "MINIMAL_ELECTRA", "ElectraRules", "ExitChurn", "DepositNumbers",
-           "Deposited"]
+           "CURRENT_UNKNOWN", "BOTH_UNKNOWN", "DEPOSITED", "CONSOLIDATED_OUT", "CONSOLIDATED_IN", "ELECTRA_AMOUNTS_LENGTH",
+           "DEPOSIT_PUBKEY", "DEPOSIT_COMPOUNDING", "DEPOSIT_AMOUNT", "DEPOSIT_SLOT", "DEPOSIT_VALID", "DEPOSIT_LENGTH",
+           "CONSOLIDATION_SOURCE", "CONSOLIDATION_TARGET", "CONSOLIDATION_LENGTH", "Settings", "MAINNET", "MINIMAL", "Bellatrix",
+           "MAINNET_BELLATRIX", "Rules", "Clock", "MAINNET_CLOCK", "Checkpoint", "Finality", "ExitQueue", "Raised", "Justified",
+           "Wait", "Total", "Deltas", "Header", "Head", "Line", "DenebRules", "MAINNET_DENEB", "MINIMAL_DENEB", "Electra",
+           "MAINNET_ELECTRA", "MINIMAL_ELECTRA", "ElectraRules", "ExitChurn", "DepositNumbers", "Deposited"]
 
 REFUSALS = {
     1: "a length, a vector's size or an index is not the one called for",
@@ -105,6 +105,36 @@ BOTH_KNOWN = 0
 PREVIOUS_UNKNOWN = 1
 CURRENT_UNKNOWN = 2
 BOTH_UNKNOWN = 3
+
+# What an Electra close books of a validator is twelve numbers of its amounts; validator i has those from ELECTRA_AMOUNTS_LENGTH * i
+# on: the nine of enum amount, what deposits added, and what consolidations took to another and brought from another. Opening
+# balance, 0 of one that a deposit made, plus rewards, deposited and consolidated_in less what was taken and consolidated_out is the
+# closing balance.
+DEPOSITED = 9
+CONSOLIDATED_OUT = 10
+CONSOLIDATED_IN = 11
+ELECTRA_AMOUNTS_LENGTH = 12
+
+
+class _ElectraAmounts(NamedTuple):
+    """What an Electra close books of a validator is twelve numbers of its amounts; validator i has those from
+    ELECTRA_AMOUNTS_LENGTH * i on: the nine of enum amount, what deposits added, and what consolidations took to another and brought
+    from another. Opening balance, 0 of one that a deposit made, plus rewards, deposited and consolidated_in less what was taken and
+    consolidated_out is the closing balance."""
+
+    source_reward: int
+    source_taken: int
+    target_reward: int
+    target_taken: int
+    head_reward: int
+    head_taken: int
+    inactivity_reward: int
+    inactivity_taken: int
+    slashing_taken: int
+    deposited: int
+    consolidated_out: int
+    consolidated_in: int
+
 
 # A deposit of the queue is five numbers: its key, 1 where its credentials begin with 0x02, its amount in Gwei, its slot, and 1
 # where its signature is valid. Deposit i has those from DEPOSIT_LENGTH * i on.
@@ -377,3 +407,19 @@ class Deposited(NamedTuple):
     deposit_balance_to_consume: int
     validators: int
     deposits: int
+
+
+class ElectraValues(NamedTuple):
+    """The finality after the close, which totals were raised, and which of the four finality tests, 1 to 4 in their order, last set
+    the finalized checkpoint, or 0; how many validators there are, how many deposits and consolidations are left, what the next
+    close may process of deposits more, in Gwei, and the two numbers of the exit queue. Beside a refusal they are the opening's,
+    none raised and test 0."""
+
+    finality: Finality
+    raised: Raised
+    test: int
+    validators: int
+    deposits: int
+    consolidations: int
+    deposit_balance_to_consume: int
+    churn: ExitChurn

@@ -3,18 +3,26 @@
 The text has the keys settings, slot, justification_bits, previous_justified_checkpoint, current_justified_checkpoint,
 finalized_checkpoint, exit_queue, validators, block_roots and slashings. Numbers are 0 to 2^64 - 1, "far" stands for 2^64 - 1, roots
 are 64 hexadecimal digits. `block_roots` and `slashings` may be left out, or hold fewer than the settings ask for: the rest is zeros.
-`exit_queue` has the keys last_epoch and number; where it is left out, it is that of the validators."""
+`exit_queue` has the keys last_epoch and number; where it is left out, it is that of the validators.
+
+The text of an Electra or Fulu record has besides deposit_balance_to_consume, exit_balance_to_consume, earliest_exit_epoch,
+eth1_deposit_index, deposit_requests_start_index, pending_deposits (each with pubkey, a number: the validator's whose key it is, or for a
+key that none has one from the number of validators on; compounding, amount, slot and valid) and pending_consolidations (source_index
+and target_index); each validator has compounding, and the settings Bellatrix's pair and Electra's five. Its file has Electra's part
+behind the record."""
 import json
 import re
 import struct
 
-from . import _layout
+from . import _electra_file, _layout
+from ._electra_file import CONSOLIDATION, DEPOSIT
 from ._errors import Bad
 from ._layout import CHECKPOINTS, VALIDATOR
 from ._types import FAR_FUTURE_EPOCH, VALIDATOR_LENGTH, ExitQueue, Settings
 
 NAMES = ("settings", "slot", "justification_bits", *CHECKPOINTS, "exit_queue", "validators", "block_roots", "slashings")
 MAY_MISS = ("exit_queue", "block_roots", "slashings")
+ELECTRA_NAMES = (*sorted(_electra_file.NUMBERS), "pending_deposits", "pending_consolidations")
 ROOT = re.compile("(?:0x)?([0-9a-fA-F]{64})")
 
 
@@ -92,14 +100,16 @@ def _list(value, item, most, where):
     return [item(each, f"{where}[{i}]") for i, each in enumerate(value)]
 
 
-def _settings(value):
-    fields = _fields(value, Settings._fields, "settings")
-    settings = Settings(*(_number_of(each, f"settings.{name}") for name, each in zip(Settings._fields, fields)))
+def _settings(value, electra):
+    """The nineteen, and those that Electra has besides, in the order of its part."""
+    names = (*Settings._fields, *(_electra_file.SETTINGS if electra else ()))
+    numbers = [_number_of(each, f"settings.{name}") for name, each in zip(names, _fields(value, names, "settings"))]
+    settings = Settings(*numbers[:19])
     for name in ("slots_per_historical_root", "epochs_per_slashings_vector"):
         # more would make no file that the library reads, and a long one
         if getattr(settings, name) > _layout.LONGEST_VECTOR:
             raise Bad(f"settings.{name}: 1 to {_layout.LONGEST_VECTOR} is wanted, not {getattr(settings, name)}")
-    return settings
+    return settings, numbers[19:]
 
 
 def _checkpoint(value, where):
@@ -107,9 +117,9 @@ def _checkpoint(value, where):
     return struct.pack("<Q", _number_of(epoch, f"{where}.epoch")) + _root(root, f"{where}.root")
 
 
-def _validator(value, where):
-    fields = _fields(value, VALIDATOR, where)
-    return struct.pack("<10Q", *(_number_of(each, f"{where}.{name}") for name, each in zip(VALIDATOR, fields)))
+def _numbers_of(names):
+    """Reads an object that has a number under each of these names, and gives them in their order."""
+    return lambda value, where: [_number_of(each, f"{where}.{name}") for name, each in zip(names, _fields(value, names, where))]
 
 
 def _queue(value, registry, version):
@@ -128,12 +138,17 @@ def _queue(value, registry, version):
 
 def write(text, *, unchecked=False, version=_layout.FILE_VERSION):
     """The bytes of the record file of a text. Bad where it is none, or, unless unchecked, one that the library refuses."""
-    values = dict(zip(NAMES, _fields(_parsed(text), NAMES, "the record", may_miss=MAY_MISS)))
-    settings = _settings(values["settings"])
+    parsed = _parsed(text)
+    electra = isinstance(parsed, _Object) and any(name in parsed for name in ELECTRA_NAMES)
+    names = (*NAMES, *(ELECTRA_NAMES if electra else ()))
+    values = dict(zip(names, _fields(parsed, names, "the record", may_miss=MAY_MISS)))
+    settings, later = _settings(values["settings"], electra)
     roots, slashings = settings.slots_per_historical_root, settings.epochs_per_slashings_vector
     finality = [struct.pack("<Q", _number_of(values[name], name)) for name in ("slot", "justification_bits")]
     finality += [_checkpoint(values[name], name) for name in CHECKPOINTS]
-    registry = _list(values["validators"], _validator, _layout.MOST_VALIDATORS, "validators")
+    validator = _numbers_of((*VALIDATOR, "compounding") if electra else VALIDATOR)
+    validators = _list(values["validators"], validator, _layout.MOST_VALIDATORS, "validators")
+    registry = [struct.pack("<10Q", *numbers[:VALIDATOR_LENGTH]) for numbers in validators]
     block_roots = b"".join(_list(values["block_roots"], _root, roots, "block_roots"))
     slashed = _list(values["slashings"], _number_of, slashings, "slashings")
     header = struct.pack("<10Q", *_layout.header(len(registry), roots, slashings, version))
@@ -142,10 +157,21 @@ def write(text, *, unchecked=False, version=_layout.FILE_VERSION):
         header, struct.pack("<19Q", *settings), *finality, queue, *registry, block_roots.ljust(32 * roots, b"\0"),
         struct.pack(f"<{len(slashed)}Q", *slashed).ljust(8 * slashings, b"\0"),
     ])
-    found = None if unchecked else _layout.fault(file)
+    if electra:
+        file += _part(values, later, [numbers[VALIDATOR_LENGTH] for numbers in validators])
+    found = None if unchecked else (_electra_file if electra else _layout).fault(file)
     if found:
         raise Bad(f"{found.field}: {found.why}: the library refuses this record under {found.refusal}")
     return file
+
+
+def _part(values, settings, compounding):
+    """The bytes of Electra's part."""
+    numbers = [_number_of(values[name], name) for name in _electra_file.NUMBERS]
+    queues = [_list(values[name], _numbers_of(fields), _layout.MOST_VALIDATORS, name)
+              for name, fields in (("pending_deposits", DEPOSIT), ("pending_consolidations", CONSOLIDATION))]
+    deposits, consolidations = ([number for each in queue for number in each] for queue in queues)
+    return _electra_file.part(settings, numbers, compounding, deposits, consolidations)
 
 
 def _items(key, texts):
@@ -169,16 +195,25 @@ def _without_zeros(values, zero):
 
 def show(file):
     """The text of a record file, in parts. Bad where its header is none; other faults are shown as they stand."""
-    found = _layout.fault(file)
+    electra = _electra_file.is_electra(file)
+    found = (_electra_file if electra else _layout).fault(file)
     if found and found.refusal == 6:
         raise Bad(f"{found.field}: {found.why}")
-    return _text(file)
+    return _text(file, _electra_file.Part(file) if electra else None)
 
 
-def _text(file):
+def _objects(names, numbers):
+    """The text of an object of these numbers, for as many as there are."""
+    lines = "{\n" + ",\n".join(f'  "{name}": %s' for name in names) + "\n}"
+    return (lines % tuple(map(_shown, numbers[at : at + len(names)])) for at in range(0, len(numbers), len(names)))
+
+
+def _text(file, part):
     version, _, validators, roots, slashings = _layout.numbers(file, 0, 5)
     slot, bits = _layout.numbers(file, _layout.FINALITY_AT, 2)
     settings = dict(zip(Settings._fields, _layout.numbers(file, _layout.SETTINGS_AT, 19)))
+    if part:
+        settings.update((name, part.head[name]) for name in _electra_file.SETTINGS)
     head = {"settings": settings, "slot": slot, "justification_bits": bits}
     for name, at in _layout.CHECKPOINTS_AT.items():
         epoch = _layout.numbers(file, at, 1)[0]
@@ -186,12 +221,18 @@ def _text(file):
     if version > 1:
         last, number = _layout.numbers(file, _layout.QUEUE_AT, 2)
         head["exit_queue"] = {"last_epoch": "far" if last == FAR_FUTURE_EPOCH else last, "number": number}
+    if part:
+        head.update((name, "far" if part.head[name] == FAR_FUTURE_EPOCH else part.head[name]) for name in _electra_file.NUMBERS)
     yield json.dumps(head, indent=2)[:-2]
 
-    lines = "{\n" + ",\n".join(f'  "{name}": %s' for name in VALIDATOR) + "\n}"
+    names, compounding = ((*VALIDATOR, "compounding"), part.compounding()) if part else (VALIDATOR, ())
+    lines = "{\n" + ",\n".join(f'  "{name}": %s' for name in names) + "\n}"
     first = _layout.validators_at(version)
-    entries = (_layout.numbers(file, first + 80 * i, VALIDATOR_LENGTH) for i in range(validators))
+    entries = ((*_layout.numbers(file, first + 80 * i, VALIDATOR_LENGTH), *compounding[i : i + 1]) for i in range(validators))
     yield from _items("validators", (lines % tuple(map(_shown, entry)) for entry in entries))
+    if part:
+        yield from _items("pending_deposits", _objects(DEPOSIT, part.deposits()))
+        yield from _items("pending_consolidations", _objects(CONSOLIDATION, part.consolidations()))
     at = _layout.roots_at(validators, version)
     block_roots = [bytes(file[at + 32 * i : at + 32 * i + 32]) for i in range(roots)]
     shown = _without_zeros(block_roots, bytes(32))

@@ -73,7 +73,7 @@ class Library(unittest.TestCase):
 
     def test_the_syntax_of_every_version(self):
         """Python 3.8 to 3.13 by syntax: the parser of this one takes what that of each has."""
-        commands = [path for path in (ROOT / "tools").glob("*") if path.is_file() and "python3" in path.open().readline()]
+        commands = [path for path in (ROOT / "tools").glob("*") if path.is_file() and "python3" in path.read_text().partition("\n")[0]]
         self.assertGreater(len(commands), 5)
         for path in sorted([*commands, *(ROOT / "tools").glob("**/*.py"), *(ROOT / "bindings/python").glob("**/*.py")]):
             for minor in range(8, 14):

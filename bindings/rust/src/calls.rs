@@ -3,7 +3,7 @@
 
 use crate::close::pair_of;
 use crate::fault::{asked, call, Fault};
-use crate::raw::{self, HeaderAnswer, ReadAnswer, RunningAnswer};
+use crate::raw::{self, ElectraAnswer, HeaderAnswer, ReadAnswer, RunningAnswer};
 use crate::refusal::Refusal;
 use crate::types::{
     Answer, Bellatrix, Clock, Deltas, DenebRules, DepositNumbers, Deposited, ElectraRules, ExitChurn, ExitQueue,
@@ -54,6 +54,19 @@ macro_rules! promise {
          the rules are those of the record's epoch. closing_registry holds the registry. closing_slashings holds the \
          slashings. Refused with 1, 2, 3, 8, 4 or 5. After 1, 2, 3 or 8 closing_registry, closing_slashings and amounts are \
          as they were, after 4 or 5 closing buffers hold the opening's numbers, and amounts zeros."
+    };
+    (electra_close) => {
+        "Closes an epoch of Electra or Fulu: the closed record's finality, which totals were raised and which test finalized, \
+         how many validators there are then, how many deposits and consolidations are left, and the queues' three numbers. \
+         compounding, deposits, consolidations and places are those of electra_process_pending_deposits and \
+         electra_process_pending_consolidations. Closing buffers hold the closed record and amounts what each rule gave and \
+         took, twelve numbers a validator (enum electra_amount), at their front; what stands behind it stays. A deposit that \
+         is left has its five numbers, its key in the opening's numbering; validators that deposits made stand behind those \
+         of the opening, in the order of their first valid deposits. Lengths: closing_registry 10 * (N + D), \
+         closing_compounding N + D, amounts 12 * (N + D). Refused with 1, 2, 3, 4 or 5. After 1, 2 and 3 all buffers hold \
+         what they held; after 4 and 5 closing buffers hold the opening's numbers at their front and amounts 12 * N zeros, \
+         and behind them what they held. places may hold anything. Beside a refusal the answer has what was handed in: the \
+         finality, the counts and the queues' numbers."
     };
 }
 pub(crate) use promise;
@@ -1029,6 +1042,62 @@ pub(crate) fn deneb_close(
         closing_slashings.len(),
         amounts.as_mut_ptr(),
         amounts.len(),
+    )
+}
+
+#[allow(clippy::too_many_arguments)]
+pub(crate) fn electra_close(
+    rules: &ElectraRules,
+    finality: &Finality,
+    churn: &ExitChurn,
+    numbers: &DepositNumbers,
+    registry: &[u64],
+    compounding: &[u64],
+    slashings: &[u64],
+    roots: &[u8],
+    deposits: &[u64],
+    consolidations: &[u64],
+    closing_registry: &mut [u64],
+    closing_compounding: &mut [u64],
+    closing_slashings: &mut [u64],
+    closing_deposits: &mut [u64],
+    closing_consolidations: &mut [u64],
+    amounts: &mut [u64],
+    places: &mut [u64],
+) -> (ElectraAnswer, Fault) {
+    asked!(
+        electra_close,
+        altair_why_electra_close,
+        *rules,
+        *finality,
+        *churn,
+        *numbers,
+        registry.as_ptr(),
+        registry.len(),
+        compounding.as_ptr(),
+        compounding.len(),
+        slashings.as_ptr(),
+        slashings.len(),
+        roots.as_ptr(),
+        roots.len(),
+        deposits.as_ptr(),
+        deposits.len(),
+        consolidations.as_ptr(),
+        consolidations.len(),
+        closing_registry.as_mut_ptr(),
+        closing_registry.len(),
+        closing_compounding.as_mut_ptr(),
+        closing_compounding.len(),
+        closing_slashings.as_mut_ptr(),
+        closing_slashings.len(),
+        closing_deposits.as_mut_ptr(),
+        closing_deposits.len(),
+        closing_consolidations.as_mut_ptr(),
+        closing_consolidations.len(),
+        amounts.as_mut_ptr(),
+        amounts.len(),
+        places.as_mut_ptr(),
+        places.len(),
     )
 }
 

@@ -1,6 +1,6 @@
 //! A close that is run one step a call, and exit orders that are taken meanwhile and carried out at its end.
 use crate::calls;
-use crate::close::{numbers, pair_of};
+use crate::close::{as_numbers, pair_of};
 use crate::fault::Fault;
 use crate::raw::RunningAnswer;
 use crate::refusal::Refusal;
@@ -104,7 +104,7 @@ impl<'a> Desk<'a> {
     pub fn step(&mut self) -> Result<(), NotDone> {
         let (store, count) = self.by.lent();
         let r = self.record;
-        let closing = (&mut self.registry, &mut self.slashings, numbers(&mut self.amounts));
+        let closing = (&mut self.registry, &mut self.slashings, as_numbers(&mut self.amounts));
         let told = calls::close_step(
             self.running.done + 1,
             &self.running,

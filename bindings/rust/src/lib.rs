@@ -40,7 +40,7 @@
 //! ```
 //!
 //! Without the feature `std`, which is on by default, the crate is `no_std` and allocates nothing: what has vectors of its own
-//! ([`Record`], [`Desk`], [`Store`], [`close_files`]) is then left out.
+//! ([`Record`], [`ElectraRecord`], [`Desk`], [`Store`], [`close_files`]) is then left out.
 #![no_std]
 #[cfg(feature = "std")]
 extern crate std;
@@ -51,6 +51,8 @@ mod calls;
 mod close;
 #[cfg(feature = "std")]
 mod desk;
+#[cfg(feature = "std")]
+mod electra;
 mod fault;
 mod file;
 #[cfg_attr(not(feature = "std"), allow(dead_code))]
@@ -69,9 +71,11 @@ mod types;
 mod votes;
 
 pub use calls::*;
-pub use close::{close, deneb_close};
+pub use close::{close, deneb_close, electra_close};
 #[cfg(feature = "std")]
 pub use desk::{Desk, NotDone};
+#[cfg(feature = "std")]
+pub use electra::{ClosedElectraRecord, ElectraRecord};
 pub use fault::Fault;
 pub use file::{read_file, read_header, Header, ReadRefused};
 #[cfg(feature = "std")]

@@ -3,8 +3,9 @@
 
 use crate::fault::{Answered, RawFault};
 use crate::types::{
-    Answer, Bellatrix, Checkpoint, Clock, Closed, Deltas, DenebRules, DepositNumbers, Deposited, Electra, ElectraRules,
-    ExitChurn, ExitQueue, Finality, Head, Justified, Line, RaisedNumbers, Rules, Running, Settings, Total, Wait,
+    Answer, Bellatrix, Checkpoint, Clock, Closed, Deltas, DenebRules, DepositNumbers, Deposited, Electra, ElectraClosed,
+    ElectraRules, ExitChurn, ExitQueue, Finality, Head, Justified, Line, RaisedNumbers, Rules, Running, Settings, Total,
+    Wait,
 };
 
 #[repr(C)]
@@ -451,6 +452,41 @@ impl Answered for ConsolidationsAnswer {
     }
 }
 
+#[repr(C)]
+#[derive(Clone, Copy)]
+pub struct ElectraAnswer {
+    pub refusal: u64,
+    pub finality: Finality,
+    pub raised: RaisedNumbers,
+    pub test: u64,
+    pub validators: u64,
+    pub deposits: u64,
+    pub consolidations: u64,
+    pub deposit_balance_to_consume: u64,
+    pub churn: ExitChurn,
+}
+
+impl Answered for ElectraAnswer {
+    type Given = ElectraClosed;
+
+    fn refusal(&self) -> u64 {
+        self.refusal
+    }
+
+    fn given(self) -> ElectraClosed {
+        ElectraClosed {
+            finality: self.finality,
+            raised: self.raised.given(),
+            test: self.test,
+            validators: self.validators,
+            deposits: self.deposits,
+            consolidations: self.consolidations,
+            deposit_balance_to_consume: self.deposit_balance_to_consume,
+            churn: self.churn,
+        }
+    }
+}
+
 // the sizes that the header has
 const _: () = {
     assert!(size_of::<Settings>() == 152);
@@ -489,6 +525,7 @@ const _: () = {
     assert!(size_of::<DepositNumbers>() == 24);
     assert!(size_of::<DepositsAnswer>() == 32);
     assert!(size_of::<ConsolidationsAnswer>() == 16);
+    assert!(size_of::<ElectraAnswer>() == 224);
 };
 
 extern "C" {
@@ -869,6 +906,39 @@ extern "C" {
         amounts: *mut u64,
         amounts_length: usize,
     ) -> Answer;
+    // Electra's close
+    pub fn electra_close(
+        rules: ElectraRules,
+        finality: Finality,
+        churn: ExitChurn,
+        numbers: DepositNumbers,
+        registry: *const u64,
+        registry_length: usize,
+        compounding: *const u64,
+        compounding_length: usize,
+        slashings: *const u64,
+        slashings_length: usize,
+        roots: *const u8,
+        roots_length: usize,
+        deposits: *const u64,
+        deposits_length: usize,
+        consolidations: *const u64,
+        consolidations_length: usize,
+        closing_registry: *mut u64,
+        closing_registry_length: usize,
+        closing_compounding: *mut u64,
+        closing_compounding_length: usize,
+        closing_slashings: *mut u64,
+        closing_slashings_length: usize,
+        closing_deposits: *mut u64,
+        closing_deposits_length: usize,
+        closing_consolidations: *mut u64,
+        closing_consolidations_length: usize,
+        amounts: *mut u64,
+        amounts_length: usize,
+        places: *mut u64,
+        places_length: usize,
+    ) -> ElectraAnswer;
     // Electra's steps
     pub fn electra_process_registry_updates(
         rules: ElectraRules,
@@ -1312,6 +1382,38 @@ extern "C" {
         closing_slashings_length: usize,
         amounts: *mut u64,
         amounts_length: usize,
+    ) -> RawFault;
+    pub fn altair_why_electra_close(
+        rules: ElectraRules,
+        finality: Finality,
+        churn: ExitChurn,
+        numbers: DepositNumbers,
+        registry: *const u64,
+        registry_length: usize,
+        compounding: *const u64,
+        compounding_length: usize,
+        slashings: *const u64,
+        slashings_length: usize,
+        roots: *const u8,
+        roots_length: usize,
+        deposits: *const u64,
+        deposits_length: usize,
+        consolidations: *const u64,
+        consolidations_length: usize,
+        closing_registry: *mut u64,
+        closing_registry_length: usize,
+        closing_compounding: *mut u64,
+        closing_compounding_length: usize,
+        closing_slashings: *mut u64,
+        closing_slashings_length: usize,
+        closing_deposits: *mut u64,
+        closing_deposits_length: usize,
+        closing_consolidations: *mut u64,
+        closing_consolidations_length: usize,
+        amounts: *mut u64,
+        amounts_length: usize,
+        places: *mut u64,
+        places_length: usize,
     ) -> RawFault;
     pub fn altair_why_electra_process_registry_updates(
         rules: ElectraRules,

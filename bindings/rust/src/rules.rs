@@ -1,5 +1,5 @@
 //! What settings, rules, amounts and a running close say besides their numbers.
-use crate::types::{Amounts, Bellatrix, Closed, Rules, Running, Settings};
+use crate::types::{Amounts, Bellatrix, Closed, ElectraAmounts, Rules, Running, Settings};
 
 impl Settings {
     /// The settings of the preset `mainnet` or `minimal`.
@@ -57,9 +57,30 @@ impl Amounts {
     /// assert_eq!(booked.net(), 6);
     /// ```
     pub fn net(&self) -> i128 {
-        let rewards = [self.source_reward, self.target_reward, self.head_reward, self.inactivity_reward];
+        less(
+            &[self.source_reward, self.target_reward, self.head_reward, self.inactivity_reward],
+            &[self.source_taken, self.target_taken, self.head_taken, self.inactivity_taken, self.slashing_taken],
+        )
+    }
+}
+
+fn less(given: &[u64], taken: &[u64]) -> i128 {
+    let sum = |numbers: &[u64]| numbers.iter().copied().map(i128::from).sum::<i128>();
+    sum(given) - sum(taken)
+}
+
+impl ElectraAmounts {
+    /// Closing minus opening balance, which of one that a deposit made is 0.
+    ///
+    /// ```
+    /// use altair_close::ElectraAmounts;
+    /// let booked = ElectraAmounts { source_reward: 10, deposited: 5, consolidated_out: 7, ..ElectraAmounts::default() };
+    /// assert_eq!(booked.net(), 8);
+    /// ```
+    pub fn net(&self) -> i128 {
         let taken = [self.source_taken, self.target_taken, self.head_taken, self.inactivity_taken, self.slashing_taken];
-        rewards.map(i128::from).iter().sum::<i128>() - taken.map(i128::from).iter().sum::<i128>()
+        less(&[self.source_reward, self.target_reward, self.head_reward, self.inactivity_reward], &taken)
+            + less(&[self.deposited, self.consolidated_in], &[self.consolidated_out])
     }
 }
 

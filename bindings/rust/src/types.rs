@@ -73,6 +73,30 @@ pub mod mark {
 }
 
 /// How many numbers each has.
+pub const ELECTRA_AMOUNTS_LENGTH: usize = 12;
+
+/// What an Electra close books of a validator is twelve numbers of its amounts; validator i has those from
+/// ELECTRA_AMOUNTS_LENGTH * i on: the nine of enum amount, what deposits added, and what consolidations took to another
+/// and brought from another. Opening balance, 0 of one that a deposit made, plus rewards, deposited and consolidated_in
+/// less what was taken and consolidated_out is the closing balance.
+#[repr(C)]
+#[derive(Clone, Copy, Debug, Default, PartialEq, Eq)]
+pub struct ElectraAmounts {
+    pub source_reward: u64,
+    pub source_taken: u64,
+    pub target_reward: u64,
+    pub target_taken: u64,
+    pub head_reward: u64,
+    pub head_taken: u64,
+    pub inactivity_reward: u64,
+    pub inactivity_taken: u64,
+    pub slashing_taken: u64,
+    pub deposited: u64,
+    pub consolidated_out: u64,
+    pub consolidated_in: u64,
+}
+
+/// How many numbers each has.
 pub const DEPOSIT_LENGTH: usize = 5;
 
 /// How many numbers each has.
@@ -612,4 +636,20 @@ pub struct Deposited {
     pub deposit_balance_to_consume: u64,
     pub validators: u64,
     pub deposits: u64,
+}
+
+/// The finality after the close, which totals were raised, and which of the four finality tests, 1 to 4 in their order,
+/// last set the finalized checkpoint, or 0; how many validators there are, how many deposits and consolidations are
+/// left, what the next close may process of deposits more, in Gwei, and the two numbers of the exit queue. Beside a
+/// refusal they are the opening's, none raised and test 0.
+#[derive(Clone, Copy, Debug, PartialEq, Eq)]
+pub struct ElectraClosed {
+    pub finality: Finality,
+    pub raised: Raised,
+    pub test: u64,
+    pub validators: u64,
+    pub deposits: u64,
+    pub consolidations: u64,
+    pub deposit_balance_to_consume: u64,
+    pub churn: ExitChurn,
 }

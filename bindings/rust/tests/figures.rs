@@ -255,6 +255,49 @@ fn deneb() {
     assert_eq!(record.close_by_deneb(&wrong), Err(Refusal::Settings));
 }
 
+/// Electra's close: a top-up, a new key, a deposit of one that leaves now, one that is too much, and a consolidation
+#[test]
+fn electra() {
+    let (mut leaving, mut gone) = (hit(), hit());
+    leaving[EFFECTIVE_BALANCE] = 16 * ETH;
+    (gone[EXIT_EPOCH], gone[WITHDRAWABLE_EPOCH], gone[BALANCE]) = (2, 4, 31 * ETH);
+    let record = ElectraRecord {
+        rules: ElectraRules { settings: MAINNET, bellatrix: Bellatrix::MAINNET, electra: Electra::MAINNET },
+        finality: Finality { finalized_checkpoint: Checkpoint { epoch: 1, root: [0; 32] }, ..finality(127) },
+        churn: ExitChurn::default(),
+        numbers: DepositNumbers {
+            deposit_balance_to_consume: 0,
+            eth1_deposit_index: 6,
+            deposit_requests_start_index: 6,
+        },
+        registry: [hit(), gone, leaving, hit(), hit()].concat(),
+        compounding: vec![1, 0, 0, 0, 0],
+        slashings: vec![0; 8192],
+        roots: vec![0; 32 * 8192],
+        deposits: [[3, 0, ETH, 0, 1], [7, 1, 33 * ETH, 32, 1], [2, 0, 2 * ETH, 0, 1], [5, 0, 100 * ETH, 0, 1]].concat(),
+        consolidations: vec![1, 0, 2, 0],
+    };
+    let closed = record.close().unwrap();
+    assert_eq!(closed.churn, ExitChurn { exit_balance_to_consume: 112 * ETH, earliest_exit_epoch: 8 });
+    assert_eq!(closed.numbers.deposit_balance_to_consume, 94 * ETH);
+    assert_eq!(
+        (closed.compounding.as_slice(), closed.consolidations.as_slice()),
+        (&[1, 0, 0, 0, 0, 1][..], &[2, 0][..])
+    );
+    // 7 is now validator 5, and 5, which none has, number 6
+    assert_eq!(closed.deposits, [[6, 0, 100 * ETH, 0, 1], [2, 0, 2 * ETH, 0, 1]].concat());
+    assert_eq!((closed.registry[EFFECTIVE_BALANCE], closed.registry[2 * LENGTH + EXIT_EPOCH]), (63 * ETH, 8));
+    let opening = record.validators().map(|one| one[BALANCE]).chain([0]);
+    for ((before, after), booked) in opening.zip(closed.validators()).zip(&closed.amounts) {
+        assert_eq!(i128::from(before) + booked.net(), i128::from(after[BALANCE]));
+    }
+    assert_eq!((closed.amounts[1].consolidated_out, closed.amounts[0].consolidated_in), (31 * ETH, 31 * ETH));
+    let wrong = ElectraRecord { compounding: vec![2, 0, 0, 0, 0], ..record.clone() };
+    assert_eq!(wrong.close(), Err(Refusal::Record));
+    let Err(Refusal::Shape(fault)) = (ElectraRecord { consolidations: vec![1, 5], ..record }).close() else { panic!() };
+    assert_eq!((fault.argument, fault.number), ("consolidations", 5));
+}
+
 /// document 01's worked record
 fn worked() -> Record {
     let checkpoint = |epoch| Checkpoint { epoch, root: [0; 32] };

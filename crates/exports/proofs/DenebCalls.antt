@@ -73,16 +73,23 @@ abbrev pub eventCame : Bool × ForkCame → Event
 eventCame (othersStay, earlier c) = demand3.event (closeCame (othersStay, c))
 eventCame (othersStay, deneb c) = forks.denebEvent othersStay (called c) (cameBack c)
 
+-- the close as the statement sees it
+pub forkOf : ForkCame → forks.ForkClose
+forkOf (earlier c) = forks.earlier (callOf c)
+forkOf (deneb c) = forks.deneb (called c)
+
 closesOf : List (Bool × ForkCame) → List (Bool × forks.ForkClose)
-closesOf [] = []
-closesOf ((w, earlier c) ∷ calls) = (w, forks.earlier (callOf c)) ∷ closesOf calls
-closesOf ((w, deneb c) ∷ calls) = (w, forks.deneb (called c)) ∷ closesOf calls
+closesOf calls = map (λ c. (c .0, forkOf (c .1))) calls
+
+pub same-fork : (c : Bool × ForkCame) → eventCame c ≡ forks.eventOf (c .0, forkOf (c .1))
+unfolding forkOf
+same-fork (w, earlier c) = ap demand3.event (same-one (w, c))
+same-fork (w, deneb c) = ap (forks.denebEvent w (called c)) (c .holds)
 
 same : (calls : List (Bool × ForkCame)) → map eventCame calls ≡ map forks.eventOf (closesOf calls)
 unfolding closesOf
 same [] = refl
-same ((w, earlier c) ∷ calls) = ap₂ _∷_ (ap demand3.event (same-one (w, c))) (same calls)
-same ((w, deneb c) ∷ calls) = ap₂ _∷_ (ap (forks.denebEvent w (called c)) (c .holds)) (same calls)
+same (c ∷ calls) = ap₂ _∷_ (same-fork c) (same calls)
 
 -- m is at least 1, and at most the smallest activation churn limit of every accepted close
 pub demand3-forks :

@@ -1,5 +1,5 @@
--- From what the library's functions answer to what is answered for C; demands 2 and 3 of the calls, R-4's test, R-8's pair,
--- R-10's reading and R-14.
+-- From what the library's functions answer to what is answered for C; demands 2 and 3 of the calls, Electra's close with its deposits and exits, R-4's test,
+-- R-8's pair, R-10's reading and R-14.
 pub mod Roots
 pub mod Closes
 pub mod StepCalls
@@ -12,3 +12,4 @@ pub mod ExitEpochs
 pub mod Demand2
 pub mod ElectraCalls
 pub mod DenebCalls
+pub mod ElectraClose

@@ -7,6 +7,7 @@ ghost use Rattle.exports.specs.Version.{version};
 mod altair_helpers;
 mod deneb_calls;
 mod electra;
+mod electra_calls;
 mod epoch_processing;
 mod exit_orders;
 mod files;
