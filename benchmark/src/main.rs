@@ -15,6 +15,7 @@ mod record;
 #[path = "../../compare/src/convert.rs"]
 mod convert;
 mod deneb;
+mod electra;
 mod measure;
 mod plain;
 mod plot;
@@ -33,10 +34,13 @@ fn main() {
     #[cfg(judged)]
     reference::judge::install_hook();
     let mut args = std::env::args().skip(1);
-    let folder = args.next().expect("benchmark FOLDER [LARGEST]: table.md and plot.svg are written to FOLDER");
-    let largest =
-        args.next().map_or(usize::MAX, |n| n.replace(['_', ','], "").parse().expect("a number of validators"));
+    let folder = args.next().expect("benchmark FOLDER [LARGEST | electra]: table.md and plot.svg are written to FOLDER");
+    let asked = args.next();
     table::machine();
+    if asked.as_deref() == Some("electra") {
+        return println!("\n{}", electra::text(&electra::rows(1_000_000)));
+    }
+    let largest = asked.map_or(usize::MAX, |n| n.replace(['_', ','], "").parse().expect("a number of validators"));
     let mut rows = Vec::new();
     for scenario in SCENARIOS {
         let mut before: Option<measure::Row> = None;
@@ -48,7 +52,9 @@ fn main() {
         }
     }
     let deneb = deneb::text(&deneb::row(largest.min(1_000_000)));
-    let text = table::markdown(&rows, stack::deepest()) + "\n" + &shelf::text(&shelf::row()) + "\n" + &deneb;
+    let electra = electra::text(&electra::rows(largest.min(1_000_000)));
+    let shelf = shelf::text(&shelf::row());
+    let text = [table::markdown(&rows, stack::deepest()), shelf, deneb, electra].join("\n");
     println!("\n{text}");
     let write = |name: &str, text: String| {
         let file = Path::new(&folder).join(name);

@@ -1,5 +1,6 @@
 //! How much stack a close takes: what lies beneath its caller is painted before it and looked at after.
 use crate::{
+    electra,
     measure::Buffers,
     record::{at, of, Record},
     scenarios::{Scenario, SCENARIOS},
@@ -52,6 +53,18 @@ pub fn deepest() -> usize {
         let stack = painted(top);
         assert_eq!(closed.err(), refusal, "the library's answer");
         stack
+    });
+    touched.max().unwrap_or(0)
+}
+
+/// The same of Electra's close, with deposits and consolidations.
+pub fn deepest_of_electra() -> usize {
+    let touched = records().into_iter().map(|(r, _)| {
+        let mut lent = electra::Lent::new(&r);
+        let top = here();
+        paint(top);
+        black_box(lent.close()).ok();
+        painted(top)
     });
     touched.max().unwrap_or(0)
 }

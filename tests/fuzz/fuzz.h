@@ -111,6 +111,10 @@ uint64_t expected_position(const lent *c);
 
 void rules_hold(const record *r);
 
+/* -- electra.c: the same of Electra's */
+
+void electra_holds(const record *r);
+
 /* -- try.c: one function of the table, held to its line */
 
 void try_row(size_t place, const record *r);

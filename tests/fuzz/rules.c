@@ -387,4 +387,5 @@ void rules_hold(const record *r) {
     the_shelf(r);
     the_leaves(r);
     the_votes(r);
+    electra_holds(r);
 }

@@ -149,10 +149,18 @@ static buffer random_deposits(const record *r, const lent *c, int slot) {
         d[ALTAIR_DEPOSIT_PUBKEY] = one_in(60) ? odd_number() : below(r->validators + count);
         d[ALTAIR_DEPOSIT_COMPOUNDING] = one_in(60) ? odd_number() : below(2);
         d[ALTAIR_DEPOSIT_AMOUNT] = one_in(20) ? odd_number() : below(70) * 1000000000 + below(2);
-        d[ALTAIR_DEPOSIT_SLOT] = one_in(60) || c->slot + 1 == 0 ? odd_number() : below(c->slot + 1);
+        d[ALTAIR_DEPOSIT_SLOT] = one_in(60) || c->slot + 1 == 0 ? odd_number() : one_in(2) ? 0 : below(c->slot + 1);
         d[ALTAIR_DEPOSIT_VALID] = one_in(60) ? odd_number() : below(2);
     }
     return with(slot, deposits, ALTAIR_DEPOSIT_LENGTH * count, 8);
+}
+
+/* the validator with the largest balance, which may not fit more */
+static uint64_t richest(const record *r) {
+    size_t most = 0;
+    for (size_t i = 1; i < r->validators; i++)
+        most = r->registry[10 * i + ALTAIR_BALANCE] > r->registry[10 * most + ALTAIR_BALANCE] ? i : most;
+    return most;
 }
 
 /* any numbers or bytes, as many as the table calls for, or any number of them */
@@ -202,7 +210,7 @@ static buffer read_buffer(char letter, const record *r, lent *c, int slot) {
         return random_deposits(r, c, slot);
     case 'E':
         for (size_t i = 0; i < 16; i++)
-            any[i] = one_in(60) || r->validators == 0 ? odd_number() : below(r->validators);
+            any[i] = one_in(60) || r->validators == 0 ? odd_number() : i % 2 == 1 && one_in(3) ? richest(r) : below(r->validators);
         return with(slot, any, 2 * below(9), 8);
     case 'Q':
         like = with(slot, c->in[0].at, c->in[0].length, 8);
@@ -299,7 +307,7 @@ static void random_numbers(const record *r, lent *c) {
         c->any[i] = one_in(4) ? odd_number() : below(100);
     c->activation_churn = one_in(4) ? odd_number() : below(10);
     c->churn = (altair_exit_churn){c->any[0] * (one_in(2) ? 1000000000 : 1), c->any[1]};
-    c->deposits = (altair_deposit_numbers){c->any[2] * (one_in(2) ? 1000000000 : 1), c->any[3], c->any[4]};
+    c->deposits = (altair_deposit_numbers){c->any[2] * (one_in(2) ? 1000000000 : 1), c->any[3], c->any[one_in(2) ? 3 : 4]};
     for (int i = 0; i < 3; i++)
         c->totals[i] = one_in(8) ? odd_number() : below(100) * 1000000000;
 }
@@ -367,17 +375,21 @@ static void refused_answer(const row *row, const lent *c, const uint8_t *answer)
     }
 }
 
+/* of a buffer with as many bytes for every validator and deposit, those of the opening's validators */
+static size_t of_validators(const row *row, const lent *c, size_t bytes) {
+    const size_t validators = c->in[strcspn(row->lends, "RP")].length / 10, deposits = c->in[strcspn(row->lends, "D")].length / 5;
+    return bytes == 0 ? 0 : bytes / (validators + deposits) * validators;
+}
+
 /* what a written buffer holds after a refusal: what stood in it, or after 4 and 5 the opening's numbers, and of amounts zeros */
 static void refused_buffers(const row *row, const lent *c, uint64_t number) {
     const char *written = written_letters(row);
     for (size_t k = 0; k < strlen(written); k++) {
         const char letter = (char)toupper(written[k]);
         if ((letter == 'A' || letter == 'W') && (number == 4 || number == 5)) { /* zeros, and where there is room behind them what was there */
-            size_t at = 0;
-            while (at < bytes_of(c->out[k]) && ((const uint8_t *)c->out[k].at)[at] == 0)
-                at++;
-            MUST(at == bytes_of(c->out[k]) ||
-                 (letter == 'W' && memcmp((const uint8_t *)c->out[k].at + at, saved[WRITTEN + k] + at, bytes_of(c->out[k]) - at) == 0));
+            const size_t all = bytes_of(c->out[k]), front = letter == 'A' ? all : of_validators(row, c, all);
+            MUST(zeros(c->out[k].at, front));
+            MUST(front == all || memcmp((const uint8_t *)c->out[k].at + front, saved[WRITTEN + k] + front, all - front) == 0);
             continue;
         }
         const bool late = row->opening[k] >= 0 && (number == 4 || number == 5);

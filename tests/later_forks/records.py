@@ -236,7 +236,38 @@ class Records:
     # -- the call
 
     def call(self, name):
-        return self.lend(name, self.record())
+        record = self.record()
+        if name == "electra_close" and not self.wild and self.rare(0.15):
+            self.late(record)
+        return self.lend(name, record)
+
+    def late(self, record):
+        """What lets one of the last steps of Electra's close leave 64 bits, or just not: of the opening's validators, or of one that a deposit makes."""
+        one, registry, rules, kind = self.pick.choice, record["registry"], self.r, self.pick.choice("nnkcct")
+        left = [0, 0, 0, one([0, max(0, self.epoch - 1)]), self.near(self.epoch)]  # unslashed, and gone
+        if kind == "n":  # a new key's balance at the threshold of the eighth step, by one deposit or by two
+            rules["max_pending_deposits_per_epoch"] = 16
+            record["numbers"] = [TOP - self.limit(record), 0, 0]
+            step = rules["effective_balance_increment"] // rules["hysteresis_quotient"] * rules["hysteresis_downward_multiplier"]
+            first = [[self.n + one([0, 1]), one([0, 1]), one([0, self.unit]), 0, one([0, 1])]] if self.rare(0.4) else []
+            amount = self.near(TOP - step) - sum(deposit[2] for deposit in first)
+            record["deposits"][:0] = [number for deposit in [*first, [self.n, one([0, 1]), amount, 0, 1]] for number in deposit]
+        elif kind == "k" and self.n:  # a known key's balance in the sixth
+            at, amount = 10 * self.pick.randrange(self.n), self.gwei()
+            registry[at : at + 7] = [0, *left, self.near(TOP - amount)]
+            record["deposits"][:0] = [at // 10, one([0, 1]), amount, 0, one([0, 1])]
+        elif kind == "t":  # thresholds that leave 64 bits, and nobody but those whom deposits make
+            self.n, most = 0, 2**47
+            rules.update(effective_balance_increment=most, hysteresis_quotient=1, hysteresis_downward_multiplier=one([1, 2**17, 2**17 - 1]),
+                         hysteresis_upward_multiplier=one([1, 2**17, 2**17 - 1]), base_reward_factor=1, min_per_epoch_churn_limit_electra=most,
+                         max_per_epoch_activation_exit_churn_limit=SMALL - 1, max_pending_deposits_per_epoch=one([1, 2, 16]))
+            deposits = [[self.pick.randrange(2), one([0, 1]), one([0, 1, most, most + 1, most // 2]), 0, one([0, 1])] for _ in range(one([2, 3]))]
+            record.update(registry=[], compounding=[], consolidations=[], numbers=[0, 0, 0], deposits=[n for deposit in deposits for n in deposit])
+        elif self.n > 1:  # a target's in the seventh
+            source, target = self.pick.sample(range(self.n), 2)
+            registry[10 * source : 10 * source + 7] = [2**63, *left, one([2**63, 2**63 - 1, TOP])]
+            registry[10 * target : 10 * target + 7] = [0, *left, self.near(2**63 - 1)]
+            record["consolidations"][:0] = [source, target]
 
     def lend(self, name, record, wrong=True):
         """The record as a call of this name is lent it, and now and then something wrong with it."""

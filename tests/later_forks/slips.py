@@ -309,6 +309,21 @@ SLIPS = {
         CLOSE,
         '[0] * (12 if "deposits" in call else 9) * n if opening is None',
         "[0] * len(call[closing]) if opening is None"),
+    "a new validator's effective balance refuses nothing": (
+        CLOSE,
+        "    process_pending_deposits(state)\n    process_pending_consolidations(state)\n    process_effective_balance_updates(state)\n",
+        "    opened = len(state.validators)\n    process_pending_deposits(state)\n    process_pending_consolidations(state)\n"
+        "    everyone = state.validators\n    state.validators = everyone[:opened]\n    process_effective_balance_updates(state)\n"
+        "    state.validators = everyone[opened:]\n    try:\n        process_effective_balance_updates(state)\n    except Refused:\n        pass\n"
+        "    state.validators = everyone\n"),
+    "refused, what stands behind is cleared": (
+        CLOSE,
+        "{closing: over(opened[closing], call[closing]) for closing in made.closings}",
+        "{closing: [*opened[closing], *(0 for _ in call[closing][len(opened[closing]) :])] for closing in made.closings}"),
+    "the answer counts the opening's validators": (
+        CLOSE,
+        "    left = [len(state.validators), len(state.deposits)",
+        '    left = [len(call["registry"]) // 10, len(state.deposits)'),
     "the totals raised at any epoch": (
         CLOSE,
         "    if current <= 1:\n        return\n    previous_indices",

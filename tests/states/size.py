@@ -7,8 +7,6 @@ import unittest
 
 from tool import ROOT, Directory
 
-from beacon_state import closing
-
 SECONDS, KILOBYTES = 10, 2**20
 WORDS = ["--validators", "0,7,99999,500000-500005,999999", "--exit", "0"]
 
@@ -22,10 +20,7 @@ class Size(unittest.TestCase):
 
     def test_of_the_later_forks(self):
         for fork in "deneb", "fulu":
-            if closing.has(closing.CALLS[fork]):
-                self.a_page_of("state", fork)
-            else:
-                print(f"skipped: this library cannot close a {fork.capitalize()} epoch yet", file=sys.stderr)
+            self.a_page_of("state", fork)
 
     def a_page_of(self, name, fork="capella"):
         with Directory() as at:

@@ -1,5 +1,5 @@
-"""Electra and Fulu from a state to a statement. What the close gives is the model of tests/later_forks, in the place of the library's call, so
-that the way from a state there and back is tried with any library; and where the library has the call, the two are compared."""
+"""Electra and Fulu from a state to a statement, by the library's call; what it is handed is looked at, and what it gives is held to the model of
+tests/later_forks."""
 import csv
 import io
 import json
@@ -10,17 +10,15 @@ from typing import Any, NamedTuple
 
 import encoder
 import network
-from test_statement import Case, run
+import tool
+from test_statement import Case
 
 import altair_close as altair
-from beacon_state import closing
 from beacon_state.errors import Stopped
 from beacon_state.statement import command
 from later_forks import calls
 
 ETH, FAR = network.ETH, network.FAR
-HAS = closing.has("electra_close")
-
 
 
 class Given(NamedTuple):
@@ -83,13 +81,16 @@ def state(fork="electra", validators=20, epoch=9, **changed):
 class Electra(Case):
     def setUp(self):
         super().setUp()
-        self.handed = []
+        self.handed, close = [], altair.electra_close
 
-        def stand_in(rules, **lent):
+        def held_to_the_model(rules, **lent):
             self.handed.append(lent)
-            return modelled(rules, **lent)
+            closed, wanted = close(rules, **lent), modelled(rules, **lent)
+            for name in Given._fields:
+                self.assertEqual(getattr(closed, name), getattr(wanted, name), name)
+            return closed
 
-        patch = unittest.mock.patch.object(altair, "electra_close", stand_in, create=True)
+        patch = unittest.mock.patch.object(altair, "electra_close", held_to_the_model)
         patch.start()
         self.addCleanup(patch.stop)
 
@@ -185,8 +186,6 @@ class Electra(Case):
 
     def test_a_run_over_the_fork(self):
         """Deneb's close and Electra's in one statement: the amounts that Deneb has not are 0."""
-        if not closing.has("deneb_close"):
-            self.skipTest("this library cannot close a Deneb epoch yet")
         first = network.state("minimal", "deneb", 9, 20)
         made = self.made("--by-epoch", self.put("first", first), self.put("second", state(epoch=10)))
         self.assertEqual([epoch["fork"] for epoch in made["epochs"]], ["deneb", "electra"])
@@ -199,20 +198,54 @@ class Electra(Case):
             self.assertEqual(int(line["net_change"]), parts)
 
 
-class Library(Case):
-    def test_a_record_file_has_no_queues(self):
-        self.at.write("state", encoder.record(network.state("minimal", "altair", 9, 3), encoder.SETTINGS["minimal"]))
-        self.refused(1, "a record file has no place for Electra's queues", "--preset", "minimal", "--fork", "electra", self.at / "state")
+class Files(Case):
+    """Record files with Electra's queues behind them: from a state, closed by the command, and to a statement."""
 
-    @unittest.skipUnless(HAS, "this library cannot close an Electra epoch yet")
-    def test_the_library_s_close(self):
-        """The same statement by the library's call as by the model."""
-        path = self.put("state", state())
-        code, out, err = run("--preset", "minimal", "--format", "json", path)
-        self.assertEqual((code, err), (0, ""))
-        with unittest.mock.patch.object(altair, "electra_close", modelled):
-            command.work(["--preset", "minimal", "--out", str(self.at / "made.json"), str(path)])
-        self.assertEqual(json.loads(out), json.loads(self.at.read("made.json")))
+    def made(self, *words):
+        command.work(["--preset", "minimal", "--format", "json", "--force", "--out", str(self.at / "made"), *map(str, words)])
+        return json.loads(self.at.read("made"))
+
+    def state(self, verb, *words, fails=False):
+        said = tool.run(verb, "--preset", "minimal", *words)
+        self.assertEqual((said.code != 0, fails or not said.err), (fails, True), said)
+        return said.err
+
+    def test_the_record_of_a_state(self):
+        for fork in "electra", "fulu":
+            for form in encoder.ssz, encoder.text:
+                path = self.put("state", state(fork), form)
+                self.state("record", "--force", self.at / "state", self.at / "record")
+                by_state, by_record = self.made(path), self.made("--fork", fork, self.at / "record")
+                for lines in by_state["validators"], by_record["validators"]:
+                    for line in lines:
+                        line.pop("pubkey", None)
+                self.assertEqual(by_state["validators"], by_record["validators"])
+                shown = lambda made: [{name: one[name] for name in one if name not in ("pubkey", "date")} for one in made["pending_deposits"]]
+                self.assertEqual(shown(by_state), shown(by_record))
+                self.assertEqual([one["pubkey"] for one in by_record["pending_deposits"]], ["key 21", "key 7"])
+        record = altair.ElectraRecord.open(self.at / "record")
+        self.assertEqual(record.deposits.tolist(), [0, 0, ETH, 0, 1, 20, 1, 32 * ETH, 0, 1, 7, 0, 2 * ETH, 0, 1, 21, 0, 33 * ETH, 0, 1])
+        self.assertEqual((record.rules.electra, record.numbers, record.churn), (altair.MINIMAL_ELECTRA, altair.DepositNumbers(0, 5, 5), altair.ExitChurn(0, 0)))
+        self.assertEqual(len(record.close().compounding), 21)
+        # which of the two a deposit is, the record says itself
+        self.state("record", "--force", "--invalid-deposits", "1", self.at / "state", self.at / "record")
+        self.assertEqual(altair.ElectraRecord.open(self.at / "record").deposits.tolist()[4::5], [1, 0, 1, 1])
+        made = self.made(self.at / "record")
+        self.assertEqual((len(made["validators"]), made["note"]), (20, ""))
+
+    def test_what_is_refused(self):
+        self.put("state", state())
+        for words, said in ((["--pair", "bellatrix"], "whose record has Bellatrix's pair behind it"), (["--invalid-deposits", "4"], "there is no deposit 4")):
+            self.assertIn(said, self.state("record", "--force", *words, self.at / "state", self.at / "record", fails=True))
+        self.state("record", "--force", self.at / "state", self.at / "record")
+        said = self.state("back", self.at / "state", self.at / "record", self.at / "new", fails=True)
+        self.assertIn("its close adds validators and moves its queues, which is not put back", said)
+        self.refused(1, "Electra's queues stand behind this record: it is no Deneb record", "--preset", "minimal", "--fork", "deneb", self.at / "record")
+        self.refused(2, "a record file says itself which deposits are valid", "--preset", "minimal", "--invalid-deposits", "1", self.at / "record")
+        self.at.write("plain", encoder.record(network.state("minimal", "altair", 9, 3), encoder.SETTINGS["minimal"]))
+        self.refused(1, "Fulu's queues do not stand behind this record", "--preset", "minimal", "--fork", "fulu", self.at / "plain")
+        self.at.write("plain", self.at.read("record") + b"\0")
+        self.refused(1, "refused 6: header: length", "--preset", "minimal", self.at / "plain")
 
 
 if __name__ == "__main__":

@@ -12,7 +12,7 @@ import network
 from tool import ROOT, Directory
 
 import altair_close as altair
-from beacon_state import closing
+from beacon_state.containers import FORKS
 from beacon_state.opening import state_of
 from beacon_state.settings import PRESETS
 from beacon_state.statement import command
@@ -21,7 +21,7 @@ from beacon_state.statement.plain import wait_words
 from beacon_state.statement.waiting import waits
 
 COMMAND = ROOT / "tools/statement"
-CLOSABLE = ("altair", "bellatrix", "capella", *(["deneb"] if closing.has("deneb_close") else []))
+CLOSABLE = ("altair", "bellatrix", "capella", "deneb")  # by Altair's call and Deneb's; test_electra.py has the others
 ETH = network.ETH
 PAIR = altair.Bellatrix(*encoder.BELLATRIX_PAIR)
 DENEB = {"mainnet": 8, "minimal": 4}
@@ -124,16 +124,13 @@ class Figures(Case):
         # 8 of 10 are active: 32 of 256 increments, doubled or tripled, of 32 ETH
         self.assertEqual(taken, {fork: str((8 if fork == "altair" else 12) * ETH) for fork in CLOSABLE})
 
-    def test_forks_that_the_library_does_not_close_yet(self):
-        for fork, call in closing.CALLS.items():
+    def test_every_fork_that_is_read_is_closed(self):
+        for fork in FORKS:
             for form in encoder.ssz, encoder.text:
-                state = self.put("state", network.state("minimal", fork, 9, 40), form)
-                if closing.has(call):
-                    continue
-                article = "an" if fork == "electra" else "a"
-                self.refused(1, f"this library cannot close {article} {fork.capitalize()} epoch yet", "--preset", "minimal", state)
+                made = self.made(self.put("state", network.state("minimal", fork, 9, 40), form))
+                self.assertEqual([epoch["fork"] for epoch in made["epochs"]], [fork])
+                self.assertGreaterEqual(len(made["validators"]), 40)  # from Electra on deposits make more
 
-    @unittest.skipUnless(closing.has("deneb_close"), "this library cannot close a Deneb epoch yet")
     def test_deneb_s_limit(self):
         """By a churn limit of 10 and Deneb's 8, of ten that wait eight are activated, and ten as Capella; by Deneb's 4, four."""
         def activated(fork, limit, form=encoder.ssz):
@@ -407,16 +404,13 @@ class Waiting(Case):
         self.assertIn("once epoch 10 is finalized", found["6"]["why"])
 
     def test_how_long(self):
-        """k ahead, floor(k / m) + 1 closes and the epoch behind them, where the library has the call; else it says so."""
+        """k ahead, floor(k / m) + 1 closes and the epoch behind them."""
         state = network.state("minimal", "altair", 9, 80)
         found = self.made(self.put("state", state))["waiting"]
         # the close lets two of the eight in, by the churn limit: 5 and 15
         self.assertEqual([(wait["index"], wait["latest"]) for wait in found if wait.get("closes") == "0"], [("5", "14"), ("15", "14")])
         waiting = [wait for wait in found if int(wait["index"]) % 10 == 5 and wait.get("closes") != "0"]
         self.assertEqual([wait["index"] for wait in waiting], [str(i) for i in range(25, 80, 10)])
-        if not closing.has("activation_wait"):
-            self.assertEqual({wait["why"] for wait in waiting}, {"how many are ahead of it is not in this library"})
-            self.skipTest("altair_activation_wait is not in this library")
         for k, wait in enumerate(waiting):
             self.assertEqual((wait["ahead"], wait["closes"], wait["latest"]), (str(k), str(k // 2 + 1), str(9 + k // 2 + 1 + 5)))
 

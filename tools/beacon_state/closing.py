@@ -1,28 +1,12 @@
-"""The close of a record under a fork's rules, through the library; and which forks the library at hand closes.
-
-Capella's eight steps are Bellatrix's, and Fulu's ten Electra's (document 03). A fork whose call the library has not is refused by one
-line; the call is looked for, so that nothing here changes when it lands."""
+"""The close of a record under a fork's rules, through the library. Capella's eight steps are Bellatrix's, and Fulu's ten Electra's
+(document 03)."""
 import altair_close as altair
 
 from . import settings as settings_of
 from .errors import Bad
-from .forks import a_state
 from .record_file import CHECKPOINTS, VALIDATOR
 
-# the call of each fork that Altair's does not close, by its name in the Python package
-CALLS = {"deneb": "deneb_close", "electra": "electra_close", "fulu": "electra_close"}
 ELECTRA = tuple(name.upper() for name in altair.Electra._fields)
-
-
-def has(name):
-    """Whether the Python package has a call; its library then has it too, or is not opened at all."""
-    return hasattr(altair, name)
-
-
-def test_closable(fork):
-    """Refuses a fork that the library has no close for."""
-    if fork in CALLS and not has(CALLS[fork]):
-        raise Bad(f"this library cannot close {a_state(fork, 'epoch')} yet")
 
 
 def settings_of_record(record):
@@ -59,7 +43,6 @@ def electra_rules(record, settings):
 
 def electra_close(record, queues, settings):
     """The ElectraClosed of a record with the parts that Electra's has beside it."""
-    test_closable("electra")
     numbers_of = altair.DepositNumbers(queues.deposit_balance_to_consume, queues.eth1_deposit_index, queues.deposit_requests_start_index)
     return altair.electra_close(
         electra_rules(record, settings), finality=finality_of(record), churn=altair.ExitChurn(queues.exit_balance_to_consume, queues.earliest_exit_epoch),
@@ -69,7 +52,6 @@ def electra_close(record, queues, settings):
 
 def close(record, fork, settings):
     """The Closed of a record of Altair to Deneb."""
-    test_closable(fork)
     by, registry = rules(record, fork, settings), numbers(record.registry)
     lent = dict(finality=finality_of(record), queue=altair.exit_queue(registry), registry=registry, slashings=numbers(record.slashings),
                 roots=record.block_roots)

@@ -4,13 +4,14 @@ import argparse
 from altair_close._command import said
 from altair_close._layout import LONGEST_FILE
 
-from . import closing, record_file, settings as settings_of, state_json
+from . import closing, electra, record_file, settings as settings_of, state_json
 from .containers import FORKS, from_on
 from .errors import Bad, Stopped
 from .files import settings_file, source, target, whole
 from .forks import a_state
 from .opening import state_of
 from .state_ssz import State
+from .statement.choice import Choice
 
 HELP = """Record files from beacon states, and back.
 
@@ -24,12 +25,12 @@ another fork by that fork's name. Balances are in Gwei, 10^9 to the ETH, in all 
 
 A record file holds what Altair's close reads. Bellatrix's and Capella's read the same with another pair of numbers (--pair),
 Deneb's one number more, which altair-close --fork deneb has of mainnet and minimal, and a call is handed (--pair altair).
-Electra's and Fulu's queues have no place in a record file: tools/statement closes such a state by itself, as soon as the
-library can.
+Electra's and Fulu's settings and queues stand behind the record, for altair-close --fork electra. Whether a deposit's
+signature is valid is not checked: it is taken as valid, unless --invalid-deposits names it.
 
 `back` asks the library for the close of STATE, by its fork's rules, and refuses a record that is another. A state that took
 a close back is not yet the network's next one: the steps that are left out (eth1, randao, historical roots, sync committees)
-have not run on it.
+have not run on it. A close of Electra's, which adds validators and moves the queues, is not put back.
 
 Exit status: 0 done; 1 the state or the record is refused; 2 a wrong command line, or it could not read or write."""
 
@@ -55,6 +56,14 @@ def arguments():
         help="must be said of a state behind Altair, since a record names no fork: whose inactivity penalty quotient and slashing "
         "multiplier go into it. bellatrix for a program that closes as Altair; altair for altair-close --fork, or a call that is told the fork",
     )
+    record.add_argument(
+        "--invalid-deposits",
+        action="append",
+        default=[],
+        metavar="WHICH",
+        help="of an Electra or Fulu state, the pending deposits whose signature is not valid: places in the queue from 0 on, ranges, "
+        "public keys, or a file of them",
+    )
     record.add_argument("state", metavar="STATE")
     record.add_argument("made", metavar="RECORD")
     back = verbs.add_parser("back", parents=[common], help="a closed record put back into its state")
@@ -76,7 +85,9 @@ def settings_for(given):
 def test_pair(fork, pair):
     """Refuses a fork and pair with which nobody closes the record rightly."""
     if from_on(fork, "electra"):
-        raise Bad(f"{a_state(fork)}: a record file has no place for its queues; tools/statement closes it from the state")
+        if pair == "bellatrix":
+            raise Stopped(f"{a_state(fork)}, whose record has Bellatrix's pair behind it: --pair bellatrix is not said")
+        return
     if fork == "deneb" and pair != "altair":
         raise Stopped("a Deneb state, and a record names no fork: say --pair altair, and close the record by altair-close --fork deneb")
     if fork != "altair" and not pair:
@@ -89,7 +100,12 @@ def to_record(given, settings):
     with source(given.state) as file:
         state = state_of(file, settings, given.fork)
         test_pair(state.fork, given.pair)
-        record = state.record(settings_of.of_record(settings, given.pair or FORKS[0]))
+        record, queues = state.record(settings_of.of_record(settings, given.pair or FORKS[0])), None
+        if from_on(state.fork, "electra"):
+            invalid = Choice(given.invalid_deposits, "--invalid-deposits")
+            queues = electra.record(state.keys(), state.credentials(), state.queues(), invalid.places)
+        elif given.invalid_deposits:
+            raise Stopped("--invalid-deposits: a state before Electra has no pending deposits")
     slots = settings["SLOTS_PER_EPOCH"]
     if slots and (record.slot + 1) % slots:
         epoch = record.slot // slots
@@ -97,6 +113,8 @@ def to_record(given, settings):
     with target(given.made, given.force) as write:
         for piece in record_file.pieces(record):
             write(piece)
+        if queues:
+            write(electra.part(queues, settings))
 
 
 def back(given, settings):
@@ -105,7 +123,7 @@ def back(given, settings):
     with source(given.state) as file:
         state = state_of(file, settings, given.fork)
         if from_on(state.fork, "electra"):
-            raise Bad(f"{a_state(state.fork)}: no record file holds its close")
+            raise Bad(f"{a_state(state.fork)}: its close adds validators and moves its queues, which is not put back")
         opening = state.record(settings_of.of_record(settings))
         with source(given.closed, LONGEST_FILE + 1) as closed_file:
             closed = record_file.read(whole(closed_file))

@@ -7,6 +7,9 @@ either way, since a new one joins behind them and takes no part in the steps tha
 from array import array
 from typing import Any, NamedTuple
 
+from altair_close import Bellatrix, DepositNumbers, Electra as Five, ExitChurn
+from altair_close import _electra_file
+
 COMPOUNDING = 0x02
 QUEUES = ("deposit_balance_to_consume", "exit_balance_to_consume", "earliest_exit_epoch", "eth1_deposit_index",
           "deposit_requests_start_index")
@@ -43,6 +46,23 @@ class Electra(NamedTuple):
             if key >= count and valid:
                 found.setdefault(key, self.new_keys[key - count])
         return list(found.values())[: after - count]
+
+
+def of_file(file):
+    """The parts of a record file that has them behind it, which says itself which deposits are valid, and their settings by name."""
+    part = _electra_file.Part(file)
+    numbers = {name: part.head[name] for name in _electra_file.NUMBERS}
+    settings = {name.upper(): part.head[name] for name in _electra_file.SETTINGS}
+    lists = (array("Q", some) for some in (part.compounding(), part.deposits(), part.consolidations()))
+    compounding, deposits, consolidations = lists
+    return Electra(compounding, *(numbers[name] for name in QUEUES), deposits, consolidations), settings
+
+
+def part(queues, settings):
+    """The bytes that stand behind a record file."""
+    named = {name: getattr(queues, name) for name in (*ExitChurn._fields, *DepositNumbers._fields)}
+    seven = (settings[name.upper()] for name in (*Bellatrix._fields, *Five._fields))
+    return _electra_file.part(seven, named.values(), queues.compounding, queues.deposits, queues.consolidations)
 
 
 def compounding(credentials):

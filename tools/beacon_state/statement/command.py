@@ -4,12 +4,11 @@ import re
 from contextlib import contextmanager
 
 import altair_close as altair
-from altair_close import _layout
+from altair_close import _electra_file, _layout
 from altair_close._command import said
 from altair_close._errors import Bad as Named
 
 from .. import electra, record_file, settings as settings_of
-from ..closing import test_closable
 from ..containers import FORKS, from_on
 from ..errors import Bad, Stopped
 from ..files import settings_file, source, target, whole
@@ -42,10 +41,10 @@ on the same for a deposit in the queue; with --exit, the exit epoch that an orde
 From Electra on deposits make validators. Whether a deposit's signature is valid is not checked: one of a key that no validator has
 is taken as valid, and the statement says so, unless --invalid-deposits names it.
 
-A record file names no fork: it is closed as Altair, or by --fork. An epoch that is closed already is refused.
+A record file names no fork: it is closed as Altair, or by --fork; one with Electra's queues behind it (tools/state record) as
+Electra. An epoch that is closed already is refused.
 
-Exit status: 0 done; 1 a state is refused, or the library cannot close its fork yet; 2 a wrong command line, or it could not
-read or write."""
+Exit status: 0 done; 1 a state is refused; 2 a wrong command line, or it could not read or write."""
 
 FORMS = {"text": plain.text, "csv": plain.csv, "json": plain.json_of, "page": page.page}
 SUFFIXES = {"html": "page", "htm": "page", "csv": "csv", "json": "json"}
@@ -112,12 +111,13 @@ def sources(given, node, settings):
 def opening_of(name, file, settings, given):
     if is_record(beginning(file)):
         data = whole(file)
-        found = _layout.fault(data)
+        part = _electra_file.begins(data) if _electra_file.is_electra(data) else None
+        found = (_layout if part is None else _electra_file).fault(memoryview(data))
         if found:
             raise Bad(f"refused {found.refusal}: {found.field}: {found.why}")
-        return opening_of_record(name, record_file.read(data), settings, given)
+        more = None if part is None else electra.of_file(data)
+        return opening_of_record(name, record_file.read(data[:part]), more, settings, given)
     state = state_of(file, settings, given.fork)
-    test_closable(state.fork)
     numbers = settings_of.of_record(settings)
     clock = altair.Clock(state.number("genesis_time"), settings["SECONDS_PER_SLOT"], settings["SLOTS_PER_EPOCH"])
     keys, more = state.keys(), None
@@ -129,17 +129,24 @@ def opening_of(name, file, settings, given):
     return Opening(name, state.fork, state.record(numbers), settings, clock, keys, state.root("genesis_validators_root"), more)
 
 
-def opening_of_record(name, record, settings, given):
-    fork = given.fork or "altair"
-    if from_on(fork, "electra"):
-        raise Bad(f"a record file has no place for {title(fork)}'s queues: give the state")
-    test_closable(fork)
+def opening_of_record(name, record, more, settings, given):
+    """`more` are Electra's parts and their settings, where they stand behind the record."""
+    fork = given.fork or ("electra" if more else "altair")
+    if from_on(fork, "electra") and not more:
+        raise Bad(f"{title(fork)}'s queues do not stand behind this record: give the state, or the record that tools/state makes of it")
+    if more and not from_on(fork, "electra"):
+        raise Bad(f"Electra's queues stand behind this record: it is no {title(fork)} record")
+    if given.invalid_deposits:
+        raise Stopped("--invalid-deposits: a record file says itself which deposits are valid, or has none")
+    queues, own = more or (None, {})
+    if more:
+        settings = {**settings, **own, "EFFECTIVE_BALANCE_INCREMENT": altair.Settings(*record.settings).effective_balance_increment}
     clock = None
     if given.genesis_time is not None or record.settings in (settings_of.of_record(settings_of.MAINNET, each) for each in FORKS[:2]):
         clock = altair.MAINNET_CLOCK
         if given.genesis_time is not None:
             clock = altair.Clock(number(given.genesis_time, "--genesis-time"), settings["SECONDS_PER_SLOT"], record.settings[0])
-    return Opening(name, fork, record, settings, clock)
+    return Opening(name, fork, record, settings, clock, electra=queues)
 
 
 def noted(opening):

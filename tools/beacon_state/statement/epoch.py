@@ -98,7 +98,7 @@ def close(opening, choose):
         raise Bad(f"{opening.name}: {refused}") from None
     before, after, amounts = (closing.numbers(part) for part in (record.registry, closed.registry, closed.amounts))
     rules, count = ALL if of_electra else RULES, len(after) // 10
-    if of_electra:
+    if of_electra and keys is not None:
         keys = Extended(keys, of_electra.joined(record.validators, count))
     chosen = choose(count, keys)
     # a validator that deposits made had nothing

@@ -52,8 +52,8 @@ class Statement(NamedTuple):
 
 
 def taken_as_valid(statement):
-    """What is said of the validators that deposits made; '' where there are none."""
-    joined = sum(epoch.joined for epoch in statement.epochs)
+    """What is said of the validators that deposits made; '' where there are none. A record file says itself which deposits are valid."""
+    joined = sum(epoch.joined for epoch in statement.epochs if epoch.network)
     if not joined:
         return ""
     made = "1 validator was made by a deposit" if joined == 1 else f"{joined} validators were made by deposits"

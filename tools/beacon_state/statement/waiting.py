@@ -8,7 +8,6 @@ from ..containers import from_on
 from ..errors import Bad
 from .epoch import FAR, dated
 
-MISSING = "not in this library"
 MOST = 1000  # whose place in the queue is worked out: each takes a pass over the registry
 
 
@@ -52,15 +51,6 @@ class Exit(NamedTuple):
     why: str = ""
 
 
-def activation_wait(settings, finalized_epoch, registry, index):
-    """What altair_activation_wait answers, in its order: whether the validator waits, how many are ahead (k), and floor(k / m) + 1. None
-    where the library has no such call."""
-    if not closing.has("activation_wait"):
-        return None
-    waits, ahead, closes = altair.activation_wait(settings, finalized_epoch, registry, index)
-    return bool(waits), ahead, closes
-
-
 def date_of(clock, epoch):
     """The first second of an epoch, as a date; '' where there is no clock or no such second."""
     try:
@@ -99,10 +89,7 @@ def counted_wait(after, settings, index, epoch):
     if from_on(opening.fork, "electra"):
         ahead, closes = 0, 1  # no queue and no limit: the next accepted close (document 03, F-3)
     else:
-        found = activation_wait(settings, after.finality.finalized_checkpoint.epoch, after.registry, index)
-        if found is None:
-            return Wait(index, why=f"how many are ahead of it is {MISSING}")
-        _, ahead, closes = found
+        _, ahead, closes = altair.activation_wait(settings, after.finality.finalized_checkpoint.epoch, after.registry, index)
     latest = altair.compute_activation_exit_epoch(settings, epoch + closes)
     return Wait(index, ahead, closes, latest, date_of(opening.clock, latest))
 
@@ -137,13 +124,13 @@ def pending(after, is_chosen):
     for place in range(len(queue) // 5):
         key, _, amount, slot, _ = queue[5 * place : 5 * place + 5]
         summed, latest_slot, any_request = summed + amount, max(latest_slot, slot), any_request or slot > 0
-        pubkey = opening.keys[key] if key < known else opening.electra.new_keys[key - known]
+        pubkey = b"" if opening.keys is None else opening.keys[key] if key < known else opening.electra.new_keys[key - known]
         if not is_chosen(key if key < known else None, pubkey):
             continue
         done += 1
         if done > MOST:
             return
-        found = Pending(place, "0x" + pubkey.hex(), amount, slot, place, summed)
+        found = Pending(place, "0x" + pubkey.hex() if pubkey else f"key {key}", amount, slot, place, summed)  # a record file has numbers
         if p == 0 or c == 0:
             yield found._replace(why="no number of closes will do: a limit of the settings is 0")
         elif bridge and any_request:
