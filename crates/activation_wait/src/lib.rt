@@ -1,4 +1,6 @@
 // How long a validator waits for activation: how many are ahead of it, in one pass over the registry, and the closes that demand 3 promises.
+#![tactic(auto)]
+
 ghost use Rattle.std.specs.Prelude.{◌≡◌, ◌&&◌, ◌||◌, ◌*◌, ◌≤◌, ◌<◌, ltb, eqb, length};
 ghost use Rattle.definitions.specs.Record.{decode_one, decode};
 ghost use Rattle.definitions.specs.Checked.{code_of};

@@ -23,8 +23,8 @@ pub record Accepted (c : Call) : Type 0 where
 pub record Untouched (c : Call) : Type 0 where
   pub finality : (close c).finality ≡ c.finality
   pub raised : (close c).raised ≡ none_raised
-  pub registry : (close c).closing_registry ≡ c.closingRegistry
-  pub slashings : (close c).closing_slashings ≡ c.closingSlashings
+  pub registry : (close c).closing_registry ≡ c.closing_registry
+  pub slashings : (close c).closing_slashings ≡ c.closing_slashings
 
 -- 4 and 5: the opening's
 pub record Opening (c : Call) : Type 0 where

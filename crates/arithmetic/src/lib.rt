@@ -1,4 +1,6 @@
 // Numbers of 64 bits: sums, differences and products that are refused where they leave them, and the square root. `signed`: a difference as a signed number.
+#![tactic(auto)]
+
 ghost use Rattle.std.specs.Prelude.{◌≡◌, ◌&&◌, min, max, ltb};
 ghost use Rattle.definitions.specs.Checked.{add64, sub64, mul64};
 ghost use Rattle.definitions.specs.Document.Phase0.Helpers.{integer_squareroot};

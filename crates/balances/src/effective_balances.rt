@@ -14,13 +14,13 @@ use refusals::buffers::{copy, put_back};
 use refusals::{good_registry, good_settings, in_order, registry_shaped, settings_shaped};
 
 // How far a balance may lie below and above the effective balance before that follows it.
-#[derive(Drop)]
+#[derive(Clone, Copy)]
 pub struct Thresholds {
     pub downward: u64,
     pub upward: u64,
 }
 
-#[derive(Drop)]
+#[derive(Clone, Copy)]
 pub enum ThresholdsAnswer {
     Value(Thresholds),
     Refused(u64),

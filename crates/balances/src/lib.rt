@@ -1,4 +1,6 @@
 // A validator's balance raised and lowered, on its ten numbers. `entry_..` is for steps, which have tested the record already.
+#![tactic(auto)]
+
 ghost use Rattle.std.specs.Prelude.{◌≡◌, length};
 ghost use Rattle.definitions.specs.Record.{decode_one, encode_one};
 ghost use Rattle.definitions.specs.Checked.{value};

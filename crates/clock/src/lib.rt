@@ -1,5 +1,7 @@
 // The clock of document 02, R-11: which second belongs to which slot and epoch, after clock.rs. No number on the way is above the answer,
 // so that a checked operation refuses only where the answer does not fit.
+#![tactic(auto)]
+
 ghost use Rattle.std.specs.Prelude.{◌≡◌, ◌<◌};
 ghost use Rattle.definitions.specs.Answers.{Says, SaysTruth};
 ghost use Rattle.definitions.specs.Checked.{code_of};

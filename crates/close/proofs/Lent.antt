@@ -25,8 +25,8 @@ use Rattle.close.specs.Worked.{record_tests, limited_record_tests}
 
 pub record Lent (c : Call) : Type 0 where
   pub opening : Tested (settings_under c.rules) c.finality c.registry c.slashings c.roots
-  pub closing_registry : length c.closingRegistry ≡ length c.registry
-  pub closing_slashings : length c.closingSlashings ≡ length c.slashings
+  pub closing_registry : length c.closing_registry ≡ length c.registry
+  pub closing_slashings : length c.closing_slashings ≡ length c.slashings
 
 weighed : (s : Settings) (roots : List ℕ) (f : Finality) → settings_shaped s ≡ true → roots_shaped s roots ≡ true → good_settings s ≡ true → good_finality f ≡ true → code_of (weigh_tests s roots f) ≡ 0
 unfolding weigh_tests in_order every

@@ -31,17 +31,17 @@ raised-under r state_slot vs = by-fork r (λ t. raised_totals t state_slot vs �
 
 module _ (c : Call) {x : ℕ} (e : x ≡ code_of (close_tests c)) where
   -- a test refused
-  pub tests-refused : {none : Raised} → (x ≡ 0 → ⊥) → none ≡ none_raised → outcome (record { refusal = x; finality = c.finality; raised = none }) c.closingRegistry c.closingSlashings ≡ close c
+  pub tests-refused : {none : Raised} → (x ≡ 0 → ⊥) → none ≡ none_raised → outcome (record { refusal = x; finality = c.finality; raised = none }) c.closing_registry c.closing_slashings ≡ close c
   unfolding close closed after_tests bind closing_buffer raised_unless_refused
   tests-refused z none =
       let p = code-refused (close_tests c) e z in
       same_outcome (rw p.is p.number) (rw p.is) (rw p.is none) (rw p.is) (rw p.is)
 
   -- none did
-  pub steps-closed : x ≡ 0 → {s : Settings} → settings_under c.rules ≡ s → {registry slashings : List ℕ} {r : CloseAnswer} → StepsClosed Churn s (state_of c) c.registry c.closingRegistry c.closingSlashings registry slashings r → outcome r registry slashings ≡ close c
+  pub steps-closed : x ≡ 0 → {s : Settings} → settings_under c.rules ≡ s → {registry slashings : List ℕ} {r : CloseAnswer} → StepsClosed Churn s (state_of c) c.registry c.closing_registry c.closing_slashings registry slashings r → outcome r registry slashings ≡ close c
   unfolding close closed after_tests bind
   steps-closed z under {registry} {slashings} {r} by-settings =
       let t = passed (close_tests c) e z in
-      let w = subst (λ u. StepsClosed Churn u (state_of c) c.registry c.closingRegistry c.closingSlashings registry slashings r) (sym under) by-settings in
+      let w = subst (λ u. StepsClosed Churn u (state_of c) c.registry c.closing_registry c.closing_slashings registry slashings r) (sym under) by-settings in
       let work = process_epoch (settings_under c.rules) (state_of c) in
       same_outcome (rw t w.code) (rw t w.finality) (rw t (w.raised ∙ ap (raised_unless_refused work) (raised-under c.rules c.finality.slot (decode c.registry)))) (rw t w.registry) (rw t w.slashings)

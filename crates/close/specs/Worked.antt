@@ -18,7 +18,7 @@ use Rattle.close.specs.Called.{called}
 unfoldable pub limited_record_tests : ActivationLimit → Call → Checked (Unit {0})
 limited_record_tests limit c =
     let s = c.rules.settings in
-    let closing = same_length c.registry c.closingRegistry ∷ same_length c.slashings c.closingSlashings ∷ [] in
+    let closing = same_length c.registry c.closing_registry ∷ same_length c.slashings c.closing_slashings ∷ [] in
     let shaped = rules_shaped c.rules ∷ registry_shaped c.registry ∷ roots_shaped s c.roots ∷ slashings_shaped s c.slashings ∷ closing in
     in_order shaped (good_rules c.rules ∷ good_limit limit) (good_finality c.finality ∷ [])
 

@@ -1,4 +1,6 @@
 // A close that is run one step a call (R-9): the call that a user makes eight times.
+#![tactic(auto)]
+
 ghost use Rattle.std.specs.Prelude.{◌≡◌, ◌≤◌};
 ghost use Rattle.definitions_close.specs.CloseBySteps.{close_step};
 ghost use Rattle.full_close.specs.Called.{full_called};

@@ -1,4 +1,6 @@
 // Input and output around the listing of a record file.
+#![tactic(auto)]
+
 ghost use Rattle.std.specs.Prelude.{◌≡◌, length};
 
 pub mod outage_console;

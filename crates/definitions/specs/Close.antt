@@ -98,7 +98,7 @@ good_limit (AtMost maximum) = is_small maximum ∷ []
 unfoldable pub limited_tests : ActivationLimit → Call → Checked (Unit {0})
 limited_tests limit c =
     let s = c.rules.settings in
-    let closing = same_length c.registry c.closingRegistry ∷ same_length c.slashings c.closingSlashings ∷ [] in
+    let closing = same_length c.registry c.closing_registry ∷ same_length c.slashings c.closing_slashings ∷ [] in
     let shaped = rules_shaped c.rules ∷ registry_shaped c.registry ∷ roots_shaped s c.roots ∷ slashings_shaped s c.slashings ∷ closing in
     in_order shaped (good_rules c.rules ∷ good_limit limit) (good_finality c.finality ∷ good_registry c.registry ∷ [])
 
@@ -125,8 +125,8 @@ close c =
       refusal = code_of (closed c);
       finality = (settle (closed c) (state_of c)).finality;
       raised = raised_unless_refused (closed c) (raised_totals c.rules.settings c.finality.slot (decode c.registry));
-      closing_registry = closing_buffer (λ st. encode st.validators) tests work c.registry c.closingRegistry;
-      closing_slashings = closing_buffer (λ st. st.slashings) tests work c.slashings c.closingSlashings;
+      closing_registry = closing_buffer (λ st. encode st.validators) tests work c.registry c.closing_registry;
+      closing_slashings = closing_buffer (λ st. st.slashings) tests work c.slashings c.closing_slashings;
     }
 
 -- 02, R-2: "the number that the repository's eligibility rule picks in the opening", and "At epoch 0 it is 0"

@@ -1,4 +1,5 @@
 // What the contracts of every crate above mean: the definitions in specs/, and here the types by value.
+#![tactic(auto)]
 
 // An epoch that is none: primitives.rs.
 pub const FAR_FUTURE_EPOCH: u64 = 18446744073709551615;
@@ -28,7 +29,7 @@ pub const INACTIVITY_SCORE: usize = 9;
 
 // The nineteen settings, in document 01's order and under the names of state_transition/context.rs.
 #[repr(C)]
-#[derive(Drop)]
+#[derive(Clone, Copy)]
 pub struct Settings {
     pub slots_per_epoch: u64,
     pub slots_per_historical_root: u64,
@@ -52,7 +53,7 @@ pub struct Settings {
 }
 
 // How many of the activation queue an epoch lets in: as many as may exit, or (Deneb, EIP-7514) of these at most so many.
-#[derive(Drop)]
+#[derive(Clone, Copy)]
 pub enum ActivationLimit {
     Churn,
     AtMost(u64),
@@ -60,7 +61,7 @@ pub enum ActivationLimit {
 
 // An epoch and the root of its first block: phase0/operations.rs.
 #[repr(C)]
-#[derive(Drop)]
+#[derive(Clone, Copy)]
 pub struct Checkpoint {
     pub epoch: u64,
     pub root: [u8; 32],
@@ -68,7 +69,7 @@ pub struct Checkpoint {
 
 // Slot, bits and the three checkpoints: altair/beacon_state.rs. Bit i of justification_bits counts 2^i.
 #[repr(C)]
-#[derive(Drop)]
+#[derive(Clone, Copy)]
 pub struct Finality {
     pub slot: u64,
     pub justification_bits: u64,
@@ -79,7 +80,7 @@ pub struct Finality {
 
 // What one validator gains and loses by one rule.
 #[repr(C)]
-#[derive(Drop)]
+#[derive(Clone, Copy)]
 pub struct Deltas {
     pub reward: u64,
     pub penalty: u64,
@@ -87,19 +88,19 @@ pub struct Deltas {
 
 // Answers: what was asked for, or a refusal's number of document 01.
 
-#[derive(Drop)]
+#[derive(Clone, Copy)]
 pub enum Number {
     Value(u64),
     Refused(u64),
 }
 
-#[derive(Drop)]
+#[derive(Clone, Copy)]
 pub enum Truth {
     Value(bool),
     Refused(u64),
 }
 
-#[derive(Drop)]
+#[derive(Clone, Copy)]
 pub enum DeltasAnswer {
     Value(Deltas),
     Refused(u64),
@@ -107,7 +108,7 @@ pub enum DeltasAnswer {
 
 // The finality that comes back, and 0 or the refusal's number: on refusal it is the one handed in.
 #[repr(C)]
-#[derive(Drop)]
+#[derive(Clone, Copy)]
 pub struct FinalityAnswer {
     pub refusal: u64,
     pub finality: Finality,
@@ -115,13 +116,13 @@ pub struct FinalityAnswer {
 
 // A total balance. `raised` is 1 where its plain sum was below one increment, so that the total was raised to it, and else 0.
 #[repr(C)]
-#[derive(Drop)]
+#[derive(Clone, Copy)]
 pub struct Total {
     pub balance: u64,
     pub raised: u64,
 }
 
-#[derive(Drop)]
+#[derive(Clone, Copy)]
 pub enum TotalAnswer {
     Value(Total),
     Refused(u64),
@@ -129,7 +130,7 @@ pub enum TotalAnswer {
 
 // Whether the total of the active, and of those that hit the target of the previous and of the current epoch, was raised: 1 or 0.
 #[repr(C)]
-#[derive(Drop)]
+#[derive(Clone, Copy)]
 pub struct Raised {
     pub active: u64,
     pub previous: u64,
@@ -139,7 +140,7 @@ pub struct Raised {
 // What justification and the close answer: the finality and 0 or the refusal's number as in FinalityAnswer, and what was raised, which is
 // nothing on refusal.
 #[repr(C)]
-#[derive(Drop)]
+#[derive(Clone, Copy)]
 pub struct CloseAnswer {
     pub refusal: u64,
     pub finality: Finality,
@@ -148,7 +149,7 @@ pub struct CloseAnswer {
 
 // The two numbers that Bellatrix uses in place of the Altair two.
 #[repr(C)]
-#[derive(Drop)]
+#[derive(Clone, Copy)]
 pub struct Bellatrix {
     pub inactivity_penalty_quotient_bellatrix: u64,
     pub proportional_slashing_multiplier_bellatrix: u64,
@@ -156,7 +157,7 @@ pub struct Bellatrix {
 
 // What a close goes by: the settings, the fork (0 is Altair, 1 Bellatrix), and Bellatrix's pair, which only fork 1 reads.
 #[repr(C)]
-#[derive(Drop)]
+#[derive(Clone, Copy)]
 pub struct Rules {
     pub settings: Settings,
     pub fork: u64,
@@ -165,7 +166,7 @@ pub struct Rules {
 
 // The exit queue's pair: the largest exit epoch below FAR, or 0 where there is none, and how many validators have exactly it.
 #[repr(C)]
-#[derive(Drop)]
+#[derive(Clone, Copy)]
 pub struct ExitQueue {
     pub last_epoch: u64,
     pub number: u64,
@@ -173,7 +174,7 @@ pub struct ExitQueue {
 
 // 0 or the refusal's number, and the pair afterwards: on refusal it is the one handed in.
 #[repr(C)]
-#[derive(Drop)]
+#[derive(Clone, Copy)]
 pub struct QueueAnswer {
     pub refusal: u64,
     pub queue: ExitQueue,
@@ -181,7 +182,7 @@ pub struct QueueAnswer {
 
 // What justification answers: as CloseAnswer, and which of the four finality tests last set the checkpoint, 1 to 4, or 0.
 #[repr(C)]
-#[derive(Drop)]
+#[derive(Clone, Copy)]
 pub struct JustificationAnswer {
     pub refusal: u64,
     pub finality: Finality,
@@ -191,7 +192,7 @@ pub struct JustificationAnswer {
 
 // What a close answers that is lent the exit queue's pair and a list of amounts: as JustificationAnswer, and the pair afterwards.
 #[repr(C)]
-#[derive(Drop)]
+#[derive(Clone, Copy)]
 pub struct FullAnswer {
     pub refusal: u64,
     pub finality: Finality,
@@ -203,7 +204,7 @@ pub struct FullAnswer {
 // The answers as plain numbers, for C and whoever has no enum: 0 and what was asked for, or a refusal's number and zeros.
 
 #[repr(C)]
-#[derive(Drop)]
+#[derive(Clone, Copy)]
 pub struct PlainNumber {
     pub refusal: u64,
     pub value: u64,
@@ -211,14 +212,14 @@ pub struct PlainNumber {
 
 // value is 1 for true and 0 for false
 #[repr(C)]
-#[derive(Drop)]
+#[derive(Clone, Copy)]
 pub struct PlainTruth {
     pub refusal: u64,
     pub value: u64,
 }
 
 #[repr(C)]
-#[derive(Drop)]
+#[derive(Clone, Copy)]
 pub struct PlainDeltas {
     pub refusal: u64,
     pub reward: u64,
@@ -227,7 +228,7 @@ pub struct PlainDeltas {
 
 // raised is 1 where the plain sum was below one increment
 #[repr(C)]
-#[derive(Drop)]
+#[derive(Clone, Copy)]
 pub struct PlainTotal {
     pub refusal: u64,
     pub balance: u64,
@@ -235,14 +236,14 @@ pub struct PlainTotal {
 }
 
 #[repr(C)]
-#[derive(Drop)]
+#[derive(Clone, Copy)]
 pub struct PlainRoot {
     pub refusal: u64,
     pub root: [u8; 32],
 }
 
 // A balance's net change, or a refusal's number.
-#[derive(Drop)]
+#[derive(Clone, Copy)]
 pub enum Change {
     Value(i64),
     Refused(u64),
@@ -250,7 +251,7 @@ pub enum Change {
 
 // The same as plain numbers, for C. `value` is from -2^63 to 2^63 - 1; the call that answers it makes it
 #[repr(C)]
-#[derive(Drop)]
+#[derive(Clone, Copy)]
 pub struct PlainChange {
     pub refusal: u64,
     pub value: i64,

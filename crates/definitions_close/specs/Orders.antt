@@ -111,14 +111,14 @@ pub record NinthCall : Type 0 where
   pub answers : List ℕ
 
 abbrev pub closing_validators : NinthCall → List Validator
-closing_validators c = decode c.closingRegistry
+closing_validators c = decode c.closing_registry
 
 -- as a later step's, of what it is lent, and 2 where the period is 2^48 or more
 unfoldable pub ninth_tests : NinthCall → Checked (Unit {0})
 ninth_tests c =
     let lists = orders_shaped c.running.orders c.orders ∷ length_is (room c.orders) c.answers ∷ [] in
-    let shaped = rules_shaped c.rules ∷ registry_shaped c.closingRegistry ∷ lists in
-    let recorded = good_finality c.running.answer.finality ∷ good_registry c.closingRegistry ∷ [] in
+    let shaped = rules_shaped c.rules ∷ registry_shaped c.closing_registry ∷ lists in
+    let recorded = good_finality c.running.answer.finality ∷ good_registry c.closing_registry ∷ [] in
     bind (in_order shaped (good_rules c.rules ∷ is_small c.period ∷ []) recorded) (λ _.
     queue_test c.running.answer.queue (closing_validators c))
 
@@ -128,7 +128,7 @@ pub record NinthOutcome : Type 0 where
   pub answers : List ℕ
 
 abbrev pub untried : RunningAnswer → NinthCall → NinthOutcome
-untried answer c = record { answer = answer; closing_registry = c.closingRegistry; answers = c.answers }
+untried answer c = record { answer = answer; closing_registry = c.closing_registry; answers = c.answers }
 
 -- ended, with the pair of the register as it is then; "The list is empty once carried out"
 abbrev pub ended_with : List Validator → Running → Running

@@ -35,8 +35,8 @@ call_by c rules =
             registry = c.registry;
             slashings = c.slashings;
             roots = c.roots;
-            closing_registry = c.closingRegistry;
-            closing_slashings = c.closingSlashings;
+            closing_registry = c.closing_registry;
+            closing_slashings = c.closing_slashings;
           };
       queue = c.queue;
       amounts = c.amounts;
@@ -45,7 +45,7 @@ call_by c rules =
 -- Test 1: S and L are the same in all entries; "with an empty store, where tests that need a setting are skipped"
 unfoldable pub store_call_shaped : StoreCall → Bool
 store_call_shaped c =
-    let closing = same_length c.registry c.closingRegistry ∷ same_length c.slashings c.closingSlashings ∷ [] in
+    let closing = same_length c.registry c.closing_registry ∷ same_length c.slashings c.closing_slashings ∷ [] in
     let by_settings : Entry → Bool = λ e. roots_shaped e.rules.settings c.roots && slashings_shaped e.rules.settings c.slashings in
     let lent = amounts_shaped c.registry c.amounts ∷ of_last by_settings (last_of (entries c.store)) ∷ closing in
     every (store_shaped c.store ∷ registry_shaped c.registry ∷ lent)
@@ -69,8 +69,8 @@ turned_away c number =
       queue = c.queue;
       raised = none_raised;
       test = 0;
-      closing_registry = c.closingRegistry;
-      closing_slashings = c.closingSlashings;
+      closing_registry = c.closing_registry;
+      closing_slashings = c.closing_slashings;
       amounts = c.amounts;
     }
 

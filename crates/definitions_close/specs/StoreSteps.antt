@@ -32,8 +32,8 @@ store_so_far running c =
       store = c.store;
       finality = running.answer.finality;
       queue = running.answer.queue;
-      registry = c.closingRegistry;
-      slashings = c.closingSlashings;
+      registry = c.closing_registry;
+      slashings = c.closing_slashings;
       roots = c.roots;
       closing_registry = c.registry;
       closing_slashings = c.slashings;
@@ -74,7 +74,7 @@ ninth_by c rules =
       rules = rules;
       period = c.period;
       running = c.running;
-      closing_registry = c.closingRegistry;
+      closing_registry = c.closing_registry;
       orders = c.orders;
       answers = c.answers;
     }
@@ -87,7 +87,7 @@ unfoldable pub ninth_rules : StoreNinthCall → Checked Rules
 ninth_rules c =
     let es = entries c.store in
     let lists = orders_shaped c.running.orders c.orders ∷ length_is (room c.orders) c.answers ∷ [] in
-    let shaped = store_shaped c.store ∷ registry_shaped c.closingRegistry ∷ lists in
+    let shaped = store_shaped c.store ∷ registry_shaped c.closing_registry ∷ lists in
     after_tests (in_order shaped (good_entries es ∷ is_small c.period ∷ []) []) (rules_at_slot c.running.answer.finality.slot es)
 
 unfoldable pub carry_by : StoreNinthCall → Checked Rules → NinthOutcome

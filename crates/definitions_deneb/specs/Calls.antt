@@ -72,8 +72,8 @@ as_bellatrix c =
         registry = c.registry;
         slashings = c.slashings;
         roots = c.roots;
-        closing_registry = c.closingRegistry;
-        closing_slashings = c.closingSlashings;
+        closing_registry = c.closing_registry;
+        closing_slashings = c.closing_slashings;
       };
       queue = c.queue;
       amounts = c.amounts;

@@ -1,10 +1,12 @@
 // What goes in and comes back by value under Electra: its settings, the record's numbers of both queues, and the answers of its calls. The
 // definitions stand in specs/.
+#![tactic(auto)]
+
 use definitions::{Bellatrix, Settings};
 
 // The five numbers that Electra adds, in the order of document 03, F-2.
 #[repr(C)]
-#[derive(Drop)]
+#[derive(Clone, Copy)]
 pub struct Electra {
     pub min_activation_balance: u64,
     pub max_effective_balance_electra: u64,
@@ -15,7 +17,7 @@ pub struct Electra {
 
 // What an Electra close goes by.
 #[repr(C)]
-#[derive(Drop)]
+#[derive(Clone, Copy)]
 pub struct ElectraRules {
     pub settings: Settings,
     pub bellatrix: Bellatrix,
@@ -24,14 +26,14 @@ pub struct ElectraRules {
 
 // What the record holds of the exit queue: what may still leave at the earliest exit epoch, and that epoch.
 #[repr(C)]
-#[derive(Drop)]
+#[derive(Clone, Copy)]
 pub struct ExitChurn {
     pub exit_balance_to_consume: u64,
     pub earliest_exit_epoch: u64,
 }
 
 // The two after an exit, or a refusal's number.
-#[derive(Drop)]
+#[derive(Clone, Copy)]
 pub enum ChurnAnswer {
     Value(ExitChurn),
     Refused(u64),
@@ -40,7 +42,7 @@ pub enum ChurnAnswer {
 // A deposit of the queue, in the order in which its five numbers are lent. compounding is 1 where its credentials begin with 0x02, valid where its
 // signature is valid, and else 0.
 #[repr(C)]
-#[derive(Drop)]
+#[derive(Clone, Copy)]
 pub struct PendingDeposit {
     pub pubkey: u64,
     pub compounding: u64,
@@ -51,7 +53,7 @@ pub struct PendingDeposit {
 
 // What the record holds of the deposits' queue by value: what the last close left to be processed, and how far the bridge's deposits have come.
 #[repr(C)]
-#[derive(Drop)]
+#[derive(Clone, Copy)]
 pub struct DepositNumbers {
     pub deposit_balance_to_consume: u64,
     pub eth1_deposit_index: u64,
@@ -60,7 +62,7 @@ pub struct DepositNumbers {
 
 // 0 or a refusal's number, and the record's two numbers of the exit queue afterwards: on refusal those that were handed in.
 #[repr(C)]
-#[derive(Drop)]
+#[derive(Clone, Copy)]
 pub struct ExitChurnAnswer {
     pub refusal: u64,
     pub churn: ExitChurn,
@@ -69,7 +71,7 @@ pub struct ExitChurnAnswer {
 // 0 or a refusal's number; what the next close may process more, how many validators there are, and how many deposits are left in the queue. On
 // refusal: as the opening has them.
 #[repr(C)]
-#[derive(Drop)]
+#[derive(Clone, Copy)]
 pub struct DepositsAnswer {
     pub refusal: u64,
     pub deposit_balance_to_consume: u64,
@@ -79,7 +81,7 @@ pub struct DepositsAnswer {
 
 // 0 or a refusal's number, and how many consolidations are left in the queue: on refusal all.
 #[repr(C)]
-#[derive(Drop)]
+#[derive(Clone, Copy)]
 pub struct ConsolidationsAnswer {
     pub refusal: u64,
     pub consolidations: u64,

@@ -64,11 +64,11 @@ lent_shaped c =
 -- "twelve amounts a validator (12(N + D) lent"
 abbrev pub closing_shaped : ElectraCall → List Bool
 closing_shaped c =
-    roomy_registry c.registry c.deposits c.closingRegistry
-    ∷ roomy_compounding c.registry c.deposits c.closingCompounding
-    ∷ same_length c.slashings c.closingSlashings
-    ∷ same_length c.deposits c.closingDeposits
-    ∷ same_length c.consolidations c.closingConsolidations
+    roomy_registry c.registry c.deposits c.closing_registry
+    ∷ roomy_compounding c.registry c.deposits c.closing_compounding
+    ∷ same_length c.slashings c.closing_slashings
+    ∷ same_length c.deposits c.closing_deposits
+    ∷ same_length c.consolidations c.closing_consolidations
     ∷ length_is (12 * (count_of c.registry + deposits_of c.deposits)) c.amounts
     ∷ length_is (deposits_of c.deposits) c.places
     ∷ []
@@ -130,10 +130,10 @@ electra_close c =
     let filled = bind work (λ _. electra_amounts c.rules opening) in
     record {
       answer = electra_answer c (electra_closed c);
-      closing_registry = roomy_buffer registry_in tests work c.registry c.closingRegistry;
-      closing_compounding = roomy_buffer (λ st. st.compounding) tests work c.compounding c.closingCompounding;
-      closing_slashings = closing_buffer (λ st. st.altair.slashings) tests work c.slashings c.closingSlashings;
-      closing_deposits = roomy_buffer (λ st. encode_deposits st.pending_deposits) tests work c.deposits c.closingDeposits;
-      closing_consolidations = roomy_buffer (λ st. encode_consolidations st.pending_consolidations) tests work c.consolidations c.closingConsolidations;
+      closing_registry = roomy_buffer registry_in tests work c.registry c.closing_registry;
+      closing_compounding = roomy_buffer (λ st. st.compounding) tests work c.compounding c.closing_compounding;
+      closing_slashings = closing_buffer (λ st. st.altair.slashings) tests work c.slashings c.closing_slashings;
+      closing_deposits = roomy_buffer (λ st. encode_deposits st.pending_deposits) tests work c.deposits c.closing_deposits;
+      closing_consolidations = roomy_buffer (λ st. encode_consolidations st.pending_consolidations) tests work c.consolidations c.closing_consolidations;
       amounts = roomy_buffer (λ xs. xs) tests filled (replicate (12 * count_of c.registry) 0) c.amounts;
     }

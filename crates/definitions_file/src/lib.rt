@@ -1,5 +1,7 @@
 // What a reader must believe of record files, their listing, a shelf of them and a tried outage: the definitions in specs/, and here the types by
 // value.
+#![tactic(auto)]
+
 use definitions::{ExitQueue, Finality, Raised, Settings};
 
 // Where the parts of a record file of version 2 stand: specs/File.antt. Version 1 has no pair, and the validators in its place.
@@ -22,7 +24,7 @@ pub const LONGEST_OUTAGE: usize = 964000;
 
 // How long the buffers of a read must be: ten numbers a validator, one a slashing. Or refusal 6, and zeros.
 #[repr(C)]
-#[derive(Drop)]
+#[derive(Clone, Copy)]
 pub struct Header {
     pub refusal: u64,
     pub validators: u64,
@@ -32,7 +34,7 @@ pub struct Header {
 
 // What a read answers by value: 0 or the refusal's number, where it stopped, and zeros where it is refused.
 #[repr(C)]
-#[derive(Drop)]
+#[derive(Clone, Copy)]
 pub struct ReadAnswer {
     pub refusal: u64,
     pub position: u64,
@@ -45,7 +47,7 @@ pub struct ReadAnswer {
 
 // Of the first line, or a refusal's number and zeros.
 #[repr(C)]
-#[derive(Drop)]
+#[derive(Clone, Copy)]
 pub struct Head {
     pub refusal: u64,
     pub epoch: u64,
@@ -58,7 +60,7 @@ pub struct Head {
 
 // Of one validator's line, or a refusal's number and zeros.
 #[repr(C)]
-#[derive(Drop)]
+#[derive(Clone, Copy)]
 pub struct Line {
     pub refusal: u64,
     pub index: u64,

@@ -1,4 +1,6 @@
 // Deneb's registry step and close (03, F-1): Bellatrix's, with the activation queue cut at a limit of its own.
+#![tactic(auto)]
+
 ghost use Rattle.std.specs.Prelude.{◌≡◌};
 ghost use Rattle.definitions_close.specs.Calls.{full_outcome};
 ghost use Rattle.definitions_close.specs.QueueCalls.{QueueCloses};

@@ -1,4 +1,6 @@
 // Whether step 8 of a close under Electra refuses at one of those whom the deposits add, before they are written.
+#![tactic(auto)]
+
 ghost use Rattle.std.specs.Prelude.{◌≡◌, true, cond, ◌&&◌, ◌/◌, ◌≤◌, eqb, length};
 ghost use Rattle.definitions_electra.specs.Refusals.{good_electra};
 ghost use Rattle.electra_deposits.specs.Room.{keyed};

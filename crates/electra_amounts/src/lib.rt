@@ -1,4 +1,6 @@
 // Twelve amounts a validator, column by column: a close under Electra books them as it goes.
+#![tactic(auto)]
+
 ghost use Rattle.std.specs.Prelude.{◌≡◌, ◌-◌, ◌*◌, ◌/◌, ◌<◌, length};
 ghost use Rattle.electra_amounts.specs.Columns.{spread_at, Spread, booked_by, Booked};
 

@@ -1,4 +1,6 @@
 // Those whom the deposits of a close under Electra add, behind the validators of the opening: written once nothing can be refused any more.
+#![tactic(auto)]
+
 ghost use Rattle.std.specs.Prelude.{◌≡◌, true, ◌+◌, ◌*◌, ◌/◌, ◌≤◌, length, take};
 ghost use Rattle.definitions.specs.Refusals.{good_settings};
 ghost use Rattle.definitions_electra.specs.Record.{decode_deposits};

@@ -1,4 +1,6 @@
 // Electra's process_effective_balance_updates: Altair's turn, by each validator's own maximum.
+#![tactic(auto)]
+
 ghost use Rattle.std.specs.Prelude.{◌≡◌, true, ◌*◌, ◌/◌, ◌<◌, length};
 ghost use Rattle.definitions.specs.Record.{decode};
 ghost use Rattle.definitions.specs.Checked.{value};

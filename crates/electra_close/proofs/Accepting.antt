@@ -45,7 +45,7 @@ seam : (k : ℕ) (front zs : List ℕ) → length front ≡ k → take k (front 
 seam k front zs e = ap (λ (j : ℕ). take j (front ++ zs)) (sym e) ∙ take-append_seam front zs
 
 -- as the definition has it
-defined : (c : ElectraCall) → electra_tests c ≡ value tt → {d : ElectraState} {xs : List ℕ} → process_epoch c.rules (electra_state_of c) ≡ value d → electra_amounts c.rules (electra_state_of c) ≡ value xs → electra_outcome (electra_answer c (value d)) (over (encode d.altair.validators) c.closingRegistry) (over d.compounding c.closingCompounding) d.altair.slashings (over (encode_deposits d.pending_deposits) c.closingDeposits) (over (encode_consolidations d.pending_consolidations) c.closingConsolidations) (over xs c.amounts) ≡ electra_close c
+defined : (c : ElectraCall) → electra_tests c ≡ value tt → {d : ElectraState} {xs : List ℕ} → process_epoch c.rules (electra_state_of c) ≡ value d → electra_amounts c.rules (electra_state_of c) ≡ value xs → electra_outcome (electra_answer c (value d)) (over (encode d.altair.validators) c.closing_registry) (over d.compounding c.closing_compounding) d.altair.slashings (over (encode_deposits d.pending_deposits) c.closing_deposits) (over (encode_consolidations d.pending_consolidations) c.closing_consolidations) (over xs c.amounts) ≡ electra_close c
 unfolding electra_close electra_closed after_tests closing_buffer bind
 defined c t e a = rw (t, e, a)
 
@@ -55,7 +55,7 @@ same_outcome a r k s d p m = rw (a, r, k, s, d, p, m)
 same_answer : {a b : ElectraAnswer} → a.refusal ≡ b.refusal → a.finality ≡ b.finality → a.raised ≡ b.raised → a.test ≡ b.test → a.validators ≡ b.validators → a.deposits ≡ b.deposits → a.consolidations ≡ b.consolidations → a.deposit_balance_to_consume ≡ b.deposit_balance_to_consume → a.churn ≡ b.churn → a ≡ b
 same_answer z f r t v d k l h = rw (z, f, r, t, v, d, k, l, h)
 
-module _ (c : ElectraCall) (t : electra_tests c ≡ value tt) (p : ElectraPassed c) {f : Front} {registry₁ amounts₁ : List ℕ} (s : StepsRan c.rules (electra_state_of c) (length c.compounding) c.deposits c.consolidations c.closingRegistry registry₁ c.amounts amounts₁ f) where
+module _ (c : ElectraCall) (t : electra_tests c ≡ value tt) (p : ElectraPassed c) {f : Front} {registry₁ amounts₁ : List ℕ} (s : StepsRan c.rules (electra_state_of c) (length c.compounding) c.deposits c.consolidations c.closing_registry registry₁ c.amounts amounts₁ f) where
   abbrev n : ℕ
   n = length c.compounding
 
@@ -66,14 +66,14 @@ module _ (c : ElectraCall) (t : electra_tests c ≡ value tt) (p : ElectraPassed
   count = omega (arith, tens)
 
   -- over as much as was written
-  over-registry : (ws : List ℕ) → 10 * n ≤ length ws → over ws registry₁ ≡ over ws c.closingRegistry
-  over-registry ws l = ap (λ (zs : List ℕ). ws ++ zs) (rw s.registry (behind (10 * n) (length ws) s.front c.closingRegistry s.long l))
+  over-registry : (ws : List ℕ) → 10 * n ≤ length ws → over ws registry₁ ≡ over ws c.closing_registry
+  over-registry ws l = ap (λ (zs : List ℕ). ws ++ zs) (rw s.registry (behind (10 * n) (length ws) s.front c.closing_registry s.long l))
 
   behind-amounts : (m : ℕ) → 12 * n ≤ m → drop m amounts₁ ≡ drop m c.amounts
   behind-amounts m l = rw s.amounts (behind (12 * n) m s.rows c.amounts s.wide l)
 
   -- refused: the opening put back
-  steps-refused : {x : ℕ} → (f.refusal ≡ 0 → ⊥) → x ≡ f.refusal → electra_outcome (as_opened x c.finality c.churn c.numbers c.registry c.deposits c.consolidations) (over c.registry registry₁) (over c.compounding c.closingCompounding) c.slashings c.deposits c.consolidations (over (replicate (12 * (length c.registry / 10)) 0) amounts₁) ≡ electra_close c
+  steps-refused : {x : ℕ} → (f.refusal ≡ 0 → ⊥) → x ≡ f.refusal → electra_outcome (as_opened x c.finality c.churn c.numbers c.registry c.deposits c.consolidations) (over c.registry registry₁) (over c.compounding c.closing_compounding) c.slashings c.deposits c.consolidations (over (replicate (12 * (length c.registry / 10)) 0) amounts₁) ≡ electra_close c
   steps-refused {x} z e =
       let r = over-registry c.registry (omega (arith, tens)) in
       let k : length c.registry / 10 ≡ n = omega (arith, tens) in
@@ -82,7 +82,7 @@ module _ (c : ElectraCall) (t : electra_tests c ≡ value tt) (p : ElectraPassed
       rw (r, a) (work-refused c t (e ∙ s.ran.code) (λ w. z (sym e ∙ w)) p.same_deposits p.same_consolidations)
 
   -- as the lists come back
-  pub put_back : {a : ElectraAnswer} {r₂ k₂ s₂ d₂ p₂ m₂ : List ℕ} → (f.refusal ≡ 0 → ⊥) → a ≡ as_opened f.refusal c.finality c.churn c.numbers c.registry c.deposits c.consolidations → r₂ ≡ over c.registry registry₁ → k₂ ≡ over c.compounding c.closingCompounding → s₂ ≡ c.slashings → d₂ ≡ c.deposits → p₂ ≡ c.consolidations → m₂ ≡ over (replicate (12 * (length c.registry / 10)) 0) amounts₁ → electra_outcome a r₂ k₂ s₂ d₂ p₂ m₂ ≡ electra_close c
+  pub put_back : {a : ElectraAnswer} {r₂ k₂ s₂ d₂ p₂ m₂ : List ℕ} → (f.refusal ≡ 0 → ⊥) → a ≡ as_opened f.refusal c.finality c.churn c.numbers c.registry c.deposits c.consolidations → r₂ ≡ over c.registry registry₁ → k₂ ≡ over c.compounding c.closing_compounding → s₂ ≡ c.slashings → d₂ ≡ c.deposits → p₂ ≡ c.consolidations → m₂ ≡ over (replicate (12 * (length c.registry / 10)) 0) amounts₁ → electra_outcome a r₂ k₂ s₂ d₂ p₂ m₂ ≡ electra_close c
   put_back z a r k u d q m = same_outcome a r k u d q m ∙ steps-refused z refl
 
   module _ (z : f.refusal ≡ 0) where
@@ -92,7 +92,7 @@ module _ (c : ElectraCall) (t : electra_tests c ≡ value tt) (p : ElectraPassed
     abbrev closed : ElectraState
     closed = after_ten c.rules (after_eight (after_six (after_five (electra_state_of c) held.v) held.x) held.y)
 
-    module _ {counts : Counts} {registry₂ compounding₂ slashings₂ deposits₂ pairs₂ amounts₂ : List ℕ} (e : Finishes c.rules c.finality.slot f.next_epoch f.index f.done c.compounding c.slashings c.deposits c.consolidations registry₁ registry₂ c.closingCompounding compounding₂ slashings₂ c.closingDeposits deposits₂ c.closingConsolidations pairs₂ amounts₁ amounts₂ counts) where
+    module _ {counts : Counts} {registry₂ compounding₂ slashings₂ deposits₂ pairs₂ amounts₂ : List ℕ} (e : Finishes c.rules c.finality.slot f.next_epoch f.index f.done c.compounding c.slashings c.deposits c.consolidations registry₁ registry₂ c.closing_compounding compounding₂ slashings₂ c.closing_deposits deposits₂ c.closing_consolidations pairs₂ amounts₁ amounts₂ counts) where
       reached : Reached c.rules (after_five (electra_state_of c) held.v) held.x held.y c.finality.slot f.next_epoch f.index f.done c.compounding c.slashings c.deposits c.consolidations registry₁
       reached =
           let h = held in
@@ -107,10 +107,10 @@ module _ (c : ElectraCall) (t : electra_tests c ≡ value tt) (p : ElectraPassed
             next = h.next;
             deposited = h.index;
             consolidated = h.done;
-            front = ap (λ (xs : List ℕ). take (10 * n) xs) s.registry ∙ seam (10 * n) s.front (drop (10 * n) c.closingRegistry) s.long ∙ h.registry;
+            front = ap (λ (xs : List ℕ). take (10 * n) xs) s.registry ∙ seam (10 * n) s.front (drop (10 * n) c.closing_registry) s.long ∙ h.registry;
           }
 
-      ended : Ended n held.x.processing.registry closed registry₁ registry₂ c.closingCompounding compounding₂ slashings₂ c.closingDeposits deposits₂ c.closingConsolidations pairs₂ amounts₁ amounts₂ counts
+      ended : Ended n held.x.processing.registry closed registry₁ registry₂ c.closing_compounding compounding₂ slashings₂ c.closing_deposits deposits₂ c.closing_consolidations pairs₂ amounts₁ amounts₂ counts
       ended = e.ends _ _ _ reached
 
       abbrev filled : List ℕ
@@ -161,5 +161,5 @@ module _ (c : ElectraCall) (t : electra_tests c ≡ value tt) (p : ElectraPassed
           ∙ defined c t held.closes are
 
 -- a test refused
-pub untouched : (c : ElectraCall) {x : ℕ} {a : ElectraAnswer} → a ≡ as_opened x c.finality c.churn c.numbers c.registry c.deposits c.consolidations → x ≡ code_of (electra_tests c) → (x ≡ 0 → ⊥) → electra_outcome a c.closingRegistry c.closingCompounding c.closingSlashings c.closingDeposits c.closingConsolidations c.amounts ≡ electra_close c
+pub untouched : (c : ElectraCall) {x : ℕ} {a : ElectraAnswer} → a ≡ as_opened x c.finality c.churn c.numbers c.registry c.deposits c.consolidations → x ≡ code_of (electra_tests c) → (x ≡ 0 → ⊥) → electra_outcome a c.closing_registry c.closing_compounding c.closing_slashings c.closing_deposits c.closing_consolidations c.amounts ≡ electra_close c
 untouched c a e z = same_outcome a refl refl refl refl refl refl ∙ tests-refused c e z

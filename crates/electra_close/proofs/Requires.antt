@@ -34,7 +34,7 @@ module _ (c : ElectraCall) (p : ElectraPassed c) where
   unfolding keys_shaped keyed
   keys = let q = p.keys in rw count at q
 
-  pub steps-lent : StepsLent c.rules c.finality c.registry c.compounding c.roots c.deposits c.consolidations c.closingRegistry c.amounts c.places
+  pub steps-lent : StepsLent c.rules c.finality c.registry c.compounding c.roots c.deposits c.consolidations c.closing_registry c.amounts c.places
   steps-lent =
       let q = placed_of c.registry c.consolidations p.indices in
       record {
@@ -51,7 +51,7 @@ module _ (c : ElectraCall) (p : ElectraPassed c) where
         table = p.places;
       }
 
-  pub finish-lent : {f : Front} {registry₁ amounts₁ places₁ : List ℕ} → StepsRan c.rules (electra_state_of c) (length c.compounding) c.deposits c.consolidations c.closingRegistry registry₁ c.amounts amounts₁ f → f.refusal ≡ 0 → length registry₁ ≡ length c.closingRegistry → length amounts₁ ≡ length c.amounts → length places₁ ≡ length c.places → FinishLent c.rules c.finality.slot f.index f.done c.compounding c.slashings c.deposits c.consolidations registry₁ c.closingCompounding c.closingSlashings c.closingDeposits c.closingConsolidations amounts₁ places₁
+  pub finish-lent : {f : Front} {registry₁ amounts₁ places₁ : List ℕ} → StepsRan c.rules (electra_state_of c) (length c.compounding) c.deposits c.consolidations c.closing_registry registry₁ c.amounts amounts₁ f → f.refusal ≡ 0 → length registry₁ ≡ length c.closing_registry → length amounts₁ ≡ length c.amounts → length places₁ ≡ length c.places → FinishLent c.rules c.finality.slot f.index f.done c.compounding c.slashings c.deposits c.consolidations registry₁ c.closing_compounding c.closing_slashings c.closing_deposits c.closing_consolidations amounts₁ places₁
   unfolding settings_shaped
   finish-lent s z a b e =
       let h = s.ran.held z in

@@ -1,4 +1,6 @@
 // The whole close under Electra: its tests, the steps on the validators of the opening, and where nothing is refused what is written behind them.
+#![tactic(auto)]
+
 ghost use Rattle.std.specs.Prelude.{◌≡◌, ◌*◌, ◌/◌, ◌≤◌, length, take};
 ghost use Rattle.definitions.specs.Rust.Phase0.EpochProcessing.{reset_slashings};
 ghost use Rattle.laws.specs.Bounds.{Passed};
@@ -21,7 +23,7 @@ use electra_queues::{Queues, last_two, write_queues};
 use electra_refused::{open_queues, open_registry, opening_answer};
 
 // How many validators there are, and how many deposits and consolidations are left.
-#[derive(Drop)]
+#[derive(Clone, Copy)]
 pub struct Counts {
     pub validators: u64,
     pub deposits: u64,

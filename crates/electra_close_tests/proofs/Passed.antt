@@ -39,11 +39,11 @@ pub record ElectraPassed (c : ElectraCall) : Type 0 where
   pub keys : keys_shaped c.registry c.deposits ≡ true
   pub consolidations : ConsolidationsShape c.consolidations
   pub indices : indices_shaped c.registry c.consolidations ≡ true
-  pub roomy_registry : length c.closingRegistry ≡ 10 * (count_of c.registry + deposits_of c.deposits)
-  pub roomy_compounding : length c.closingCompounding ≡ count_of c.registry + deposits_of c.deposits
-  pub same_slashings : length c.closingSlashings ≡ length c.slashings
-  pub same_deposits : length c.closingDeposits ≡ length c.deposits
-  pub same_consolidations : length c.closingConsolidations ≡ length c.consolidations
+  pub roomy_registry : length c.closing_registry ≡ 10 * (count_of c.registry + deposits_of c.deposits)
+  pub roomy_compounding : length c.closing_compounding ≡ count_of c.registry + deposits_of c.deposits
+  pub same_slashings : length c.closing_slashings ≡ length c.slashings
+  pub same_deposits : length c.closing_deposits ≡ length c.deposits
+  pub same_consolidations : length c.closing_consolidations ≡ length c.consolidations
   pub roomy_amounts : length c.amounts ≡ 12 * (count_of c.registry + deposits_of c.deposits)
   pub places : length c.places ≡ deposits_of c.deposits
   pub finality : good_finality c.finality ≡ true
@@ -67,11 +67,11 @@ electra-passed c e z =
       keys = p.shaped 6;
       consolidations = consolidations-shaped c.consolidations (p.shaped 7);
       indices = p.shaped 8;
-      roomy_registry = eqb-true (length c.closingRegistry) (10 * (count_of c.registry + deposits_of c.deposits)) (p.shaped 9);
-      roomy_compounding = eqb-true (length c.closingCompounding) (count_of c.registry + deposits_of c.deposits) (p.shaped 10);
-      same_slashings = eqb-true (length c.closingSlashings) (length c.slashings) (p.shaped 11);
-      same_deposits = eqb-true (length c.closingDeposits) (length c.deposits) (p.shaped 12);
-      same_consolidations = eqb-true (length c.closingConsolidations) (length c.consolidations) (p.shaped 13);
+      roomy_registry = eqb-true (length c.closing_registry) (10 * (count_of c.registry + deposits_of c.deposits)) (p.shaped 9);
+      roomy_compounding = eqb-true (length c.closing_compounding) (count_of c.registry + deposits_of c.deposits) (p.shaped 10);
+      same_slashings = eqb-true (length c.closing_slashings) (length c.slashings) (p.shaped 11);
+      same_deposits = eqb-true (length c.closing_deposits) (length c.deposits) (p.shaped 12);
+      same_consolidations = eqb-true (length c.closing_consolidations) (length c.consolidations) (p.shaped 13);
       roomy_amounts = eqb-true (length c.amounts) (12 * (count_of c.registry + deposits_of c.deposits)) (p.shaped 14);
       places = eqb-true (length c.places) (deposits_of c.deposits) (p.shaped 15);
       finality = p.recorded 0;

@@ -1,4 +1,6 @@
 // Tests 1, 2 and 3 of the whole close under Electra: 0, or the number of the first test that failed.
+#![tactic(auto)]
+
 ghost use Rattle.std.specs.Prelude.{◌≡◌};
 ghost use Rattle.definitions.specs.Checked.{code_of};
 ghost use Rattle.definitions.specs.Lists.{every};
@@ -45,7 +47,7 @@ fn lent_shaped(
 }
 
 // The closing lengths with room for every deposit's validator.
-#[derive(Drop)]
+#[derive(Clone, Copy)]
 pub struct Room {
     pub compounding: usize,
     pub registry: usize,

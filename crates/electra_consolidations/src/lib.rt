@@ -1,4 +1,6 @@
 // Pending consolidations, in the order of the lent list: each reads and writes two validators of the registry.
+#![tactic(auto)]
+
 ghost use Rattle.std.specs.Prelude.{◌≡◌, ◌*◌, ◌/◌, ◌<◌, ◌≤◌, true, cond, not, ◌&&◌, length, get_or, drop, nat_lt, slice_index_or};
 ghost use Rattle.definitions.specs.Record.{is_slashed, decode, nobody};
 ghost use Rattle.laws.specs.Ran.{Ran};
@@ -108,7 +110,7 @@ fn stops_at(registry: &[u64], n: usize, source: usize, next_epoch: u64) -> bool
 }
 
 // 0 or a refusal's number, and how many of the queue are done: on refusal none.
-#[derive(Drop)]
+#[derive(Clone, Copy)]
 pub struct Done {
     pub refusal: u64,
     pub count: usize,

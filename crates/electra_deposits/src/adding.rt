@@ -28,7 +28,7 @@ fn write_validator(entry: &mut [u64], effective: u64, amount: u64)
 }
 
 // The increment, and the largest effective balance of a plain and of a compounding validator.
-#[derive(Drop)]
+#[derive(Clone, Copy)]
 pub struct NewNumbers {
     pub increment: u64,
     pub most: u64,
@@ -69,7 +69,7 @@ fn append(
 }
 
 // 0 or a refusal's number, and how many validators there are.
-#[derive(Drop)]
+#[derive(Clone, Copy)]
 pub struct Applied {
     pub refusal: u64,
     pub count: usize,

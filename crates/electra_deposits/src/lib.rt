@@ -1,5 +1,7 @@
 // Pending deposits: the loop over the validators that the step opened with (specs/Alone.antt). Those whom it adds are written behind them once
 // nothing can be refused any more (adding.rt): what stands behind the opening must be untouched on refusal.
+#![tactic(auto)]
+
 ghost use Rattle.std.specs.Prelude.{◌≡◌, ◌*◌, ◌/◌, ◌<◌, ◌&&◌, ◌||◌, ltb, leb, length, get_or};
 ghost use Rattle.definitions.specs.Record.{decode};
 ghost use Rattle.laws.specs.Ran.{Ran};
@@ -56,7 +58,7 @@ fn raise(registry: &mut [u64], d: PendingDeposit) -> u64
 }
 
 // After a turn: 0 or a refusal's number, what was processed, and whether the churn limit is reached.
-#[derive(Drop)]
+#[derive(Clone, Copy)]
 pub struct DepositTurn {
     pub refusal: u64,
     pub processed: u64,
@@ -74,7 +76,7 @@ fn turn_of(refusal: u64, processed: u64, reached: bool) -> DepositTurn
 }
 
 // What the loop reads besides: `most` deposits are looked at; the bridge is open while eth1_deposit_index is below deposit_requests_start_index.
-#[derive(Drop)]
+#[derive(Clone, Copy)]
 pub struct QueueNumbers {
     pub next_epoch: u64,
     pub available: u64,
@@ -141,7 +143,7 @@ pub fn deposit_at(deposits: &[u64], i: usize) -> PendingDeposit
 }
 
 // 0 or a refusal's number; how many of the queue are done, what was processed, whether the limit is reached.
-#[derive(Drop)]
+#[derive(Clone, Copy)]
 pub struct Deposited {
     pub refusal: u64,
     pub index: usize,

@@ -25,7 +25,7 @@ use epochs::current_epoch;
 use refusals::buffers::clear;
 
 // What the loop goes by, or a refusal's number.
-#[derive(Drop)]
+#[derive(Clone, Copy)]
 pub enum QueueAnswer {
     Value(QueueNumbers),
     Refused(u64),

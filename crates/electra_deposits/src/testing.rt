@@ -9,7 +9,7 @@ use crate::deposit_at;
 use definitions_electra::PendingDeposit;
 
 // How many are added, and whether none of them is refused.
-#[derive(Drop)]
+#[derive(Clone, Copy)]
 pub struct NewTest {
     pub added: u64,
     pub fits: bool,

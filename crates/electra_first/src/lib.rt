@@ -1,6 +1,8 @@
 // The first five steps of a close under Electra, from the opening to the closing registry, with the amounts that they book: R-4's nine in rows of
 // twelve. One survey and one pass that writes, as Altair's close. On refusal closing registry and amounts are left half done: the caller puts the
 // opening back.
+#![tactic(auto)]
+
 ghost use Rattle.std.specs.Prelude.{◌≡◌, true, ◌*◌, ◌/◌, ◌^◌, ◌<◌, length};
 ghost use Rattle.definitions.specs.Record.{decode};
 ghost use Rattle.definitions.specs.Checked.{value, code_of};
@@ -108,7 +110,7 @@ fn four_steps(
 
 // What the first five answer by value: 0 or a refusal's number, and where it is 0 the finality, the raised totals, the finality test's number and
 // the exit queue's two numbers.
-#[derive(Drop)]
+#[derive(Clone, Copy)]
 pub struct First {
     pub refusal: u64,
     pub finality: Finality,

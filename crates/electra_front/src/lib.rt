@@ -1,5 +1,7 @@
 // A close under Electra on the validators that it opened with, up to the last step that can be refused: all is written in place at the front of the
 // closing buffers, and nothing behind it.
+#![tactic(auto)]
+
 ghost use Rattle.std.specs.Prelude.{◌≡◌, true, length};
 ghost use Rattle.definitions_electra.specs.Refusals.{good_electra};
 ghost use Rattle.electra_steps.specs.Last.{under};
@@ -17,7 +19,7 @@ use refusals::rules::settings_under;
 
 // What steps 6 to 8 answer by value: 0 or a refusal's number, and where it is 0 the next epoch, how many deposits are done, what is carried, and how
 // many consolidations are done.
-#[derive(Drop)]
+#[derive(Clone, Copy)]
 pub struct Later {
     pub refusal: u64,
     pub next_epoch: u64,
@@ -98,7 +100,7 @@ pub fn under(rules: ElectraRules) -> Settings
 }
 
 // What the eight answer by value: 0 or a refusal's number, and where it is 0 what the first five and the later three do.
-#[derive(Drop)]
+#[derive(Clone, Copy)]
 pub struct Front {
     pub refusal: u64,
     pub finality: Finality,

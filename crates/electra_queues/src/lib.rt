@@ -1,4 +1,6 @@
 // The end of a close under Electra: both closing queues, and the two last steps.
+#![tactic(auto)]
+
 ghost use Rattle.std.specs.Prelude.{◌≡◌, ◌*◌, ◌/◌, ◌≤◌, length};
 ghost use Rattle.definitions.specs.Record.{decode, encode};
 ghost use Rattle.definitions.specs.Rust.Phase0.EpochProcessing.{reset_slashings};
@@ -14,7 +16,7 @@ use refusals::buffers::copy;
 use slashings::slashings_reset_core;
 
 // How many of each are left.
-#[derive(Drop)]
+#[derive(Clone, Copy)]
 pub struct Queues {
     pub deposits: u64,
     pub consolidations: u64,

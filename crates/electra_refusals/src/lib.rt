@@ -1,4 +1,6 @@
 // Tests 1, 2 and 3 of the Electra calls: what they are lent beside an Altair call. Document 03, F-2, the table.
+#![tactic(auto)]
+
 ghost use Rattle.std.specs.Prelude.{◌≡◌, [], ◌∷◌, leb};
 ghost use Rattle.definitions.specs.Lists.{all, every};
 ghost use Rattle.definitions.specs.Refusals.{is_small};

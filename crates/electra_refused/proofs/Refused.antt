@@ -37,24 +37,24 @@ module _ (c : ElectraCall) where
   opened p = rw (length_pairs c.consolidations)
 
   -- a test refused: nothing is written
-  pub tests-refused : {x : ℕ} → x ≡ code_of (electra_tests c) → (x ≡ 0 → ⊥) → electra_outcome (as_opened x c.finality c.churn c.numbers c.registry c.deposits c.consolidations) c.closingRegistry c.closingCompounding c.closingSlashings c.closingDeposits c.closingConsolidations c.amounts ≡ electra_close c
+  pub tests-refused : {x : ℕ} → x ≡ code_of (electra_tests c) → (x ≡ 0 → ⊥) → electra_outcome (as_opened x c.finality c.churn c.numbers c.registry c.deposits c.consolidations) c.closing_registry c.closing_compounding c.closing_slashings c.closing_deposits c.closing_consolidations c.amounts ≡ electra_close c
   unfolding electra_close electra_closed after_tests closing_buffer bind
   tests-refused {x} e z = go (electra_tests c) refl e
     where
       untouched : ElectraAnswer → ElectraOutcome
-      untouched a = electra_outcome a c.closingRegistry c.closingCompounding c.closingSlashings c.closingDeposits c.closingConsolidations c.amounts
+      untouched a = electra_outcome a c.closing_registry c.closing_compounding c.closing_slashings c.closing_deposits c.closing_consolidations c.amounts
 
       go : (t : Checked (Unit {0})) → electra_tests c ≡ t → x ≡ code_of t → untouched (as_opened x c.finality c.churn c.numbers c.registry c.deposits c.consolidations) ≡ electra_close c
       go (value u) q e = absurd (z e)
       go (refused p) q e = rw q (ap untouched (ap (λ (y : ℕ). as_opened y c.finality c.churn c.numbers c.registry c.deposits c.consolidations) e ∙ sym (opened p)))
 
   -- the work refused: the opening in front
-  pub work-refused : {x : ℕ} → electra_tests c ≡ value tt → x ≡ code_of (process_epoch c.rules (electra_state_of c)) → (x ≡ 0 → ⊥) → length c.closingDeposits ≡ length c.deposits → length c.closingConsolidations ≡ length c.consolidations → electra_outcome (as_opened x c.finality c.churn c.numbers c.registry c.deposits c.consolidations) (over c.registry c.closingRegistry) (over c.compounding c.closingCompounding) c.slashings c.deposits c.consolidations (over (replicate (12 * count_of c.registry) 0) c.amounts) ≡ electra_close c
+  pub work-refused : {x : ℕ} → electra_tests c ≡ value tt → x ≡ code_of (process_epoch c.rules (electra_state_of c)) → (x ≡ 0 → ⊥) → length c.closing_deposits ≡ length c.deposits → length c.closing_consolidations ≡ length c.consolidations → electra_outcome (as_opened x c.finality c.churn c.numbers c.registry c.deposits c.consolidations) (over c.registry c.closing_registry) (over c.compounding c.closing_compounding) c.slashings c.deposits c.consolidations (over (replicate (12 * count_of c.registry) 0) c.amounts) ≡ electra_close c
   unfolding electra_close electra_closed after_tests closing_buffer bind
   work-refused {x} t e z d k = go (process_epoch c.rules (electra_state_of c)) refl e
     where
       opening : ElectraAnswer → List ℕ → List ℕ → ElectraOutcome
-      opening a ds cs = electra_outcome a (over c.registry c.closingRegistry) (over c.compounding c.closingCompounding) c.slashings ds cs (over (replicate (12 * count_of c.registry) 0) c.amounts)
+      opening a ds cs = electra_outcome a (over c.registry c.closing_registry) (over c.compounding c.closing_compounding) c.slashings ds cs (over (replicate (12 * count_of c.registry) 0) c.amounts)
 
       told : (p : Refusal) → x ≡ number_of p → as_opened x c.finality c.churn c.numbers c.registry c.deposits c.consolidations ≡ electra_answer c (refused p)
       told p e = ap (λ (y : ℕ). as_opened y c.finality c.churn c.numbers c.registry c.deposits c.consolidations) e ∙ sym (opened p)
@@ -64,4 +64,4 @@ module _ (c : ElectraCall) where
       go (refused p) q e =
           rw (t, q)
           (ap (λ (a : ElectraAnswer). opening a c.deposits c.consolidations) (told p e)
-          ∙ ap₂ (opening (electra_answer c (refused p))) (over-whole c.deposits c.closingDeposits (sym d)) (over-whole c.consolidations c.closingConsolidations (sym k)))
+          ∙ ap₂ (opening (electra_answer c (refused p))) (over-whole c.deposits c.closing_deposits (sym d)) (over-whole c.consolidations c.closing_consolidations (sym k)))

@@ -1,4 +1,6 @@
 // An Electra close that is refused: what it answers, and the opening put back in front of what stands behind it.
+#![tactic(auto)]
+
 ghost use Rattle.std.specs.Prelude.{◌≡◌, ◌*◌, ◌/◌, ◌≤◌, length, replicate};
 ghost use Rattle.definitions_electra.specs.Calls.{over};
 ghost use Rattle.electra_refused.specs.Outcome.{as_opened};

@@ -1,5 +1,7 @@
 // Electra's process_registry_updates: one loop in register order, which carries the record's two numbers of the exit queue. Passes over the
 // registry: test 3, the copy, the total active balance for the limit, and the turns.
+#![tactic(auto)]
+
 ghost use Rattle.std.specs.Prelude.{◌≡◌, true, ◌*◌, ◌/◌, ◌^◌, ◌<◌, length};
 ghost use Rattle.definitions.specs.Record.{decode};
 ghost use Rattle.definitions.specs.Checked.{settle};

@@ -12,7 +12,7 @@ use definitions_electra::{ExitChurn, ExitChurnAnswer};
 use entries::{entry_is_active, entry_is_eligible_for_activation};
 
 // What a turn reads besides the validator and the churn: `least` is the activation exit epoch of the present epoch.
-#[derive(Drop)]
+#[derive(Clone, Copy)]
 pub struct RegistryNumbers {
     pub epoch: u64,
     pub finalized_epoch: u64,

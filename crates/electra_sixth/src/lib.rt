@@ -1,5 +1,7 @@
 // The sixth step of a close under Electra on the validators of the opening, in place, with what the deposits give each: the tenth of its row of
 // twelve. On refusal registry and amounts are left half done: the caller puts the opening back.
+#![tactic(auto)]
+
 ghost use Rattle.std.specs.Prelude.{◌≡◌, true, ◌*◌, ◌/◌, ◌^◌, ◌<◌, length};
 ghost use Rattle.definitions_electra.specs.Refusals.{good_electra};
 ghost use Rattle.electra_sixth.specs.Named.{place_by, value_by, one_by, Naming, NoneYet};
@@ -11,7 +13,7 @@ use electra_deposits::apply_deposits;
 use electra_deposits::step::{QueueAnswer, left_to_consume, queue_numbers};
 
 // 0 or a refusal's number; where it is 0 the next epoch, how many deposits are done, and what is left to consume.
-#[derive(Drop)]
+#[derive(Clone, Copy)]
 pub struct Sixth {
     pub refusal: u64,
     pub next_epoch: u64,

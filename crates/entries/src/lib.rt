@@ -1,4 +1,6 @@
 // A validator's own: what its ten numbers say. `entry_..` is for loops, which have tested the record already.
+#![tactic(auto)]
+
 ghost use Rattle.std.specs.Prelude.{◌≡◌, cond, ◌&&◌, not, ◌≤◌, leb, ltb, eqb, length};
 ghost use Rattle.definitions.specs.Record.{decode_one};
 ghost use Rattle.definitions.specs.Checked.{value};

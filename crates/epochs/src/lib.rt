@@ -1,4 +1,6 @@
 // Epochs and slots: phase0/helpers.rs.
+#![tactic(auto)]
+
 ghost use Rattle.std.specs.Prelude.{◌≡◌, ◌<◌};
 ghost use Rattle.definitions.specs.Answers.{Says};
 ghost use Rattle.definitions.specs.Checked.{value, code_of};

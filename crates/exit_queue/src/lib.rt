@@ -1,5 +1,7 @@
 // The exit queue: the last epoch that is taken and how many leave at it. The survey makes the pair, it is moved in place at each exit, and
 // it answers as a rescan of the registry does.
+#![tactic(auto)]
+
 ghost use Rattle.std.specs.Prelude.{◌≡◌, ◌*◌, ◌/◌, ◌<◌, length};
 ghost use Rattle.definitions.specs.Record.{decode};
 ghost use Rattle.definitions.specs.ExitQueue.{queue_of};
@@ -111,7 +113,7 @@ fn next_epoch(queue: ExitQueue, limit: u64) -> Number
 }
 
 // 0 or a refusal's number, and the pair afterwards.
-#[derive(Drop)]
+#[derive(Clone, Copy)]
 pub struct Turn {
     pub refusal: u64,
     pub queue: ExitQueue,

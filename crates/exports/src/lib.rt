@@ -1,6 +1,8 @@
 // The static library's functions, for C and for whatever calls C: numbers, slices and #[repr(C)] structs. Each is one of the library's own
 // functions, under the prefix altair_, deneb_ or electra_ and with that function's contract; an enum comes back as a number beside its value (crate plain).
 // Nothing is demanded of the caller.
+#![tactic(auto)]
+
 ghost use Rattle.std.specs.Prelude.{◌≡◌};
 ghost use Rattle.exports.specs.Version.{version};
 

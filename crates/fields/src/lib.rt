@@ -1,4 +1,6 @@
 // The fields of a record file: numbers, checkpoints, settings, finality and the exit queue's pair, read through the reader and written.
+#![tactic(auto)]
+
 ghost use Rattle.std.specs.Prelude.{◌≡◌, ◌+◌, ◌*◌, ◌≤◌, length, drop};
 ghost use Rattle.std.proofs.lemmas.List.Edits.{sets};
 ghost use Rattle.definitions.specs.Refusals.{settings_numbers, settings_from};

@@ -107,7 +107,7 @@ pub fn good_header(bytes: &[u8]) -> bool
 }
 
 // N, S, L and the version.
-#[derive(Drop)]
+#[derive(Clone, Copy)]
 pub struct Counts {
     pub validators: u64,
     pub roots: u64,

@@ -1,4 +1,6 @@
 // The tests of a record file: what reading answers and where it stops, and what writing answers.
+#![tactic(auto)]
+
 ghost use Rattle.std.specs.Prelude.{true, ◌≡◌, ◌+◌, ◌*◌, ◌≤◌, length, drop};
 ghost use Rattle.definitions.specs.Record.{decode};
 ghost use Rattle.definitions.specs.Checked.{code_of};
@@ -91,7 +93,7 @@ fn queue_at(bytes: &[u8], from: usize, validators: usize) -> ExitQueue
 }
 
 // The refusal's number or 0, the position at which reading stopped, and the pair, which is zeros on refusal.
-#[derive(Drop)]
+#[derive(Clone, Copy)]
 pub struct Tested {
     pub refusal: u64,
     pub position: u64,

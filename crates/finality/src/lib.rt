@@ -1,4 +1,6 @@
 // Finality: how far it lags, and what comes of the two tests of the weighing. phase0/epoch_processing.rs.
+#![tactic(auto)]
+
 ghost use Rattle.std.specs.Prelude.{◌≡◌, cond, ◌&&◌, ◌+◌, ◌/◌, ◌%◌, ◌^◌, ◌≤◌, ◌<◌, eqb};
 ghost use Rattle.definitions.specs.Answers.{Says, SaysTruth};
 ghost use Rattle.definitions.specs.Checked.{code_of};

@@ -63,8 +63,8 @@ accepted_as c {st} p =
       small = tests-passed c b.gave;
       worked = b.then;
       finality = ap (λ (x : Checked BeaconState). (settle x (state_of c)).finality) p;
-      registry = filled (λ st. encode st.validators) (close_tests c) (process_epoch (settings_under c.rules) (state_of c)) c.registry c.closingRegistry b.gave b.then;
-      slashings = filled (λ st. st.slashings) (close_tests c) (process_epoch (settings_under c.rules) (state_of c)) c.slashings c.closingSlashings b.gave b.then;
+      registry = filled (λ st. encode st.validators) (close_tests c) (process_epoch (settings_under c.rules) (state_of c)) c.registry c.closing_registry b.gave b.then;
+      slashings = filled (λ st. st.slashings) (close_tests c) (process_epoch (settings_under c.rules) (state_of c)) c.slashings c.closing_slashings b.gave b.then;
     }
 
 pub accepted-close : (c : Call) → T (eqb (close c).refusal 0) → Accepted c
@@ -91,7 +91,7 @@ numbered c slots lookahead churn =
       epoch = c.call.finality.slot / slots;
       lookahead = lookahead;
       churn = churn;
-      others_stay = c.othersStay;
+      others_stay = c.others_stay;
     }
 
 renumbered : (c : Close) {slots slots' lookahead lookahead' churn churn' : ℕ} → slots ≡ slots' → lookahead ≡ lookahead' → churn ≡ churn' → EventShape churn (numbered c slots lookahead churn) → EventShape churn' (numbered c slots' lookahead' churn')

@@ -30,7 +30,7 @@ event c =
       lookahead = c.call.rules.settings.max_seed_lookahead;
       -- "The smallest activation churn limit that the settings allow is min_per_epoch_churn_limit"
       churn = c.call.rules.settings.min_per_epoch_churn_limit;
-      others_stay = c.othersStay;
+      others_stay = c.others_stay;
     }
 
 pub record Premises (s : Settings) (start : BeaconState) (closes : List Close) : Type 0 where

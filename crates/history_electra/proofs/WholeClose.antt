@@ -163,14 +163,14 @@ worked : (c : Close) {e : ElectraState} → closed c ≡ value e → process_epo
 unfolding after_tests
 worked c h = (bound _ _ h).then
 
-made-here : (c : Close) (e : ElectraState) (x : Ten c.rules c.opening e) → closed c ≡ value e → made c.rules c.opening e x c.othersStay ≡ event c
+made-here : (c : Close) (e : ElectraState) (x : Ten c.rules c.opening e) → closed c ≡ value e → made c.rules c.opening e x c.others_stay ≡ event c
 made-here c e x h = rw (h, next-is c.rules c.opening e x)
 
 close-shape : (c : Close) → accepts (event c) ≡ true → EventShape (event c)
 close-shape c t =
     let a = accepted-close c (closed c) t in
     let x = ten c.rules c.opening (worked c a.1) in
-    subst EventShape (made-here c a.0 x a.1) (made-shape c.rules c.opening a.0 x c.othersStay)
+    subst EventShape (made-here c a.0 x a.1) (made-shape c.rules c.opening a.0 x c.others_stay)
 
 shapes : (closes : List Close) → Each EventShape (map event closes)
 shapes [] = tt

@@ -44,7 +44,7 @@ event c =
       number = c.rules.electra.max_pending_deposits_per_epoch;
       churn = smallest_churn c.rules;
       moved = settle (next_deposit c.rules c.opening) 0;
-      others_stay = c.othersStay;
+      others_stay = c.others_stay;
     }
 
 abbrev pub DepositsEarn : Type 0

@@ -1,5 +1,7 @@
 // process_justification_and_finalization of altair/epoch_processing.rs: three totals, each in one pass, and the weighing by them, which the
 // close shares; and which of them were raised. No closing registry.
+#![tactic(auto)]
+
 ghost use Rattle.std.specs.Prelude.{◌≡◌};
 ghost use Rattle.definitions.specs.Checked.{code_of};
 ghost use Rattle.definitions.specs.LeafRefusals.{weigh_tests};

@@ -1,1 +1,2 @@
 // Laws alone, of the definitions of the close with amounts, for the proofs of the crates above. See proofs/.
+#![tactic(auto)]

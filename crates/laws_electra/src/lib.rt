@@ -1,1 +1,2 @@
 // Laws of Electra's definitions that proofs cite: proofs/.
+#![tactic(auto)]

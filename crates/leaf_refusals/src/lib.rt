@@ -1,4 +1,6 @@
 // Tests 1, 2 and 3 of the leaves that are lent one validator's ten numbers: 0, or the number of the first test that failed.
+#![tactic(auto)]
+
 ghost use Rattle.std.specs.Prelude.{◌≡◌, ◌<◌};
 ghost use Rattle.definitions.specs.Checked.{code_of};
 ghost use Rattle.definitions.specs.LeafRefusals.{entry_tests, finalized_entry_tests, settings_entry_tests, slot_entry_tests, is_participation_epoch, participation_entry_tests};

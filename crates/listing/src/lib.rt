@@ -1,4 +1,6 @@
 // The listing of a record file: the close as text, or the refusal. Nothing is written before all of it is known.
+#![tactic(auto)]
+
 ghost use Rattle.std.specs.Prelude.{◌≡◌, ◌≤◌, length, take};
 ghost use Rattle.fields.specs.Put.{Put};
 ghost use Rattle.definitions_file.specs.Listing.{listing};

@@ -1,4 +1,6 @@
 // Exit orders of a close that is run one step a call: taking one, and the ninth call, which carries them out.
+#![tactic(auto)]
+
 ghost use Rattle.std.specs.Prelude.{◌≡◌, ◌&&◌, ◌+◌, ◌*◌, ◌/◌, ◌≤◌, ◌<◌, leb, length, set};
 ghost use Rattle.definitions.specs.Record.{decode_one, decode};
 ghost use Rattle.definitions.specs.ExitQueue.{queue_of};

@@ -1,4 +1,6 @@
 // All that trying an outage prints, put into lent bytes.
+#![tactic(auto)]
+
 ghost use Rattle.std.specs.Prelude.{◌≡◌, true, ◌+◌, ◌*◌, ◌/◌, ◌^◌, ◌≤◌, length};
 ghost use Rattle.definitions.specs.Refusals.{registry_shaped};
 ghost use Rattle.definitions_file.specs.File.{count_of, contents_with};

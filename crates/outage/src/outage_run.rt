@@ -16,7 +16,7 @@ use listing_lines::text::put_head;
 use refusals::buffers::copy;
 
 // 0 or the refusal's number, the finality of the record as it then stands, and the place behind the head lines.
-#[derive(Drop)]
+#[derive(Clone, Copy)]
 pub struct Closed {
     pub refusal: u64,
     pub finality: Finality,

@@ -1,4 +1,6 @@
 // The library's answers as plain numbers, for callers that have no enum: 0 and what was asked for, or a refusal's number and zeros.
+#![tactic(auto)]
+
 ghost use Rattle.std.specs.Prelude.{◌≡◌};
 ghost use Rattle.definitions.specs.Plain.{plain_number, plain_truth, plain_deltas, plain_total};
 ghost use Rattle.plain.specs.Root.{root_given};

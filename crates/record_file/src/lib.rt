@@ -1,4 +1,6 @@
 // A record file read and written over lent bytes and buffers: all of it is tested before anything is written.
+#![tactic(auto)]
+
 ghost use Rattle.std.specs.Prelude.{◌≡◌, true, [], length};
 ghost use Rattle.std.proofs.lemmas.List.Edits.{sets};
 ghost use Rattle.definitions.specs.Checked.{code_of};

@@ -1,4 +1,6 @@
 // Tests 1, 2 and 3 of document 01, "What is returned".
+#![tactic(auto)]
+
 ghost use Rattle.std.specs.Prelude.{◌≡◌, not, ◌*◌, eqb, ltb, length};
 ghost use Rattle.definitions.specs.Lists.{all, every};
 ghost use Rattle.definitions.specs.Record.{decode_one};

@@ -1,4 +1,6 @@
 // One validator's turn of process_registry_updates: eligibility and ejection. registry_step and write_turn run it over the registry.
+#![tactic(auto)]
+
 ghost use Rattle.std.specs.Prelude.{◌≡◌, ◌^◌, ◌<◌, length};
 ghost use Rattle.definitions.specs.Record.{decode_one, encode_one};
 ghost use Rattle.definitions.specs.Document.Phase0.EpochProcessing.{queue_eligible, is_ejected};

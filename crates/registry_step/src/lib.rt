@@ -2,6 +2,8 @@
 // is lent with the registry (R-8): ejections start from it, and the closing registry's comes back. Passes over the registry: the survey, with
 // test 3 and the pair for test 8, the copy, what the cut of the activation queue needs, one for the turns, one for activation, and one for the
 // pair.
+#![tactic(auto)]
+
 ghost use Rattle.std.specs.Prelude.{◌≡◌, true, ◌*◌, ◌/◌, ◌^◌, ◌≤◌, ◌<◌, length};
 ghost use Rattle.definitions.specs.Lists.{range};
 ghost use Rattle.definitions.specs.Record.{decode};

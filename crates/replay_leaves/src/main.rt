@@ -1,4 +1,6 @@
 // Replays the stored list of leaf cases, read from standard input, on the proved leaves, and prints how many agree.
+#![tactic(auto)]
+
 mod entry;
 mod print;
 mod registry;

@@ -1,5 +1,7 @@
 // Replays the stored list of record files, read from standard input, on the proved reading, steps and close, and prints how many
 // answers agree: everything that comes back, and every number of the buffers.
+#![tactic(auto)]
+
 mod print;
 mod read;
 mod steps;

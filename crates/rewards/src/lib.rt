@@ -1,5 +1,7 @@
 // What one validator gains and loses: by a flag, and by inactivity. A function without the Rust's name is for steps, which have tested the record
 // already. A product is refused only where the Rust evaluates it.
+#![tactic(auto)]
+
 ghost use Rattle.std.specs.Prelude.{◌≡◌, ◌≤◌, ◌<◌, length, get_or};
 ghost use Rattle.definitions.specs.Record.{decode_one};
 ghost use Rattle.definitions.specs.Checked.{code_of, mul64};
@@ -23,7 +25,7 @@ use refusals::rules::{rules_refusal, settings_under};
 
 // The same for all validators. The base reward of an increment, and 64 times the active increments, are answers: each may have left 64 bits
 // and be wanted by nobody.
-#[derive(Drop)]
+#[derive(Clone, Copy)]
 pub struct Shared {
     pub current_epoch: u64,
     pub previous_epoch: u64,

@@ -1,4 +1,6 @@
 // process_rewards_and_penalties: what all validators share once, then each validator's own.
+#![tactic(auto)]
+
 ghost use Rattle.std.specs.Prelude.{◌≡◌, true, ◌*◌, ◌/◌, ◌≤◌, ◌<◌, length};
 ghost use Rattle.definitions.specs.Record.{decode, encode};
 ghost use Rattle.definitions.specs.Checked.{code_of, mul64, map_checked};
@@ -64,7 +66,7 @@ fn reward_all(
 }
 
 // What all validators share: the balances of the three flags' participants, the total active balance and the leak.
-#[derive(Drop)]
+#[derive(Clone, Copy)]
 pub struct StepTotals {
     pub source: u64,
     pub target: u64,
@@ -73,7 +75,7 @@ pub struct StepTotals {
     pub leaking: bool,
 }
 
-#[derive(Drop)]
+#[derive(Clone, Copy)]
 pub enum TotalsAnswer {
     Value(StepTotals),
     Refused(u64),

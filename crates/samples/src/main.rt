@@ -1,5 +1,6 @@
 // Closes each record file that its arguments name, and prints the name and what the listing program prints of the file. A name that begins
 // with `o` is that of a tried outage: what the program try_outage prints of it.
+#![tactic(auto)]
 
 fn main() {
     let n = os::arg_count();

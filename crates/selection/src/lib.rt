@@ -1,4 +1,6 @@
 // The smallest of the epochs seen, in a slice of fixed length, and the cut of the activation queue from them.
+#![tactic(auto)]
+
 ghost use Rattle.std.specs.Prelude.{◌≡◌, ◌+◌, ◌<◌, ◌≤◌, min, length};
 ghost use Rattle.definitions.specs.Record.{decode_one};
 ghost use Rattle.laws.specs.Cut.{count};
@@ -12,7 +14,7 @@ use definitions::{
 use entries::becomes_eligible;
 
 // Activated are all that are queued since before `bound`, and the first `quota` that are queued since it.
-#[derive(Drop)]
+#[derive(Clone, Copy)]
 pub struct Cut {
     pub bound: u64,
     pub quota: u64,

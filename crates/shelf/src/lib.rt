@@ -1,4 +1,6 @@
 // A shelf of records in one call: the lengths are tested first, and then each file is closed by itself, in one pass over the shelf.
+#![tactic(auto)]
+
 ghost use Rattle.std.specs.Prelude.{◌≡◌, true, eqb, length};
 ghost use Rattle.definitions.specs.Lists.{sum};
 ghost use Rattle.definitions_file.specs.Shelf.{holds_longest, shelf_shaped, shelf_refusal, answers_for, parts_for, answers_after, closing_after, Working, shelf_of};

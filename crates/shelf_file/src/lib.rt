@@ -1,4 +1,6 @@
 // One file of a shelf: its tests, its close with two working lists, and the closed record as a file in its part.
+#![tactic(auto)]
+
 ghost use Rattle.std.specs.Prelude.{◌≡◌, ◌&&◌, ◌*◌, ◌≤◌, eqb, length, take};
 ghost use Rattle.definitions.specs.Checked.{value, code_of};
 ghost use Rattle.definitions.specs.Rust.Phase0.EpochProcessing.{reset_slashings};

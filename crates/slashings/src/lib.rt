@@ -1,4 +1,6 @@
 // process_slashings and process_slashings_reset.
+#![tactic(auto)]
+
 ghost use Rattle.std.specs.Prelude.{◌≡◌, true, List, ℕ, ◌*◌, ◌/◌, ◌<◌, length};
 ghost use Rattle.definitions.specs.Record.{decode_one, decode, encode};
 ghost use Rattle.definitions.specs.Checked.{value, code_of, sum64, map_checked};

@@ -1,4 +1,6 @@
 // A store of settings by starting epoch (02, R-10): reading the rules of an epoch, and adding an entry.
+#![tactic(auto)]
+
 ghost use Rattle.std.specs.Prelude.{◌≡◌, ◌*◌, ◌≤◌, ltb, length};
 ghost use Rattle.definitions.specs.Checked.{code_of};
 ghost use Rattle.definitions_close.specs.Store.{entries_from, keeps, last_of, of_last, store_tests, rules_at, read_rules, rules_answer_for, numbers_of, addition_tests, added};

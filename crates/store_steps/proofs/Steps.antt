@@ -106,7 +106,7 @@ module _ (store : Store) (period count : ℕ) (registry orders answers : List �
     unfolding ninth_rules_with
     with-rules z = after-passed _ _ e z
 
-pub ninth-with : (c : StoreNinthCall) → ninth_rules_with c.store c.period c.running.answer.finality.slot c.running.orders c.closingRegistry c.orders c.answers ≡ ninth_rules c
+pub ninth-with : (c : StoreNinthCall) → ninth_rules_with c.store c.period c.running.answer.finality.slot c.running.orders c.closing_registry c.orders c.answers ≡ ninth_rules c
 unfolding ninth_rules_with ninth_tests_with ninth_rules
 ninth-with c = refl
 
@@ -114,11 +114,11 @@ module _ (c : StoreNinthCall) {a : RulesAnswer} (e : a ≡ rules_answer_for (nin
   not_ended : eqb c.running.done 9 ≡ false
   not_ended = ne_eqb c.running.done 9 (λ e. omega (arith, d, e))
 
-  pub ninth-turned : (a.refusal ≡ 0 → ⊥) → ninth_outcome (record { refusal = a.refusal; ended = 0; running = c.running }) c.closingRegistry c.answers ≡ store_carry_out c
+  pub ninth-turned : (a.refusal ≡ 0 → ⊥) → ninth_outcome (record { refusal = a.refusal; ended = 0; running = c.running }) c.closing_registry c.answers ≡ store_carry_out c
   unfolding store_carry_out carry_by
   ninth-turned z =
       let t = rules-turned (ninth_rules c) e z in
-      rw (not_ended, eq-eqb c.running.done 8 d, t.is) (ap (λ (n : ℕ). ninth_outcome (record { refusal = n; ended = 0; running = c.running }) c.closingRegistry c.answers) t.said)
+      rw (not_ended, eq-eqb c.running.done 8 d, t.is) (ap (λ (n : ℕ). ninth_outcome (record { refusal = n; ended = 0; running = c.running }) c.closing_registry c.answers) t.said)
 
   pub ninth-by : a.refusal ≡ 0 → carry_out (ninth_by c a.rules) ≡ store_carry_out c
   unfolding store_carry_out carry_by

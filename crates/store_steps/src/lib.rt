@@ -1,4 +1,6 @@
 // A close by steps with a store in place of settings, fork and pair (02, R-9 with R-10): the call that is made eight times, and the ninth.
+#![tactic(auto)]
+
 ghost use Rattle.std.specs.Prelude.{◌≡◌, ◌&&◌, ◌+◌, ◌≤◌, leb, eqb};
 ghost use Rattle.definitions.specs.Checked.{code_of};
 ghost use Rattle.definitions_close.specs.Store.{rules_answer_for};

@@ -1,4 +1,6 @@
 // One pass over the registry for all that a close asks of it as a whole.
+#![tactic(auto)]
+
 ghost use Rattle.std.specs.Prelude.{◌≡◌, ◌*◌, ◌/◌, ◌<◌, [], ◌∷◌, length, if◌then◌else◌, nat_le};
 ghost use Rattle.definitions.specs.Lists.{every};
 ghost use Rattle.definitions.specs.Record.{decode_one};
@@ -19,7 +21,7 @@ use totals::{count_if, raised};
 
 // Sums over those active at the current epoch, over those that participate by the previous epoch's source, target and head flag, and over
 // those that do by the current epoch's target flag.
-#[derive(Drop)]
+#[derive(Clone, Copy)]
 pub struct Sums {
     pub active: u64,
     pub source: u64,
@@ -29,7 +31,7 @@ pub struct Sums {
 }
 
 // Of each of these sums 1 where it has left 64 bits, and else 0.
-#[derive(Drop)]
+#[derive(Clone, Copy)]
 pub struct Overs {
     pub active: u64,
     pub source: u64,
@@ -39,7 +41,7 @@ pub struct Overs {
 }
 
 // The totals that the steps after justification go by: each sum, or one increment where that is more.
-#[derive(Drop)]
+#[derive(Clone, Copy)]
 pub struct Totals {
     pub active: u64,
     pub source: u64,
@@ -96,7 +98,7 @@ pub fn raised_totals(sums: Sums, increment: u64) -> Totals
 
 // What one pass over the opening registry finds. A plain sum is a number where its `over` is 0. The pair of the exit queue is the record's:
 // the largest exit epoch below FAR, or 0, and how many have exactly it.
-#[derive(Drop)]
+#[derive(Clone, Copy)]
 pub struct Findings {
     pub refusal: u64,
     pub sums: Sums,

@@ -44,7 +44,7 @@ module _ (c : ElectraCall) {u : Unit {0}} {closing : ElectraState} (t : electra_
   unfolding electra_close closing_buffer bind
   written a = rw (t, w, a) refl
 
-  registry-written : (electra_close c).closing_registry ≡ over (encode closing.altair.validators) c.closingRegistry
+  registry-written : (electra_close c).closing_registry ≡ over (encode closing.altair.validators) c.closing_registry
   unfolding electra_close closing_buffer
   registry-written = rw (t, w) refl
 
@@ -75,5 +75,5 @@ accounted-call c closing e =
       row = λ i l. ap (λ (xs : List ℕ). row_of xs i) lent ∙ row-over law.filled c.amounts _ i law.long l;
       count = counted c a.gave a.then;
       opens = λ i l. balance_in c.registry _ (shape c a.gave).long i (omega (arith, l, length-decode _ c.registry (shape c a.gave).long));
-      closes = λ i l. ap (λ (xs : List ℕ). get_or xs (10 * i + 6) 0) (registry-written c a.gave a.then) ∙ balance-over closing.altair.validators c.closingRegistry i l;
+      closes = λ i l. ap (λ (xs : List ℕ). get_or xs (10 * i + 6) 0) (registry-written c a.gave a.then) ∙ balance-over closing.altair.validators c.closing_registry i l;
     }

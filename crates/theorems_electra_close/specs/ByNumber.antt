@@ -28,21 +28,21 @@ pub record Unanswered (c : ElectraCall) : Type 0 where
 -- 1, 2 and 3: "nothing written"
 pub record Untouched (c : ElectraCall) : Type 0 where
   pub answer : Unanswered c
-  pub registry : (electra_close c).closing_registry ≡ c.closingRegistry
-  pub compounding : (electra_close c).closing_compounding ≡ c.closingCompounding
-  pub slashings : (electra_close c).closing_slashings ≡ c.closingSlashings
-  pub deposits : (electra_close c).closing_deposits ≡ c.closingDeposits
-  pub consolidations : (electra_close c).closing_consolidations ≡ c.closingConsolidations
+  pub registry : (electra_close c).closing_registry ≡ c.closing_registry
+  pub compounding : (electra_close c).closing_compounding ≡ c.closing_compounding
+  pub slashings : (electra_close c).closing_slashings ≡ c.closing_slashings
+  pub deposits : (electra_close c).closing_deposits ≡ c.closing_deposits
+  pub consolidations : (electra_close c).closing_consolidations ≡ c.closing_consolidations
   pub amounts : (electra_close c).amounts ≡ c.amounts
 
 -- 4 and 5: "the opening in all of them (the registry's first 10N numbers, the rest untouched)"; zeros in the amounts of the N
 pub record Opening (c : ElectraCall) : Type 0 where
   pub answer : Unanswered c
-  pub registry : (electra_close c).closing_registry ≡ over c.registry c.closingRegistry
-  pub compounding : (electra_close c).closing_compounding ≡ over c.compounding c.closingCompounding
+  pub registry : (electra_close c).closing_registry ≡ over c.registry c.closing_registry
+  pub compounding : (electra_close c).closing_compounding ≡ over c.compounding c.closing_compounding
   pub slashings : (electra_close c).closing_slashings ≡ c.slashings
-  pub deposits : (electra_close c).closing_deposits ≡ over c.deposits c.closingDeposits
-  pub consolidations : (electra_close c).closing_consolidations ≡ over c.consolidations c.closingConsolidations
+  pub deposits : (electra_close c).closing_deposits ≡ over c.deposits c.closing_deposits
+  pub consolidations : (electra_close c).closing_consolidations ≡ over c.consolidations c.closing_consolidations
   pub amounts : (electra_close c).amounts ≡ over (replicate (12 * count_of c.registry) 0) c.amounts
 
 -- 0: the record that the document defines, at the front of the closing buffers, and what stands behind it untouched
@@ -59,11 +59,11 @@ pub record Accepted (c : ElectraCall) : Type 0 where
   pub rest : (electra_close c).answer.consolidations ≡ length state.pending_consolidations
   pub to_consume : (electra_close c).answer.deposit_balance_to_consume ≡ state.deposit_balance_to_consume
   pub churn : (electra_close c).answer.churn ≡ state.churn
-  pub registry : (electra_close c).closing_registry ≡ over (encode state.altair.validators) c.closingRegistry
-  pub compounding : (electra_close c).closing_compounding ≡ over state.compounding c.closingCompounding
+  pub registry : (electra_close c).closing_registry ≡ over (encode state.altair.validators) c.closing_registry
+  pub compounding : (electra_close c).closing_compounding ≡ over state.compounding c.closing_compounding
   pub slashings : (electra_close c).closing_slashings ≡ state.altair.slashings
-  pub deposits : (electra_close c).closing_deposits ≡ over (encode_deposits state.pending_deposits) c.closingDeposits
-  pub consolidations : (electra_close c).closing_consolidations ≡ over (encode_consolidations state.pending_consolidations) c.closingConsolidations
+  pub deposits : (electra_close c).closing_deposits ≡ over (encode_deposits state.pending_deposits) c.closing_deposits
+  pub consolidations : (electra_close c).closing_consolidations ≡ over (encode_consolidations state.pending_consolidations) c.closing_consolidations
 
 -- of every call c, whose outcome o is `electra_close c`
 pub record ElectraCloseCall (c : ElectraCall) : Type 0 where

@@ -1,1 +1,2 @@
 // The law of the twelve amounts of an Electra close: specs/ has the statement.
+#![tactic(auto)]

@@ -1,5 +1,7 @@
 // Totals and counts over the registry, each in one pass: of those active at an epoch, those that the eligibility rule picks, or those that
 // participate by a flag. A function without the Rust's name is for steps, which have tested the record already.
+#![tactic(auto)]
+
 ghost use Rattle.std.specs.Prelude.{◌≡◌, cond, map, ◌+◌, ◌*◌, ◌/◌, ◌≤◌, ◌<◌, max, ltb, length};
 ghost use Rattle.definitions.specs.Lists.{filter};
 ghost use Rattle.definitions.specs.Record.{decode_one, decode};
@@ -34,7 +36,7 @@ pub fn count_if(count: u64, on: bool) -> u64
 }
 
 // Whom a total or a count is over. At `Participating` the flag's index is at most 7.
-#[derive(Drop)]
+#[derive(Clone, Copy)]
 enum Members {
     Active {
         epoch: u64,

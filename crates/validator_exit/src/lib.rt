@@ -1,5 +1,7 @@
 // initiate_validator_exit by the exit queue's pair, which is lent with the registry (R-8): phase0/helpers.rs 1035 without its rescans. One
 // pass makes test 3, counts the active and finds the pair for test 8; the pair is then moved by one exit. And the pair of a registry.
+#![tactic(auto)]
+
 ghost use Rattle.std.specs.Prelude.{◌≡◌, [], ◌∷◌, ◌*◌, ◌/◌, ◌<◌, length};
 ghost use Rattle.definitions.specs.Record.{decode};
 ghost use Rattle.definitions.specs.Checked.{code_of};
@@ -21,7 +23,7 @@ use refusals::{good_entry, good_settings, in_order, is_small, registry_shaped, s
 use totals::{churn_by, count_if};
 
 // What one pass over the registry finds: 3 where an entry fails test 3; else how many are active, and the exit queue's pair.
-#[derive(Drop)]
+#[derive(Clone, Copy)]
 pub struct Seen {
     pub refusal: u64,
     pub active: u64,

@@ -3,7 +3,7 @@ use crate::shape;
 use crate::words::{NOWHERE, past, word};
 
 // Places are of words. `roots_bytes` and `lent_words` are 0 where the leaf is handed none.
-#[derive(Drop)]
+#[derive(Clone, Copy)]
 pub struct Case {
     pub leaf: u64,
     pub settings: usize,

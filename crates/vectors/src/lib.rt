@@ -1,5 +1,6 @@
 // The stored list in blocks of words, and its leaf cases: reference/vectors/README.md has its form. Nothing here trusts a
 // block: what would lie outside it reads as 0 or as empty, and a case whose parts do not fill it is refused.
+#![tactic(auto)]
 
 mod answers;
 mod case;

@@ -1,5 +1,7 @@
 // Votes not yet counted (document 02, R-13): which epochs justification can still finalize, and whether each target's two-thirds test
 // passes, whatever the unknown target flags turn out to be.
+#![tactic(auto)]
+
 ghost use Rattle.std.specs.Prelude.{◌≡◌};
 ghost use Rattle.definitions.specs.Checked.{code_of};
 ghost use Rattle.definitions.specs.Lists.{all};

@@ -16,7 +16,7 @@ use totals::raised;
 use weighing::is_justified;
 
 // How many epochs, and the first three of them; 0 where there is none.
-#[derive(Drop)]
+#[derive(Clone, Copy)]
 pub struct Epochs {
     pub count: u64,
     pub first: u64,

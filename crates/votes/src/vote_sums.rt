@@ -12,7 +12,7 @@ use definitions::{
 };
 use entries::{entry_is_active, flag_is_set};
 
-#[derive(Drop)]
+#[derive(Clone, Copy)]
 pub struct VoteSums {
     pub active: u64,
     pub previous_fewest: u64,
@@ -21,7 +21,7 @@ pub struct VoteSums {
     pub current_most: u64,
 }
 
-#[derive(Drop)]
+#[derive(Clone, Copy)]
 pub enum VoteSumsAnswer {
     Value(VoteSums),
     Refused(u64),

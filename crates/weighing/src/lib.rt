@@ -1,4 +1,6 @@
 // weigh_justification_and_finalization of phase0/epoch_processing.rs: two tests from three totals, the lookups, and the outcome.
+#![tactic(auto)]
+
 ghost use Rattle.std.specs.Prelude.{◌≡◌, ◌*◌, ◌<◌, length};
 ghost use Rattle.definitions.specs.Answers.{Answers, SaysTruth, finality_answer_for};
 ghost use Rattle.definitions.specs.Checked.{code_of};
@@ -28,7 +30,7 @@ pub fn is_justified(target: u64, total: u64) -> Truth
 }
 
 // One epoch's test, and its root where the test passed.
-#[derive(Drop)]
+#[derive(Clone, Copy)]
 pub struct EpochTest {
     pub refusal: u64,
     pub passed: bool,

@@ -1,6 +1,8 @@
 // The closing registry and the amounts (R-4) in one pass over the opening one. A validator's nine numbers are booked after its turn, from its
 // opening and closing numbers and the pairs by which its turn paid it: no step before rewards writes what they read but the score, which is
 // the closing one, and what slashing took is what the balance after the four pairs is above the closing one.
+#![tactic(auto)]
+
 ghost use Rattle.std.specs.Prelude.{◌≡◌, [], ◌∷◌, ◌++◌, ◌+◌, ◌-◌, ◌*◌, ◌/◌, ◌^◌, ◌≤◌, ◌<◌, length};
 ghost use Rattle.definitions.specs.Record.{decode_one, decode};
 ghost use Rattle.definitions_close.specs.Amounts.{booked};
@@ -21,7 +23,7 @@ use rates::reward_balances::{Pairs, PairsAnswer};
 use write_turn::{Carry, Course, Plan, write_entry};
 
 // What a penalty took, and what it left.
-#[derive(Drop)]
+#[derive(Clone, Copy)]
 struct Booking {
     taken: u64,
     left: u64,
@@ -161,14 +163,14 @@ fn book_entry(
 
 // 0 or a refusal's number, and where it is 0 the exit queue's pair of the closing registry: every closing exit epoch joins it as it is written,
 // so that no pass over the closing registry follows.
-#[derive(Drop)]
+#[derive(Clone, Copy)]
 pub struct Wrote {
     pub refusal: u64,
     pub queue: ExitQueue,
 }
 
 // The same with what was carried.
-#[derive(Drop)]
+#[derive(Clone, Copy)]
 struct Passed {
     refusal: u64,
     carry: Carry,

@@ -26,7 +26,7 @@ raised-told (refused r) raised e = absurd (number_not_zero r e)
 pub record Accepted (c : Call) : Type 0 where
   pub epochs : 0 < c.rules.settings.slots_per_epoch
   pub shaped : registry_shaped c.registry ≡ true
-  pub alike : length c.closingRegistry ≡ length c.registry
+  pub alike : length c.closing_registry ≡ length c.registry
   pub raised : (close c).raised ≡ raised_totals c.rules.settings c.finality.slot (decode c.registry)
 
 pub accepted : (c : Call) → (close c).refusal ≡ 0 → Accepted c

@@ -36,7 +36,7 @@ pub rules-turned : (m : Checked Rules) {a : RulesAnswer} → a ≡ rules_answer_
 rules-turned (value r) e z = absurd (z (ap (λ (b : RulesAnswer). b.refusal) e))
 rules-turned (refused r) e z = record { why = r; is = refl; said = ap (λ (b : RulesAnswer). b.refusal) e }
 
-pub rules-with : (c : StoreCall) → rules_with c.store c.finality.slot c.registry c.slashings c.roots c.closingRegistry c.closingSlashings c.amounts ≡ rules_for c
+pub rules-with : (c : StoreCall) → rules_with c.store c.finality.slot c.registry c.slashings c.roots c.closing_registry c.closing_slashings c.amounts ≡ rules_for c
 unfolding rules_with rules_for tests_with store_call_shaped
 rules-with c = refl
 

@@ -10,7 +10,7 @@ use Rattle.definitions_close.specs.Calls.{full_outcome}
 use Rattle.store.proofs.store_rules.Given.{rules-given, rules-turned}
 
 module _ (c : StoreCall) {a : RulesAnswer} (e : a ≡ rules_answer_for (rules_for c)) where
-  pub turned-away : {raised : Raised} → raised ≡ none_raised → (a.refusal ≡ 0 → ⊥) → full_outcome (record { refusal = a.refusal; finality = c.finality; queue = c.queue; raised = raised; test = 0 }) c.closingRegistry c.closingSlashings c.amounts ≡ store_close c
+  pub turned-away : {raised : Raised} → raised ≡ none_raised → (a.refusal ≡ 0 → ⊥) → full_outcome (record { refusal = a.refusal; finality = c.finality; queue = c.queue; raised = raised; test = 0 }) c.closing_registry c.closing_slashings c.amounts ≡ store_close c
   unfolding store_close close_by
   turned-away none z =
       let t = rules-turned (rules_for c) e z in

@@ -83,7 +83,7 @@ module _ (c : NinthCall) where
       go true e = kept (ap (map exit_of) (none-carried s slot c.period vs os e))
       go false e = carried s slot c.period vs os
 
-  pub carries : Exits (orders_meet c) (decode c.closingRegistry) (decode (carry_out c).closing_registry)
+  pub carries : Exits (orders_meet c) (decode c.closing_registry) (decode (carry_out c).closing_registry)
   unfolding carry_out ninth_in_turn carries_out
   carries = go (has_ended c.running) (eqb c.running.done 8) refl (ninth_tests c) refl
     where

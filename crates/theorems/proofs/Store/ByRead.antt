@@ -40,7 +40,7 @@ unshaped true true true true closing true h = h
 
 module _ (c : StoreCall) (rules : Rules) where
   abbrev pub closing : List Bool
-  closing = same_length c.registry c.closingRegistry ∷ same_length c.slashings c.closingSlashings ∷ []
+  closing = same_length c.registry c.closing_registry ∷ same_length c.slashings c.closing_slashings ∷ []
 
   -- test 1 of the close by these rules, but for the amounts
   abbrev shaped_by : Settings → Bool

@@ -31,8 +31,8 @@ use Rattle.theorems.proofs.Store.Sequence.{Same, read_same, all_read}
 pub record Lent (c : StoreCall) (last : Entry) : Type 0 where
   pub store : store_shaped c.store ≡ true
   pub registry : registry_shaped c.registry ≡ true
-  pub closing-registry : same_length c.registry c.closingRegistry ≡ true
-  pub closing-slashings : same_length c.slashings c.closingSlashings ≡ true
+  pub closing-registry : same_length c.registry c.closing_registry ≡ true
+  pub closing-slashings : same_length c.slashings c.closing_slashings ≡ true
   pub amounts : amounts_shaped c.registry c.amounts ≡ true
   pub roots : roots_shaped last.rules.settings c.roots ≡ true
   pub slashings : slashings_shaped last.rules.settings c.slashings ≡ true

@@ -67,20 +67,20 @@ step-pair c = go (has_ended c.running) (in_turn c)
     go false false = record { accepts = λ z. absurd (omega (arith, z.0)); hands_back = λ z. absurd (omega (arith, z.0)) }
 
 -- the ninth call
-ninth-tested : (c : NinthCall) (t : Checked (Unit {0})) → ninth_tests c ≡ t → Called (ninth_in_turn c t).answer c.running.answer.queue c.closingRegistry (ninth_in_turn c t).closing_registry
+ninth-tested : (c : NinthCall) (t : Checked (Unit {0})) → ninth_tests c ≡ t → Called (ninth_in_turn c t).answer c.running.answer.queue c.closing_registry (ninth_in_turn c t).closing_registry
 unfolding ninth_in_turn ninth_tests carries_out
 ninth-tested c (refused r) p = record { accepts = λ z. absurd (number_not_zero r z.0); hands_back = λ z. absurd (number_not_zero r z.0) }
 ninth-tested c (value u) p =
     record {
-      accepts = λ _. pair_is c.running.answer.queue (decode c.closingRegistry) (bound _ (λ _. queue_test c.running.answer.queue (decode c.closingRegistry)) p).then;
+      accepts = λ _. pair_is c.running.answer.queue (decode c.closing_registry) (bound _ (λ _. queue_test c.running.answer.queue (decode c.closing_registry)) p).then;
       hands_back = λ _. sym (ap queue_of (decode-encode _));
     }
 
-ninth-pair : (c : NinthCall) → Called (carry_out c).answer c.running.answer.queue c.closingRegistry (carry_out c).closing_registry
+ninth-pair : (c : NinthCall) → Called (carry_out c).answer c.running.answer.queue c.closing_registry (carry_out c).closing_registry
 unfolding carry_out
 ninth-pair c = go (has_ended c.running) (eqb c.running.done 8)
   where
-    go : (e t : Bool) → let out = cond e (untried (says_ended c.running) c) (cond t (ninth_in_turn c (ninth_tests c)) (untried (turned_away bad_shape c.running) c)) in Called out.answer c.running.answer.queue c.closingRegistry out.closing_registry
+    go : (e t : Bool) → let out = cond e (untried (says_ended c.running) c) (cond t (ninth_in_turn c (ninth_tests c)) (untried (turned_away bad_shape c.running) c)) in Called out.answer c.running.answer.queue c.closing_registry out.closing_registry
     go true t = record { accepts = λ z. absurd (omega (arith, z.1)); hands_back = λ z. absurd (omega (arith, z.1)) }
     go false true = ninth-tested c (ninth_tests c) refl
     go false false = record { accepts = λ z. absurd (omega (arith, z.0)); hands_back = λ z. absurd (omega (arith, z.0)) }
@@ -117,7 +117,7 @@ step-pairs c = go (has_ended c.running) (in_turn (step_of c))
     go false true = step_by_lem c (rules_for (store_found c))
     go false false = record { accepts = λ z. absurd (omega (arith, z.0)); hands_back = λ z. absurd (omega (arith, z.0)) }
 
-carry-by : (c : StoreNinthCall) (m : Checked Rules) → Called (carry_by c m).answer c.running.answer.queue c.closingRegistry (carry_by c m).closing_registry
+carry-by : (c : StoreNinthCall) (m : Checked Rules) → Called (carry_by c m).answer c.running.answer.queue c.closing_registry (carry_by c m).closing_registry
 unfolding carry_by
 carry-by c (value rules) = ninth-pair (ninth_by c rules)
 carry-by c (refused r) = record { accepts = λ z. absurd (number_not_zero r z.0); hands_back = λ z. absurd (number_not_zero r z.0) }
@@ -126,7 +126,7 @@ pub ninth-pairs : NinthPairs
 unfolding store_carry_out
 ninth-pairs c = go (has_ended c.running) (eqb c.running.done 8)
   where
-    go : (e t : Bool) → let out = cond e (untried (says_ended c.running) (ninth_of c)) (cond t (carry_by c (ninth_rules c)) (untried (turned_away bad_shape c.running) (ninth_of c))) in Called out.answer c.running.answer.queue c.closingRegistry out.closing_registry
+    go : (e t : Bool) → let out = cond e (untried (says_ended c.running) (ninth_of c)) (cond t (carry_by c (ninth_rules c)) (untried (turned_away bad_shape c.running) (ninth_of c))) in Called out.answer c.running.answer.queue c.closing_registry out.closing_registry
     go true t = record { accepts = λ z. absurd (omega (arith, z.1)); hands_back = λ z. absurd (omega (arith, z.1)) }
     go false true = carry-by c (ninth_rules c)
     go false false = record { accepts = λ z. absurd (omega (arith, z.0)); hands_back = λ z. absurd (omega (arith, z.0)) }

@@ -65,7 +65,7 @@ record Alike (c : StoreCall) (d : Desk) : Type 0 where
   slashings : length d.closing_slashings ≡ length c.slashings
   amounts : length d.amounts ≡ length c.amounts
 
-rules-alike : (c : StoreCall) (d : Desk) → Alike c d → length c.closingRegistry ≡ length c.registry → length c.closingSlashings ≡ length c.slashings → rules_for (store_so_far d.running (lent c d)) ≡ rules_for c
+rules-alike : (c : StoreCall) (d : Desk) → Alike c d → length c.closing_registry ≡ length c.registry → length c.closing_slashings ≡ length c.slashings → rules_for (store_so_far d.running (lent c d)) ≡ rules_for c
 unfolding rules_for store_call_shaped registry_shaped every
 rules-alike c d h p q = rw (h.slot, h.registry, h.slashings, h.amounts, p, q)
 
@@ -240,8 +240,8 @@ module _ (c : StoreCall) {r : Refusal} (e : rules_for c ≡ refused r) where
           answer = record { refusal = number_of r; finality = c.finality; queue = c.queue; raised = none_raised; test = 0 };
           orders = 0;
         };
-        closing_registry = c.closingRegistry;
-        closing_slashings = c.closingSlashings;
+        closing_registry = c.closing_registry;
+        closing_slashings = c.closing_slashings;
         amounts = c.amounts;
         orders = orders;
       }

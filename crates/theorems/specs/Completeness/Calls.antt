@@ -41,8 +41,8 @@ outcome_by tests c work =
       refusal = code_of (after_tests tests work);
       finality = (settle (after_tests tests work) (state_of c)).finality;
       raised = raised_unless_refused (after_tests tests work) (raised_totals c.rules.settings c.finality.slot (decode c.registry));
-      closing_registry = closing_buffer registry_of tests work c.registry c.closingRegistry;
-      closing_slashings = closing_buffer slashings_of tests work c.slashings c.closingSlashings;
+      closing_registry = closing_buffer registry_of tests work c.registry c.closing_registry;
+      closing_slashings = closing_buffer slashings_of tests work c.slashings c.closing_slashings;
     }
 
 -- the outcome o is the record that a document gives: the process_epoch of the fork's, of the record handed in

@@ -74,8 +74,8 @@ on_bellatrix c =
       registry = c.registry;
       slashings = c.slashings;
       roots = c.roots;
-      closing_registry = c.closingRegistry;
-      closing_slashings = c.closingSlashings;
+      closing_registry = c.closing_registry;
+      closing_slashings = c.closing_slashings;
     }
 
 -- no validators in epoch 1, which is finalized

@@ -55,7 +55,7 @@ event (closing c o) = close_event c o.closing_registry o.refusal
 event (stepping c d list) = let after = acts c d list in close_event c after.closing_registry after.running.answer.refusal
 event (carrying c o) =
     record {
-      opening = decode c.closingRegistry;
+      opening = decode c.closing_registry;
       returned = decode o.closing_registry;
       refusal = o.answer.refusal;
       limits = orders_meet c;

@@ -67,8 +67,8 @@ with_store s c =
       registry = c.registry;
       slashings = c.slashings;
       roots = c.roots;
-      closing_registry = c.closingRegistry;
-      closing_slashings = c.closingSlashings;
+      closing_registry = c.closing_registry;
+      closing_slashings = c.closing_slashings;
       amounts = c.amounts;
     }
 

@@ -33,7 +33,7 @@ StepPairs =
 abbrev pub NinthPairs : Type 0
 NinthPairs =
     (c : StoreNinthCall) → let o = store_carry_out c in
-    Pairs (Accepted o.answer) c.running.answer.queue c.closingRegistry o.answer.running.answer.queue o.closing_registry
+    Pairs (Accepted o.answer) c.running.answer.queue c.closing_registry o.answer.running.answer.queue o.closing_registry
 
 abbrev pub ReadPairs : Type 0
 ReadPairs =

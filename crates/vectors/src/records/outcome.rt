@@ -4,7 +4,7 @@ use crate::{NOWHERE, counted, past, word};
 
 // Places of words. `given` is what comes back besides the refusal: the position of the reading, or the finality and which totals were
 // raised. Changes are a place and a number each, so two words.
-#[derive(Drop)]
+#[derive(Clone, Copy)]
 pub struct Outcome {
     pub refusal: u64,
     pub given: usize,

@@ -7,7 +7,7 @@ use definitions::{Finality, Settings};
 
 // `file` and `first_answer` are places of words. The lengths are of the registry, slashings and roots that are lent, the front of
 // the file's, and of the buffers that are written. There are ten answers, or the reading's alone where the header is bad.
-#[derive(Drop)]
+#[derive(Clone, Copy)]
 pub struct Record {
     pub file: usize,
     pub file_bytes: usize,
