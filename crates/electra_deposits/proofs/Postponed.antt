@@ -1,7 +1,7 @@
 -- Who is postponed is a test of the deposit and of the registry that the step opened with: the loop need not carry a list of them.
 use mathlib.Core.Path.{◌≡◌, refl, sym, ap, ◌∙◌}
 use mathlib.Core.Bool.{Bool, true, false, ◌&&◌, not}
-use mathlib.Core.List.{List, [], ◌∷◌, ◌++◌, append_nil, append_assoc}
+use mathlib.Core.List.{List, [], ◌∷◌, ◌++◌, append-nil, append_assoc}
 use Prim.Native.Nat.{ℕ, suc, ◌+◌, ◌≤◌, ◌<◌}
 use native.Mathlib.Omega.{arith}
 use borrow.Author.Tests.{lt-ltb, le-ltb, ltb-true}
@@ -132,7 +132,7 @@ pub record Went (n : ℕ) (vs₀ : List Validator) (q : Queueing) (p : Processin
   pub left : p'.is_churn_limit_reached ≡ true → p' ≡ limit_reached p
 
 pub with_none : {A : Type 0} (xs : List A) → xs ++ [] ≡ xs
-with_none xs = append_nil xs
+with_none xs = append-nil xs
 
 pub filter-append : {A : Type 0} (f : A → Bool) (xs ys : List A) → filter f (xs ++ ys) ≡ filter f xs ++ filter f ys
 unfolding filter

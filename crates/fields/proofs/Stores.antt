@@ -1,6 +1,6 @@
 -- A loop that stores one after the other: what is left to store makes of the list what all of it makes of the list before.
 use mathlib.Core.Path.{◌≡◌, refl, sym, ap, ◌∙◌}
-use mathlib.Core.List.{List, [], ◌∷◌, ◌++◌, append_nil}
+use mathlib.Core.List.{List, [], ◌∷◌, ◌++◌, append-nil}
 use Prim.Native.Nat.{ℕ, suc, ◌+◌, ◌-◌, ◌≤◌}
 use native.Mathlib.Omega.{arith}
 use lib.ListN.{length, set, take, drop, length-set, length-append, length-take, length-drop, drop_of_length-le}
@@ -13,7 +13,7 @@ sets-append xs i (y ∷ ys) zs = let e : i + suc (length ys) ≡ suc i + length 
 pub sets-whole : (xs ys : List ℕ) → length ys ≡ length xs → sets xs 0 ys ≡ ys
 sets-whole xs ys e =
     let l : length xs ≤ 0 + length ys = omega arith in
-    sets-eq ys xs 0 (omega arith) ∙ ap (λ (t : List ℕ). ys ++ t) (drop_of_length-le xs l) ∙ append_nil ys
+    sets-eq ys xs 0 (omega arith) ∙ ap (λ (t : List ℕ). ys ++ t) (drop_of_length-le xs l) ∙ append-nil ys
 
 -- n from an index on, copied into a list that is as long
 pub sets-part : (xs ys : List ℕ) (i n : ℕ) → length xs ≡ n → i + n ≤ length ys → sets xs 0 (take (i + n - i) (drop i ys)) ≡ take n (drop i ys)

@@ -1,6 +1,6 @@
 -- The tests of reading: what is answered and where reading stops.
 use mathlib.Core.Path.{◌≡◌, refl, sym, ap, ◌∙◌}
-use mathlib.Core.Bool.{Bool, true, false, ◌&&◌, and_false, and_assoc}
+use mathlib.Core.Bool.{Bool, true, false, ◌&&◌, and-false, and_assoc}
 use mathlib.Core.List.{List, [], ◌∷◌}
 use Prim.Native.Nat.{ℕ, ◌*◌, ◌^◌, ◌≤◌, ◌<◌}
 use native.Mathlib.Omega.{arith}
@@ -31,8 +31,8 @@ vectors S L s more = go (eqb S s.slots_per_historical_root) (eqb L s.epochs_per_
   where
     go : (a b : Bool) → eqb S s.slots_per_historical_root ≡ a → eqb L s.epochs_per_slashings_vector ≡ b → ((is_vector_length s.slots_per_historical_root && is_vector_length s.epochs_per_slashings_vector) && (a && (b && more))) ≡ (is_vector_length S && (is_vector_length L && (a && (b && more))))
     go true true e f = rw (eqb-true S s.slots_per_historical_root e, eqb-true L s.epochs_per_slashings_vector f) (and_assoc (is_vector_length s.slots_per_historical_root) (is_vector_length s.epochs_per_slashings_vector) more)
-    go true false e f = simp and_false
-    go false b e f = simp and_false
+    go true false e f = simp and-false
+    go false b e f = simp and-false
 
 module _ (bytes registry slashings : List ℕ) where
   -- the tests under 1, as they are made

@@ -2,7 +2,7 @@
 use mathlib.Core.Path.{◌≡◌, refl, sym, ap, ◌∙◌, subst}
 use mathlib.Core.Logic.{◌≢◌}
 use mathlib.Core.Bool.{Bool, true, false, cond, ◌&&◌}
-use mathlib.Core.List.{List, [], ◌∷◌, ◌++◌, map, append_nil}
+use mathlib.Core.List.{List, [], ◌∷◌, ◌++◌, map, append-nil}
 use Prim.Native.Nat.{ℕ, suc, ◌+◌, ◌/◌, ◌≤◌}
 use native.Mathlib.Omega.{arith}
 use lib.Dec.{T, eqb, ltb}
@@ -130,7 +130,7 @@ claimed w = demand3 settings start (calls w) (premises w)
 pub by_the_claim : (w : Bool) → (activation (standing start (events w)) 1 ≢ FAR_FUTURE_EPOCH) × (filter (λ e. eqb (e.epoch + 1 + e.lookahead) (activation (standing start (events w)) 1)) (accepted (events w)) ≢ [])
 by_the_claim w =
     let x = exactly w in
-    let c = (claimed w).activated [] (events w) [] [] 1 (sym (append_nil (events w ++ []) ∙ append_nil (events w))) x.waiting (omega (arith, x.two-accepted)) in
+    let c = (claimed w).activated [] (events w) [] [] 1 (sym (append-nil (events w ++ []) ∙ append-nil (events w))) x.waiting (omega (arith, x.two-accepted)) in
     (c.0, c.1)
 
 -- Those ahead are not those with a smaller number: of these number 1 has none, and after one close it has no epoch yet

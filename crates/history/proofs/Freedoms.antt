@@ -4,7 +4,7 @@
 use mathlib.Core.Path.{◌≡◌, refl, sym, ◌∙◌}
 use mathlib.Core.Logic.{◌≢◌}
 use mathlib.Core.Bool.{Bool, true, false}
-use mathlib.Core.List.{List, [], ◌∷◌, ◌++◌, map, append_nil}
+use mathlib.Core.List.{List, [], ◌∷◌, ◌++◌, map, append-nil}
 use Prim.Native.Nat.{ℕ, ◌+◌, ◌/◌, ◌≤◌}
 use native.Mathlib.Omega.{arith}
 use lib.Dec.{T}
@@ -149,7 +149,7 @@ owed = record { waiting = tt; enough = omega arith }
 
 pub by_the_claim : activation (standing start events) 1 ≢ FAR_FUTURE_EPOCH
 unfolding run
-by_the_claim = ((demand3 settings start calls premises).activated [] events [] [] 1 (sym (append_nil (events ++ []) ∙ append_nil events)) owed.waiting (omega (arith, owed.enough))).0
+by_the_claim = ((demand3 settings start calls premises).activated [] events [] [] 1 (sym (append-nil (events ++ []) ∙ append-nil events)) owed.waiting (omega (arith, owed.enough))).0
 
 -- 2: settings that stay are refused in every close that has the lengths called for
 abbrev no-slots : Settings

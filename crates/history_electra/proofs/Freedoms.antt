@@ -3,7 +3,7 @@
 -- their tests and by the evaluation, and what others did then stays or not; of those ahead one is postponed and one is applied without churn.
 use mathlib.Core.Path.{◌≡◌, refl, sym}
 use mathlib.Core.Bool.{Bool, true, false, false≢true}
-use mathlib.Core.List.{List, [], ◌∷◌, map, append_nil}
+use mathlib.Core.List.{List, [], ◌∷◌, map, append-nil}
 use Prim.Native.Nat.{ℕ, ◌*◌, ◌≤◌, ◌<◌}
 use native.Mathlib.Omega.{arith}
 use lib.Dec.{T}
@@ -145,7 +145,7 @@ least =
 pub by_the_claim : 2 < all_moved (accepted run)
 unfolding run
 by_the_claim =
-    (deposits_earn 4 2 10 start closes premises least).served [] run [] 2 (sym (append_nil run)) there exactly.finalized (omega (arith, exactly.four-accepted))
+    (deposits_earn 4 2 10 start closes premises least).served [] run [] 2 (sym (append-nil run)) there exactly.finalized (omega (arith, exactly.four-accepted))
   where
     there : 2 < length start.pending_deposits
     there = omega arith

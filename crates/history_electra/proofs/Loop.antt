@@ -2,7 +2,7 @@
 use mathlib.Core.Path.{◌≡◌, refl, sym, ap, ◌∙◌, subst}
 use mathlib.Core.Logic.{◌⊎◌, inl, inr}
 use mathlib.Core.Bool.{Bool, true, false, cond, ◌||◌}
-use mathlib.Core.List.{[], ◌∷◌, ◌++◌, append_nil, append_assoc}
+use mathlib.Core.List.{[], ◌∷◌, ◌++◌, append-nil, append_assoc}
 use Prim.Native.Nat.{ℕ, suc, ◌+◌, ◌≤◌, ◌<◌}
 use native.Mathlib.Omega.{arith}
 use borrow.Author.Tests.{ltb-true, leb-true, le-ltb}
@@ -110,7 +110,7 @@ module _ (r : ElectraRules) (q : Queueing) where
   stayed : (p : Processing) (ds : Deposits) {p' : Processing} → p'.next_deposit_index ≡ p.next_deposit_index
       → p'.deposits_to_postpone ≡ p.deposits_to_postpone → Went p ds p'
   stayed p ds k e =
-      record { count = 0; postponed = []; next = omega (arith, k); within = omega arith; some = tt; behind = e ∙ sym (append_nil p.deposits_to_postpone) }
+      record { count = 0; postponed = []; next = omega (arith, k); within = omega arith; some = tt; behind = e ∙ sym (append-nil p.deposits_to_postpone) }
 
   among-more : (d : PendingDeposit) (xs ds : Deposits) → Among xs ds → Among xs (d ∷ ds)
   among-more d [] ds a = tt

@@ -1,7 +1,7 @@
 -- A record that passes 1, 2, 3 and 8, written and then read, is the same record.
 use mathlib.Core.Path.{◌≡◌, refl, sym, ap, ◌∙◌}
 use mathlib.Core.Bool.{true}
-use mathlib.Core.List.{List, [], ◌∷◌, ◌++◌, append_assoc, append_nil}
+use mathlib.Core.List.{List, [], ◌∷◌, ◌++◌, append_assoc, append-nil}
 use Prim.Native.Nat.{ℕ, ◌*◌, ◌^◌, ◌<◌}
 use native.Mathlib.Omega.{arith}
 use borrow.Author.Tests.{le-leb, eq-eqb}
@@ -73,7 +73,7 @@ finality-below {c} t =
 module _ (c : Contents) (q : ExitQueue) (t : Typed c) (u : TypedQueue q) (g : Good c) where
   whole : At 0 (file_of c q) (numbers_to_bytes (header_of c)) (from_settings c q)
   unfolding file_of
-  whole = record { there = simp (append_assoc, append_nil) }
+  whole = record { there = simp (append_assoc, append-nil) }
 
   settings-at : At 80 (file_of c q) (numbers_to_bytes (settings_numbers c.settings)) (from_finality c q)
   settings-at = at_next whole (length_to_bytes (header_of c)) refl

@@ -1,6 +1,6 @@
 -- Those that wait, by the epochs kept of them, and the queue's cut by those epochs.
 use mathlib.Core.Path.{◌≡◌, refl, sym, ap, ap₂, ◌∙◌}
-use mathlib.Core.Bool.{Bool, true, false, cond, ◌&&◌, and_false}
+use mathlib.Core.Bool.{Bool, true, false, cond, ◌&&◌, and-false}
 use mathlib.Core.List.{List, [], ◌∷◌, map}
 use Prim.Native.Nat.{ℕ, ◌+◌, ◌≤◌, ◌<◌, min}
 use native.Mathlib.Omega.{arith}
@@ -34,7 +34,7 @@ queued-waiting f b h v = go (eqb v.activation_epoch FAR_FUTURE_EPOCH) (ltb x b) 
       where
         end : (w : Bool) → (w && true) ≡ (w && true)
         end w = refl
-    go w false e = and_false (leb x f && w) ∙ sym (and_false w)
+    go w false e = and-false (leb x f && w) ∙ sym (and-false w)
 
 pub count-queued : (f b : ℕ) → b ≤ f + 1 → (vs : List Validator) → count (queued_before f b) vs ≡ count (waiting_before b) vs
 count-queued f b h vs = count_same (queued_before f b) (waiting_before b) (queued-waiting f b h) vs

@@ -1,7 +1,7 @@
 -- The loop over a shelf: the first i files are closed, and what is left makes of the rest what the whole makes of the shelf.
 use mathlib.Core.Path.{◌≡◌, refl, sym, ◌∙◌}
 use mathlib.Core.Bool.{true}
-use mathlib.Core.List.{List, [], ◌∷◌, ◌++◌, append_assoc, append_nil}
+use mathlib.Core.List.{List, [], ◌∷◌, ◌++◌, append_assoc, append-nil}
 use Prim.Native.Nat.{ℕ, ◌+◌, ◌-◌, ◌*◌, ◌≤◌, ◌<◌}
 use native.Mathlib.Omega.{arith}
 use native.Mathlib.Numerals.{add-one}
@@ -35,7 +35,7 @@ module _ (fork : ℕ) (pair : Bellatrix) (lengths files lent : List ℕ) where
         let none = drop_of_length-le lengths l in
         let whole : length closing ≤ at = omega (arith, g.place, g.as_long, sum-none lengths i l) in
         let all : length answers ≤ i = omega (arith, g.as_many) in
-        (sym (g.answered ∙ rw (none, append_nil, take_all i answers all)), sym (g.parts ∙ rw (none, append_nil, take_all at closing whole)))
+        (sym (g.answered ∙ rw (none, append-nil, take_all i answers all)), sym (g.parts ∙ rw (none, append-nil, take_all at closing whole)))
 
     module _ (l : i < length lengths) where
       abbrev n : ℕ

@@ -1,7 +1,7 @@
 -- R-14 over every run, from what one call does to the counts, by the induction of demand 3.
 use mathlib.Core.Path.{◌≡◌, sym, ap, subst}
 use mathlib.Core.Bool.{Bool, true, false, cond, ◌&&◌}
-use mathlib.Core.List.{List, [], ◌∷◌, ◌++◌, map, append_nil}
+use mathlib.Core.List.{List, [], ◌∷◌, ◌++◌, map, append-nil}
 use Prim.Native.Nat.{ℕ, suc, max, ◌≤◌, ◌<◌}
 use native.Mathlib.Omega.{arith}
 use borrow.Author.Tests.{ne_eqb}
@@ -98,7 +98,7 @@ module _ (x n : ℕ) (below : x < FAR_FUTURE_EPOCH) where
 pub claim : (start : List Validator) (events : List Event) → EachShaped events → Premises start events → Claim start events
 claim start events h p x below =
     let l : x < FAR_FUTURE_EPOCH = omega (arith, below) in
-    let whole = sym (append_nil events) in
+    let whole = sym (append-nil events) in
     let q = (induction.every calls (AtMost x n l) (at_most x n l) events [] start (subst (induction.Handed calls start) whole handed) (subst (induction.Each calls) whole (each-fuller events h p.churn)) (omega arith)).holds in
     omega (arith, q)
   where

@@ -1,6 +1,6 @@
 -- Counts of those queued: they grow with the epoch, and the number ahead is a count below and a count beside.
 use mathlib.Core.Path.{◌≡◌, refl, sym, ◌∙◌}
-use mathlib.Core.Bool.{Bool, true, false, ◌&&◌, ◌||◌, and_true, and_false}
+use mathlib.Core.Bool.{Bool, true, false, ◌&&◌, ◌||◌, and-true, and-false}
 use mathlib.Core.List.{List, [], ◌∷◌}
 use Prim.Native.Nat.{ℕ, zero, suc, ◌+◌, ◌≤◌}
 use native.Mathlib.Omega.{arith}
@@ -82,11 +82,11 @@ ahead-by f e zero q h [] = refl
 ahead-by f e (suc i) q h [] = refl
 ahead-by f e zero q h (v ∷ vs) =
     let t = ahead-by f e zero (λ j. q (suc j)) (λ j. h (suc j) ∙ le-ltb (suc j) 0 (omega arith) ∙ sym (le-ltb j 0 (omega arith))) vs in
-    let here : flag (queued_at f e v && q 0) ≡ 0 = rw (h 0, and_false (queued_at f e v)) in
+    let here : flag (queued_at f e v && q 0) ≡ 0 = rw (h 0, and-false (queued_at f e v)) in
     omega (arith, t, count-more (earlier f e q (v ∷ vs)) 0 (range 1 (length vs)), filter_shift (earlier f e q (v ∷ vs)) 0 (length vs), head f e v (q 0), count-more (queued_before f e) v vs)
 ahead-by f e (suc i) q h (v ∷ vs) =
     let t = ahead-by f e i (λ j. q (suc j)) (λ j. h (suc j) ∙ leb-suc-suc (suc j) i) vs in
-    let here : flag (queued_at f e v && q 0) ≡ flag (queued_at f e v) = rw (h 0 ∙ lt-ltb 0 (suc i) (omega arith), and_true (queued_at f e v)) in
+    let here : flag (queued_at f e v && q 0) ≡ flag (queued_at f e v) = rw (h 0 ∙ lt-ltb 0 (suc i) (omega arith), and-true (queued_at f e v)) in
     omega (arith, t, count-more (earlier f e q (v ∷ vs)) 0 (range 1 (length vs)), filter_shift (earlier f e q (v ∷ vs)) 0 (length vs), head f e v (q 0), count-more (queued_before f e) v vs, count-more (queued_at f e) v (take i vs))
 
 pub ahead-is : (f : ℕ) (vs : List Validator) (i : ℕ) → ahead f vs i ≡ count (queued_before f (get_or vs i nobody).activation_eligibility_epoch) vs + count (queued_at f (get_or vs i nobody).activation_eligibility_epoch) (take i vs)

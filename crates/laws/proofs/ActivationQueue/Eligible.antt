@@ -1,6 +1,6 @@
 -- What the code's tests say of one validator.
 use mathlib.Core.Path.{◌≡◌}
-use mathlib.Core.Bool.{true, false, and_false}
+use mathlib.Core.Bool.{true, false, and-false}
 use Prim.Native.Nat.{ℕ, ◌≤◌, ◌<◌}
 use borrow.Author.Tests.{le-leb, lt-leb, eq-eqb, ne_eqb}
 use lib.Dec.{leb}
@@ -15,7 +15,7 @@ module _ (f : ℕ) (v : Validator) where
 
   pub past : (v.activation_epoch ≡ FAR_FUTURE_EPOCH → ⊥) → is_eligible_for_activation f v ≡ false
   unfolding is_eligible_for_activation
-  past h = rw (ne_eqb v.activation_epoch FAR_FUTURE_EPOCH h) (and_false (leb v.activation_eligibility_epoch f))
+  past h = rw (ne_eqb v.activation_epoch FAR_FUTURE_EPOCH h) (and-false (leb v.activation_eligibility_epoch f))
 
   pub ready : v.activation_eligibility_epoch ≤ f → v.activation_epoch ≡ FAR_FUTURE_EPOCH → is_eligible_for_activation f v ≡ true
   unfolding is_eligible_for_activation

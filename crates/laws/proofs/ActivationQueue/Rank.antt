@@ -1,6 +1,6 @@
 -- The first c of a sorted list are those with fewer than c before them: for any strict total order on numbers.
 use mathlib.Core.Path.{◌≡◌, refl, sym, ap, ap₂, ◌∙◌, subst}
-use mathlib.Core.Bool.{Bool, true, false, cond, ◌&&◌, ◌||◌, and_false}
+use mathlib.Core.Bool.{Bool, true, false, cond, ◌&&◌, ◌||◌, and-false}
 use mathlib.Core.List.{List, [], ◌∷◌}
 use Prim.Native.Nat.{ℕ, zero, suc, ◌+◌, ◌≤◌, ◌<◌}
 use native.Mathlib.Decide.{ℕ_discrete}
@@ -78,7 +78,7 @@ among-filter i p (x ∷ xs) = go (ℕ_discrete i x) (p x) refl (among-filter i p
   where
     go : Dec (i ≡ x) → (b : Bool) → p x ≡ b → among i (filter p xs) ≡ (among i xs && p i) → among i (cond b (x ∷ filter p xs) (filter p xs)) ≡ ((eqb i x || among i xs) && p i)
     go (yes e) true q k = rw (eq-eqb i x e) (sym (ap p e ∙ q))
-    go (yes e) false q k = rw (eq-eqb i x e) (k ∙ rw (ap p e ∙ q) (and_false (among i xs)))
+    go (yes e) false q k = rw (eq-eqb i x e) (k ∙ rw (ap p e ∙ q) (and-false (among i xs)))
     go (no n) true q k = rw (ne_eqb i x n) k
     go (no n) false q k = rw (ne_eqb i x n) k
 
@@ -181,7 +181,7 @@ module _ (before : ℕ → ℕ → Bool) where
 
     -- in a sorted list
     rank-within : (i c : ℕ) (xs : List ℕ) → Sorted xs → among i (take c xs) ≡ (among i xs && ltb (length (filter (λ j. before j i) xs)) c)
-    rank-within i zero xs h = sym (rw (le-ltb (length (filter (λ j. before j i) xs)) 0 (omega arith)) (and_false (among i xs)))
+    rank-within i zero xs h = sym (rw (le-ltb (length (filter (λ j. before j i) xs)) 0 (omega arith)) (and-false (among i xs)))
     rank-within i (suc c) [] h = refl
     rank-within i (suc c) (x ∷ xs) h = go (ℕ_discrete i x) (rank-within i c xs h.1)
       where

@@ -1,5 +1,5 @@
 -- Closes one after the other: with those that are left behind them, those made are all of them.
-use mathlib.Core.List.{List, [], ◌++◌, append_assoc, append_nil}
+use mathlib.Core.List.{List, [], ◌++◌, append_assoc, append-nil}
 use mathlib.Core.Path.{◌≡◌, refl, sym, ◌∙◌}
 use Prim.Native.Nat.{ℕ, suc, ◌+◌, ◌-◌, ◌*◌, ◌/◌, ◌^◌, ◌≤◌, ◌<◌}
 use native.Mathlib.Numerals.{add-one}
@@ -71,7 +71,7 @@ module _ {p : Plan} {epochs : ℕ} {first : Contents} {before : List ℕ} {i : �
   running-all l =
       let e : epochs - i ≡ 0 = omega arith in
       rw (g.leads, e)
-      (record { code = refl; stands = refl; put = rw (append_nil g.done) g.put; inside = omega (arith, g.inside, g.below) })
+      (record { code = refl; stands = refl; put = rw (append-nil g.done) g.put; inside = omega (arith, g.inside, g.below) })
 
 -- what the next turn relies on
 pub ready-more : {s : Settings} {slot : ℕ} {registry roots root absences : List ℕ} → Ready s slot (length registry / 10) registry roots root absences → {later : ℕ} {new_registry new_roots : List ℕ} → later < 2 ^ 48 → length new_registry ≡ length registry → length new_roots ≡ length roots → Ready s later (length new_registry / 10) new_registry new_roots root absences

@@ -1,6 +1,6 @@
 -- The bracket narrows, and the cut that it ends at.
 use mathlib.Core.Path.{◌≡◌}
-use mathlib.Core.Bool.{and_false}
+use mathlib.Core.Bool.{and-false}
 use mathlib.Core.List.{List, [], ◌∷◌}
 use Prim.Native.Nat.{ℕ, ◌+◌, ◌-◌, ◌≤◌, ◌<◌}
 use native.Mathlib.Omega.{arith}
@@ -26,7 +26,7 @@ none_before : (vs : List Validator) → count (waiting_before 0) vs ≡ 0
 unfolding waiting_before
 none_before [] = count_none (waiting_before 0)
 none_before (v ∷ vs) =
-    let z : flag (waiting_before 0 v) ≡ 0 = rw (le-ltb v.activation_eligibility_epoch 0 (omega arith), and_false (eqb v.activation_epoch FAR_FUTURE_EPOCH)) in
+    let z : flag (waiting_before 0 v) ≡ 0 = rw (le-ltb v.activation_eligibility_epoch 0 (omega arith), and-false (eqb v.activation_epoch FAR_FUTURE_EPOCH)) in
     omega (arith, count-more (waiting_before 0) v vs, none_before vs)
 
 -- nobody is let in

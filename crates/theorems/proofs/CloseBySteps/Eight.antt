@@ -2,7 +2,7 @@
 -- gives.
 use mathlib.Core.Path.{◌≡◌, refl, sym, ap, ◌∙◌, subst}
 use mathlib.Core.Bool.{Bool, true, false, cond, ◌&&◌}
-use mathlib.Core.List.{List, [], ◌∷◌, ◌++◌, append_assoc, append_nil}
+use mathlib.Core.List.{List, [], ◌∷◌, ◌++◌, append_assoc, append-nil}
 use Prim.Native.Nat.{ℕ, zero, suc, ◌+◌, ◌*◌, ◌≤◌, ◌<◌}
 use native.Mathlib.Numerals.{add-one}
 use native.Mathlib.Omega.{arith}
@@ -263,7 +263,7 @@ taken-first next d (carrying period answers) list os = refl
 
 way-acts : (c : FullCall) (d : Desk) (list : List Act) (os : List Order) (size : ℕ) → Way c d os size → Way c (acts c d list) (os ++ arrived c d list) size
 unfolding acts arrived_by
-way-acts c d [] os size w = rw (append_nil os) w
+way-acts c d [] os size w = rw (append-nil os) w
 way-acts c d (a ∷ list) os size w =
     subst (λ (us : List Order). Way c (acts c (act c d a) list) us size) (taken-first (act c) d a list os) (way-acts c (act c d a) list (with_taken d a os) size (way-act c d a os size w))
 

@@ -1,4 +1,4 @@
-use mathlib.Core.Bool.{and_false}
+use mathlib.Core.Bool.{and-false}
 use mathlib.Core.List.{List}
 use mathlib.Core.Path.{◌≡◌}
 use Prim.Native.Nat.{ℕ}
@@ -29,17 +29,17 @@ returns c = rw (lt-leb _ _ c.if1.true)
 
 returns-2 : tie.Need-returns-2
 unfolding every
-returns-2 c = rw (tests c.before.before, lt-leb _ _ c.if2.true) (simp and_false)
+returns-2 c = rw (tests c.before.before, lt-leb _ _ c.if2.true) (simp and-false)
 
 returns-3 : tie.Need-returns-3
 unfolding every
-returns-3 c = rw (tests c.before.before.before, lt-leb _ _ c.if3.true) (simp and_false)
+returns-3 c = rw (tests c.before.before.before, lt-leb _ _ c.if3.true) (simp and-false)
 
 returns-4 : tie.Need-returns-4
 unfolding every
 returns-4 c =
     let at-read-numbers : tie.After-read-numbers = search rules in
-    rw (tests (at-read-numbers), fails c.before.as_long.ensures c.if4.true) (simp and_false)
+    rw (tests (at-read-numbers), fails c.before.as_long.ensures c.if4.true) (simp and-false)
 
 header-of-requires : tie.Need-header-of-requires
 header-of-requires c κs =

@@ -1,4 +1,4 @@
-use mathlib.Core.Bool.{and_false}
+use mathlib.Core.Bool.{and-false}
 use borrow.Author.Tests.{le-leb, lt-leb}
 use Rattle.definitions_file.specs.OutagePreparation.{flags_at}
 use Rattle.outage.proofs.outage_preparation.flags_at.Statement.{statement}
@@ -10,7 +10,7 @@ returns c = rw (lt-leb _ _ c.if1.true)
 
 returns-2 : tie.Need-returns-2
 unfolding flags_at
-returns-2 c = rw (lt-leb _ _ c.if2.true, and_false)
+returns-2 c = rw (lt-leb _ _ c.if2.true, and-false)
 
 returns-3 : tie.Need-returns-3
 unfolding flags_at
