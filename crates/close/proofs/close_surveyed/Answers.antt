@@ -1,0 +1,23 @@
+-- places are found by their types, so that other arguments of what follows do not move them
+use mathlib.Core.Path.{refl, ap, ◌∙◌}
+use native.Mathlib.Omega.{arith}
+use borrow.Author.Rules.{rules}
+use lib.ListN.{length}
+use Rattle.definitions.specs.Rust.Phase0.EpochProcessing.{reset_slashings}
+use Rattle.close.proofs.Worked.{closed-refused, closed-done}
+use Rattle.close.proofs.close_surveyed.Goals as goal
+
+pub copy-requires : goal.copy-requires
+copy-requires c = c.requires.1.0.1
+
+pub slashings_reset_core-requires : goal.slashings_reset_core-requires
+slashings_reset_core-requires c = (ap length c.copy.ensures ∙ c.requires.0.slashings, c.requires.0.settings)
+
+pub returns-then-answer-eq0 : goal.returns-then-answer-eq0
+returns-then-answer-eq0 c = (closed-done c.run_steps-stepped.ensures.0 (omega (arith, c.if-answer-eq0.taken)) (c.slashings_reset_core.ensures ∙ ap (reset_slashings _ _) c.copy.ensures), c.run_steps-stepped.ensures.1)
+
+pub copy-requires-2 : goal.copy-requires-2
+copy-requires-2 c = omega (arith, c.requires.1.0.0, c.closing_registry-1.given)
+
+pub returns : goal.returns
+returns c = (closed-refused c.run_steps-stepped.ensures.0 (λ y. omega (arith, c.if-answer-eq0.false)) refl (λ same. search rules) (λ none. search rules) c.copy-2.ensures c.copy.ensures, (record { booked = λ z. absurd (omega (arith, z, c.if-answer-eq0.false)) }, record { pair = λ z. absurd (omega (arith, z, c.if-answer-eq0.false)) }))

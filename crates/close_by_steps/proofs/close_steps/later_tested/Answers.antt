@@ -1,0 +1,19 @@
+use mathlib.Core.Path.{ap}
+use lib.ListN.{length}
+use Rattle.refusals.proofs.Laws.{good-finality}
+use Rattle.close_by_steps.proofs.close_steps.Done.{later-refused, later-goes}
+use native.Mathlib.Omega.{arith}
+use borrow.Author.Rules.{rules}
+use Rattle.close_by_steps.proofs.close_steps.later_tested.Goals as goal
+
+pub later_step-refusal-requires : goal.later_step-refusal-requires
+later_step-refusal-requires c = let a = c.requires in let o = a.1.opening in let g = good-finality _ o.finality in ((a.0.0, a.0.1, o.settings.good), ((o.settings, g.slot, g.finalized), (o.registry, a.1.amounts, o.slashings)))
+
+pub shape_of-closing_slashings-then-refusal-ne0 : goal.shape_of-closing_slashings-then-refusal-ne0
+shape_of-closing_slashings-then-refusal-ne0 c = let a = c.requires.1 in omega (arith, ap length c.copy-then-refusal-ne0.ensures, a.slashings_same)
+
+pub returns-then-refusal-ne0 : goal.returns-then-refusal-ne0
+returns-then-refusal-ne0 c = later-refused _ _ _ _ _ _ _ _ _ _ _ _ c.later_step-refusal.ensures c.if-refusal-ne0.taken c.copy.ensures c.copy-then-refusal-ne0.ensures c.clear.ensures (omega arith) c.ended_by.ensures
+
+pub returns : goal.returns
+returns c = later-goes _ _ _ _ _ _ _ _ _ _ _ _ c.later_step-refusal.ensures c.if-refusal-ne0.false c.queue_of-after.ensures

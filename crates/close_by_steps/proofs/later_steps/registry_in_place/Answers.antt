@@ -1,0 +1,7 @@
+use native.Mathlib.Omega.{arith}
+use Rattle.selection.proofs.Picking.{blank-length, blank_part}
+use borrow.Author.Rules.{rules}
+use Rattle.close_by_steps.proofs.later_steps.registry_in_place.Goals as goal
+
+pub registry_core-requires : goal.registry_core-requires
+registry_core-requires c = let a = c.requires in (a.0, (a.1.0, (a.1.1, (blank-length 64 64 (omega arith), blank_part 64 64 (omega arith) (omega arith)))))

@@ -1,0 +1,43 @@
+use Prim.Native.Nat.{◌-◌}
+use mathlib.Core.Path.{refl, ◌∙◌}
+use Rattle.close_by_steps.specs.Taken.{balance_in}
+use Rattle.close_by_steps.proofs.slashings_amounts.Taken.{Putting, putting-none, putting-nine, putting-more, put_all, balance-is}
+use native.Mathlib.Omega.{arith}
+use Rattle.close_by_steps.proofs.slashings_amounts.keep_balances.Goals as goal
+
+pub loop-i-init : goal.loop-i-init
+loop-i-init c = putting-none (omega (arith, c.requires.1)) (omega (arith, c.requires.0, c.well_formed.0))
+
+pub put_ninth-requires : goal.put_ninth-requires
+put_ninth-requires c = putting-nine c.loop-i.invariant c.loop-i-test.true
+
+pub loop-i-preserved : goal.loop-i-preserved
+loop-i-preserved c =
+    let g = c.loop-i.invariant in
+    let l = c.loop-i-test.true in
+    let e = c.put_ninth in
+    putting-more g l (e.auto.1.0 ∙ putting-nine g l) e.ensures (balance-is _ _ _ c.requires.0 l)
+
+pub returns : goal.returns
+returns c = put_all c.loop-i.invariant c.loop-i-test.false refl
+
+pub bounds-registry-i : goal.bounds-registry-i
+bounds-registry-i c = omega (arith, c.loop-i-test.true, c.requires.0)
+
+pub offset_bounds-amounts-c : goal.offset_bounds-amounts-c
+offset_bounds-amounts-c c = omega (arith, c.loop-i-test.true, c.loop-i.invariant.small)
+
+pub slice_bounds-put_ninth-count : goal.slice_bounds-put_ninth-count
+slice_bounds-put_ninth-count c = omega (arith, c.loop-i-test.true, c.loop-i.invariant.small)
+
+pub slice_bounds-put_ninth-start : goal.slice_bounds-put_ninth-start
+slice_bounds-put_ninth-start c = omega (arith, c.loop-i-test.true, c.loop-i.invariant.long)
+
+pub slice_bounds-put_ninth-end : goal.slice_bounds-put_ninth-end
+slice_bounds-put_ninth-end c = omega (arith, c.loop-i-test.true, c.loop-i.invariant.long)
+
+pub loop-i-smaller : goal.loop-i-smaller
+loop-i-smaller c = omega (arith, c.loop-i-test.true)
+
+pub shape_of-amounts : goal.shape_of-amounts
+shape_of-amounts c = let g = c.loop-i.invariant in omega (arith, g.long, g.first)

@@ -1,0 +1,16 @@
+use native.Mathlib.Omega.{arith}
+use borrow.Author.Rules.{rules}
+use Rattle.refusals.proofs.Laws.{good-settings}
+use Rattle.electra_appended.proofs.add_behind.Goals as goal
+
+pub add_deposits-requires : goal.add_deposits-requires
+add_deposits-requires c =
+    let h = c.requires.0 in
+    let long = c.copy_front.kept in
+    let some = (good-settings c.args.rules.settings c.requires.1.0).positive.effective_balance_increment in
+    ((omega (arith, long, h.room), omega (arith, long, h.room_too), rw c.new_numbers-k.ensures some), (rw h.table at c.clear.ensures, h.keys, c.requires.1.1))
+
+pub returns : goal.returns
+returns c =
+    let e = c.add_deposits.ensures in
+    rw (c.new_numbers-k.ensures, c.copy_front.ensures) at e

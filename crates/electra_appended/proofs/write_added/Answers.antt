@@ -1,0 +1,19 @@
+use native.Mathlib.Omega.{arith}
+use mathlib.Core.Path.{◌∙◌}
+use borrow.Author.Rules.{rules}
+use Rattle.electra_appended.proofs.Appended.{writes-added}
+use Rattle.electra_appended.proofs.write_added.Goals as goal
+
+pub update_added-requires : goal.update_added-requires
+update_added-requires c =
+    let h = c.requires.0 in
+    let kept = c.add_behind-count.kept.1.1.1.1.1 in
+    let within = c.add_behind-count.ensures.1 in
+    ((omega (arith, kept.0, kept.1.0, h.room), within.0, omega (arith, kept.1.0, within.1, h.room_too)), c.requires.1.0.0)
+
+pub returns : goal.returns
+returns c =
+    let a = c.args in
+    let kept = c.add_behind-count.kept.1.1.1.1.1 in
+    let done = c.add_behind-count.ensures in
+    writes-added a.rules a.n a.deposits.now a.compounding.now a.index a.closing-registry.now a.closing-compounding.now c.requires.0 done.0 done.1 c.append_amounts.ensures c.update_added.ensures kept.0 (c.update_added.kept.1.1.1.1.0 ∙ kept.0)

@@ -1,0 +1,22 @@
+use mathlib.Core.Path.{◌≡◌, refl, sym, ◌∙◌}
+use borrow.Author.Rules.{rules}
+use Rattle.definitions_electra_close.specs.Close.{ElectraCall}
+use Rattle.definitions_electra_close.specs.Calls.{electra_called}
+use Rattle.electra_close.proofs.Accepting.{untouched}
+use Rattle.electra_close.proofs.Requires.{tests-are}
+use Rattle.electra_close.proofs.electra_close.Goals.{Start}
+use Rattle.electra_close.proofs.electra_close.Goals as goal
+
+abbrev called : Start → ElectraCall
+called s =
+    let a = s.args in
+    electra_called a.rules a.finality a.churn a.numbers a.registry.now a.compounding.now a.slashings.now a.roots.now a.deposits.now a.consolidations.now a.closing-registry.now a.closing-compounding.now a.closing-slashings.now a.closing-deposits.now a.closing-consolidations.now a.amounts.now a.places.now
+
+pub returns-then-refusal-ne0 : goal.returns-then-refusal-ne0
+returns-then-refusal-ne0 c = untouched (called c) c.opening_answer.ensures c.close_tests-refusal.ensures c.if-refusal-ne0.taken
+
+pub closed-requires : goal.closed-requires
+closed-requires c = tests-are _ (sym c.close_tests-refusal.ensures ∙ c.if-refusal-ne0.false)
+
+pub returns : goal.returns
+returns c = c.closed.ensures

@@ -1,0 +1,26 @@
+use mathlib.Core.Path.{◌≡◌, refl}
+use native.Mathlib.Omega.{arith}
+use borrow.Author.Rules.{rules}
+use Rattle.electra_refusals.proofs.Passed.{good-electra}
+use Rattle.electra_close.proofs.Ending.{finishes}
+use Rattle.electra_close.proofs.finish.Goals as goal
+
+pub queues_by_front-left-requires : goal.queues_by_front-left-requires
+queues_by_front-left-requires c =
+    let l = c.requires in
+    ((omega (arith, l.registry), l.fives), ((l.few, l.queue), ((l.twos, l.most), l.rest)))
+
+pub write_added-count-requires : goal.write_added-count-requires
+write_added-count-requires c =
+    let l = c.requires in
+    (record { credentials = refl; keys = l.keys; room = omega (arith, l.registry, l.credentials); room_too = l.credentials; table = l.table }, (((good-electra _ l.good).settings, l.few), omega (arith, l.rows, l.credentials)))
+
+pub last_in_front-requires : goal.last_in_front-requires
+last_in_front-requires c =
+    let l = c.requires in
+    ((l.vector, l.passed), (l.slashed, omega (arith, l.registry, c.write_added-count.kept, c.write_added-count.ensures.within)))
+
+pub returns : goal.returns
+returns c =
+    let a = c.args in
+    finishes a.rules a.state-slot a.next-epoch a.index a.done a.compounding.now a.slashings.now a.deposits.now a.pairs.now c.requires c.queues_by_front-left.ensures c.write_added-count.ensures c.last_in_front.ensures.0 c.last_in_front.ensures.1

@@ -1,0 +1,23 @@
+use mathlib.Core.Path.{◌≡◌, sym, ap, ◌∙◌}
+use mathlib.Core.List.{List, ◌++◌}
+use Prim.Native.Nat.{ℕ, ◌-◌, ◌*◌}
+use native.Mathlib.Omega.{arith}
+use borrow.Author.Rules.{rules}
+use lib.ListN.{length, take, drop}
+use lib.Seq.{length-take-le}
+use Rattle.electra_close.specs.Finish.{rotated_to}
+use Rattle.electra_close.proofs.Ending.{front-rotated}
+use Rattle.electra_close.proofs.last_in_front.Goals as goal
+
+pub last_two-requires : goal.last_two-requires
+last_two-requires c =
+    let p = c.requires in
+    let b = 10 * c.args.count in
+    let z : b - 0 ≡ b = omega arith in
+    let t = length-take-le b c.args.registry.now p.1.1 in
+    rw (c.under-s.ensures, z) (p.0, (p.1.0, omega (arith, t)))
+
+pub returns : goal.returns
+returns c =
+    let resets = c.last_two.ensures.0 in
+    ((rw c.under-s.ensures at resets), front-rotated (10 * c.args.count) c.args.registry.now c.last_two.ensures.1)

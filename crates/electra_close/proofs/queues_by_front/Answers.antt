@@ -1,0 +1,21 @@
+use mathlib.Core.Path.{◌≡◌}
+use Prim.Native.Nat.{ℕ, ◌-◌, ◌*◌}
+use native.Mathlib.Omega.{arith}
+use borrow.Author.Rules.{rules}
+use lib.Seq.{length-take-le}
+use Rattle.electra_close.proofs.queues_by_front.Goals as goal
+
+pub write_queues-requires : goal.write_queues-requires
+write_queues-requires c =
+    let p = c.requires in
+    let a = 10 * c.args.n in
+    let z : a - 0 ≡ a = omega arith in
+    let t = length-take-le a c.args.registry.now p.0.0 in
+    rw z ((omega (arith, t), p.0.1), p.1)
+
+pub returns : goal.returns
+returns c =
+    let a = 10 * c.args.n in
+    let z : a - 0 ≡ a = omega arith in
+    let h = c.write_queues.ensures in
+    rw z at h

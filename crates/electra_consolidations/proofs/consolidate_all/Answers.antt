@@ -1,0 +1,53 @@
+use Rattle.std.proofs.Common.{◌≡◌, ◌-◌, ◌/◌, true, length, refl, arith, rules}
+use Rattle.electra_consolidations.specs.Consolidations.{placed}
+use Rattle.electra_consolidations.proofs.Consolidating.{source-placed, target-placed, Going, going_none, going_left, going_stop, going_more, going_all}
+use Rattle.electra_consolidations.proofs.Moves.{Booking, booking_none, booking_left, booking_stop, booking_more, booking_all}
+use Rattle.electra_consolidations.proofs.consolidate_all.Goals as goal
+
+pub loop-i-init : goal.loop-i-init
+loop-i-init c = (refl, c.requires.1, going_none _ _ c.requires.0.0, booking_none _ _ _ _ _)
+
+pub stops_at-requires : goal.stops_at-requires
+stops_at-requires c = (c.loop-i.inv.2.long, source-placed _ _ _ (omega arith) c.loop-i.inv.1)
+
+pub returns-then-stops_at : goal.returns-then-stops_at
+returns-then-stops_at c =
+    let g = c.loop-i.inv.2 in
+    let stopped = c.stops_at.ensures in
+    (going_left g (omega arith) refl refl stopped c.if-stops_at.true, booking_left g c.loop-i.inv.3 (omega arith) refl refl stopped c.if-stops_at.true)
+
+pub moved_from-moved-requires : goal.moved_from-moved-requires
+moved_from-moved-requires c = (c.loop-i.inv.2.long, source-placed _ _ _ (omega arith) c.loop-i.inv.1)
+
+pub book_move-requires : goal.book_move-requires
+book_move-requires c =
+    let p = c.loop-i.inv.1 in
+    (source-placed _ _ _ (omega arith) p, target-placed _ _ _ (omega arith) p, omega (arith, c.loop-i.inv.2.long))
+
+pub consolidation_turn-refusal-requires : goal.consolidation_turn-refusal-requires
+consolidation_turn-refusal-requires c =
+    let p = c.loop-i.inv.1 in
+    (c.loop-i.inv.2.long, source-placed _ _ _ (omega arith) p, target-placed _ _ _ (omega arith) p)
+
+pub returns-then-refusal-ne0 : goal.returns-then-refusal-ne0
+returns-then-refusal-ne0 c =
+    let g = c.loop-i.invariant.2 in
+    let p = c.loop-i.invariant.1 in
+    let stopped = c.stops_at.ensures in
+    let ran = c.consolidation_turn-refusal.ensures in
+    (going_stop g (omega (arith, c.loop-i-test.true, c.loop-i.invariant.0)) refl refl stopped c.if-stops_at.false ran c.if-refusal-ne0.true, booking_stop g c.loop-i.invariant.3 (omega (arith, c.loop-i-test.true, c.loop-i.invariant.0)) refl refl stopped c.if-stops_at.false (source-placed _ _ _ (omega (arith, c.loop-i-test.true, c.loop-i.invariant.0)) p) (target-placed _ _ _ (omega (arith, c.loop-i-test.true, c.loop-i.invariant.0)) p) c.moved_from-moved.ensures c.book_move.ensures ran c.if-refusal-ne0.true)
+
+pub loop-i-preserved : goal.loop-i-preserved
+loop-i-preserved c =
+    let g = c.loop-i.invariant.2 in
+    let p = c.loop-i.invariant.1 in
+    let stopped = c.stops_at.ensures in
+    let ran = c.consolidation_turn-refusal.ensures in
+    let more = going_more g (omega (arith, c.loop-i-test.true, c.loop-i.invariant.0)) refl refl stopped c.if-stops_at.false ran c.if-refusal-ne0.false c.consolidation_turn-refusal.auto.0 in
+    let booked = booking_more g c.loop-i.invariant.3 (omega (arith, c.loop-i-test.true, c.loop-i.invariant.0)) refl refl stopped c.if-stops_at.false (source-placed _ _ _ (omega (arith, c.loop-i-test.true, c.loop-i.invariant.0)) p) (target-placed _ _ _ (omega (arith, c.loop-i-test.true, c.loop-i.invariant.0)) p) c.moved_from-moved.ensures c.book_move.ensures ran c.if-refusal-ne0.false in
+    (c.loop-i.invariant.0, p, more, booked)
+
+pub returns : goal.returns
+returns c =
+    let g = c.loop-i.invariant.2 in
+    (going_all g (omega arith), booking_all g c.loop-i.invariant.3 (omega arith))

@@ -1,0 +1,15 @@
+use mathlib.Core.Path.{ap}
+use native.Mathlib.Omega.{arith}
+use borrow.Author.Rules.{rules}
+use Rattle.definitions.specs.Checked.{code_of}
+use Rattle.justification.proofs.Passed.{justification-passed}
+use Rattle.selection.proofs.Picking.{blank-length, blank_part}
+use Rattle.electra_first.proofs.first_five.Goals as goal
+
+pub five_kept-requires : goal.five_kept-requires
+five_kept-requires c =
+    let a = c.requires in
+    (a.0, ((justification-passed _ _ _ _ (ap code_of a.1.0)).weighs, (a.1.1, (blank-length 64 64 (omega arith), blank_part 64 64 (omega arith) (omega arith)))))
+
+pub returns : goal.returns
+returns c = c.five_kept.ensures

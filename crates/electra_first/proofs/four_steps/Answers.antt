@@ -1,0 +1,104 @@
+-- what the tests gave
+use mathlib.Core.Path.{◌≡◌, refl, ◌∙◌}
+use Prim.Native.Nat.{◌-◌, ◌*◌, ◌/◌, ◌<◌, ◌^◌}
+use lib.ListN.{length, take, length-take}
+use native.Mathlib.Omega.{arith}
+use borrow.Author.Rules.{rules}
+use Rattle.definitions.specs.Rust.Phase0.Helpers.{get_current_epoch}
+use Rattle.definitions.specs.Record.{decode}
+use Rattle.refusals.proofs.Laws.{good-settings}
+use Rattle.electra_refusals.proofs.Passed.{good-electra}
+use Rattle.arithmetic.proofs.Laws.{says-value, says_overflow}
+use Rattle.arithmetic.proofs.Answers.{tells_truth, answers-value, answers_overflow}
+use Rattle.slashings.proofs.Adjusted.{only-adjusted}
+use Rattle.rewards_step.proofs.flag_rewards.Totals.{total-least}
+use Rattle.registry.proofs.Epochs.{Epochs, epochs}
+use Rattle.electra_slashings.proofs.Slashed.{some_increments}
+use Rattle.write_steps.proofs.Only.{only-leak}
+use Rattle.write_steps.proofs.Accepted.{none-gave}
+use Rattle.electra_first.proofs.Accepted.{Accepted, four-refused}
+use Rattle.electra_first.proofs.Columns.{back_long}
+use Rattle.electra_first.proofs.Booked.{by-refused, by-ran}
+use Rattle.electra_first.proofs.four_steps.Goals.{After-current_epoch-current, After-make_plan-p, Start}
+use Rattle.electra_first.proofs.four_steps.Goals as goal
+
+eps : (c : Start) → Epochs c.args.s c.args.state_slot
+eps c = epochs _ _ c.requires.0.2 c.requires.0.1
+
+ep : (c : Start) → Epochs c.args.rules.settings c.args.state_slot
+ep c = epochs _ _ (good-electra _ c.requires.0.0).settings c.requires.0.1
+
+abbrev Accepted-at : Start → Type 0
+Accepted-at c = Accepted c.args.rules c.args.s c.args.state_slot c.args.finalized_epoch c.args.slashings.now (decode c.args.opening.now)
+
+-- the present epoch is small
+small : (c : After-make_plan-p) → (first c).current-epoch.result < 2 ^ 48
+small c = rw c.current_epoch-current.ensures (eps (start c.After-current_epoch-current)).small
+
+pub current_epoch-current-requires : goal.current_epoch-current-requires
+current_epoch-current-requires c = (good-settings _ c.requires.0.2).positive.slots_per_epoch
+
+pub previous_epoch-previous-requires : goal.previous_epoch-previous-requires
+previous_epoch-previous-requires c = (good-settings _ c.requires.0.2).positive.slots_per_epoch
+
+pub leak_of-requires : goal.leak_of-requires
+leak_of-requires c = ((good-settings _ c.requires.0.2).positive.slots_per_epoch, c.current_epoch-current.ensures)
+
+pub returns-in_default : goal.returns-in_default
+returns-in_default c =
+    let a = c.args in
+    let no = (answers_overflow tells_truth c.leak_of.ensures (only-leak _ _ _) c.in_default.is).0 in
+    four-refused a.rules a.s a.state-slot a.finalized-epoch a.slashings.now a.churn c.requires.0.3 c.requires.0.0 (ep (goal.at.returns-in_default c).Start) (decode a.opening.now) (λ (g : Accepted-at (goal.at.returns-in_default c).Start). none-gave no g.sums.leak) refl
+
+pub returns-in_default-adjusted_balance : goal.returns-in_default-adjusted_balance
+returns-in_default-adjusted_balance c =
+    let a = c.args in
+    let no = (says_overflow c.adjusted_balance.ensures (only-adjusted _ _ _) c.in_default-adjusted_balance.is).0 in
+    four-refused a.rules a.s a.state-slot a.finalized-epoch a.slashings.now a.churn c.requires.0.3 c.requires.0.0 (ep (goal.at.returns-in_default-adjusted_balance c).Start) (decode a.opening.now) (λ (g : Accepted-at (goal.at.returns-in_default-adjusted_balance c).Start). none-gave no (g.adjusted _)) refl
+
+pub nonzero_div-increments : goal.nonzero_div-increments
+nonzero_div-increments c = (good-settings _ c.requires.0.2).positive.effective_balance_increment
+
+pub nonzero_div-adjusted : goal.nonzero_div-adjusted
+nonzero_div-adjusted c =
+    let a = c.requires in
+    some_increments _ _ a.1.1.active (good-settings _ a.0.2).positive.effective_balance_increment
+
+pub make_plan-p-requires : goal.make_plan-p-requires
+make_plan-p-requires c =
+    let a = c.requires in
+    let p = (good-settings _ a.0.2).positive in
+    ((p.effective_balance_increment, total-least _ _ a.1.1.active), (p.inactivity_score_bias, p.inactivity_penalty_quotient_altair))
+
+pub numbers_by-n-requires : goal.numbers_by-n-requires
+numbers_by-n-requires c = ((start (goal.at.numbers_by-n-requires c).After-current_epoch-current).requires.0.0, small (goal.at.numbers_by-n-requires c).After-make_plan-p)
+
+pub overflow_mul-nines : goal.overflow_mul-nines
+overflow_mul-nines c = let a = start (goal.at.overflow_mul-nines c).After-current_epoch-current in omega (arith, a.good.1.1.1.1.1.1.1.0)
+
+pub slice_bounds-write_later-end : goal.slice_bounds-write_later-end
+slice_bounds-write_later-end c = let a = start (goal.at.slice_bounds-write_later-end c).After-current_epoch-current in omega (arith, a.pre.1.0)
+
+pub write_later-done-requires : goal.write_later-done-requires
+write_later-done-requires c =
+    let a = (start (goal.at.write_later-done-requires c).After-current_epoch-current).requires in
+    let m = c.make_plan-p.ensures in
+    (m.planned, ((a.1.0.0, a.1.0.1), (rw m.is (small (goal.at.write_later-done-requires c).After-make_plan-p), rw c.numbers_by-n.ensures (small (goal.at.write_later-done-requires c).After-make_plan-p))))
+
+pub returns-then-done-ne0 : goal.returns-then-done-ne0
+returns-then-done-ne0 c =
+    let at-start = start (goal.at.returns-then-done-ne0 c).After-current_epoch-current in
+    let a = at-start.args in
+    let now = c.current_epoch-current.ensures in
+    by-refused a.rules a.s a.state-slot a.finalized-epoch a.slashings.now a.churn at-start.pre.0.3 at-start.pre.0.0 (ep at-start) (eps at-start) a.opening.now at-start.pre.1.1 _ (answers-value tells_truth c.leak_of.ensures c.in-Value.is) _ (says-value c.adjusted_balance.ensures c.in-Value-adjusted_balance.is) now c.previous_epoch-previous.ensures c.make_plan-p.ensures c.numbers_by-n.ensures c.write_later-done.ensures.0 c.if-done-ne0.true
+
+pub returns : goal.returns
+returns c =
+    let at-start = start (goal.at.returns c).After-current_epoch-current in
+    let a = at-start.args in
+    let now = c.current_epoch-current.ensures in
+    let wrote = c.write_later-done in
+    let z = c.if-done-ne0.false in
+    let long = at-start.pre.1.0 in
+    let nines : length (take (9 * (length a.opening.now / 10) - 0) a.amounts.now) ≡ 9 * (length a.opening.now / 10) = simp length-take (omega (arith, long)) in
+    by-ran a.rules a.s a.state-slot a.finalized-epoch a.slashings.now a.churn at-start.pre.0.3 at-start.pre.0.0 (ep at-start) (eps at-start) a.opening.now at-start.pre.1.1 _ (answers-value tells_truth c.leak_of.ensures c.in-Value.is) _ (says-value c.adjusted_balance.ensures c.in-Value-adjusted_balance.is) now c.previous_epoch-previous.ensures c.make_plan-p.ensures c.numbers_by-n.ensures wrote.ensures.0 long.0 (wrote.auto.1.1.1.1.1.0 ∙ long.1) _ (wrote.ensures.1.filled z nines) refl c.spread.ensures (back_long (9 * (length a.opening.now / 10) - 0) wrote.new.1.1.1.1.1.1.0 a.amounts.now wrote.auto.1.1.1.1.1.1.0 ∙ long.2)

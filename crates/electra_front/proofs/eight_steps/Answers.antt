@@ -1,0 +1,39 @@
+use mathlib.Core.Path.{◌≡◌, refl, sym, ap, ◌∙◌}
+use Prim.Native.Nat.{ℕ, ◌*◌, ◌/◌, ◌≤◌}
+use native.Mathlib.Omega.{arith}
+use borrow.Author.Rules.{rules}
+use Rattle.electra_close_tests.proofs.Passed.{in_place-good}
+use Rattle.electra_front.proofs.Eights.{first-refused, none_yet, goes}
+use Rattle.electra_front.proofs.eight_steps.Goals as goal
+
+pub first_five-first-requires : goal.first_five-first-requires
+first_five-first-requires c =
+    let l = c.requires in
+    let t = l.later.tens in
+    let w = l.later.twelves in
+    let g = in_place-good _ l.good in
+    rw c.under-s.ensures
+    ((l.good, g, refl, l.finality), (l.justification, (omega (arith, l.tens), omega (arith, l.tens, t), omega (arith, l.tens, w))))
+
+pub returns-then-first-ne0 : goal.returns-then-first-ne0
+returns-then-first-ne0 c =
+    let a = c.args in
+    let h = c.first_five-first.ensures in
+    let k = c.first_five-first.kept in
+    first-refused a.rules a.finality a.churn a.numbers a.registry.now a.compounding.now a.slashings.now a.roots.now a.deposits.now a.pairs.now c.requires (omega (arith, k, c.requires.later.tens)) (omega (arith, k, c.requires.later.twelves)) (rw c.under-s.ensures at h) c.if-first-ne0.taken refl
+
+pub later_three-later-requires : goal.later_three-later-requires
+later_three-later-requires c =
+    let l = c.requires in
+    let a = c.args in
+    let at-else1 : tie.Else1 = (goal.at.later_three-later-requires c).Else-first-ne0 in
+    let k = c.first_five-first.kept in
+    (l.good, (record { tens = omega (arith, k, l.later.tens); twelves = omega (arith, k, l.later.twelves); fives = l.later.fives; keys = l.later.keys; twos = l.later.twos; within = l.later.within; table = l.later.table }, none_yet a.rules a.finality a.churn a.numbers a.registry.now a.compounding.now a.slashings.now a.roots.now a.deposits.now a.pairs.now l (omega (arith, k, l.later.tens)) (omega (arith, k, l.later.twelves)) (rw c.under-s.ensures at c.first_five-first.ensures) at-else1.if1.false))
+
+pub returns : goal.returns
+returns c =
+    let at-else1 : tie.Else1 = (goal.at.returns c).Else-first-ne0 in
+    let a = c.args in
+    let h = c.first_five-first.ensures in
+    let k = c.first_five-first.kept in
+    goes a.rules a.finality a.churn a.numbers a.registry.now a.compounding.now a.slashings.now a.roots.now a.deposits.now a.pairs.now c.requires (omega (arith, k, c.requires.later.tens)) (omega (arith, k, c.requires.later.twelves)) (rw c.under-s.ensures at h) at-else1.if1.left c.later_three-later.ensures

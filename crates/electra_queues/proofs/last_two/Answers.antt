@@ -1,0 +1,7 @@
+use mathlib.Core.Path.{ap, ◌∙◌}
+use borrow.Author.Rules.{rules}
+use Rattle.definitions.specs.Rust.Phase0.EpochProcessing.{reset_slashings}
+use Rattle.electra_queues.proofs.last_two.Goals as goal
+
+pub returns : goal.returns
+returns c = (c.slashings_reset_core.ensures ∙ ap (reset_slashings c.args.s c.args.state_slot) c.copy.ensures, c.participation_flags_core.ensures)

@@ -1,0 +1,7 @@
+use borrow.Author.Rules.{rules}
+use Rattle.definitions_electra.specs.Refusals.{slashings_tests}
+use Rattle.electra_refusals.proofs.step_tests.slashings_tests.Goals as goal
+
+pub returns : goal.returns
+unfolding slashings_tests
+returns c = rw (c.settings_shaped.ensures, c.registry_shaped.ensures, c.good_electra.ensures, c.is_small.ensures, c.good_registry.ensures) at c.in_order.ensures

@@ -1,0 +1,21 @@
+use borrow.Author.Rules.{rules}
+use Rattle.refusals.proofs.Laws.{good-settings}
+use Rattle.definitions_electra.specs.Evaluated.Electra.Helpers.{get_activation_exit_churn_limit}
+use Rattle.electra_registry.proofs.Limits.{limit-told, limit-over}
+use Rattle.electra_registry.proofs.activation_exit_churn.Goals as goal
+
+pub current_epoch-epoch-requires : goal.current_epoch-epoch-requires
+current_epoch-epoch-requires c = (good-settings _ c.requires.1).positive.slots_per_epoch
+
+pub returns-in_default : goal.returns-in_default
+unfolding get_activation_exit_churn_limit
+returns-in_default c = limit-over _ _ _ _ c.current_epoch-epoch.ensures c.total_active.ensures c.in_default.is
+
+pub churn_limit-limit-requires : goal.churn_limit-limit-requires
+churn_limit-limit-requires c =
+    let p = (good-settings _ c.requires.1).positive in
+    (p.churn_limit_quotient, p.effective_balance_increment)
+
+pub returns : goal.returns
+unfolding get_activation_exit_churn_limit
+returns c = limit-told _ _ _ _ c.current_epoch-epoch.ensures c.total_active.ensures c.in-Value.is c.churn_limit-limit.ensures

@@ -1,0 +1,10 @@
+use Prim.Native.Nat.{◌-◌}
+use native.Mathlib.Omega.{arith}
+use Rattle.electra_registry.proofs.Moves.{Updating, updating_none, updating_ten, updating_more, updating_stop, updating_all}
+use Rattle.electra_registry.proofs.updates.update_all.Given as goal
+
+abbrev pub invariant-loop-i : goal.invariant-loop-i
+invariant-loop-i l = Updating l.n l.first l.count l.initial.registry l.i l.registry l.churn
+
+abbrev pub decreases-loop-i : goal.decreases-loop-i
+decreases-loop-i l = l.count - l.i

@@ -1,0 +1,11 @@
+use Prim.Native.Nat.{◌-◌}
+use native.Mathlib.Omega.{arith}
+use Rattle.laws.proofs.Loops.Checking.{Checking, checking-none, checking-ten, checking-more, checking-stop, checking-all}
+use Rattle.definitions_electra.specs.Evaluated.Electra.EpochProcessing.{slash}
+use Rattle.electra_slashings.proofs.slash_all.Given as goal
+
+abbrev pub invariant-loop-i : goal.invariant-loop-i
+invariant-loop-i l = Checking (slash l.s l.epoch l.per_increment) l.n l.initial.registry l.i l.registry
+
+abbrev pub decreases-loop-i : goal.decreases-loop-i
+decreases-loop-i l = l.n - l.i

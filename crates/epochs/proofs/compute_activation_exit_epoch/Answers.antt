@@ -1,0 +1,9 @@
+use Rattle.epochs.proofs.Answers.{then-answers, refused_says}
+use borrow.Author.Rules.{rules}
+use Rattle.epochs.proofs.compute_activation_exit_epoch.Goals as goal
+
+pub returns-then-refusal-ne0 : goal.returns-then-refusal-ne0
+returns-then-refusal-ne0 c = refused_says _ c.settings_refusal-refusal.ensures _ c.if-refusal-ne0.true
+
+pub returns : goal.returns
+returns c = then-answers _ c.settings_refusal-refusal.ensures c.if-refusal-ne0.false c.activation_exit_epoch.ensures

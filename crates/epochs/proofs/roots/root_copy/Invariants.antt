@@ -1,0 +1,11 @@
+use mathlib.Core.Path.{sym}
+use Rattle.laws.proofs.Loops.Copied.{Copied, copied_none, copied_more, copied_all}
+use Prim.Native.Nat.{◌-◌}
+use native.Mathlib.Omega.{arith}
+use Rattle.epochs.proofs.roots.root_copy.Given as goal
+
+abbrev pub invariant-loop-i : goal.invariant-loop-i
+invariant-loop-i l = Copied l.part l.i l.root
+
+abbrev pub decreases-loop-i : goal.decreases-loop-i
+decreases-loop-i l = 32 - l.i

@@ -1,0 +1,12 @@
+use mathlib.Core.Path.{ap, ◌∙◌}
+use Rattle.definitions.specs.Plain.{plain_number}
+use borrow.Author.Rules.{rules}
+use Rattle.exports.proofs.phase0_helpers.altair_get_validator_churn_limit.Statement.{
+  statement,
+use Rattle.exports.proofs.phase0_helpers.altair_get_validator_churn_limit.Goals as goal
+
+}
+use Rattle.exports.proofs.phase0_helpers.altair_get_validator_churn_limit.Tie as tie
+
+pub returns : goal.returns
+returns c = c.plain_number.ensures ∙ ap plain_number c.get_validator_churn_limit.ensures.is

@@ -1,0 +1,13 @@
+use native.Mathlib.Omega.{arith}
+use borrow.Author.Tests.{eq-eqb, ne_eqb}
+use borrow.Author.Rules.{rules}
+use Rattle.finality.proofs.with_bit.Goals as goal
+
+pub returns-then-bits-weight-eq1 : goal.returns-then-bits-weight-eq1
+returns-then-bits-weight-eq1 c = (rw (c.if-hit.true, eq-eqb _ _ c.if-bits-weight-eq1.true), omega arith)
+
+pub returns-then-hit : goal.returns-then-hit
+returns-then-hit c = (rw (c.if-hit.true, ne_eqb _ _ c.if-bits-weight-eq1.false), omega arith)
+
+pub returns : goal.returns
+returns c = (rw c.if-hit.false, omega arith)

@@ -1,0 +1,36 @@
+use mathlib.Core.Path.{sym, ◌∙◌}
+use native.Mathlib.Omega.{arith}
+use borrow.Author.Rules.{rules}
+use Rattle.definitions_close.specs.FullClose.{FullCall}
+use Rattle.selection.proofs.Picking.{blank-length, blank_part}
+use Rattle.close.proofs.Lent.{lent, limit_record, record_refused}
+use Rattle.full_close.specs.Called.{full_called}
+use Rattle.full_close.proofs.Tests.{amounts-refused, close-refused}
+use Rattle.full_close.proofs.Outcome.{full_tests-refused}
+use Rattle.full_close.proofs.full_close.Goals.{Start}
+use Rattle.full_close.proofs.full_close.Goals as goal
+
+abbrev call : Start → FullCall
+call c = full_called c.args.rules c.args.finality c.args.queue c.args.registry.now c.args.slashings.now c.args.roots.now c.args.closing_registry.now c.args.closing_slashings.now c.args.amounts.now
+
+pub returns-then-amounts-registry : goal.returns-then-amounts-registry
+returns-then-amounts-registry c =
+    let a = call ((goal.at.returns-then-amounts-registry c).Start) in
+    full_tests-refused c.args.limit a (amounts-refused c.args.limit a c.if-amounts-registry.true) (λ z. omega arith) c.unclosed.ensures
+
+pub returns-then-refusal-ne0 : goal.returns-then-refusal-ne0
+returns-then-refusal-ne0 c =
+    let a = call (c) in
+    let n = c.if-refusal-ne0.true in
+    let t = limit_record c.args.limit a.call c.limit_refusal-refusal.ensures c.record_tests-by_rules.ensures in
+    full_tests-refused c.args.limit a (close-refused c.args.limit a c.if-amounts-registry.false (record_refused c.args.limit a.call t n) n) n c.unclosed-then-refusal-ne0.ensures
+
+pub full_tested-requires : goal.full_tested-requires
+full_tested-requires c =
+    let p = lent _ _ (limit_record _ _ c.limit_refusal-refusal.ensures c.record_tests-by_rules.ensures) c.if-refusal-ne0.false in
+    (rw c.settings_under-s.ensures p.opening, ((p.closing_registry, p.closing_slashings, c.if-amounts-registry.false), (blank-length 64 64 (omega arith), blank_part 64 64 (omega arith) (omega arith))))
+
+pub returns : goal.returns
+returns c =
+    let t = limit_record _ _ c.limit_refusal-refusal.ensures c.record_tests-by_rules.ensures in
+    c.full_tested.ensures.under _ (sym c.settings_under-s.ensures) (sym t ∙ c.if-refusal-ne0.false)

@@ -1,0 +1,34 @@
+use mathlib.Core.Path.{sym, ap, ◌∙◌}
+use native.Mathlib.Omega.{arith}
+use borrow.Author.Rules.{rules}
+use Rattle.definitions.specs.Rules.{altair_rules}
+use Rattle.definitions.specs.Close.{Call, Outcome}
+use Rattle.close.specs.Called.{called}
+use Rattle.definitions_file.specs.Lines.{close_text, accepted_text}
+use Rattle.listing.proofs.listing_close.Accepted.{Accepted, accepted}
+use Rattle.listing.proofs.listing_close.Printed.{printed-refused, printed-text}
+use Rattle.listing.proofs.listing_close.list_close.Goals.{Else-closed-ne0, Start}
+use Rattle.listing.proofs.listing_close.list_close.Goals as goal
+
+abbrev handed : Start → Call
+handed s = called (altair_rules s.args.s) s.args.finality s.args.registry.now s.args.slashings.now s.args.roots.now s.args.closing_registry.now s.args.closing_slashings.now
+
+passed : (c : Else-closed-ne0) → Accepted (handed (start (closing c)))
+passed c = accepted _ (sym (ap (λ (o : Outcome). o.refusal) c.close_as_altair-closed.ensures) ∙ c.if-closed-ne0.false)
+
+pub returns-then-closed-ne0 : goal.returns-then-closed-ne0
+returns-then-closed-ne0 c =
+    let p = c.put_refused.ensures in
+    record { text = rw (printed-refused (handed (goal.at.returns-then-closed-ne0 c).Start) c.close_as_altair-closed.ensures c.if-closed-ne0.true) p.0; inside = omega (arith, p.1, c.requires) }
+
+pub put_close-requires : goal.put_close-requires
+put_close-requires c =
+    let a = passed (goal.at.put_close-requires c).Else-closed-ne0 in
+    (a.epochs, ((a.shaped, omega (arith, a.alike, c.closing_registry-1.given)), c.requires))
+
+pub returns : goal.returns
+unfolding close_text accepted_text
+returns c =
+    let closed = c.close_as_altair-closed.ensures in
+    let flags = ap (λ (o : Outcome). o.raised) closed ∙ (passed (goal.at.returns c).Else-closed-ne0).raised in
+    record { text = rw (printed-text (handed (goal.at.returns c).Start) closed c.if-closed-ne0.false) (rw (← flags) at c.put_close.ensures.0); inside = c.put_close.ensures.1 }

@@ -1,0 +1,11 @@
+use mathlib.Core.Path.{◌∙◌}
+use borrow.Author.Rules.{rules}
+use Rattle.arithmetic.proofs.signed.Change.{given, wide}
+use Rattle.listing_lines.proofs.LineNumbers.{line-wide, line_read}
+use Rattle.listing_lines.proofs.line_core.Goals as goal
+
+pub returns-in_default : goal.returns-in_default
+returns-in_default c = c.no_line.ensures ∙ line-wide _ _ _ c.requires.0.0 c.requires.0.1 c.requires.1 (wide _ _ c.net_change.ensures c.in_default.is)
+
+pub returns : goal.returns
+returns c = line_read _ _ _ c.requires.0.0 c.requires.0.1 c.requires.1 (given _ c.net_change.ensures c.in-Value.is)

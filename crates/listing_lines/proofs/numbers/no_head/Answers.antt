@@ -1,0 +1,5 @@
+use borrow.Author.Rules.{rules}
+use Rattle.listing_lines.proofs.numbers.no_head.Goals as goal
+
+pub returns : goal.returns
+returns c = rw c.none_raised.ensures

@@ -1,0 +1,11 @@
+use native.Mathlib.Omega.{arith}
+use borrow.Author.Rules.{rules}
+use Rattle.fields.proofs.decimals.Put.{put-more}
+use Rattle.listing_lines.proofs.text.put_head.Goals as goal
+
+pub returns : goal.returns
+returns c =
+    let p = c.put_row-row.ensures in
+    let q = c.put_raised-end.ensures in
+    let r = c.put_end.ensures in
+    (put-more (put-more p.0 q.0) r, omega (arith, p.1, q.1, r.stopped))

@@ -1,0 +1,10 @@
+use native.Mathlib.Omega.{arith}
+use borrow.Author.Rules.{rules}
+use Rattle.fields.proofs.decimals.Put.{put-more}
+use Rattle.listing_lines.proofs.text.put_refused.Goals as goal
+
+pub returns : goal.returns
+returns c =
+    let p = c.put_labelled-end.ensures in
+    let q = c.put_end.ensures in
+    (put-more p.0 q, omega (arith, p.1, q.stopped))

@@ -1,0 +1,32 @@
+use mathlib.Core.Path.{◌≡◌, ◌∙◌}
+use native.Mathlib.Omega.{arith}
+use borrow.Author.Tests.{eq-eqb, ne_eqb}
+use Rattle.definitions_close.specs.Orders.{carry_out}
+use Rattle.definitions_close.specs.Calls.{ninth_called}
+use Rattle.orders.proofs.ninth_call.Tests.{ready}
+use Rattle.orders.proofs.ninth_call.Carried.{turned-away, carries-out}
+use borrow.Author.Rules.{rules}
+use Rattle.orders.proofs.ninth_call.carry_out.Goals as goal
+
+pub returns-then-done-eq9 : goal.returns-then-done-eq9
+unfolding carry_out
+returns-then-done-eq9 c = rw (eq-eqb c.args.running.done 9 (omega (arith, c.if-done-eq9.true)))
+
+pub returns-then-done-ne8 : goal.returns-then-done-ne8
+unfolding carry_out
+returns-then-done-ne8 c =
+    let done = c.args.running.done in
+    rw (ne_eqb done 9 (λ e. omega (arith, e, c.if-done-eq9.false)), ne_eqb done 8 (λ e. omega (arith, e, c.if-done-ne8.true)))
+
+pub returns-then-refusal-ne0 : goal.returns-then-refusal-ne0
+returns-then-refusal-ne0 c =
+    let eighth : c.args.running.done ≡ 8 = omega (arith, c.if-done-ne8.false) in
+    turned-away (ninth_called _ _ _ _ _ _) c.ninth_tests-refusal.ensures eighth c.if-refusal-ne0.true
+
+pub carry_tested-requires : goal.carry_tested-requires
+carry_tested-requires c = rw c.settings_under-s.ensures (ready (ninth_called _ _ _ _ _ _) c.ninth_tests-refusal.ensures c.if-refusal-ne0.false)
+
+pub returns : goal.returns
+returns c =
+    let eighth : c.args.running.done ≡ 8 = omega (arith, c.if-done-ne8.false) in
+    c.carry_tested.ensures ∙ rw c.settings_under-s.ensures (carries-out (ninth_called _ _ _ _ _ _) c.ninth_tests-refusal.ensures eighth c.if-refusal-ne0.false)

@@ -1,0 +1,14 @@
+use Prim.Native.Nat.{◌-◌, ◌≤◌}
+use native.Mathlib.Omega.{arith}
+use borrow.Author.Rules.{rules}
+use Rattle.definitions_file.specs.OutagePreparation.{with_flags_at}
+use Rattle.laws.proofs.Loops.Entry.{entry-ten}
+use Rattle.registry.proofs.activation.Places.{Placed, placed-none, placed-more}
+use Rattle.outage.proofs.outage_preparation.Prepared.{flags-all}
+use Rattle.outage.proofs.outage_preparation.set_flags.Given as goal
+
+abbrev pub invariant-loop-i : goal.invariant-loop-i
+invariant-loop-i l = (l.i ≤ l.n) × Placed (with_flags_at l.epoch l.absences) l.n l.initial.registry l.i l.registry
+
+abbrev pub decreases-loop-i : goal.decreases-loop-i
+decreases-loop-i l = l.n - l.i

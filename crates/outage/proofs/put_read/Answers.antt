@@ -1,0 +1,56 @@
+use native.Mathlib.Omega.{arith}
+use lib.ListN.{length-take, length-drop}
+use Rattle.definitions_file.specs.File.{count_of}
+use Rattle.outage.proofs.Text.{text-run}
+use Rattle.outage.proofs.Ended.{printed-same}
+use Rattle.outage.proofs.Filled.{Tail, good-tail, roots-long, filled, shaped, ready, room, planned}
+use borrow.Author.Rules.{rules}
+use Rattle.outage.proofs.put_read.Goals.{Start}
+use Rattle.outage.proofs.put_read.Goals as goal
+
+behind : (s : Start) → Tail (count_of s.args.file.now) s.args.tail.now
+behind s = good-tail (count_of s.args.file.now) s.args.tail.now s.requires.1.1
+
+pub put_bytes-requires : goal.put_bytes-requires
+put_bytes-requires c = omega (arith, roots-long c.requires.0 c.requires.1.0 c.file_roots-read_roots.ensures)
+
+pub put_run-requires : goal.put_run-requires
+put_run-requires c =
+    let x = c.requires.0 in
+    let o = c.requires.1.0 in
+    let t = behind c in
+    let n = c.read_number-epochs.ensures.0 in (
+      ready x o c.roots-1.given (simp (length-take, length-drop) (omega (arith, t.long))) c.absences-1.given,
+      (room x o (omega (arith, n, t.few)), ((shaped x o c.copy.ensures, c.copy.ensures), omega (arith, n, t.few, c.opening-1.given, x.openings, x.few, x.bytes))),
+    )
+
+pub returns : goal.returns
+returns c =
+    let x = c.requires.0 in
+    let o = c.requires.1.0 in
+    let run = text-run c.args.file.now c.args.tail.now o.accepted (filled x o c.copy.ensures c.file_roots-read_roots.ensures c.put_bytes.ensures) (planned x o c.args.tail.now c.read_numbers.ensures) c.read_number-epochs.ensures.0 c.requires.1.1 in
+    printed-same run c.put_run.ensures
+
+pub copy-requires : goal.copy-requires
+copy-requires c = omega (arith, c.requires.0.openings, c.requires.0.entries)
+
+pub file_roots-read_roots-requires : goal.file_roots-read_roots-requires
+file_roots-read_roots-requires c = c.requires.0.header
+
+pub read_numbers-requires : goal.read_numbers-requires
+read_numbers-requires c = omega (arith, c.requires.0.pairs, (behind c).long)
+
+pub read_number-epochs-requires : goal.read_number-epochs-requires
+read_number-epochs-requires c = omega (arith, (behind c).long)
+
+pub slice_bounds-put_run-end : goal.slice_bounds-put_run-end
+slice_bounds-put_run-end c = omega (arith, (behind c).long)
+
+pub shape_of-opening : goal.shape_of-opening
+shape_of-opening c = search rules
+
+pub shape_of-absences : goal.shape_of-absences
+shape_of-absences c = search rules
+
+pub shape_of-roots : goal.shape_of-roots
+shape_of-roots c = search rules

@@ -1,0 +1,27 @@
+use mathlib.Core.Path.{sym, ◌∙◌}
+use native.Mathlib.Omega.{arith}
+use Rattle.refusals.proofs.Laws.{registry-shaped}
+use Rattle.listing.proofs.listing_close.Printed.{or_refused_lem, or_text}
+use Rattle.definitions_file.specs.Outage.{lines_text}
+use borrow.Author.Rules.{rules}
+use Rattle.outage.proofs.put_rows.Goals as goal
+
+pub changes-refusal-requires : goal.changes-refusal-requires
+changes-refusal-requires c = ((registry-shaped _ c.requires.0.0).long, c.requires.0.1)
+
+pub returns-then-refusal-ne0 : goal.returns-then-refusal-ne0
+unfolding lines_text
+returns-then-refusal-ne0 c =
+    let p = c.put_refused.ensures in
+    (rw (or_refused_lem _ c.changes-refusal.ensures c.if-refusal-ne0.true) p.0, omega (arith, p.1, c.requires.1))
+
+pub put_lines-requires : goal.put_lines-requires
+put_lines-requires c =
+    let fits = sym c.changes-refusal.ensures ∙ c.if-refusal-ne0.false in
+    (search rules, (search rules, fits))
+
+pub returns : goal.returns
+unfolding lines_text
+returns c =
+    let p = c.put_lines.ensures in
+    (rw (or_text _ (sym c.changes-refusal.ensures ∙ c.if-refusal-ne0.false)) p.0, p.1)

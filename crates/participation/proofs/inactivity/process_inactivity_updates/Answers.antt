@@ -1,0 +1,28 @@
+use mathlib.Core.Path.{ap}
+use native.Mathlib.Omega.{arith}
+use lib.ListN.{length}
+use Rattle.definitions.specs.Record.{encode}
+use Rattle.definitions.specs.Rust.Altair.EpochProcessing.{process_inactivity_updates}
+use Rattle.refusals.proofs.buffers.Closes.{closes-refused, step-put_back}
+use Rattle.leaf_refusals.proofs.registry_refusals.Passed.{registry-passed}
+use borrow.Author.Rules.{rules}
+use Rattle.participation.proofs.inactivity.process_inactivity_updates.Goals as goal
+
+pub returns-then-refusal-ne0 : goal.returns-then-refusal-ne0
+returns-then-refusal-ne0 c = closes-refused encode _ c.registry_tests-refusal.ensures _ c.if-refusal-ne0.true
+
+pub copy-requires : goal.copy-requires
+copy-requires c = let p = registry-passed _ _ _ _ _ c.registry_tests-refusal.ensures c.if-refusal-ne0.false in p.same
+
+pub inactivity_core-done-requires : goal.inactivity_core-done-requires
+inactivity_core-done-requires c =
+    let p = registry-passed _ _ _ _ _ c.registry_tests-refusal.ensures c.if-refusal-ne0.false in
+    (p.opened.settings.good, omega (arith, p.opened.shape.long, ap length c.copy.ensures))
+
+pub put_back-requires : goal.put_back-requires
+put_back-requires c = omega (arith, (registry-passed _ _ _ _ _ c.registry_tests-refusal.ensures c.if-refusal-ne0.false).same)
+
+pub returns : goal.returns
+returns c =
+    let a = c.args in
+    step-put_back (process_inactivity_updates a.s a.state-slot a.finalized-epoch) _ c.registry_tests-refusal.ensures c.if-refusal-ne0.false c.copy.ensures c.inactivity_core-done.ensures c.put_back.ensures

@@ -1,0 +1,44 @@
+use lib.ListN.{length-set}
+use native.Mathlib.Omega.{arith}
+use borrow.Author.Rules.{rules}
+use Rattle.rates.proofs.Table.{row_put}
+use Rattle.rates.proofs.put_rates.Goals as goal
+
+pub bounds-row-4 : goal.bounds-row-4
+bounds-row-4 c = simp length-set (omega (arith, c.requires))
+
+pub bounds-row-5 : goal.bounds-row-5
+bounds-row-5 c = simp length-set (omega (arith, c.requires))
+
+pub bounds-row-6 : goal.bounds-row-6
+bounds-row-6 c = simp length-set (omega (arith, c.requires))
+
+pub bounds-row-7 : goal.bounds-row-7
+bounds-row-7 c = simp length-set (omega (arith, c.requires))
+
+pub bounds-row-8 : goal.bounds-row-8
+bounds-row-8 c = simp length-set (omega (arith, c.requires))
+
+pub bounds-row-9 : goal.bounds-row-9
+bounds-row-9 c = simp length-set (omega (arith, c.requires))
+
+pub bounds-row-10 : goal.bounds-row-10
+bounds-row-10 c = simp length-set (omega (arith, c.requires))
+
+pub bounds-row-11 : goal.bounds-row-11
+bounds-row-11 c = simp length-set (omega (arith, c.requires))
+
+pub bounds-row-12 : goal.bounds-row-12
+bounds-row-12 c = simp length-set (omega (arith, c.requires))
+
+pub bounds-row-13 : goal.bounds-row-13
+bounds-row-13 c = simp length-set (omega (arith, c.requires))
+
+pub bounds-row-14 : goal.bounds-row-14
+bounds-row-14 c = simp length-set (omega (arith, c.requires))
+
+pub shape_of-row : goal.shape_of-row
+shape_of-row c = simp length-set (omega (arith, c.requires))
+
+pub returns : goal.returns
+returns c = row_put _ _ _ _ _ _ _ _ _ _ _ _ _ _ _ c.args.row.now c.requires

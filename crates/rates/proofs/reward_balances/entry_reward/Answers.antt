@@ -1,0 +1,5 @@
+use borrow.Author.Rules.{rules}
+use Rattle.rates.proofs.reward_balances.entry_reward.Goals as goal
+
+pub returns : goal.returns
+returns c = c.pay.ensures.of _ _ _ _ _ _ _ c.four_pairs-answer.ensures

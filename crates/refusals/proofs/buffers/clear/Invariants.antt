@@ -1,0 +1,13 @@
+use mathlib.Core.Path.{refl}
+use Prim.Native.Nat.{◌-◌}
+use Rattle.refusals.proofs.buffers.Clearing.{Clearing, clearing_more, clearing_all}
+use native.Mathlib.Omega.{arith}
+use Rattle.refusals.proofs.buffers.clear.Given as goal
+
+abbrev pub invariant-loop-i : goal.invariant-loop-i
+invariant-loop-i l =
+    Clearing l.initial.list l.long l.i l.list
+
+abbrev pub decreases-loop-i : goal.decreases-loop-i
+decreases-loop-i l =
+    l.long - l.i

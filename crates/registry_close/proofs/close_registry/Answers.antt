@@ -1,0 +1,10 @@
+use native.Mathlib.Omega.{arith}
+use borrow.Author.Rules.{rules}
+use Rattle.selection.proofs.Picking.{blank-length, blank_part}
+use Rattle.registry_close.proofs.close_registry.Goals as goal
+
+pub close_kept-requires : goal.close_kept-requires
+close_kept-requires c = (c.requires.0, (c.requires.1, (blank-length 64 64 (omega arith), blank_part 64 64 (omega arith) (omega arith))))
+
+pub returns : goal.returns
+returns c = c.close_kept.ensures

@@ -1,0 +1,47 @@
+-- what justification answered, by the survey's sums
+use mathlib.Core.Path.{◌≡◌, refl, sym, ap}
+use Prim.Native.Nat.{ℕ}
+use native.Mathlib.Omega.{arith}
+use borrow.Author.Rules.{rules}
+use Rattle.definitions.specs.Record.{decode}
+use Rattle.definitions.specs.Raised.{raised_totals, close_answer_for}
+use Rattle.definitions.specs.Rust.Phase0.EpochProcessing.{reset_slashings}
+use Rattle.definitions.specs.Rust.Altair.EpochProcessing.{process_justification_and_finalization}
+use Rattle.refusals.proofs.Laws.{small, good-finality}
+use Rattle.registry_close.proofs.Justified.{totals-found}
+use Rattle.registry_close.proofs.Worked.{answered, slot_kept, finalized-small, worked_unjustified, worked-refused, worked-done}
+use Rattle.registry_close.proofs.run_steps.Goals.{After-justification_core-justified, Else-justified-ne0}
+use Rattle.registry_close.proofs.run_steps.Goals as goal
+
+justified : (c : After-justification_core-justified) → c.justification_core-justified.result ≡ close_answer_for (process_justification_and_finalization (start c).args.s (start c).args.roots.now (start c).args.finality (decode (start c).args.registry.now)) (start c).args.finality (raised_totals (start c).args.s (start c).args.finality.slot (decode (start c).args.registry.now))
+justified c =
+    c.justification_core-justified.ensures.of (decode c.args.registry.now) (totals-found c.args.s c.args.finality.slot c.args.registry.now c.requires.1.1 c.total_of-active.ensures c.total_of-target.ensures c.total_of-current_target.ensures)
+
+-- it gave a finality; the test may stand either way round
+given : (c : Else-justified-ne0) → c.justification_core-justified.result.refusal ≡ 0
+given c = omega (arith, c.if-justified-ne0.false)
+
+pub justification_core-justified-requires : goal.justification_core-justified-requires
+justification_core-justified-requires c = c.requires.0.weighs
+
+pub returns-then-justified-ne0 : goal.returns-then-justified-ne0
+returns-then-justified-ne0 c = (worked_unjustified _ _ _ _ _ _ (justified (goal.at.returns-then-justified-ne0 c).After-justification_core-justified) (λ z. omega (arith, c.if-justified-ne0.true)), (record { booked = λ z. absurd (omega (arith, z, c.if-justified-ne0.true)) }, record { pair = λ z. absurd (omega (arith, z, c.if-justified-ne0.true)) }))
+
+pub write_registry-wrote-requires : goal.write_registry-wrote-requires
+write_registry-wrote-requires c =
+    let slot = slot_kept c.args.limit _ _ _ c.args.slashings.now _ (justified (goal.at.write_registry-wrote-requires c).After-justification_core-justified) (given ((goal.at.write_registry-wrote-requires c).Else-justified-ne0)) in
+    let finalized = finalized-small c.args.limit _ _ _ c.args.slashings.now _ (justified (goal.at.write_registry-wrote-requires c).After-justification_core-justified) (given ((goal.at.write_registry-wrote-requires c).Else-justified-ne0)) c.requires.0.finality in
+    let opening = good-finality c.args.finality c.requires.0.finality in
+    ((c.requires.0.settings.good, rw slot (small _ c.requires.0.settings.small), omega (arith, finalized, opening.finalized)), ((c.requires.0.registry, c.requires.1.0), rw slot c.requires.1.1))
+
+pub returns-then-wrote-ne0 : goal.returns-then-wrote-ne0
+returns-then-wrote-ne0 c = (worked-refused _ _ _ _ _ _ (justified ((goal.at.returns-then-wrote-ne0 c).After-justification_core-justified)) (given ((goal.at.returns-then-wrote-ne0 c).Else-justified-ne0)) c.write_registry-wrote.ensures.0 _ (λ z. omega (arith, c.if-wrote-ne0.taken)) c.answer_with-refused.ensures, (record { booked = λ z. absurd (omega (arith, c.if-wrote-ne0.taken, answered _ _ _ c.answer_with-refused.ensures, z)) }, record { pair = λ z. absurd (omega (arith, c.if-wrote-ne0.taken, answered _ _ _ c.answer_with-refused.ensures, z)) }))
+
+pub returns : goal.returns
+returns c =
+    let slot = slot_kept c.args.limit _ _ _ c.args.slashings.now _ (justified (goal.at.returns c).After-justification_core-justified) (given ((goal.at.returns c).Else-justified-ne0)) in
+    let wrote = c.write_registry-wrote.ensures in (
+      worked-done _ _ _ _ _ _ (justified (goal.at.returns c).After-justification_core-justified) (given ((goal.at.returns c).Else-justified-ne0)) wrote.0 (omega (arith, c.if-wrote-ne0.false))
+          (ap (λ (slot : ℕ). reset_slashings c.args.s slot c.args.slashings.now) (sym slot)) (omega (arith, given ((goal.at.returns c).Else-justified-ne0))) refl refl,
+      (record { booked = λ z. wrote.1.0.booked (omega (arith, c.if-wrote-ne0.false)) }, record { pair = λ z. wrote.1.1.pair (omega (arith, c.if-wrote-ne0.false)) }),
+    )

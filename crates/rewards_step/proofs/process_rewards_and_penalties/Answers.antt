@@ -1,0 +1,31 @@
+use mathlib.Core.Path.{ap}
+use native.Mathlib.Omega.{arith}
+use lib.ListN.{length}
+use Rattle.definitions.specs.Record.{encode}
+use Rattle.definitions.specs.Rules.{settings_under}
+use Rattle.definitions.specs.Rust.Altair.EpochProcessing.{process_rewards_and_penalties}
+use Rattle.refusals.proofs.Laws.{good-settings}
+use Rattle.refusals.proofs.buffers.Closes.{closes-refused, step-put_back}
+use Rattle.rewards_step.proofs.Tests.{rewards-passed}
+use borrow.Author.Rules.{rules}
+use Rattle.rewards_step.proofs.process_rewards_and_penalties.Goals as goal
+
+pub returns-then-refusal-ne0 : goal.returns-then-refusal-ne0
+returns-then-refusal-ne0 c = closes-refused encode _ c.rewards_tests-refusal.ensures _ c.if-refusal-ne0.true
+
+pub copy-requires : goal.copy-requires
+copy-requires c = (rewards-passed _ _ _ _ _ c.rewards_tests-refusal.ensures c.if-refusal-ne0.false).same
+
+pub rewards_core-done-requires : goal.rewards_core-done-requires
+rewards_core-done-requires c =
+    let p = rewards-passed _ _ _ _ _ c.rewards_tests-refusal.ensures c.if-refusal-ne0.false in
+    rw c.settings_under-s.ensures (p.good, ((good-settings _ p.good).positive.inactivity_penalty_quotient_altair, omega (arith, p.shape.long, ap length c.copy.ensures)))
+
+pub put_back-requires : goal.put_back-requires
+put_back-requires c = omega (arith, (rewards-passed _ _ _ _ _ c.rewards_tests-refusal.ensures c.if-refusal-ne0.false).same)
+
+pub returns : goal.returns
+returns c =
+    let a = c.args in
+    let s = settings_under a.rules in
+    step-put_back (process_rewards_and_penalties s s.inactivity_penalty_quotient_altair a.state-slot a.finalized-epoch) _ c.rewards_tests-refusal.ensures c.if-refusal-ne0.false c.copy.ensures (rw c.settings_under-s.ensures at c.rewards_core-done.ensures) c.put_back.ensures

@@ -1,0 +1,11 @@
+use Prim.Native.Nat.{◌-◌}
+use lib.ListN.{length}
+use Rattle.selection.proofs.Kept.{Seeking, seeking_none, seeking_new, seeking_old, seeking_all}
+use native.Mathlib.Omega.{arith}
+use Rattle.selection.proofs.highest.Given as goal
+
+abbrev pub invariant-loop-j : goal.invariant-loop-j
+invariant-loop-j l = Seeking l.kept l.p l.j
+
+abbrev pub decreases-loop-j : goal.decreases-loop-j
+decreases-loop-j l = length l.kept - l.j

@@ -1,0 +1,96 @@
+use mathlib.Core.Path.{◌≡◌, refl, sym, ◌∙◌}
+use Prim.Native.Nat.{◌+◌, ◌-◌, ◌≤◌, ◌<◌}
+use native.Mathlib.Omega.{arith}
+use borrow.Author.Tests.{ltb-true, ltb-false}
+use lib.Dec.{ltb}
+use lib.ListN.{length, get_or}
+use Rattle.shelf.proofs.Lengths.{each-longest, longest-drop}
+use Rattle.shelf.proofs.Shelving.{Shelving, shelving-none, shelving-more, shelving-all, inside, file-long, part-long, shaped}
+use Rattle.shelf.proofs.close_files.Goals.{At-loop-more, In-loop-more}
+use Rattle.shelf.proofs.close_files.Goals as goal
+
+-- a file is left
+left : (c : In-loop-more) → c.loop-more.i < length (start c.At-loop-more).args.lengths.now
+left c = ltb-true _ _ (sym c.loop-more.invariant.3 ∙ c.loop-more-test.true)
+
+-- and ends within the shelf
+fits : (c : In-loop-more) → let k = c.loop-more in let a = (start c.At-loop-more).args in let end = k.at + get_or a.lengths.now k.i 0 in (end ≤ length a.files.now) × (end ≤ length k.closing)
+fits c =
+    let g = c.loop-more.invariant.0 in
+    let l = inside _ _ _ _ _ g (left c) in (l, omega (arith, l, g.as_long))
+
+pub loop-more-init : goal.loop-more-init
+loop-more-init c = let p = shaped _ c.requires in (shelving-none _ _ _ _ _ c.args.answers.now p.sums p.closing-long p.many, refl, refl, refl)
+
+pub close_file-answer-requires : goal.close_file-answer-requires
+close_file-answer-requires c =
+    let p = shaped _ c.requires in
+    let k = c.loop-more in
+    let g = k.invariant.0 in
+    let l = left ((goal.at.close_file-answer-requires c).In-loop-more) in
+    let file = file-long _ _ _ _ _ g l in
+    let most = each-longest c.args.lengths.now k.i l in
+    let all = longest-drop c.args.lengths.now k.i in
+    (part-long _ _ _ _ _ g l ∙ sym file, (omega (arith, file, most, all, p.opening-room, k.invariant.1), omega (arith, file, most, all, p.closing-room, k.invariant.2)))
+
+pub loop-more-preserved : goal.loop-more-preserved
+loop-more-preserved c =
+    let k = c.loop-more in
+    let g = k.inv.0 in
+    let l = left ((goal.at.loop-more-preserved c).In-loop-more) in
+    let f = c.close_file-answer in
+    (shelving-more _ _ _ _ _ g l f.ensures.0 f.ensures.1 (f.auto.1.1.1.1.1.0 ∙ part-long _ _ _ _ _ g l), c.opening_numbers-1.given ∙ k.inv.1, c.closing_numbers-1.given ∙ k.inv.2, refl)
+
+pub returns : goal.returns
+returns c = let k = c.loop-more in shelving-all _ _ _ _ _ k.invariant.0 (ltb-false _ _ (sym k.invariant.3 ∙ c.loop-more-test.false))
+
+pub offset_bounds-lengths-i : goal.offset_bounds-lengths-i
+offset_bounds-lengths-i c = omega (arith, left (goal.at.offset_bounds-lengths-i c).In-loop-more)
+
+pub bounds-lengths-i : goal.bounds-lengths-i
+bounds-lengths-i c = omega (arith, left (goal.at.bounds-lengths-i c).In-loop-more)
+
+pub overflow_add-end : goal.overflow_add-end
+overflow_add-end c = omega (arith, fits (goal.at.overflow_add-end c).In-loop-more, c.well_formed.0)
+
+pub slice_bounds-close_file-count : goal.slice_bounds-close_file-count
+slice_bounds-close_file-count c = omega (arith, fits (goal.at.slice_bounds-close_file-count c).In-loop-more)
+
+pub slice_bounds-close_file-start : goal.slice_bounds-close_file-start
+slice_bounds-close_file-start c = omega (arith, fits (goal.at.slice_bounds-close_file-start c).In-loop-more)
+
+pub slice_bounds-close_file-end : goal.slice_bounds-close_file-end
+slice_bounds-close_file-end c = omega (arith, fits (goal.at.slice_bounds-close_file-end c).In-loop-more)
+
+pub slice_bounds-close_file-count-in-loop-more : goal.slice_bounds-close_file-count-in-loop-more
+slice_bounds-close_file-count-in-loop-more c = omega (arith, fits (goal.at.slice_bounds-close_file-count-in-loop-more c).In-loop-more)
+
+pub slice_bounds-close_file-start-in-loop-more : goal.slice_bounds-close_file-start-in-loop-more
+slice_bounds-close_file-start-in-loop-more c = omega (arith, fits (goal.at.slice_bounds-close_file-start-in-loop-more c).In-loop-more)
+
+pub slice_bounds-close_file-end-in-loop-more : goal.slice_bounds-close_file-end-in-loop-more
+slice_bounds-close_file-end-in-loop-more c = omega (arith, fits (goal.at.slice_bounds-close_file-end-in-loop-more c).In-loop-more)
+
+pub offset_bounds-answers-i : goal.offset_bounds-answers-i
+offset_bounds-answers-i c = omega (arith, left (goal.at.offset_bounds-answers-i c).In-loop-more)
+
+pub bounds-answers-i : goal.bounds-answers-i
+bounds-answers-i c = omega (arith, c.loop-more.invariant.0.as_many, left (goal.at.bounds-answers-i c).In-loop-more)
+
+pub overflow_add-i : goal.overflow_add-i
+overflow_add-i c = omega (arith, left (goal.at.overflow_add-i c).In-loop-more)
+
+pub loop-more-smaller : goal.loop-more-smaller
+loop-more-smaller c = omega (arith, left (goal.at.loop-more-smaller c).In-loop-more)
+
+pub shape_of-closing : goal.shape_of-closing
+shape_of-closing c = omega (arith, c.loop-more.invariant.0.as_long, (shaped _ c.requires).closing-long)
+
+pub shape_of-opening_numbers : goal.shape_of-opening_numbers
+shape_of-opening_numbers c = c.loop-more.invariant.1
+
+pub shape_of-closing_numbers : goal.shape_of-closing_numbers
+shape_of-closing_numbers c = c.loop-more.invariant.2
+
+pub shape_of-answers : goal.shape_of-answers
+shape_of-answers c = omega (arith, c.loop-more.invariant.0.as_many, (shaped _ c.requires).many)

@@ -1,0 +1,16 @@
+use mathlib.Core.Path.{◌≡◌, refl, sym, ◌∙◌}
+use Prim.Native.Nat.{◌*◌, ◌-◌, ◌≤◌}
+use native.Mathlib.Omega.{arith}
+use borrow.Author.Tests.{le-leb}
+use lib.Dec.{leb}
+use lib.ListN.{length, drop}
+use Rattle.definitions.specs.Lists.{maximum}
+use Rattle.definitions_file.specs.Shelf.{holds_longest}
+use Rattle.shelf.proofs.Lengths.{within_more, beyond, longest-none}
+use Rattle.shelf.proofs.holds_longest.Given as goal
+
+abbrev pub invariant-loop-i : goal.invariant-loop-i
+invariant-loop-i l = (l.i ≤ length l.lengths) × (holds_longest l.lengths l.numbers ≡ leb (maximum 0 (drop l.i l.lengths)) (8 * length l.numbers))
+
+abbrev pub decreases-loop-i : goal.decreases-loop-i
+decreases-loop-i l = length l.lengths - l.i

@@ -1,0 +1,14 @@
+use mathlib.Core.Path.{◌≡◌, sym}
+use Prim.Native.Nat.{◌+◌, ◌-◌, ◌≤◌}
+use native.Mathlib.Omega.{arith}
+use borrow.Author.Tests.{ne_eqb}
+use lib.ListN.{length, drop}
+use Rattle.definitions.specs.Lists.{sum}
+use Rattle.shelf.proofs.Lengths.{sum_more, sum-none, left-none}
+use Rattle.shelf.proofs.sums_to.Given as goal
+
+abbrev pub invariant-loop-i : goal.invariant-loop-i
+invariant-loop-i l = (l.i ≤ length l.lengths) × (sum l.lengths + l.left ≡ l.total + sum (drop l.i l.lengths))
+
+abbrev pub decreases-loop-i : goal.decreases-loop-i
+decreases-loop-i l = length l.lengths - l.i

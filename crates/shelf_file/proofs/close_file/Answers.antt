@@ -1,0 +1,79 @@
+use mathlib.Core.Bool.{true}
+use mathlib.Core.Path.{◌≡◌, ap}
+use Prim.Native.Nat.{ℕ, ◌+◌, ◌*◌, ◌≤◌}
+use native.Mathlib.Omega.{arith}
+use borrow.Author.Rules.{rules}
+use borrow.Author.Tests.{eqb-true}
+use lib.Dec.{eqb}
+use lib.ListN.{length, length-take}
+use lib.Seq.{length-take-le}
+use Rattle.definitions_file.specs.File.{version_of, contents_of, good_header}
+use Rattle.laws.proofs.Tests.{both}
+use Rattle.refusals.proofs.All.{fails, passes}
+use Rattle.refusals.proofs.Answers.{passed}
+use Rattle.laws_file.proofs.Passed.{good-header}
+use Rattle.shelf_file.specs.Parts.{Counts, Counted}
+use Rattle.shelf_file.proofs.Parts.{counts-long}
+use Rattle.shelf_file.proofs.Tests.{off_shelf, refused-tests}
+use Rattle.shelf_file.proofs.close_file.Goals.{After-read_counts-counts, Else-not-on_shelf}
+use Rattle.shelf_file.proofs.close_file.Goals as goal
+
+head : (c : Else-not-on_shelf) → let file = (start c).args.file.now in (good_header file ≡ true) × (eqb (version_of file) 2 ≡ true)
+head c = both _ _ (passes c.on_shelf.ensures c.if-not-on_shelf.false)
+
+counts : (c : After-read_counts-counts) → let n = c.read_counts-counts.result in Counts (start c).args.file.now (10 * n.validators) (10 * n.validators + n.slashings)
+counts c =
+    let e = c.read_counts-counts.ensures in
+    let h = head c.Else-not-on_shelf in
+    record {
+      header = h.0;
+      second = eqb-true _ 2 h.1;
+      registry = ap (λ (n : ℕ). 10 * n) e.0;
+      slashings = ap (λ (l : ℕ). 10 * c.read_counts-counts.result.validators + l) e.2;
+    }
+
+-- the working lists have room
+counted : (c : After-read_counts-counts) → let n = c.read_counts-counts.result in let a = (start c.Else-not-on_shelf).args in Counted a.file.now (10 * n.validators) (10 * n.validators + n.slashings) a.opening-numbers.now
+counted c = let k = counts c in record { counts = k; room = omega (arith, counts-long k, k, c.requires.1.0) }
+
+closing-room : (c : After-read_counts-counts) → 10 * c.read_counts-counts.result.validators ≤ length (start c.Else-not-on_shelf).args.closing-numbers.now
+closing-room c = let k = counts c in omega (arith, counts-long k, k, c.requires.1.1)
+
+pub returns-then-not-on_shelf : goal.returns-then-not-on_shelf
+returns-then-not-on_shelf c =
+    let f = off_shelf c.args.fork c.args.bellatrix c.args.file.now (fails c.on_shelf.ensures c.if-not-on_shelf.true) c.args.part.now in
+    (f.number, f.part)
+
+pub file_tests-refusal-requires : goal.file_tests-refusal-requires
+unfolding contents_of
+file_tests-refusal-requires c = (counted (goal.at.file_tests-refusal-requires c).Else-not-on_shelf, c.read_settings-settings.ensures)
+
+pub returns-then-refusal-ne0 : goal.returns-then-refusal-ne0
+returns-then-refusal-ne0 c =
+    let f = refused-tests c.args.fork c.args.bellatrix c.args.file.now c.file_tests-refusal.ensures c.if-refusal-ne0.true c.args.part.now in
+    (f.number, f.part)
+
+pub slice_bounds-close_passed-end-2 : goal.slice_bounds-close_passed-end-2
+slice_bounds-close_passed-end-2 c = omega (arith, closing-room (goal.at.slice_bounds-close_passed-end-2 c).Else-not-on_shelf, length-take (10 * c.read_counts-counts.result.validators) c.args.closing_numbers.now)
+
+pub close_passed-requires : goal.close_passed-requires
+unfolding contents_of
+close_passed-requires c = (counted (goal.at.close_passed-requires c).Else-not-on_shelf, ((c.read_settings-settings.ensures, passed _ c.file_tests-refusal.ensures c.if-refusal-ne0.false), (length-take-le _ c.args.closing_numbers.now (closing-room (goal.at.close_passed-requires c).Else-not-on_shelf), c.requires.0)))
+
+pub returns : goal.returns
+returns c = let f = c.close_passed.ensures in (f.number, f.part)
+
+pub read_counts-counts-requires : goal.read_counts-counts-requires
+read_counts-counts-requires c = (good-header _ (head (goal.at.read_counts-counts-requires c).Else-not-on_shelf).0).enough
+
+pub overflow_mul-a : goal.overflow_mul-a
+overflow_mul-a c = omega (arith, counts-long (counts (goal.at.overflow_mul-a c).After-read_counts-counts), c.read_counts-counts.ensures.0, c.well_formed.0)
+
+pub overflow_add-b : goal.overflow_add-b
+overflow_add-b c = omega (arith, counts-long (counts (goal.at.overflow_add-b c).After-read_counts-counts), c.read_counts-counts.ensures, c.well_formed.0)
+
+pub read_settings-settings-requires : goal.read_settings-settings-requires
+read_settings-settings-requires c = omega (arith, counts-long (counts (goal.at.read_settings-settings-requires c).After-read_counts-counts))
+
+pub slice_bounds-close_passed-end : goal.slice_bounds-close_passed-end
+slice_bounds-close_passed-end c = omega (arith, closing-room (goal.at.slice_bounds-close_passed-end c).After-read_counts-counts)

@@ -1,0 +1,76 @@
+-- the places that needs start from
+use mathlib.Core.Path.{◌≡◌, sym, ap, ◌∙◌}
+use mathlib.Core.List.{List, ◌++◌}
+use Prim.Native.Nat.{ℕ, ◌-◌, ◌≤◌}
+use native.Mathlib.Omega.{arith}
+use borrow.Author.Rules.{rules}
+use lib.ListN.{length, take, drop}
+use Rattle.definitions_file.specs.File.{contents_of}
+use Rattle.fields.proofs.Stores.{sets-whole}
+use Rattle.shelf_file.specs.Parts.{numbers_behind}
+use Rattle.shelf_file.proofs.Parts.{counts-long, behind-put}
+use Rattle.shelf_file.proofs.Tests.{FileRead, read-tested, sized, put_refused, put-done}
+use Rattle.shelf_file.proofs.close_passed.Goals.{After-after-1, After-file_roots-roots, After-read_opening, After-slashings_reset_core, After-slice_known-4-1, After-struct_known-1, Start}
+use Rattle.shelf_file.proofs.close_passed.Goals as goal
+
+-- the working list as it was read
+abbrev numbers : After-file_roots-roots → List ℕ
+numbers c = c.read_opening.new.1.1.1.0
+
+ordered : (c : Start) → c.args.a ≤ c.args.b
+ordered c = omega (arith, c.requires.0.counts)
+
+within : (c : After-file_roots-roots) → (start c).args.b ≤ length (numbers c)
+within c = omega (arith, c.requires.0.room, c.read_opening.auto)
+
+read : (c : After-file_roots-roots) → let a = (start c).args in let at-read-finality = (opened c).before.before in FileRead a.rules a.file.now at-read-finality.before.settings-under.result at-read-finality.read-finality.result (take a.a (numbers c)) (numbers_behind a.a a.b (numbers c)) c.file_roots-roots.result.now
+unfolding contents_of
+read c =
+    record {
+      tests = c.requires.1.0.1;
+      settings = c.requires.1.0.0;
+      under = c.settings_under-s.ensures;
+      finality = c.read_finality-finality.ensures;
+      registry = c.read_opening.ensures.registry;
+      slashings = c.read_opening.ensures.slashings;
+      roots = c.file_roots-roots.ensures;
+    }
+
+-- the slashings after their reset, in the list
+behind : (c : After-slashings_reset_core) → let at-file-roots = with-roots c.After-struct_known-1 in let a = (start at-file-roots).args in let ys = c.slashings_reset_core.new.1.1.0 in numbers_behind a.a a.b (take a.a (numbers at-file-roots) ++ (ys ++ drop (a.b - a.a) (drop a.a (numbers at-file-roots)))) ≡ ys
+behind c = behind-put _ _ _ _ (ordered c) (within c.After-slice_known-4-1) c.slashings_reset_core.auto.1.1.0
+
+pub close_opening-answer-requires : goal.close_opening-answer-requires
+close_opening-answer-requires c = ((ordered c, within (goal.at.close_opening-answer-requires c).After-slice_known-4-1, c.requires.1.1.0), read-tested (read (goal.at.close_opening-answer-requires c).After-slice_known-4-1))
+
+pub returns-then-answer-ne0 : goal.returns-then-answer-ne0
+returns-then-answer-ne0 c = put_refused (read (goal.at.returns-then-answer-ne0 c).After-slice_known-4-1) c.close_opening-answer.ensures (λ z. omega (arith, z, c.if-answer-ne0.true)) _ (c.put_bytes.ensures ∙ sets-whole c.args.part.now c.args.file.now (sym c.requires.1.1.1))
+
+pub put_closed-requires : goal.put_closed-requires
+put_closed-requires c =
+    let p = c.requires in
+    ((ordered c, omega (arith, within (goal.at.put_closed-requires c).After-read_opening, c.numbers-2-1.given)), sized (read (goal.at.put_closed-requires c).After-read_opening) (c.closing-1.given ∙ p.1.1.0 ∙ p.0.counts.registry) (ap length (behind (goal.at.put_closed-requires c).After-after-1) ∙ c.slashings_reset_core.auto.1.1.0) p.1.1.1)
+
+pub returns : goal.returns
+returns c = put-done (read (goal.at.returns c).After-read_opening) c.close_opening-answer.ensures (omega (arith, c.if-answer-ne0.false)) _ (behind (goal.at.returns c).After-after-1 ∙ c.slashings_reset_core.ensures) c.put_closed.ensures
+
+pub read_finality-finality-requires : goal.read_finality-finality-requires
+read_finality-finality-requires c = omega (arith, counts-long c.requires.0.counts)
+
+pub put_bytes-requires : goal.put_bytes-requires
+put_bytes-requires c = omega (arith, (start (goal.at.put_bytes-requires c).After-slice_known-4-1).requires.1.1.1)
+
+pub offset_bounds-numbers-a : goal.offset_bounds-numbers-a
+offset_bounds-numbers-a c = let at-start = start (goal.at.offset_bounds-numbers-a c).After-slice_known-4-1 in omega (arith, at-start.pre.0.counts, counts-long at-start.pre.0.counts, at-start.good.0)
+
+pub slice_bounds-slashings_reset_core-count : goal.slice_bounds-slashings_reset_core-count
+slice_bounds-slashings_reset_core-count c = omega (arith, ordered (start (goal.at.slice_bounds-slashings_reset_core-count c).After-slice_known-4-1))
+
+pub slice_bounds-slashings_reset_core-start : goal.slice_bounds-slashings_reset_core-start
+slice_bounds-slashings_reset_core-start c = omega (arith, ordered (start (goal.at.slice_bounds-slashings_reset_core-start c).After-slice_known-4-1))
+
+pub slice_bounds-slashings_reset_core-end : goal.slice_bounds-slashings_reset_core-end
+slice_bounds-slashings_reset_core-end c = omega (arith, within (goal.at.slice_bounds-slashings_reset_core-end c).After-slice_known-4-1)
+
+pub slashings_reset_core-requires : goal.slashings_reset_core-requires
+slashings_reset_core-requires c = let t = read-tested (read (goal.at.slashings_reset_core-requires c).After-slice_known-4-1) in (t.slashings, t.settings)

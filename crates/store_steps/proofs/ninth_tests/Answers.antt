@@ -1,0 +1,13 @@
+use borrow.Author.Rules.{rules}
+use Rattle.laws.proofs.Tests.{shape-failed}
+use Rattle.store.proofs.Passed.{no_room}
+use Rattle.store_steps.specs.Called.{ninth_tests_with}
+use Rattle.store_steps.proofs.ninth_tests.Goals as goal
+
+pub returns-then-store-n : goal.returns-then-store-n
+unfolding ninth_tests_with
+returns-then-store-n c = shape-failed _ _ _ 0 (no_room _ c.if-store-n.true)
+
+pub returns : goal.returns
+unfolding ninth_tests_with
+returns c = rw (c.store_shaped.ensures, c.registry_shaped.ensures, c.orders_shaped.ensures, c.good_entries.ensures, c.is_small.ensures) at c.in_order.ensures

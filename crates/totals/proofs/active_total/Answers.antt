@@ -1,0 +1,7 @@
+use Rattle.definitions.specs.Document.Phase0.Helpers.{get_active_validator_indices}
+use borrow.Author.Rules.{rules}
+use Rattle.totals.proofs.active_total.Goals as goal
+
+pub returns : goal.returns
+unfolding get_active_validator_indices
+returns c = c.members_total.ensures

@@ -1,0 +1,9 @@
+use native.Mathlib.Omega.{arith}
+use borrow.Author.Rules.{rules}
+use Rattle.totals.proofs.count_if.Goals as goal
+
+pub returns-then-on : goal.returns-then-on
+returns-then-on c = rw c.if-on.true
+
+pub returns : goal.returns
+returns c = rw c.if-on.false (omega arith)

@@ -1,0 +1,12 @@
+use borrow.Author.Rules.{rules}
+use Prim.Native.Nat.{◌≤◌, ◌-◌, ◌*◌}
+use mathlib.Core.Path.{◌≡◌}
+use lib.ListN.{length, length-take, length-drop, length-set}
+use native.Mathlib.Omega.{arith}
+use Rattle.vectors.proofs.words.fill_all.Goals as goal
+
+pub word_of-requires : goal.word_of-requires
+word_of-requires c = simp (length-take, length-drop) (omega arith)
+
+pub loop-i-preserved : goal.loop-i-preserved
+loop-i-preserved c = simp length-set (omega arith)

@@ -1,0 +1,5 @@
+use borrow.Author.Rules.{rules}
+use Rattle.votes.proofs.vote_outcome.passes.Goals as goal
+
+pub returns : goal.returns
+returns c = rw (← c.raised.ensures) c.is_justified.ensures

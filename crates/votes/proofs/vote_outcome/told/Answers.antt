@@ -1,0 +1,13 @@
+use Rattle.votes.proofs.vote_outcome.Shown.{four_inserted, told-answer}
+use Rattle.definitions_votes.specs.Votes.{outcome_of}
+use borrow.Author.Rules.{rules}
+use Rattle.votes.proofs.vote_outcome.told.Goals as goal
+
+pub returns : goal.returns
+unfolding outcome_of
+returns c =
+    let e = rw c.finalized_after.ensures at c.inserted-one.ensures.0 in
+    let f = rw c.finalized_after-2.ensures at c.inserted-two.ensures.0 in
+    let g = rw c.finalized_after-3.ensures at c.inserted-three.ensures.0 in
+    let h = rw c.finalized_after-4.ensures at c.inserted-list.ensures.0 in
+    told-answer _ (four_inserted _ _ _ _ e f g h) c.verdict_number-previous_target.ensures c.verdict_number-current_target.ensures

@@ -1,0 +1,5 @@
+use borrow.Author.Rules.{rules}
+use Rattle.votes.proofs.vote_outcome.weigh_votes.Goals as goal
+
+pub returns : goal.returns
+returns c = rw (← c.raised-total.ensures) c.weigh_sums.ensures

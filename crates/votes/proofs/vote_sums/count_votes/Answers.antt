@@ -1,0 +1,22 @@
+use Prim.Native.Nat.{◌-◌}
+use native.Mathlib.Omega.{arith}
+use borrow.Author.Rules.{rules}
+use Rattle.arithmetic.proofs.Answers.{answers-value, answers-refused}
+use Rattle.laws.proofs.Loops.Reading.{reading_ten}
+use Rattle.votes.proofs.vote_sums.Counting.{Counting, tells_sums, counting_none, counting_at, counting_more, counting_over, counting_all, counted-value, counted-refused}
+use Rattle.votes.proofs.vote_sums.count_votes.Goals as goal
+
+pub loop-i-init : goal.loop-i-init
+loop-i-init c = counting_none _ _ _ c.requires.0
+
+pub entry_sums-own-requires : goal.entry_sums-own-requires
+entry_sums-own-requires c = (reading_ten (counting_at c.loop-i.invariant) c.loop-i-test.true, c.requires.1.1)
+
+pub returns-in_default : goal.returns-in_default
+returns-in_default c = counted-refused (counting_over c.loop-i.invariant c.loop-i-test.true c.entry_sums-own.ensures (answers-refused tells_sums c.added.ensures c.in_default.is).gave)
+
+pub loop-i-preserved : goal.loop-i-preserved
+loop-i-preserved c = counting_more c.loop-i.invariant c.loop-i-test.true c.entry_sums-own.ensures (answers-value tells_sums c.added.ensures c.in-Value.is)
+
+pub returns : goal.returns
+returns c = counted-value (counting_all c.loop-i.invariant c.loop-i-test.false)

@@ -1,0 +1,15 @@
+use native.Mathlib.Omega.{arith}
+use Rattle.write_pass.proofs.Nine.{nine-part, put-part}
+use borrow.Author.Rules.{rules}
+use Rattle.write_pass.proofs.book_entry.Goals as goal
+
+pub returns-then-amounts-b : goal.returns-then-amounts-b
+returns-then-amounts-b c = record { long = λ l. absurd (omega (arith, l, c.if-amounts-b.true)); is = λ l. absurd (omega (arith, l, c.if-amounts-b.true)) }
+
+pub fill_entry-requires : goal.fill_entry-requires
+fill_entry-requires c =
+    let a = c.requires in
+    (a.0, (a.1.0, ((a.1.1.0.0, a.1.1.0.1, nine-part c.args.amounts.now c.args.i (omega (arith, c.if-amounts-b.false))), a.1.1.1)))
+
+pub returns : goal.returns
+returns c = put-part c.args.amounts.now c.args.i c.fill_entry.auto.1.1.1.1.1.0 c.fill_entry.ensures

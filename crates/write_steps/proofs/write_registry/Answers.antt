@@ -1,0 +1,58 @@
+-- what the tests gave
+use mathlib.Core.Path.{sym, ◌∙◌}
+use mathlib.Core.Bool.{true≢false}
+use Prim.Native.Nat.{◌<◌, ◌^◌}
+use native.Mathlib.Omega.{arith}
+use borrow.Author.Rules.{rules}
+use Rattle.definitions.specs.Record.{decode}
+use Rattle.refusals.proofs.All.{fails, passes}
+use Rattle.refusals.proofs.Laws.{good-settings}
+use Rattle.refusals.proofs.buffers.Chained.{ran_overflow}
+use Rattle.registry.proofs.Epochs.{Epochs, epochs}
+use Rattle.write_steps.proofs.Accepted.{Accepted, not_accepted}
+use Rattle.write_steps.proofs.Made.{plain-fit, found_all}
+use Rattle.write_steps.proofs.write_registry.Goals.{After-current_epoch-epoch, After-shared_slice_known-2-1, Start}
+use Rattle.write_steps.proofs.write_registry.Goals as goal
+
+ep : (c : Start) → Epochs c.args.s c.args.state_slot
+ep c = epochs c.args.s c.args.state_slot c.requires.0.0 c.requires.0.1
+
+abbrev Accepted-at : Start → Type 0
+Accepted-at c = Accepted c.args.s c.args.state_slot c.args.finalized_epoch c.args.slashings.now (decode c.args.opening.now)
+
+-- the present epoch is small
+current-small : (c : After-current_epoch-epoch) → c.current_epoch-epoch.result < 2 ^ 48
+current-small c =
+    rw c.current_epoch-epoch.ensures (ep (c.After-shared_slice_known-2-1)).small
+
+pub returns-then-not-all_fit : goal.returns-then-not-all_fit
+returns-then-not-all_fit c =
+    let over = fails c.all_fit.ensures c.if-not-all_fit.true in
+    (ran_overflow (not_accepted _ _ _ _ (ep (goal.at.returns-then-not-all_fit c).Start) _ _ (λ (g : Accepted-at (goal.at.returns-then-not-all_fit c).Start). true≢false (sym (plain-fit c.requires.1.1 g.plain) ∙ over))), (record { booked = λ z. absurd (omega (arith, z)) }, record { pair = λ z. absurd (omega (arith, z)) }))
+
+pub current_epoch-epoch-requires : goal.current_epoch-epoch-requires
+current_epoch-epoch-requires c = (good-settings _ c.requires.0.0).positive.slots_per_epoch
+
+pub churn_by-churn-requires : goal.churn_by-churn-requires
+churn_by-churn-requires c = (good-settings _ c.requires.0.0).positive.churn_limit_quotient
+
+pub overflow_add-least-2 : goal.overflow_add-least-2
+overflow_add-least-2 c = omega (arith, current-small ((goal.at.overflow_add-least-2 c).After-current_epoch-epoch), (good-settings _ c.requires.0.0).small.max_seed_lookahead)
+
+pub cut_queue-cut-requires : goal.cut_queue-cut-requires
+cut_queue-cut-requires c =
+    let a = c.requires in
+    (a.1.0.0, ((omega (arith, current-small ((goal.at.cut_queue-cut-requires c).After-current_epoch-epoch)), omega (arith, a.0.2)), rw c.current_epoch-epoch.ensures a.1.1.waiting))
+
+pub write_found-requires : goal.write_found-requires
+write_found-requires c =
+    let e = c.current_epoch-epoch.ensures in
+    ((c.requires.0.0, c.requires.0.1), (c.requires.1.0, found_all c.args.s c.args.state_slot (ep (goal.at.write_found-requires c).After-shared_slice_known-2-1) c.args.opening.now c.requires.1.1 (passes c.all_fit.ensures c.if-not-all_fit.false) c.raised_totals-totals.ensures c.churn_by-churn.ensures (rw e at c.start_pair-queue.ensures)))
+
+pub returns : goal.returns
+returns c =
+    let wrote = c.write_found.ensures in
+    (wrote.0.under _ (rw (c.activation_limit-most.ensures, c.current_epoch-epoch.ensures) at c.cut_queue-cut.ensures), wrote.1)
+
+pub overflow_add-least : goal.overflow_add-least
+overflow_add-least c = omega (arith, current-small (goal.at.overflow_add-least c).After-current_epoch-epoch)

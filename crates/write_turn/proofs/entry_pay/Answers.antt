@@ -1,0 +1,31 @@
+use mathlib.Core.Path.{sym, ◌∙◌}
+use native.Mathlib.Omega.{arith}
+use Rattle.write_turn.proofs.Entry.{pays-none, pays-some, answer-scored, balance-scored}
+use Rattle.write_turn.proofs.Sweeps.Runs.{settles-runs, runs_then, runs-stop}
+use borrow.Author.Rules.{rules}
+use Rattle.write_turn.proofs.entry_pay.Goals as goal
+
+pub returns-then-h-eq0 : goal.returns-then-h-eq0
+returns-then-h-eq0 c = record { runs = pays-none c.args.s c.args.p c.requires.1.0 (omega (arith, c.if-h-eq0.taken)); answer = λ z. record { says = λ n x e. absurd (n (omega (arith, c.if-h-eq0.taken))) } }
+
+pub returns-then-scored-ne0 : goal.returns-then-scored-ne0
+returns-then-scored-ne0 c =
+    record {
+      runs = pays-some c.args.s c.args.p (λ z. omega (arith, c.if-h-eq0.false)) (runs-stop _ (settles-runs c.entry_update_score-scored.ensures) (λ z. omega (arith, c.if-scored-ne0.taken)));
+      answer = λ z. absurd (omega (arith, z, c.if-scored-ne0.taken));
+    }
+
+pub entry_reward_by-rewarded-requires : goal.entry_reward_by-rewarded-requires
+entry_reward_by-rewarded-requires c =
+    let a = c.requires in
+    let rates = a.1.1 in
+    (a.0.shared, ((a.0.bias, a.0.quotient), (a.0.product, (c.entry_update_score-scored.kept.1.1.1.1.0 ∙ a.1.0, (rates.fits, rates.same ∙ sym (balance-scored _ _ _ _ c.entry_update_score-scored.ensures))))))
+
+pub returns : goal.returns
+returns c =
+    let scored = settles-runs c.entry_update_score-scored.ensures in
+    let rewarded = c.entry_reward_by-rewarded.ensures in
+    record {
+      runs = pays-some c.args.s c.args.p (λ z. omega (arith, c.if-h-eq0.false)) (runs_then _ scored (omega (arith, c.if-scored-ne0.false)) (settles-runs rewarded.0));
+      answer = λ z. answer-scored c.args.s c.args.p scored rewarded.1;
+    }

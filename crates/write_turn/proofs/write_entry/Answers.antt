@@ -1,0 +1,72 @@
+use mathlib.Core.Path.{◌∙◌}
+use Rattle.write_turn.proofs.Entry.{queue-steps, later-steps, unpaid_steps}
+use Rattle.write_turn.proofs.Sweeps.Steps.{steps_copied, first_then, last_then, last-stop}
+use native.Mathlib.Omega.{arith}
+use borrow.Author.Rules.{rules}
+use Rattle.write_turn.proofs.write_entry.Goals as goal
+
+pub entry_pay-paid-requires : goal.entry_pay-paid-requires
+entry_pay-paid-requires c = let a = c.requires in (a.0, (search rules, rw c.copy_entry.ensures a.1.0))
+
+pub returns-then-paid-ne0 : goal.returns-then-paid-ne0
+returns-then-paid-ne0 c =
+    let a = c.args in
+    let =.before.before.before.before c.entry_pay-paid.ensures in
+    record { steps = steps_copied c.copy_entry.ensures (unpaid_steps a.later a.s a.p a.t a.n paid.runs c.if-paid-ne0.true); few = omega arith; answer = λ z. absurd (c.if-paid-ne0.true z) }
+
+pub entry_turn-turned-requires : goal.entry_turn-turned-requires
+entry_turn-turned-requires c =
+    let a = c.requires in
+    (a.0, (c.entry_pay-paid.kept.1.1.1.0 ∙ c.copy_entry.kept.1.0 ∙ a.1.1.0.1, a.1.1.1.1))
+
+pub returns-then-later-ne0 : goal.returns-then-later-ne0
+returns-then-later-ne0 c =
+    let at-then2 : tie.Then2 = (goal.at.returns-then-later-ne0 c).Then-later-ne0 in
+    let at-else1 : tie.Else1 = (goal.at.returns-then-later-ne0 c).Else-paid-ne0 in
+    let a = at-else1.before.before.before.before.before.before.before.before.before.before.before.before.args in
+    let pays = at-else1.before.before.before.before.entry-pay.ensures in
+    let same = at-else1.before.before.before.before.before.before.before.before.copy-entry.ensures in
+    record {
+      steps = steps_copied same (later-steps a.later a.s a.p a.t a.n at-then2.if2.true (first_then pays.runs _ at-else1.if1.false c.entry_turn-turned.ensures));
+      few = omega arith;
+      answer = λ z. rw (← same) (pays.answer at-else1.if1.false);
+    }
+
+pub entry_move-moved-requires : goal.entry_move-moved-requires
+entry_move-moved-requires c =
+    let a = c.requires in
+    (c.entry_pay-paid.kept.1.1.1.0 ∙ c.copy_entry.kept.1.0 ∙ a.1.1.0.1, a.1.1.1.0, a.1.1.1.2)
+
+pub returns-then-moved-ne0 : goal.returns-then-moved-ne0
+returns-then-moved-ne0 c =
+    let at-else2 : tie.Else2 = (goal.at.returns-then-moved-ne0 c).Else-later-ne0 in
+    let at-else1 : tie.Else1 = (goal.at.returns-then-moved-ne0 c).Else-paid-ne0 in
+    let a = at-else1.before.before.before.before.before.before.before.before.before.before.before.before.args in
+    let pays = at-else1.before.before.before.before.entry-pay.ensures in
+    let moved = c.entry_move-moved.ensures in
+    record {
+      steps = steps_copied at-else1.before.before.before.before.before.before.before.before.copy-entry.ensures (queue-steps a.later a.s a.p a.t a.n (omega (arith, at-else2.if2.false)) (first_then pays.runs _ at-else1.if1.false (last-stop moved.steps _ c.if-moved-ne0.true)));
+      few = moved.few;
+      answer = λ z. absurd (c.if-moved-ne0.true z);
+    }
+
+pub entry_finish-refusal-requires : goal.entry_finish-refusal-requires
+entry_finish-refusal-requires c =
+    let at-else1 : tie.Else1 = (goal.at.entry_finish-refusal-requires c).Else-paid-ne0 in
+    let a = at-else1.before.before.before.before.before.before.before.before.before.before.before.before.requires in
+    (a.0, c.entry_move-moved.auto.1.1.1.1.1.0 ∙ at-else1.before.before.before.before.entry-pay.auto.1.1.1.0 ∙ at-else1.before.before.before.before.before.before.before.before.copy-entry.auto.1.0 ∙ a.1.1.0.1)
+
+pub returns : goal.returns
+returns c =
+    let at-else3 : tie.Else3 = (goal.at.returns c).Else-moved-ne0 in
+    let at-else2 : tie.Else2 = (goal.at.returns c).Else-later-ne0 in
+    let at-else1 : tie.Else1 = (goal.at.returns c).Else-paid-ne0 in
+    let a = at-else1.before.before.before.before.before.before.before.before.before.before.before.before.args in
+    let pays = at-else1.before.before.before.before.entry-pay.ensures in
+    let same = at-else1.before.before.before.before.before.before.before.before.copy-entry.ensures in
+    let moved = c.entry_move-moved.ensures in
+    record {
+      steps = steps_copied same (queue-steps a.later a.s a.p a.t a.n (omega (arith, at-else2.if2.false)) (first_then pays.runs _ at-else1.if1.false (last_then moved.steps _ at-else3.if3.false c.entry_finish-refusal.ensures)));
+      few = moved.few;
+      answer = λ z. rw (← same) (pays.answer at-else1.if1.false);
+    }
