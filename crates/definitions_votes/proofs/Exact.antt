@@ -138,7 +138,7 @@ module _ (b : Ballot) (l : 1 < current_of b) (r : roots_found b ≡ true) where
     unfolding outcome_of
     lists =
         record {
-          in_order_lem = sorted-rising _;
+          in_order = sorted-rising _;
           reached = λ e h. reached-by e (four-among e _ _ _ _ (sym (sorted-among e _) ∙ h));
           listed = λ e c. sorted-among e _ ∙ among-four e _ _ _ _ (listed_by e c);
         }

@@ -85,7 +85,7 @@ pub record Reaches (b : Ballot) (e : ℕ) : Type 0 where
 
 -- exactly the epochs that some filling reaches
 pub record Lists (b : Ballot) (xs : List ℕ) : Type 0 where
-  pub in_order_lem : rising xs ≡ true
+  pub in_order : rising xs ≡ true
   pub reached : (e : ℕ) → among e xs ≡ true → Reaches b e
   pub listed : (e : ℕ) → Reaches b e → among e xs ≡ true
 

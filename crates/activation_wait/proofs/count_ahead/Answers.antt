@@ -6,22 +6,24 @@ use borrow.Author.Tests.{not-true, not-false}
 use Rattle.definitions.specs.Record.{decode}
 use Rattle.laws.proofs.Loops.Entry.{entry-ten}
 use Rattle.activation_wait.proofs.Counting.{CountedBelow, below_none, below_yes, below-no, is_ahead, entry-ahead, counted-ahead}
+use mathlib.Core.Path.{ap}
+use mathlib.Core.Bool.{not}
 use Rattle.activation_wait.proofs.count_ahead.Goals as goal
 
 pub entry_queues_before-requires : goal.entry_queues_before-requires
-entry_queues_before-requires c = entry-ten _ _ _ c.requires.0 c.loop-j-test.taken
+entry_queues_before-requires c = entry-ten _ _ _ c.requires.0 c.loop-j-test.true
 
 pub loop-j-preserved-then-not-entry_queues_before : goal.loop-j-preserved-then-not-entry_queues_before
 loop-j-preserved-then-not-entry_queues_before c =
-    let inv = c.loop-j.inv in
-    let told = c.entry_queues_before.ensures ∙ entry-ahead _ _ _ c.requires.0 _ c.requires.1 _ c.loop-j-test.taken refl in
-    (below-no inv.0 told (not-true _ c.if-not-entry_queues_before.true), omega (arith, c.loop-j-test.taken))
+    let inv = c.loop-j.invariant in
+    let told = c.entry_queues_before.ensures ∙ entry-ahead _ _ _ c.requires.0 _ c.requires.1 _ c.loop-j-test.true refl in
+    (below-no inv.0 told (not-true _ (ap not c.if-not-entry_queues_before.true)), omega (arith, c.loop-j-test.true))
 
 pub loop-j-preserved : goal.loop-j-preserved
 loop-j-preserved c =
-    let inv = c.loop-j.inv in
-    let told = c.entry_queues_before.ensures ∙ entry-ahead _ _ _ c.requires.0 _ c.requires.1 _ c.loop-j-test.taken refl in
-    (below_yes inv.0 told (not-false _ c.if-not-entry_queues_before.false), omega (arith, c.loop-j-test.taken))
+    let inv = c.loop-j.invariant in
+    let told = c.entry_queues_before.ensures ∙ entry-ahead _ _ _ c.requires.0 _ c.requires.1 _ c.loop-j-test.true refl in
+    (below_yes inv.0 told (not-false _ (ap not c.if-not-entry_queues_before.false)), omega (arith, c.loop-j-test.true))
 
 pub returns : goal.returns
 returns c =

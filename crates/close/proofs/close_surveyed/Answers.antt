@@ -14,7 +14,7 @@ pub slashings_reset_core-requires : goal.slashings_reset_core-requires
 slashings_reset_core-requires c = (ap length c.copy.ensures ∙ c.requires.0.slashings, c.requires.0.settings)
 
 pub returns-then-answer-eq0 : goal.returns-then-answer-eq0
-returns-then-answer-eq0 c = (closed-done c.run_steps-stepped.ensures.0 (omega (arith, c.if-answer-eq0.taken)) (c.slashings_reset_core.ensures ∙ ap (reset_slashings _ _) c.copy.ensures), c.run_steps-stepped.ensures.1)
+returns-then-answer-eq0 c = (closed-done c.run_steps-stepped.ensures.0 (omega (arith, c.if-answer-eq0.true)) (c.slashings_reset_core.ensures ∙ ap (reset_slashings _ _) c.copy.ensures), c.run_steps-stepped.ensures.1)
 
 pub copy-requires-2 : goal.copy-requires-2
 copy-requires-2 c = omega (arith, c.requires.1.0.0, c.closing_registry-1.given)

@@ -19,7 +19,7 @@ loop-i-init c =
     }
 
 pub loop-i-preserved : goal.loop-i-preserved
-loop-i-preserved c = booking_more c.loop-i.inv c.loop-i-test.taken c.booked-x.ensures
+loop-i-preserved c = booking_more c.loop-i.invariant c.loop-i-test.true c.booked-x.ensures
 
 pub booked-x-requires : goal.booked-x-requires
 booked-x-requires c = tt

@@ -9,7 +9,7 @@ returns-then-op-eq0 c = rw (eq-eqb _ _ c.if-op-eq0.true)
 
 pub returns-then-op-eq1 : goal.returns-then-op-eq1
 unfolding booked_by
-returns-then-op-eq1 c = rw (ne_eqb _ _ c.if-op-eq0.false, eq-eqb _ _ c.if-op-eq1.taken) c.more.ensures
+returns-then-op-eq1 c = rw (ne_eqb _ _ c.if-op-eq0.false, eq-eqb _ _ c.if-op-eq1.true) c.more.ensures
 
 pub returns : goal.returns
 unfolding booked_by

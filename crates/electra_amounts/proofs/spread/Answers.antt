@@ -5,7 +5,7 @@ use Rattle.electra_amounts.proofs.Spreading.{Spreading, spreading_none, spreadin
 use Rattle.electra_amounts.proofs.spread.Goals as goal
 
 pub loop-k-preserved : goal.loop-k-preserved
-loop-k-preserved c = spreading_more c.loop-k.inv c.loop-k-test.taken c.spread_value-x.ensures
+loop-k-preserved c = spreading_more c.loop-k.invariant c.loop-k-test.true c.spread_value-x.ensures
 
 pub loop-k-init : goal.loop-k-init
 loop-k-init c = spreading_none _

@@ -16,4 +16,4 @@ returns c =
     let a = c.args in
     let kept = c.add_behind-count.kept.1.1.1.1.1 in
     let done = c.add_behind-count.ensures in
-    writes-added a.rules a.n a.deposits.now a.compounding.now a.index a.closing-registry.now a.closing-compounding.now c.requires.0 done.0 done.1 c.append_amounts.ensures c.update_added.ensures kept.0 (c.update_added.kept.1.1.1.1.0 ∙ kept.0)
+    writes-added a.rules a.n a.deposits.now a.compounding.now a.index a.closing_registry.now a.closing_compounding.now c.requires.0 done.0 done.1 c.append_amounts.ensures c.update_added.ensures kept.0 (c.update_added.kept.1.1.1.1.0 ∙ kept.0)

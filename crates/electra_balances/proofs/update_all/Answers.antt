@@ -8,13 +8,13 @@ pub loop-i-init : goal.loop-i-init
 loop-i-init c = none_yet _ c.requires.0.0
 
 pub entry_update_own-refusal-requires : goal.entry_update_own-refusal-requires
-entry_update_own-refusal-requires c = ((next-ten c.loop-i.inv c.loop-i-test.taken, c.requires.0.1), c.requires.1)
+entry_update_own-refusal-requires c = ((next-ten c.loop-i.invariant c.loop-i-test.true, c.requires.0.1), c.requires.1)
 
 pub returns-then-refusal-ne0 : goal.returns-then-refusal-ne0
-returns-then-refusal-ne0 c = one-refused c.loop-i.inv c.loop-i-test.taken c.entry_update_own-refusal.ensures c.if-refusal-ne0.true
+returns-then-refusal-ne0 c = one-refused c.loop-i.invariant c.loop-i-test.true c.entry_update_own-refusal.ensures c.if-refusal-ne0.true
 
 pub loop-i-preserved : goal.loop-i-preserved
-loop-i-preserved c = one-updated c.loop-i.inv c.loop-i-test.taken c.entry_update_own-refusal.ensures c.if-refusal-ne0.false
+loop-i-preserved c = one-updated c.loop-i.invariant c.loop-i-test.true c.entry_update_own-refusal.ensures c.if-refusal-ne0.false
 
 pub returns : goal.returns
 returns c = all-updated c.loop-i.invariant c.loop-i-test.false

@@ -13,7 +13,7 @@ use Rattle.electra_close.proofs.closed.Goals as goal
 abbrev called : Start → ElectraCall
 called s =
     let a = s.args in
-    electra_called a.rules a.finality a.churn a.numbers a.registry.now a.compounding.now a.slashings.now a.roots.now a.deposits.now a.consolidations.now a.closing-registry.now a.closing-compounding.now a.closing-slashings.now a.closing-deposits.now a.closing-consolidations.now a.amounts.now a.places.now
+    electra_called a.rules a.finality a.churn a.numbers a.registry.now a.compounding.now a.slashings.now a.roots.now a.deposits.now a.consolidations.now a.closing_registry.now a.closing_compounding.now a.closing_slashings.now a.closing_deposits.now a.closing_consolidations.now a.amounts.now a.places.now
 
 passed : (s : Start) → ElectraPassed (called s)
 passed s = electra-passed (called s) refl (ap code_of s.requires)
@@ -40,7 +40,7 @@ returns-then-front-ne0 c =
     let s = at-steps.before.before.before.before.before.before.before.before.before.before.before.before.before.before.before.before.before in
     let o = at_open.open-registry.ensures in
     let q = c.open_queues.ensures in
-    put_back (called s) s.pre (passed s) at-steps.steps-in-front.ensures c.if-front-ne0.taken c.opening_answer.ensures o.0 o.1.0 q.0 q.1.0 q.1.1 o.1.1
+    put_back (called s) s.pre (passed s) at-steps.steps-in-front.ensures c.if-front-ne0.true c.opening_answer.ensures o.0 o.1.0 q.0 q.1.0 q.1.1 o.1.1
 
 pub finish-counts-requires : goal.finish-counts-requires
 finish-counts-requires c =

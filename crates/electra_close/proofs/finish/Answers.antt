@@ -23,4 +23,4 @@ last_in_front-requires c =
 pub returns : goal.returns
 returns c =
     let a = c.args in
-    finishes a.rules a.state-slot a.next-epoch a.index a.done a.compounding.now a.slashings.now a.deposits.now a.pairs.now c.requires c.queues_by_front-left.ensures c.write_added-count.ensures c.last_in_front.ensures.0 c.last_in_front.ensures.1
+    finishes a.rules a.state_slot a.next_epoch a.index a.done a.compounding.now a.slashings.now a.deposits.now a.pairs.now c.requires c.queues_by_front-left.ensures c.write_added-count.ensures c.last_in_front.ensures.0 c.last_in_front.ensures.1

@@ -28,4 +28,4 @@ returns c =
     let l = c.requires in
     let k = c.eight_steps.kept in
     let a = c.args in
-    in_front (length a.compounding.now) a.closing-registry.now a.amounts.now l.room l.rows (omega (arith, k)) (omega (arith, k)) c.eight_steps.ensures
+    in_front (length a.compounding.now) a.closing_registry.now a.amounts.now l.room l.rows (omega (arith, k)) (omega (arith, k)) c.eight_steps.ensures

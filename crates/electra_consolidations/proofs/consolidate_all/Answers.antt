@@ -8,26 +8,26 @@ pub loop-i-init : goal.loop-i-init
 loop-i-init c = (refl, c.requires.1, going_none _ _ c.requires.0.0, booking_none _ _ _ _ _)
 
 pub stops_at-requires : goal.stops_at-requires
-stops_at-requires c = (c.loop-i.inv.2.long, source-placed _ _ _ (omega arith) c.loop-i.inv.1)
+stops_at-requires c = (c.loop-i.invariant.2.long, source-placed _ _ _ (omega arith) c.loop-i.invariant.1)
 
 pub returns-then-stops_at : goal.returns-then-stops_at
 returns-then-stops_at c =
-    let g = c.loop-i.inv.2 in
+    let g = c.loop-i.invariant.2 in
     let stopped = c.stops_at.ensures in
-    (going_left g (omega arith) refl refl stopped c.if-stops_at.true, booking_left g c.loop-i.inv.3 (omega arith) refl refl stopped c.if-stops_at.true)
+    (going_left g (omega arith) refl refl stopped c.if-stops_at.true, booking_left g c.loop-i.invariant.3 (omega arith) refl refl stopped c.if-stops_at.true)
 
 pub moved_from-moved-requires : goal.moved_from-moved-requires
-moved_from-moved-requires c = (c.loop-i.inv.2.long, source-placed _ _ _ (omega arith) c.loop-i.inv.1)
+moved_from-moved-requires c = (c.loop-i.invariant.2.long, source-placed _ _ _ (omega arith) c.loop-i.invariant.1)
 
 pub book_move-requires : goal.book_move-requires
 book_move-requires c =
-    let p = c.loop-i.inv.1 in
-    (source-placed _ _ _ (omega arith) p, target-placed _ _ _ (omega arith) p, omega (arith, c.loop-i.inv.2.long))
+    let p = c.loop-i.invariant.1 in
+    (source-placed _ _ _ (omega arith) p, target-placed _ _ _ (omega arith) p, omega (arith, c.loop-i.invariant.2.long))
 
 pub consolidation_turn-refusal-requires : goal.consolidation_turn-refusal-requires
 consolidation_turn-refusal-requires c =
-    let p = c.loop-i.inv.1 in
-    (c.loop-i.inv.2.long, source-placed _ _ _ (omega arith) p, target-placed _ _ _ (omega arith) p)
+    let p = c.loop-i.invariant.1 in
+    (c.loop-i.invariant.2.long, source-placed _ _ _ (omega arith) p, target-placed _ _ _ (omega arith) p)
 
 pub returns-then-refusal-ne0 : goal.returns-then-refusal-ne0
 returns-then-refusal-ne0 c =

@@ -15,6 +15,8 @@ use Rattle.registry_close.proofs.Justified.{totals-found}
 use Rattle.electra_first.proofs.Accepted.{over-accepted, four-refused}
 use Rattle.electra_first.proofs.Firsts.{first-refused, first_goes, four-stop, slot_kept}
 use Rattle.electra_first.proofs.five_surveyed.Goals.{After-justification_core-justified, Else-justified-ne0}
+use mathlib.Core.Path.{ap}
+use mathlib.Core.Bool.{not}
 use Rattle.electra_first.proofs.five_surveyed.Goals as goal
 
 -- what justification answered, by the survey's sums
@@ -40,7 +42,7 @@ pub returns-then-not-all_fit : goal.returns-then-not-all_fit
 returns-then-not-all_fit c =
     let a = c.args in
     let j = c.justification_core-justified.result.finality in
-    let over = fails c.all_fit.ensures c.if-not-all_fit.true in
+    let over = fails c.all_fit.ensures (ap not c.if-not-all_fit.true) in
     four-stop a.rules a.s a.finality a.churn a.registry.now a.slashings.now a.roots.now (justified (goal.at.returns-then-not-all_fit c).After-justification_core-justified) c.if-justified-ne0.false
     (four-refused a.rules a.s j.slot j.finalized_checkpoint.epoch a.slashings.now a.churn c.requires.0.2 c.requires.0.0 (epochs _ _ (good-electra _ c.requires.0.0).settings (small (goal.at.returns-then-not-all_fit c).Else-justified-ne0)) (decode a.registry.now)
     (over-accepted a.rules a.s _ _ (same-slot (goal.at.returns-then-not-all_fit c).Else-justified-ne0) a.registry.now c.requires.1.1.1 over) {u = record { refusal = 5; churn = a.churn }} refl)
@@ -54,7 +56,7 @@ finalizing_test-test-requires c =
 pub four_steps-done-requires : goal.four_steps-done-requires
 four_steps-done-requires c =
     let a = (start (goal.at.four_steps-done-requires c).After-justification_core-justified).requires in
-    let fit = passes c.all_fit.ensures c.if-not-all_fit.false in
+    let fit = passes c.all_fit.ensures (ap not c.if-not-all_fit.false) in
     ((a.0.0, small (goal.at.four_steps-done-requires c).Else-justified-ne0, a.0.1, a.0.2), (a.1.1.0, rw (same-slot (goal.at.four_steps-done-requires c).Else-justified-ne0, c.raised_totals.ensures) (raised-totals _ (plain-sums a.1.1.1 fit))))
 
 pub returns : goal.returns

@@ -48,13 +48,13 @@ pub returns-in_default : goal.returns-in_default
 returns-in_default c =
     let a = c.args in
     let no = (answers_overflow tells_truth c.leak_of.ensures (only-leak _ _ _) c.in_default.is).0 in
-    four-refused a.rules a.s a.state-slot a.finalized-epoch a.slashings.now a.churn c.requires.0.3 c.requires.0.0 (ep (goal.at.returns-in_default c).Start) (decode a.opening.now) (λ (g : Accepted-at (goal.at.returns-in_default c).Start). none-gave no g.sums.leak) refl
+    four-refused a.rules a.s a.state_slot a.finalized_epoch a.slashings.now a.churn c.requires.0.3 c.requires.0.0 (ep (goal.at.returns-in_default c).Start) (decode a.opening.now) (λ (g : Accepted-at (goal.at.returns-in_default c).Start). none-gave no g.sums.leak) refl
 
 pub returns-in_default-adjusted_balance : goal.returns-in_default-adjusted_balance
 returns-in_default-adjusted_balance c =
     let a = c.args in
     let no = (says_overflow c.adjusted_balance.ensures (only-adjusted _ _ _) c.in_default-adjusted_balance.is).0 in
-    four-refused a.rules a.s a.state-slot a.finalized-epoch a.slashings.now a.churn c.requires.0.3 c.requires.0.0 (ep (goal.at.returns-in_default-adjusted_balance c).Start) (decode a.opening.now) (λ (g : Accepted-at (goal.at.returns-in_default-adjusted_balance c).Start). none-gave no (g.adjusted _)) refl
+    four-refused a.rules a.s a.state_slot a.finalized_epoch a.slashings.now a.churn c.requires.0.3 c.requires.0.0 (ep (goal.at.returns-in_default-adjusted_balance c).Start) (decode a.opening.now) (λ (g : Accepted-at (goal.at.returns-in_default-adjusted_balance c).Start). none-gave no (g.adjusted _)) refl
 
 pub nonzero_div-increments : goal.nonzero_div-increments
 nonzero_div-increments c = (good-settings _ c.requires.0.2).positive.effective_balance_increment
@@ -90,7 +90,7 @@ returns-then-done-ne0 c =
     let at-start = start (goal.at.returns-then-done-ne0 c).After-current_epoch-current in
     let a = at-start.args in
     let now = c.current_epoch-current.ensures in
-    by-refused a.rules a.s a.state-slot a.finalized-epoch a.slashings.now a.churn at-start.pre.0.3 at-start.pre.0.0 (ep at-start) (eps at-start) a.opening.now at-start.pre.1.1 _ (answers-value tells_truth c.leak_of.ensures c.in-Value.is) _ (says-value c.adjusted_balance.ensures c.in-Value-adjusted_balance.is) now c.previous_epoch-previous.ensures c.make_plan-p.ensures c.numbers_by-n.ensures c.write_later-done.ensures.0 c.if-done-ne0.true
+    by-refused a.rules a.s a.state_slot a.finalized_epoch a.slashings.now a.churn at-start.pre.0.3 at-start.pre.0.0 (ep at-start) (eps at-start) a.opening.now at-start.pre.1.1 _ (answers-value tells_truth c.leak_of.ensures c.in-Value.is) _ (says-value c.adjusted_balance.ensures c.in-Value-adjusted_balance.is) now c.previous_epoch-previous.ensures c.make_plan-p.ensures c.numbers_by-n.ensures c.write_later-done.ensures.0 c.if-done-ne0.true
 
 pub returns : goal.returns
 returns c =
@@ -101,4 +101,4 @@ returns c =
     let z = c.if-done-ne0.false in
     let long = at-start.pre.1.0 in
     let nines : length (take (9 * (length a.opening.now / 10) - 0) a.amounts.now) ≡ 9 * (length a.opening.now / 10) = simp length-take (omega (arith, long)) in
-    by-ran a.rules a.s a.state-slot a.finalized-epoch a.slashings.now a.churn at-start.pre.0.3 at-start.pre.0.0 (ep at-start) (eps at-start) a.opening.now at-start.pre.1.1 _ (answers-value tells_truth c.leak_of.ensures c.in-Value.is) _ (says-value c.adjusted_balance.ensures c.in-Value-adjusted_balance.is) now c.previous_epoch-previous.ensures c.make_plan-p.ensures c.numbers_by-n.ensures wrote.ensures.0 long.0 (wrote.auto.1.1.1.1.1.0 ∙ long.1) _ (wrote.ensures.1.filled z nines) refl c.spread.ensures (back_long (9 * (length a.opening.now / 10) - 0) wrote.new.1.1.1.1.1.1.0 a.amounts.now wrote.auto.1.1.1.1.1.1.0 ∙ long.2)
+    by-ran a.rules a.s a.state_slot a.finalized_epoch a.slashings.now a.churn at-start.pre.0.3 at-start.pre.0.0 (ep at-start) (eps at-start) a.opening.now at-start.pre.1.1 _ (answers-value tells_truth c.leak_of.ensures c.in-Value.is) _ (says-value c.adjusted_balance.ensures c.in-Value-adjusted_balance.is) now c.previous_epoch-previous.ensures c.make_plan-p.ensures c.numbers_by-n.ensures wrote.ensures.0 long.0 (wrote.auto.1.1.1.1.1.0 ∙ long.1) _ (wrote.ensures.1.filled z nines) refl c.spread.ensures (back_long (9 * (length a.opening.now / 10) - 0) wrote.new.1.1.1.1.1.1.0 a.amounts.now wrote.auto.1.1.1.1.1.1.0 ∙ long.2)

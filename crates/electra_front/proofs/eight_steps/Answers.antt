@@ -20,7 +20,7 @@ returns-then-first-ne0 c =
     let a = c.args in
     let h = c.first_five-first.ensures in
     let k = c.first_five-first.kept in
-    first-refused a.rules a.finality a.churn a.numbers a.registry.now a.compounding.now a.slashings.now a.roots.now a.deposits.now a.pairs.now c.requires (omega (arith, k, c.requires.later.tens)) (omega (arith, k, c.requires.later.twelves)) (rw c.under-s.ensures at h) c.if-first-ne0.taken refl
+    first-refused a.rules a.finality a.churn a.numbers a.registry.now a.compounding.now a.slashings.now a.roots.now a.deposits.now a.pairs.now c.requires (omega (arith, k, c.requires.later.tens)) (omega (arith, k, c.requires.later.twelves)) (rw c.under-s.ensures at h) c.if-first-ne0.true refl
 
 pub later_three-later-requires : goal.later_three-later-requires
 later_three-later-requires c =

@@ -17,7 +17,7 @@ pub returns-then-six-ne0 : goal.returns-then-six-ne0
 returns-then-six-ne0 c =
     let a = c.args in
     let l = c.requires.1.0 in
-    six-refused a.rules a.state-slot a.finalized-epoch a.numbers a.compounding.now a.deposits.now a.pairs.now a.registry.now l.tens l.twelves c.deposits_in_front-six.ensures c.if-six-ne0.taken c.later_refused.ensures
+    six-refused a.rules a.state_slot a.finalized_epoch a.numbers a.compounding.now a.deposits.now a.pairs.now a.registry.now l.tens l.twelves c.deposits_in_front-six.ensures c.if-six-ne0.true c.later_refused.ensures
 
 pub moves_and_balances-moved-requires : goal.moves_and_balances-moved-requires
 moves_and_balances-moved-requires c =
@@ -28,16 +28,16 @@ pub returns-then-moved-ne0 : goal.returns-then-moved-ne0
 returns-then-moved-ne0 c =
     let a = c.args in
     let l = c.requires.1.0 in
-    move_refused a.rules a.state-slot a.finalized-epoch a.numbers a.compounding.now a.deposits.now a.pairs.now a.registry.now l.tens l.twelves c.deposits_in_front-six.ensures c.if-six-ne0.false c.moves_and_balances-moved.ensures c.if-moved-ne0.taken c.later_refused-then-moved-ne0.ensures
+    move_refused a.rules a.state_slot a.finalized_epoch a.numbers a.compounding.now a.deposits.now a.pairs.now a.registry.now l.tens l.twelves c.deposits_in_front-six.ensures c.if-six-ne0.false c.moves_and_balances-moved.ensures c.if-moved-ne0.true c.later_refused-then-moved-ne0.ensures
 
 pub new_refusal-refusal-requires : goal.new_refusal-refusal-requires
 new_refusal-refusal-requires c =
     let a = c.args in
     let l = c.requires.1.0 in
-    ((c.requires.0, l.keys), (few-done a.rules a.state-slot a.finalized-epoch a.numbers a.compounding.now a.deposits.now a.pairs.now a.registry.now l.tens l.twelves c.deposits_in_front-six.ensures c.if-six-ne0.false, l.table))
+    ((c.requires.0, l.keys), (few-done a.rules a.state_slot a.finalized_epoch a.numbers a.compounding.now a.deposits.now a.pairs.now a.registry.now l.tens l.twelves c.deposits_in_front-six.ensures c.if-six-ne0.false, l.table))
 
 pub returns : goal.returns
 returns c =
     let a = c.args in
     let l = c.requires.1.0 in
-    goes a.rules a.state-slot a.finalized-epoch a.numbers a.compounding.now a.deposits.now a.pairs.now a.registry.now l.tens l.twelves c.deposits_in_front-six.ensures c.if-six-ne0.false c.moves_and_balances-moved.ensures c.if-moved-ne0.false c.new_refusal-refusal.ensures
+    goes a.rules a.state_slot a.finalized_epoch a.numbers a.compounding.now a.deposits.now a.pairs.now a.registry.now l.tens l.twelves c.deposits_in_front-six.ensures c.if-six-ne0.false c.moves_and_balances-moved.ensures c.if-moved-ne0.false c.new_refusal-refusal.ensures

@@ -21,16 +21,16 @@ loop-k-init c =
 
 pub added_value-x-requires : goal.added_value-x-requires
 added_value-x-requires c =
-    let g = c.loop-k.inv in
-    omega (arith, g.tens, g.some, c.loop-k-test.taken)
+    let g = c.loop-k.invariant in
+    omega (arith, g.tens, g.some, c.loop-k-test.true)
 
 pub bounds-amounts-p : goal.bounds-amounts-p
 bounds-amounts-p c =
-    let g = c.loop-k.inv in
-    omega (arith, g.room, g.long, g.some, c.loop-k-test.taken)
+    let g = c.loop-k.invariant in
+    omega (arith, g.room, g.long, g.some, c.loop-k-test.true)
 
 pub loop-k-preserved : goal.loop-k-preserved
-loop-k-preserved c = appending_more c.loop-k.inv c.loop-k-test.taken c.added_value-x.ensures
+loop-k-preserved c = appending_more c.loop-k.invariant c.loop-k-test.true c.added_value-x.ensures
 
 pub overflow_add-p : goal.overflow_add-p
 overflow_add-p c = let g = c.loop-k.invariant in omega (arith, g.room, g.some, c.loop-k-test.true)

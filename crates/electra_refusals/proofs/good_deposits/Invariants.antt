@@ -6,6 +6,8 @@ use Rattle.definitions_electra.specs.Record.{decode_deposits}
 use Rattle.definitions_electra.specs.Refusals.{good_deposit, good_deposits}
 use Rattle.laws_electra.proofs.Deposits.{none, length-deposits, deposit-tested}
 use Rattle.refusals.proofs.All.{Passed, passed_none, passed-more, passed-stop, passed-all, fails, passes}
+use mathlib.Core.Path.{ap}
+use mathlib.Core.Bool.{not}
 use Rattle.electra_refusals.proofs.good_deposits.Given as goal
 
 abbrev pub invariant-loop-i : goal.invariant-loop-i

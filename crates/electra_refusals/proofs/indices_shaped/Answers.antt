@@ -18,18 +18,18 @@ pub returns-then-n-consolidations : goal.returns-then-n-consolidations
 unfolding indices_shaped
 returns-then-n-consolidations c =
     let ps = c.args.consolidations.now in
-    sym (passed-stop c.loop-i.inv (omega (arith, length_pairs ps)) none (pair-tested (within _) ps c.loop-i-test.taken (rw (le-ltb _ _ c.if-n-consolidations.true))))
+    sym (passed-stop c.loop-i.invariant (omega (arith, length_pairs ps)) none (pair-tested (within _) ps c.loop-i-test.true (rw (le-ltb _ _ c.if-n-consolidations.true))))
 
 pub returns-then-n-consolidations-2 : goal.returns-then-n-consolidations-2
 unfolding indices_shaped
 returns-then-n-consolidations-2 c =
     let ps = c.args.consolidations.now in
-    sym (passed-stop c.loop-i.inv (omega (arith, length_pairs ps)) none (pair-tested (within _) ps c.loop-i-test.taken (rw (lt-ltb _ _ c.if-n-consolidations.false, le-ltb _ _ c.if-n-consolidations-2.true))))
+    sym (passed-stop c.loop-i.invariant (omega (arith, length_pairs ps)) none (pair-tested (within _) ps c.loop-i-test.true (rw (lt-ltb _ _ c.if-n-consolidations.false, le-ltb _ _ c.if-n-consolidations-2.true))))
 
 pub loop-i-preserved : goal.loop-i-preserved
 loop-i-preserved c =
     let ps = c.args.consolidations.now in
-    passed-more c.loop-i.inv (omega (arith, length_pairs ps)) none (pair-tested (within _) ps c.loop-i-test.taken (and_both (lt-ltb _ _ c.if-n-consolidations.false) (lt-ltb _ _ c.if-n-consolidations-2.false)))
+    passed-more c.loop-i.invariant (omega (arith, length_pairs ps)) none (pair-tested (within _) ps c.loop-i-test.true (and_both (lt-ltb _ _ c.if-n-consolidations.false) (lt-ltb _ _ c.if-n-consolidations-2.false)))
 
 pub returns : goal.returns
 unfolding indices_shaped

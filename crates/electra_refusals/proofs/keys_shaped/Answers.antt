@@ -19,14 +19,14 @@ returns-then-bound-deposits c =
     let a = c.args in
     let xs = a.registry.now in
     let ds = a.deposits.now in
-    sym (passed-stop c.loop-i.inv (omega (arith, length-deposits ds)) none (deposit-tested (λ x. ltb x.pubkey (count_of xs + deposits_of ds)) ds c.loop-i-test.taken (le-ltb _ _ c.if-bound-deposits.true)))
+    sym (passed-stop c.loop-i.invariant (omega (arith, length-deposits ds)) none (deposit-tested (λ x. ltb x.pubkey (count_of xs + deposits_of ds)) ds c.loop-i-test.true (le-ltb _ _ c.if-bound-deposits.true)))
 
 pub loop-i-preserved : goal.loop-i-preserved
 loop-i-preserved c =
     let a = c.args in
     let xs = a.registry.now in
     let ds = a.deposits.now in
-    passed-more c.loop-i.inv (omega (arith, length-deposits ds)) none (deposit-tested (λ x. ltb x.pubkey (count_of xs + deposits_of ds)) ds c.loop-i-test.taken (lt-ltb _ _ c.if-bound-deposits.false))
+    passed-more c.loop-i.invariant (omega (arith, length-deposits ds)) none (deposit-tested (λ x. ltb x.pubkey (count_of xs + deposits_of ds)) ds c.loop-i-test.true (lt-ltb _ _ c.if-bound-deposits.false))
 
 pub returns : goal.returns
 unfolding keys_shaped

@@ -13,5 +13,5 @@ pub returns : goal.returns
 returns c =
     let a = c.args in
     let p = epochs _ _ (good-electra _ c.requires.1).settings c.requires.2 in
-    rw (registry-text a.rules a.state-slot a.finalized-epoch a.churn a.registry.now c.requires.1 p)
+    rw (registry-text a.rules a.state_slot a.finalized_epoch a.churn a.registry.now c.requires.1 p)
     (rw c.registry_numbers-n.ensures at c.update_all.ensures)

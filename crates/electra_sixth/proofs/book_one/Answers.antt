@@ -23,4 +23,4 @@ unfolding one_by
 returns c =
     let a = c.args in
     let l = c.if-n-key.false in
-    rw (lt-ltb a.key (length a.registry.now / 10) l, c.place_of-p.ensures, c.value_of_lem.ensures, number-at (length a.registry.now / 10) a.registry.now a.key c.requires.0 l 6 (omega arith))
+    rw (lt-ltb a.key (length a.registry.now / 10) l, c.place_of-p.ensures, c.value_of-x.ensures, number-at (length a.registry.now / 10) a.registry.now a.key c.requires.0 l 6 (omega arith))

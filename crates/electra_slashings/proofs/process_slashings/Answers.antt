@@ -25,6 +25,6 @@ put_back-requires c = omega (arith, (slashings-passed _ _ _ _ _ c.slashings_test
 pub returns : goal.returns
 returns c =
     let a = c.args in
-    let step = slashed_registry a.rules.settings a.rules.bellatrix.proportional_slashing_multiplier_bellatrix a.state-slot a.slashings.now in
-    rw (work-by a.rules a.state-slot a.slashings.now a.opening.now)
-    (closes_in (lent a.state-slot a.slashings.now a.opening.now) _ _ (step-put_back step _ c.slashings_tests-refusal.ensures c.if-refusal-ne0.false c.copy.ensures c.slashings_core-done.ensures c.put_back.ensures))
+    let step = slashed_registry a.rules.settings a.rules.bellatrix.proportional_slashing_multiplier_bellatrix a.state_slot a.slashings.now in
+    rw (work-by a.rules a.state_slot a.slashings.now a.opening.now)
+    (closes_in (lent a.state_slot a.slashings.now a.opening.now) _ _ (step-put_back step _ c.slashings_tests-refusal.ensures c.if-refusal-ne0.false c.copy.ensures c.slashings_core-done.ensures c.put_back.ensures))

@@ -12,13 +12,14 @@ use Rattle.laws_file.proofs.Passed.{Header, good-header}
 use Rattle.file_refusals.proofs.Registry.{registry_in, registry-tested}
 use Rattle.file_refusals.proofs.ReadTests.{Others, answered-short, answered-header, answered-sooner, answered-finality, answered-registry, answered-queue}
 use Rattle.file_refusals.proofs.read_tests.Goals.{After-first_bad-stopped, After-good_finality, After-other_tests-others, After-read_counts-counts, After-validators_at-from, Else-not-good_header}
+use mathlib.Core.Bool.{not}
 use Rattle.file_refusals.proofs.read_tests.Goals as goal
 
 abbrev bytes : Else-not-good_header → List ℕ
 bytes c = c.args.bytes.now
 
 header : (c : Else-not-good_header) → good_header (bytes c) ≡ true
-header c = passes c.good_header.ensures c.if-not-good_header.false
+header c = passes c.good_header.ensures (ap not c.if-not-good_header.false)
 
 head : (c : Else-not-good_header) → Header (bytes c)
 head c = good-header _ (header c)
@@ -55,17 +56,17 @@ queue_tests-requires c =
     ((v, c.validators_at-from.ensures, counts.0), (omega (arith, h.some-version), omega (arith, h.known-version), omega (arith, count ((goal.at.queue_tests-requires c).After-read_counts-counts), from ((goal.at.queue_tests-requires c).After-validators_at-from), h.long)))
 
 pub returns-then-not-good_finality : goal.returns-then-not-good_finality
-returns-then-not-good_finality c = rw c.refused-then-not-good_finality.ensures (answered-finality (tested (goal.at.returns-then-not-good_finality c).After-other_tests-others) c.if-others-ne3.false (fails (finality (goal.at.returns-then-not-good_finality c).After-good_finality) c.if-not-good_finality.true))
+returns-then-not-good_finality c = rw c.refused-then-not-good_finality.ensures (answered-finality (tested (goal.at.returns-then-not-good_finality c).After-other_tests-others) c.if-others-ne3.false (fails (finality (goal.at.returns-then-not-good_finality c).After-good_finality) (ap not c.if-not-good_finality.true)))
 
 pub returns : goal.returns
 unfolding contents_of
-returns c = rw (c.refused-2.ensures, stopped (goal.at.returns c).After-first_bad-stopped) (answered-registry (tested (goal.at.returns c).After-other_tests-others) c.if-others-ne3.false (passes (finality (goal.at.returns c).After-good_finality) c.if-not-good_finality.false))
+returns c = rw (c.refused-2.ensures, stopped (goal.at.returns c).After-first_bad-stopped) (answered-registry (tested (goal.at.returns c).After-other_tests-others) c.if-others-ne3.false (passes (finality (goal.at.returns c).After-good_finality) (ap not c.if-not-good_finality.false)))
 
 pub returns-then-bytes-lt-SETTINGS_AT : goal.returns-then-bytes-lt-SETTINGS_AT
 returns-then-bytes-lt-SETTINGS_AT c = rw c.refused.ensures (answered-short _ _ _ c.if-bytes-lt-SETTINGS_AT.true)
 
 pub returns-then-not-good_header : goal.returns-then-not-good_header
-returns-then-not-good_header c = rw c.refused-then-not-good_header.ensures (answered-header _ _ _ c.if-bytes-lt-SETTINGS_AT.false (fails c.good_header.ensures c.if-not-good_header.true))
+returns-then-not-good_header c = rw c.refused-then-not-good_header.ensures (answered-header _ _ _ c.if-bytes-lt-SETTINGS_AT.false (fails c.good_header.ensures (ap not c.if-not-good_header.true)))
 
 pub validators_at-from-requires : goal.validators_at-from-requires
 validators_at-from-requires c = let h = head (goal.at.validators_at-from-requires c).Else-not-good_header in let v = c.read_counts-counts.ensures.3 in (omega (arith, h.some-version), omega (arith, h.known-version))

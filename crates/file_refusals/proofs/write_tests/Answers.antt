@@ -5,6 +5,8 @@ use Rattle.definitions_file.specs.File.{contents_with}
 use Rattle.refusals.proofs.All.{fails, passes}
 use Rattle.file_refusals.proofs.WriteTests.{others, others-refused, tens, queue-tested}
 use Rattle.file_refusals.proofs.write_tests.Goals.{After-in_order-others}
+use mathlib.Core.Path.{ap}
+use mathlib.Core.Bool.{not}
 use Rattle.file_refusals.proofs.write_tests.Goals as goal
 
 tested : (c : After-in_order-others) → let a = (start c).args in c.in_order-others.result ≡ code_of (others (contents_with a.settings a.finality a.registry.now a.roots.now a.slashings.now) a.file.now)
@@ -18,7 +20,7 @@ pub queue_of-own-requires : goal.queue_of-own-requires
 queue_of-own-requires c = let a = c.args in tens (contents_with a.settings a.finality a.registry.now a.roots.now a.slashings.now) a.queue a.file.now (tested (goal.at.queue_of-own-requires c).After-in_order-others) c.if-others-ne0.false
 
 pub returns-then-not-same_queue : goal.returns-then-not-same_queue
-returns-then-not-same_queue c = queue-tested _ _ _ (tested (goal.at.returns-then-not-same_queue c).After-in_order-others) c.if-others-ne0.false c.queue_of-own.ensures (fails c.same_queue.ensures c.if-not-same_queue.true)
+returns-then-not-same_queue c = queue-tested _ _ _ (tested (goal.at.returns-then-not-same_queue c).After-in_order-others) c.if-others-ne0.false c.queue_of-own.ensures (fails c.same_queue.ensures (ap not c.if-not-same_queue.true))
 
 pub returns : goal.returns
-returns c = queue-tested _ _ _ (tested (goal.at.returns c).After-in_order-others) c.if-others-ne0.false c.queue_of-own.ensures (passes c.same_queue.ensures c.if-not-same_queue.false)
+returns c = queue-tested _ _ _ (tested (goal.at.returns c).After-in_order-others) c.if-others-ne0.false c.queue_of-own.ensures (passes c.same_queue.ensures (ap not c.if-not-same_queue.false))

@@ -8,7 +8,7 @@ use Rattle.listing.proofs.list_record.Goals as goal
 pub returns-then-opened-ne0 : goal.returns-then-opened-ne0
 returns-then-opened-ne0 c =
     let p = c.put_refused.ensures in
-    (refused-listed c.requires c.read_file-opened.ensures.0 c.if-opened-ne0.taken p.0, omega (arith, p.1, c.requires.room))
+    (refused-listed c.requires c.read_file-opened.ensures.0 c.if-opened-ne0.true p.0, omega (arith, p.1, c.requires.room))
 
 pub file_roots-roots-requires : goal.file_roots-roots-requires
 file_roots-roots-requires c = (read-lengths _ _ _ (sym c.read_file-opened.ensures.0 ∙ c.if-opened-ne0.false)).header

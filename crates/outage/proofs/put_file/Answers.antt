@@ -10,6 +10,7 @@ use Rattle.outage.specs.Lent.{Exact, Opened}
 use Rattle.outage.proofs.Text.{text-refused, text-tail}
 use Rattle.outage.proofs.Filled.{exact_read, refusal-read, opened-from}
 use Rattle.outage.proofs.put_file.Goals.{After-good_tail, After-read_file-read, After-struct_known-1, Else-read-ne0}
+use mathlib.Core.Bool.{not}
 use Rattle.outage.proofs.put_file.Goals as goal
 
 -- what was read is as long as the header calls for
@@ -38,12 +39,12 @@ returns-then-not-good_tail c =
     let at-start = start (goal.at.returns-then-not-good_tail c).After-read_file-read in
     let p = c.put_refused-then-not-good_tail.ensures in
     record {
-      put = rw (text-tail at-start.args.file.now at-start.args.tail.now (opened (goal.at.returns-then-not-good_tail c).Else-read-ne0).accepted (fails (tested (goal.at.returns-then-not-good_tail c).After-good_tail) c.if-not-good_tail.true)) p.0;
+      put = rw (text-tail at-start.args.file.now at-start.args.tail.now (opened (goal.at.returns-then-not-good_tail c).Else-read-ne0).accepted (fails (tested (goal.at.returns-then-not-good_tail c).After-good_tail) (ap not c.if-not-good_tail.true))) p.0;
       inside = omega (arith, p.1, at-start.pre.bytes);
     }
 
 pub put_read-requires : goal.put_read-requires
-put_read-requires c = (exact (goal.at.put_read-requires c).After-read_file-read, (opened (goal.at.put_read-requires c).Else-read-ne0, passes (tested (goal.at.put_read-requires c).After-good_tail) c.if-not-good_tail.false))
+put_read-requires c = (exact (goal.at.put_read-requires c).After-read_file-read, (opened (goal.at.put_read-requires c).Else-read-ne0, passes (tested (goal.at.put_read-requires c).After-good_tail) (ap not c.if-not-good_tail.false)))
 
 pub put_refused-requires : goal.put_refused-requires
 put_refused-requires c = omega (arith, (start (goal.at.put_refused-requires c).After-read_file-read).requires.bytes)

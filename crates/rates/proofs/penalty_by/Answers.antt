@@ -4,24 +4,26 @@ use Rattle.rewards.proofs.Penalties.{product-divides}
 use Rattle.rates.proofs.Charged.{not_eligible, target_hit, no-product, too_much, by_division, none-charged}
 use native.Mathlib.Omega.{arith}
 use borrow.Author.Rules.{rules}
+use mathlib.Core.Path.{ap}
+use mathlib.Core.Bool.{not}
 use Rattle.rates.proofs.penalty_by.Goals as goal
 
 pub returns-then-not-eligible : goal.returns-then-not-eligible
-returns-then-not-eligible c = not_eligible _ _ _ _ _ _ c.if-not-eligible.true
+returns-then-not-eligible c = not_eligible _ _ _ _ _ _ (ap not c.if-not-eligible.true)
 
 pub returns-then-hit : goal.returns-then-hit
-returns-then-hit c = target_hit _ _ _ _ _ _ c.if-not-eligible.false c.if-hit.true
+returns-then-hit c = target_hit _ _ _ _ _ _ (ap not c.if-not-eligible.false) c.if-hit.true
 
 pub returns-in_default : goal.returns-in_default
-returns-in_default c = no-product _ _ _ _ _ _ c.if-not-eligible.false c.if-hit.false (says_overflow c.requires.1.0 (only-mul64 _ _) c.in_default.is).0
+returns-in_default c = no-product _ _ _ _ _ _ (ap not c.if-not-eligible.false) c.if-hit.false (says_overflow c.requires.1.0 (only-mul64 _ _) c.in_default.is).0
 
 pub returns-then-score-eq0 : goal.returns-then-score-eq0
 returns-then-score-eq0 c =
     let a = c.requires in
-    none-charged _ _ _ _ _ _ c.if-not-eligible.false c.if-hit.false (says-value a.1.0 c.in-Value.is) (product-divides a.0.0 a.0.1 a.1.0 c.in-Value.is) c.if-score-eq0.true
+    none-charged _ _ _ _ _ _ (ap not c.if-not-eligible.false) c.if-hit.false (says-value a.1.0 c.in-Value.is) (product-divides a.0.0 a.0.1 a.1.0 c.in-Value.is) c.if-score-eq0.true
 
 pub returns-then-most_score-score : goal.returns-then-most_score-score
-returns-then-most_score-score c = too_much _ _ _ _ _ _ c.if-not-eligible.false c.if-hit.false (c.requires.1.1.over _ (omega arith) c.if-most_score-score.true)
+returns-then-most_score-score c = too_much _ _ _ _ _ _ (ap not c.if-not-eligible.false) c.if-hit.false (c.requires.1.1.over _ (omega arith) c.if-most_score-score.true)
 
 pub overflow_mul-penalty : goal.overflow_mul-penalty
 overflow_mul-penalty c = record { fits = c.requires.1.1.fits _ c.if-most_score-score.false }
@@ -35,4 +37,4 @@ nonzero_div-penalty c =
 pub returns : goal.returns
 returns c =
     let a = c.requires in
-    by_division _ _ _ _ _ _ c.if-not-eligible.false c.if-hit.false (says-value a.1.0 c.in-Value.is) (a.1.1.fits _ c.if-most_score-score.false)
+    by_division _ _ _ _ _ _ (ap not c.if-not-eligible.false) c.if-hit.false (says-value a.1.0 c.in-Value.is) (a.1.1.fits _ c.if-most_score-score.false)

@@ -23,8 +23,8 @@ returns-then-is_of c =
     let row = c.args.row.now in
     let test = c.is_of.ensures in
     record {
-      fits = c.requires.1.1.fits (is-told (get_or row 1 0) (get_or row 0 0) c.args.balance test c.if-is_of.taken);
-      same = is_same (get_or row 1 0) (get_or row 0 0) c.args.balance test c.if-is_of.taken;
+      fits = c.requires.1.1.fits (is-told (get_or row 1 0) (get_or row 0 0) c.args.balance test c.if-is_of.true);
+      same = is_same (get_or row 1 0) (get_or row 0 0) c.args.balance test c.if-is_of.true;
     }
 
 pub returns : goal.returns

@@ -35,7 +35,7 @@ write_registry-wrote-requires c =
     ((c.requires.0.settings.good, rw slot (small _ c.requires.0.settings.small), omega (arith, finalized, opening.finalized)), ((c.requires.0.registry, c.requires.1.0), rw slot c.requires.1.1))
 
 pub returns-then-wrote-ne0 : goal.returns-then-wrote-ne0
-returns-then-wrote-ne0 c = (worked-refused _ _ _ _ _ _ (justified ((goal.at.returns-then-wrote-ne0 c).After-justification_core-justified)) (given ((goal.at.returns-then-wrote-ne0 c).Else-justified-ne0)) c.write_registry-wrote.ensures.0 _ (λ z. omega (arith, c.if-wrote-ne0.taken)) c.answer_with-refused.ensures, (record { booked = λ z. absurd (omega (arith, c.if-wrote-ne0.taken, answered _ _ _ c.answer_with-refused.ensures, z)) }, record { pair = λ z. absurd (omega (arith, c.if-wrote-ne0.taken, answered _ _ _ c.answer_with-refused.ensures, z)) }))
+returns-then-wrote-ne0 c = (worked-refused _ _ _ _ _ _ (justified ((goal.at.returns-then-wrote-ne0 c).After-justification_core-justified)) (given ((goal.at.returns-then-wrote-ne0 c).Else-justified-ne0)) c.write_registry-wrote.ensures.0 _ (λ z. omega (arith, c.if-wrote-ne0.true)) c.answer_with-refused.ensures, (record { booked = λ z. absurd (omega (arith, c.if-wrote-ne0.true, answered _ _ _ c.answer_with-refused.ensures, z)) }, record { pair = λ z. absurd (omega (arith, c.if-wrote-ne0.true, answered _ _ _ c.answer_with-refused.ensures, z)) }))
 
 pub returns : goal.returns
 returns c =

@@ -7,7 +7,7 @@ use Rattle.registry_step.proofs.Tests.{step-refused}
 use Rattle.registry_step.proofs.process_registry_updates_to.Goals as goal
 
 pub returns-then-refusal-ne0 : goal.returns-then-refusal-ne0
-returns-then-refusal-ne0 c = let a = c.args in step-refused Churn a.stop a.s a.state-slot a.finalized-epoch a.queue a.opening.now a.closing.now c.step_tests-refusal.ensures c.if-refusal-ne0.true
+returns-then-refusal-ne0 c = let a = c.args in step-refused Churn a.stop a.s a.state_slot a.finalized_epoch a.queue a.opening.now a.closing.now c.step_tests-refusal.ensures c.if-refusal-ne0.true
 
 pub step_surveyed-requires : goal.step_surveyed-requires
 step_surveyed-requires c = (sym c.step_tests-refusal.ensures ∙ c.if-refusal-ne0.false, (blank-length 64 64 (omega arith), blank_part 64 64 (omega arith) (omega arith)))

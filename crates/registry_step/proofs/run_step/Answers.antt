@@ -10,9 +10,9 @@ update_registry-done-requires c = (c.requires.0, (c.requires.1.0, ((c.requires.1
 pub returns-then-done-ne0 : goal.returns-then-done-ne0
 returns-then-done-ne0 c =
     let a = c.args in
-    run-restored (limited_updates_to a.limit a.stop a.s a.state-slot a.finalized-epoch) _ c.update_registry-done.ensures (λ z. omega (arith, z, c.if-done-ne0.true)) c.copy-then-done-ne0.ensures
+    run-restored (limited_updates_to a.limit a.stop a.s a.state_slot a.finalized_epoch) _ c.update_registry-done.ensures (λ z. omega (arith, z, c.if-done-ne0.true)) c.copy-then-done-ne0.ensures
 
 pub returns : goal.returns
 returns c =
     let a = c.args in
-    run-done (limited_updates_to a.limit a.stop a.s a.state-slot a.finalized-epoch) _ c.update_registry-done.ensures (omega (arith, c.if-done-ne0.false)) c.queue_of-after.ensures
+    run-done (limited_updates_to a.limit a.stop a.s a.state_slot a.finalized_epoch) _ c.update_registry-done.ensures (omega (arith, c.if-done-ne0.false)) c.queue_of-after.ensures

@@ -8,7 +8,7 @@ use Rattle.registry_step.proofs.step_surveyed.Goals.{Start}
 use Rattle.registry_step.proofs.step_surveyed.Goals as goal
 
 abbrev tested : (c : Start) → StepPassed c.args.stop c.args.s c.args.state_slot c.args.finalized_epoch c.args.opening.now c.args.closing.now
-tested c = let a = c.args in step-passed a.limit a.stop a.s a.state-slot a.finalized-epoch a.queue a.opening.now a.closing.now (sym c.requires.0) refl
+tested c = let a = c.args in step-passed a.limit a.stop a.s a.state_slot a.finalized_epoch a.queue a.opening.now a.closing.now (sym c.requires.0) refl
 
 pub current_epoch-epoch-requires : goal.current_epoch-epoch-requires
 current_epoch-epoch-requires c = (tested (goal.at.current_epoch-epoch-requires c).Start).positive.slots_per_epoch
@@ -24,18 +24,18 @@ survey_registry-found-requires c =
 pub returns-then-refusal-ne0 : goal.returns-then-refusal-ne0
 returns-then-refusal-ne0 c =
     let a = c.args in
-    let e = found-tests a.limit a.stop a.s a.state-slot a.finalized-epoch a.queue a.opening.now a.closing.now (sym c.requires.0) refl c.survey_registry-found.ensures c.found_refusal-refusal.ensures in
-    turned-away a.limit a.stop a.s a.state-slot a.finalized-epoch a.queue a.opening.now a.closing.now e c.if-refusal-ne0.true
+    let e = found-tests a.limit a.stop a.s a.state_slot a.finalized_epoch a.queue a.opening.now a.closing.now (sym c.requires.0) refl c.survey_registry-found.ensures c.found_refusal-refusal.ensures in
+    turned-away a.limit a.stop a.s a.state_slot a.finalized_epoch a.queue a.opening.now a.closing.now e c.if-refusal-ne0.true
 
 pub run_step-requires : goal.run_step-requires
 run_step-requires c =
     let a = c.args in
-    let e = found-tests a.limit a.stop a.s a.state-slot a.finalized-epoch a.queue a.opening.now a.closing.now (sym c.requires.0) refl c.survey_registry-found.ensures c.found_refusal-refusal.ensures in
+    let e = found-tests a.limit a.stop a.s a.state_slot a.finalized_epoch a.queue a.opening.now a.closing.now (sym c.requires.0) refl c.survey_registry-found.ensures c.found_refusal-refusal.ensures in
     let p = tested (goal.at.run_step-requires c).Start in
-    (p.good, ((p.slot, p.finalized), ((p.long, p.same), (p.stops, (true_pair a.limit a.stop a.s a.state-slot a.finalized-epoch a.queue a.opening.now a.closing.now e c.if-refusal-ne0.false, rw (← c.current_epoch-epoch.ensures, ← c.previous_epoch-previous.ensures) c.survey_registry-found.ensures)))))
+    (p.good, ((p.slot, p.finalized), ((p.long, p.same), (p.stops, (true_pair a.limit a.stop a.s a.state_slot a.finalized_epoch a.queue a.opening.now a.closing.now e c.if-refusal-ne0.false, rw (← c.current_epoch-epoch.ensures, ← c.previous_epoch-previous.ensures) c.survey_registry-found.ensures)))))
 
 pub returns : goal.returns
 returns c =
     let a = c.args in
-    let e = found-tests a.limit a.stop a.s a.state-slot a.finalized-epoch a.queue a.opening.now a.closing.now (sym c.requires.0) refl c.survey_registry-found.ensures c.found_refusal-refusal.ensures in
-    step-ran a.limit a.stop a.s a.state-slot a.finalized-epoch a.queue a.opening.now a.closing.now e c.if-refusal-ne0.false c.run_step.ensures
+    let e = found-tests a.limit a.stop a.s a.state_slot a.finalized_epoch a.queue a.opening.now a.closing.now (sym c.requires.0) refl c.survey_registry-found.ensures c.found_refusal-refusal.ensures in
+    step-ran a.limit a.stop a.s a.state_slot a.finalized_epoch a.queue a.opening.now a.closing.now e c.if-refusal-ne0.false c.run_step.ensures

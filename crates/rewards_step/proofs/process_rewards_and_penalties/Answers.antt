@@ -28,4 +28,4 @@ pub returns : goal.returns
 returns c =
     let a = c.args in
     let s = settings_under a.rules in
-    step-put_back (process_rewards_and_penalties s s.inactivity_penalty_quotient_altair a.state-slot a.finalized-epoch) _ c.rewards_tests-refusal.ensures c.if-refusal-ne0.false c.copy.ensures (rw c.settings_under-s.ensures at c.rewards_core-done.ensures) c.put_back.ensures
+    step-put_back (process_rewards_and_penalties s s.inactivity_penalty_quotient_altair a.state_slot a.finalized_epoch) _ c.rewards_tests-refusal.ensures c.if-refusal-ne0.false c.copy.ensures (rw c.settings_under-s.ensures at c.rewards_core-done.ensures) c.put_back.ensures

@@ -16,10 +16,11 @@ use Rattle.shelf_file.specs.Parts.{Counts, Counted}
 use Rattle.shelf_file.proofs.Parts.{counts-long}
 use Rattle.shelf_file.proofs.Tests.{off_shelf, refused-tests}
 use Rattle.shelf_file.proofs.close_file.Goals.{After-read_counts-counts, Else-not-on_shelf}
+use mathlib.Core.Bool.{not}
 use Rattle.shelf_file.proofs.close_file.Goals as goal
 
 head : (c : Else-not-on_shelf) → let file = (start c).args.file.now in (good_header file ≡ true) × (eqb (version_of file) 2 ≡ true)
-head c = both _ _ (passes c.on_shelf.ensures c.if-not-on_shelf.false)
+head c = both _ _ (passes c.on_shelf.ensures (ap not c.if-not-on_shelf.false))
 
 counts : (c : After-read_counts-counts) → let n = c.read_counts-counts.result in Counts (start c).args.file.now (10 * n.validators) (10 * n.validators + n.slashings)
 counts c =
@@ -41,7 +42,7 @@ closing-room c = let k = counts c in omega (arith, counts-long k, k, c.requires.
 
 pub returns-then-not-on_shelf : goal.returns-then-not-on_shelf
 returns-then-not-on_shelf c =
-    let f = off_shelf c.args.fork c.args.bellatrix c.args.file.now (fails c.on_shelf.ensures c.if-not-on_shelf.true) c.args.part.now in
+    let f = off_shelf c.args.fork c.args.bellatrix c.args.file.now (fails c.on_shelf.ensures (ap not c.if-not-on_shelf.true)) c.args.part.now in
     (f.number, f.part)
 
 pub file_tests-refusal-requires : goal.file_tests-refusal-requires

@@ -25,4 +25,4 @@ pub returns : goal.returns
 returns c =
     let a = c.args in
     let s = settings_under a.rules in
-    step-put_back (process_slashings s s.proportional_slashing_multiplier_altair a.state-slot a.slashings.now) _ c.slashings_tests-refusal.ensures c.if-refusal-ne0.false c.copy.ensures (rw c.settings_under-s.ensures at c.slashings_core-done.ensures) c.put_back.ensures
+    step-put_back (process_slashings s s.proportional_slashing_multiplier_altair a.state_slot a.slashings.now) _ c.slashings_tests-refusal.ensures c.if-refusal-ne0.false c.copy.ensures (rw c.settings_under-s.ensures at c.slashings_core-done.ensures) c.put_back.ensures

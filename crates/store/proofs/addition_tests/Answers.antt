@@ -15,6 +15,7 @@ use Rattle.refusals.proofs.All.{fails, passes}
 use Rattle.refusals.proofs.Answers.{after-passed, after-refused}
 use Rattle.store.proofs.Passed.{grouped, no_room}
 use Rattle.store.proofs.addition_tests.Goals.{After-in_order-refusal}
+use mathlib.Core.Bool.{not}
 use Rattle.store.proofs.addition_tests.Goals as goal
 
 abbrev first : Store → Entry → Checked (Unit {0})
@@ -55,7 +56,7 @@ pub returns-then-refusal-ne0 : goal.returns-then-refusal-ne0
 returns-then-refusal-ne0 c = refuses (store (goal.at.returns-then-refusal-ne0 c).After-in_order-refusal) (new (goal.at.returns-then-refusal-ne0 c).After-in_order-refusal) (told (goal.at.returns-then-refusal-ne0 c).After-in_order-refusal) c.if-refusal-ne0.true
 
 pub returns-then-not-starts_after : goal.returns-then-not-starts_after
-returns-then-not-starts_after c = starts (store (goal.at.returns-then-not-starts_after c).After-in_order-refusal) (new (goal.at.returns-then-not-starts_after c).After-in_order-refusal) (told (goal.at.returns-then-not-starts_after c).After-in_order-refusal) c.if-refusal-ne0.false _ (fails c.starts_after.ensures c.if-not-starts_after.true)
+returns-then-not-starts_after c = starts (store (goal.at.returns-then-not-starts_after c).After-in_order-refusal) (new (goal.at.returns-then-not-starts_after c).After-in_order-refusal) (told (goal.at.returns-then-not-starts_after c).After-in_order-refusal) c.if-refusal-ne0.false _ (fails c.starts_after.ensures (ap not c.if-not-starts_after.true))
 
 pub returns : goal.returns
-returns c = starts (store (goal.at.returns c).After-in_order-refusal) (new (goal.at.returns c).After-in_order-refusal) (told (goal.at.returns c).After-in_order-refusal) c.if-refusal-ne0.false _ (passes c.starts_after.ensures c.if-not-starts_after.false)
+returns c = starts (store (goal.at.returns c).After-in_order-refusal) (new (goal.at.returns c).After-in_order-refusal) (told (goal.at.returns c).After-in_order-refusal) c.if-refusal-ne0.false _ (passes c.starts_after.ensures (ap not c.if-not-starts_after.false))

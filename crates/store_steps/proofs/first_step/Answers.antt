@@ -13,7 +13,7 @@ use Rattle.store_steps.proofs.first_step.Goals as goal
 abbrev call : After-rules_for-found → StoreStepCall
 call c =
     let a = c.args in
-    store_step_called a.number a.running (store_called (lent a.store.now a.count) a.finality a.queue a.registry.now a.slashings.now a.roots.now a.closing-registry.now a.closing-slashings.now a.amounts.now)
+    store_step_called a.number a.running (store_called (lent a.store.now a.count) a.finality a.queue a.registry.now a.slashings.now a.roots.now a.closing_registry.now a.closing_slashings.now a.amounts.now)
 
 asked : (c : After-rules_for-found) → c.rules_for-found.result ≡ rules_answer_for (rules_for (call c).whole)
 asked c = c.rules_for-found.ensures ∙ ap rules_answer_for (rules-with (call c).whole)

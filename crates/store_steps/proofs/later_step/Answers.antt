@@ -13,7 +13,7 @@ use Rattle.store_steps.proofs.later_step.Goals as goal
 abbrev call : After-rules_for-found → StoreStepCall
 call c =
     let a = c.args in
-    store_step_called a.number a.so-far (store_called (lent a.store.now a.count) a.finality a.queue a.registry.now a.slashings.now a.roots.now a.closing-registry.now a.closing-slashings.now a.amounts.now)
+    store_step_called a.number a.so_far (store_called (lent a.store.now a.count) a.finality a.queue a.registry.now a.slashings.now a.roots.now a.closing_registry.now a.closing_slashings.now a.amounts.now)
 
 abbrev so_far : After-rules_for-found → StoreCall
 so_far c = store_so_far (call c).running (call c).whole

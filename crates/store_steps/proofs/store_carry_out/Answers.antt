@@ -12,7 +12,7 @@ use Rattle.store_steps.proofs.store_carry_out.Goals as goal
 abbrev call : After-ninth_rules-found → StoreNinthCall
 call c =
     let a = (start c.After-slice_known-2-1).args in
-    store_ninth_called (lent a.store.now a.count) a.shard-committee-period a.running a.closing-registry.now a.orders.now a.answers.now
+    store_ninth_called (lent a.store.now a.count) a.shard_committee_period a.running a.closing_registry.now a.orders.now a.answers.now
 
 asked : (c : After-ninth_rules-found) → c.ninth_rules-found.result ≡ rules_answer_for (ninth_rules (call c))
 asked c = c.ninth_rules-found.ensures ∙ ap rules_answer_for (ninth-with (call c))

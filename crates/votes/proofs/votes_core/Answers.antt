@@ -22,7 +22,7 @@ previous-root : (c : After-epoch_lookup-before) → c.epoch_lookup-before.result
 previous-root c = rw c.previous_epoch-previous.ensures at c.epoch_lookup-before.ensures
 
 current-root : (c : After-epoch_lookup-now) → c.epoch_lookup-now.result ≡ code_of (lookup (ballot (start (begun (first c)))) (current_of (ballot (start (begun (first c))))))
-current-root c = rw (begun c.After-epoch_lookup-before).before.current-epoch.ensures at c.epoch_lookup-now.ensures
+current-root c = rw (begun c.After-epoch_lookup-before).before.current_epoch.ensures at c.epoch_lookup-now.ensures
 
 pub current_epoch-current-requires : goal.current_epoch-current-requires
 current_epoch-current-requires c = (votes-passed _ _ _ _ _ c.requires).epoch
@@ -43,7 +43,7 @@ pub count_votes-requires : goal.count_votes-requires
 count_votes-requires c =
     let e = begun (goal.at.count_votes-requires c).After-epoch_lookup-before in
     let p = votes-passed _ _ _ _ _ e.before.before.before.before.before.pre in
-    (p.shape.long, (p.marked, previous-earlier _ _ e.before.current-epoch.ensures c.previous_epoch-previous.ensures e.if1.left))
+    (p.shape.long, (p.marked, previous-earlier _ _ e.before.current_epoch.ensures c.previous_epoch-previous.ensures e.if1.left))
 
 pub returns-in_default : goal.returns-in_default
 returns-in_default c =

@@ -8,7 +8,7 @@ pub overflow_sub-from : goal.overflow_sub-from
 overflow_sub-from c = genesis-less c.requires.1.1.1 c.if-h-eq0.true
 
 pub returns-then-h-eq0 : goal.returns-then-h-eq0
-returns-then-h-eq0 c = c.put_nine.ensures ∙ genesis-nine c.requires.1.1.1 c.if-h-eq0.taken
+returns-then-h-eq0 c = c.put_nine.ensures ∙ genesis-nine c.requires.1.1.1 c.if-h-eq0.true
 
 pub bounds-from-6-2 : goal.bounds-from-6-2
 bounds-from-6-2 c = omega (arith, c.requires.1.1.0.0)

@@ -12,6 +12,8 @@ use Rattle.registry.proofs.Epochs.{Epochs, epochs}
 use Rattle.write_steps.proofs.Accepted.{Accepted, not_accepted}
 use Rattle.write_steps.proofs.Made.{plain-fit, found_all}
 use Rattle.write_steps.proofs.write_registry.Goals.{After-current_epoch-epoch, After-shared_slice_known-2-1, Start}
+use mathlib.Core.Path.{ap}
+use mathlib.Core.Bool.{not}
 use Rattle.write_steps.proofs.write_registry.Goals as goal
 
 ep : (c : Start) → Epochs c.args.s c.args.state_slot
@@ -27,7 +29,7 @@ current-small c =
 
 pub returns-then-not-all_fit : goal.returns-then-not-all_fit
 returns-then-not-all_fit c =
-    let over = fails c.all_fit.ensures c.if-not-all_fit.true in
+    let over = fails c.all_fit.ensures (ap not c.if-not-all_fit.true) in
     (ran_overflow (not_accepted _ _ _ _ (ep (goal.at.returns-then-not-all_fit c).Start) _ _ (λ (g : Accepted-at (goal.at.returns-then-not-all_fit c).Start). true≢false (sym (plain-fit c.requires.1.1 g.plain) ∙ over))), (record { booked = λ z. absurd (omega (arith, z)) }, record { pair = λ z. absurd (omega (arith, z)) }))
 
 pub current_epoch-epoch-requires : goal.current_epoch-epoch-requires
@@ -47,7 +49,7 @@ cut_queue-cut-requires c =
 pub write_found-requires : goal.write_found-requires
 write_found-requires c =
     let e = c.current_epoch-epoch.ensures in
-    ((c.requires.0.0, c.requires.0.1), (c.requires.1.0, found_all c.args.s c.args.state_slot (ep (goal.at.write_found-requires c).After-shared_slice_known-2-1) c.args.opening.now c.requires.1.1 (passes c.all_fit.ensures c.if-not-all_fit.false) c.raised_totals-totals.ensures c.churn_by-churn.ensures (rw e at c.start_pair-queue.ensures)))
+    ((c.requires.0.0, c.requires.0.1), (c.requires.1.0, found_all c.args.s c.args.state_slot (ep (goal.at.write_found-requires c).After-shared_slice_known-2-1) c.args.opening.now c.requires.1.1 (passes c.all_fit.ensures (ap not c.if-not-all_fit.false)) c.raised_totals-totals.ensures c.churn_by-churn.ensures (rw e at c.start_pair-queue.ensures)))
 
 pub returns : goal.returns
 returns c =

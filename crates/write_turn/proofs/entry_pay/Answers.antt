@@ -6,13 +6,13 @@ use borrow.Author.Rules.{rules}
 use Rattle.write_turn.proofs.entry_pay.Goals as goal
 
 pub returns-then-h-eq0 : goal.returns-then-h-eq0
-returns-then-h-eq0 c = record { runs = pays-none c.args.s c.args.p c.requires.1.0 (omega (arith, c.if-h-eq0.taken)); answer = λ z. record { says = λ n x e. absurd (n (omega (arith, c.if-h-eq0.taken))) } }
+returns-then-h-eq0 c = record { runs = pays-none c.args.s c.args.p c.requires.1.0 (omega (arith, c.if-h-eq0.true)); answer = λ z. record { says = λ n x e. absurd (n (omega (arith, c.if-h-eq0.true))) } }
 
 pub returns-then-scored-ne0 : goal.returns-then-scored-ne0
 returns-then-scored-ne0 c =
     record {
-      runs = pays-some c.args.s c.args.p (λ z. omega (arith, c.if-h-eq0.false)) (runs-stop _ (settles-runs c.entry_update_score-scored.ensures) (λ z. omega (arith, c.if-scored-ne0.taken)));
-      answer = λ z. absurd (omega (arith, z, c.if-scored-ne0.taken));
+      runs = pays-some c.args.s c.args.p (λ z. omega (arith, c.if-h-eq0.false)) (runs-stop _ (settles-runs c.entry_update_score-scored.ensures) (λ z. omega (arith, c.if-scored-ne0.true)));
+      answer = λ z. absurd (omega (arith, z, c.if-scored-ne0.true));
     }
 
 pub entry_reward_by-rewarded-requires : goal.entry_reward_by-rewarded-requires

@@ -6,7 +6,7 @@ use Rattle.write_turn.proofs.Sweeps.Steps.{last_then, last-stop}
 use Rattle.write_turn.proofs.entry_turn.Goals as goal
 
 pub returns-then-turned-ne0 : goal.returns-then-turned-ne0
-returns-then-turned-ne0 c = last-stop (churn-steps _ c.update_entry-turned.ensures) _ c.if-turned-ne0.taken
+returns-then-turned-ne0 c = last-stop (churn-steps _ c.update_entry-turned.ensures) _ c.if-turned-ne0.true
 
 pub entry_slash-slashed-requires : goal.entry_slash-slashed-requires
 entry_slash-slashed-requires c = (c.update_entry-turned.kept.0 ∙ c.requires.1.0, c.requires.0.shared.increment)

@@ -13,7 +13,7 @@ pub shape_of-closing_slashings-then-refusal-ne0 : goal.shape_of-closing_slashing
 shape_of-closing_slashings-then-refusal-ne0 c = let a = c.requires.1 in omega (arith, ap length c.copy-then-refusal-ne0.ensures, a.slashings_same)
 
 pub returns-then-refusal-ne0 : goal.returns-then-refusal-ne0
-returns-then-refusal-ne0 c = later-refused _ _ _ _ _ _ _ _ _ _ _ _ c.later_step-refusal.ensures c.if-refusal-ne0.taken c.copy.ensures c.copy-then-refusal-ne0.ensures c.clear.ensures (omega arith) c.ended_by.ensures
+returns-then-refusal-ne0 c = later-refused _ _ _ _ _ _ _ _ _ _ _ _ c.later_step-refusal.ensures c.if-refusal-ne0.true c.copy.ensures c.copy-then-refusal-ne0.ensures c.clear.ensures (omega arith) c.ended_by.ensures
 
 pub returns : goal.returns
 returns c = later-goes _ _ _ _ _ _ _ _ _ _ _ _ c.later_step-refusal.ensures c.if-refusal-ne0.false c.queue_of-after.ensures

@@ -14,7 +14,7 @@ pub returns-then-refusal-ne0 : goal.returns-then-refusal-ne0
 returns-then-refusal-ne0 c = close-refused Churn (full_called _ _ _ _ _ _ _ _ _) c.if-amounts-registry.false (record_refused Churn _ c.record_tests-refusal.ensures c.if-refusal-ne0.true) c.if-refusal-ne0.true
 
 pub see_registry-seen-requires : goal.see_registry-seen-requires
-see_registry-seen-requires c = let a = c.args in (lent Churn (called a.rules a.finality a.registry.now a.slashings.now a.roots.now a.closing-registry.now a.closing-slashings.now) c.record_tests-refusal.ensures c.if-refusal-ne0.false).opening.registry
+see_registry-seen-requires c = let a = c.args in (lent Churn (called a.rules a.finality a.registry.now a.slashings.now a.roots.now a.closing_registry.now a.closing_slashings.now) c.record_tests-refusal.ensures c.if-refusal-ne0.false).opening.registry
 
 pub returns-then-entries-ne0 : goal.returns-then-entries-ne0
 returns-then-entries-ne0 c = close-refused Churn (full_called _ _ _ _ _ _ _ _ _) c.if-amounts-registry.false (entries-tested Churn _ c.record_tests-refusal.ensures c.if-refusal-ne0.false c.see_registry-seen.ensures.tested) c.if-entries-ne0.true

@@ -7,10 +7,10 @@ pub rewards_booked-requires : goal.rewards_booked-requires
 rewards_booked-requires c = let a = c.requires in (a.0.2, ((good-settings _ a.0.2).positive.inactivity_penalty_quotient_altair, (a.1.1.0, a.1.1.1)))
 
 pub returns-then-done-eq2 : goal.returns-then-done-eq2
-returns-then-done-eq2 c = by-rewards _ _ _ _ _ _ c.if-done-eq2.taken c.rewards_booked.ensures
+returns-then-done-eq2 c = by-rewards _ _ _ _ _ _ c.if-done-eq2.true c.rewards_booked.ensures
 
 pub returns-then-done-eq4 : goal.returns-then-done-eq4
-returns-then-done-eq4 c = by-slashings _ _ _ _ _ _ c.if-done-eq4.taken c.slashings_booked.ensures
+returns-then-done-eq4 c = by-slashings _ _ _ _ _ _ c.if-done-eq4.true c.slashings_booked.ensures
 
 pub returns-then-done-eq6 : goal.returns-then-done-eq6
 returns-then-done-eq6 c = by-reset _ _ _ _ _ _ c.if-done-eq6.true c.requires.1.1.0 c.slashings_reset_core.ensures

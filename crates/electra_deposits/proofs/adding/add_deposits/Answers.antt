@@ -14,27 +14,27 @@ loop-i-init c =
     (p.1.2, p.1.1, p.0.2, refl, refl, refl, adding_none _ _ _ _ _ _ _ p.0.0 p.0.1 p.1.0)
 
 pub deposit_at-d-requires : goal.deposit_at-d-requires
-deposit_at-d-requires c = omega (arith, c.loop-i.inv.0)
+deposit_at-d-requires c = omega (arith, c.loop-i.invariant.0)
 
 pub join-applied-requires : goal.join-applied-requires
 join-applied-requires c =
-    let inv = c.loop-i.inv in
-    let l = c.loop-i-test.taken in
+    let inv = c.loop-i.invariant in
+    let l = c.loop-i-test.true in
     let key = key_here _ _ inv.0 l c.deposit_at-d.ensures _ inv.1 in
     ((inv.6.long, room-left inv.6 inv.0 l, inv.2), (omega (arith, key, table-long inv.6 inv.0 l), place-below inv.6 inv.0 l _ key))
 
 pub returns-then-applied-ne0 : goal.returns-then-applied-ne0
 returns-then-applied-ne0 c =
-    let inv = c.loop-i.inv in
-    (adding_stop inv.6 inv.0 c.loop-i-test.taken c.deposit_at-d.ensures inv.1 c.join-applied.ensures c.if-applied-ne0.true, adding_within inv.6 inv.0)
+    let inv = c.loop-i.invariant in
+    (adding_stop inv.6 inv.0 c.loop-i-test.true c.deposit_at-d.ensures inv.1 c.join-applied.ensures c.if-applied-ne0.true, adding_within inv.6 inv.0)
 
 pub loop-i-preserved : goal.loop-i-preserved
 loop-i-preserved c =
-    let inv = c.loop-i.inv in
+    let inv = c.loop-i.invariant in
     let kept = c.join-applied.kept in
-    (inv.0, inv.1, inv.2, kept.0 ∙ inv.3, kept.1.0 ∙ inv.4, kept.1.1.0 ∙ inv.5, adding_more inv.6 inv.0 c.loop-i-test.taken c.deposit_at-d.ensures inv.1 c.join-applied.ensures c.if-applied-ne0.false kept.0 kept.1.0)
+    (inv.0, inv.1, inv.2, kept.0 ∙ inv.3, kept.1.0 ∙ inv.4, kept.1.1.0 ∙ inv.5, adding_more inv.6 inv.0 c.loop-i-test.true c.deposit_at-d.ensures inv.1 c.join-applied.ensures c.if-applied-ne0.false kept.0 kept.1.0)
 
 pub returns : goal.returns
 returns c =
-    let inv = c.loop-i.inv in
+    let inv = c.loop-i.invariant in
     (adding_all inv.6 inv.0 c.loop-i-test.false, adding_within inv.6 inv.0)

@@ -6,7 +6,7 @@ use Rattle.electra_deposits.proofs.step.deposits_core.Goals as goal
 pub returns-then-refusal-eq0 : goal.returns-then-refusal-eq0
 returns-then-refusal-eq0 c =
     let a = c.args in
-    close-done a.rules a.state-slot a.finalized-epoch a.numbers a.registry.now a.compounding.now a.deposits.now c.run_deposits-done.ensures c.if-refusal-eq0.true
+    close-done a.rules a.state_slot a.finalized_epoch a.numbers a.registry.now a.compounding.now a.deposits.now c.run_deposits-done.ensures c.if-refusal-eq0.true
 
 pub copy_front-requires-3 : goal.copy_front-requires-3
 copy_front-requires-3 c =
@@ -19,4 +19,4 @@ returns c =
     let a = c.args in
     let same = c.requires.1.1 in
     let kept = c.run_deposits-done.auto in
-    rw c.opening_answer.ensures (close-back a.rules a.state-slot a.finalized-epoch a.numbers a.registry.now a.compounding.now a.deposits.now c.run_deposits-done.ensures c.if-refusal-eq0.false c.copy_front.ensures c.copy_front-2.ensures c.copy_front-3.ensures (omega (arith, kept, same)) same)
+    rw c.opening_answer.ensures (close-back a.rules a.state_slot a.finalized_epoch a.numbers a.registry.now a.compounding.now a.deposits.now c.run_deposits-done.ensures c.if-refusal-eq0.false c.copy_front.ensures c.copy_front-2.ensures c.copy_front-3.ensures (omega (arith, kept, same)) same)

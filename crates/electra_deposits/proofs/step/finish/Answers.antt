@@ -21,4 +21,4 @@ write_queue-left-requires c =
 pub returns : goal.returns
 returns c =
     let a = c.args in
-    rw c.answer_of.ensures (finished a.next-epoch a.k a.registry.now a.deposits.now a.index a.carried c.copy_front.ensures c.add_deposits-count.ensures.0 c.write_queue-left.ensures)
+    rw c.answer_of.ensures (finished a.next_epoch a.k a.registry.now a.deposits.now a.index a.carried c.copy_front.ensures c.add_deposits-count.ensures.0 c.write_queue-left.ensures)

@@ -6,7 +6,7 @@ use Rattle.electra_deposits.proofs.step.run_deposits.Goals as goal
 pub returns-in_default : goal.returns-in_default
 returns-in_default c =
     let a = c.args in
-    rw c.answer_of.ensures (step-over a.rules a.state-slot a.finalized-epoch a.numbers a.registry.now a.compounding.now a.deposits.now c.queue_numbers.ensures c.in_default.is)
+    rw c.answer_of.ensures (step-over a.rules a.state_slot a.finalized_epoch a.numbers a.registry.now a.compounding.now a.deposits.now c.queue_numbers.ensures c.in_default.is)
 
 pub run_queue-requires : goal.run_queue-requires
 run_queue-requires c =
@@ -18,4 +18,4 @@ run_queue-requires c =
 pub returns : goal.returns
 returns c =
     let a = c.args in
-    step_run a.rules a.state-slot a.finalized-epoch a.numbers a.registry.now a.compounding.now a.deposits.now c.queue_numbers.ensures c.in-Value.is c.new_numbers-k.ensures c.run_queue.ensures
+    step_run a.rules a.state_slot a.finalized_epoch a.numbers a.registry.now a.compounding.now a.deposits.now c.queue_numbers.ensures c.in-Value.is c.new_numbers-k.ensures c.run_queue.ensures

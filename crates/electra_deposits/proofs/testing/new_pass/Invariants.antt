@@ -8,6 +8,8 @@ use borrow.Author.Tests.{not-true, not-false}
 use Rattle.electra_deposits.specs.Room.{keyed}
 use Rattle.electra_deposits.proofs.Tests.{Testing, testing_none, testing_all, testing_more, testing_stop, added-few}
 use Rattle.electra_deposits.proofs.Table.{key_here}
+use mathlib.Core.Path.{ap}
+use mathlib.Core.Bool.{not}
 use Rattle.electra_deposits.proofs.testing.new_pass.Given as goal
 
 abbrev pub invariant-loop-i : goal.invariant-loop-i

@@ -35,7 +35,7 @@ pub returns : goal.returns
 returns c =
     let a = c.args in
     let p = passed (goal.at.returns c).Else-refusal-ne0 in
-    let text = exit-work a.rules a.state-slot p.good (epochs _ _ p.settings.good (small _ p.settings.small)) a.registry.now a.churn a.index in
+    let text = exit-work a.rules a.state_slot p.good (epochs _ _ p.settings.good (small _ p.settings.small)) a.registry.now a.churn a.index in
     let h = rw c.registry_numbers-n.ensures at c.exit_by_balance.ensures in
     churn-closes _ _ c.exit_tests-refusal.ensures c.if-refusal-ne0.false (rw text (turn-moves (exit_with _ _ _) _ _ _ p.shape.long p.inside h)) (turn-left (exit_with _ _ _) _ _ _ p.shape.long p.inside h)
 

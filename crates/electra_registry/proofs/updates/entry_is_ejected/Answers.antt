@@ -1,9 +1,11 @@
 use Rattle.refusals.proofs.All.{fails, passes}
 use borrow.Author.Rules.{rules}
+use mathlib.Core.Path.{ap}
+use mathlib.Core.Bool.{not}
 use Rattle.electra_registry.proofs.updates.entry_is_ejected.Goals as goal
 
 pub returns-then-not-entry_is_active : goal.returns-then-not-entry_is_active
-returns-then-not-entry_is_active c = rw (fails c.entry_is_active.ensures c.if-not-entry_is_active.true)
+returns-then-not-entry_is_active c = rw (fails c.entry_is_active.ensures (ap not c.if-not-entry_is_active.true))
 
 pub returns : goal.returns
-returns c = rw (passes c.entry_is_active.ensures c.if-not-entry_is_active.false)
+returns c = rw (passes c.entry_is_active.ensures (ap not c.if-not-entry_is_active.false))

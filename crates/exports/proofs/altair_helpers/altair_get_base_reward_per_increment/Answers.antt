@@ -3,10 +3,8 @@ use Rattle.definitions.specs.Plain.{plain_number}
 use borrow.Author.Rules.{rules}
 use Rattle.exports.proofs.altair_helpers.altair_get_base_reward_per_increment.Statement.{
   statement,
-use Rattle.exports.proofs.altair_helpers.altair_get_base_reward_per_increment.Goals as goal
-
 }
-use Rattle.exports.proofs.altair_helpers.altair_get_base_reward_per_increment.Tie as tie
+use Rattle.exports.proofs.altair_helpers.altair_get_base_reward_per_increment.Goals as goal
 
 pub returns : goal.returns
 returns c = c.plain_number.ensures ∙ ap plain_number c.get_base_reward_per_increment.ensures.is

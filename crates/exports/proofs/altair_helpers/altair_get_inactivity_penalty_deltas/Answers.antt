@@ -3,10 +3,8 @@ use Rattle.definitions.specs.Plain.{plain_deltas}
 use borrow.Author.Rules.{rules}
 use Rattle.exports.proofs.altair_helpers.altair_get_inactivity_penalty_deltas.Statement.{
   statement,
-use Rattle.exports.proofs.altair_helpers.altair_get_inactivity_penalty_deltas.Goals as goal
-
 }
-use Rattle.exports.proofs.altair_helpers.altair_get_inactivity_penalty_deltas.Tie as tie
+use Rattle.exports.proofs.altair_helpers.altair_get_inactivity_penalty_deltas.Goals as goal
 
 pub returns : goal.returns
 returns c = c.plain_deltas.ensures ∙ ap plain_deltas c.get_inactivity_penalty_deltas.ensures.is

@@ -3,10 +3,8 @@ use Rattle.definitions.specs.Plain.{plain_total}
 use borrow.Author.Rules.{rules}
 use Rattle.exports.proofs.altair_helpers.altair_get_participating_balance.Statement.{
   statement,
-use Rattle.exports.proofs.altair_helpers.altair_get_participating_balance.Goals as goal
-
 }
-use Rattle.exports.proofs.altair_helpers.altair_get_participating_balance.Tie as tie
+use Rattle.exports.proofs.altair_helpers.altair_get_participating_balance.Goals as goal
 
 pub returns : goal.returns
 returns c = c.plain_total.ensures ∙ ap plain_total c.get_participating_balance.ensures.is

@@ -3,10 +3,8 @@ use Rattle.definitions.specs.Plain.{plain_number}
 use borrow.Author.Rules.{rules}
 use Rattle.exports.proofs.phase0_helpers.altair_get_validator_churn_limit.Statement.{
   statement,
-use Rattle.exports.proofs.phase0_helpers.altair_get_validator_churn_limit.Goals as goal
-
 }
-use Rattle.exports.proofs.phase0_helpers.altair_get_validator_churn_limit.Tie as tie
+use Rattle.exports.proofs.phase0_helpers.altair_get_validator_churn_limit.Goals as goal
 
 pub returns : goal.returns
 returns c = c.plain_number.ensures ∙ ap plain_number c.get_validator_churn_limit.ensures.is

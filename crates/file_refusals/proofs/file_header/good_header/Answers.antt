@@ -12,6 +12,8 @@ use Rattle.laws.proofs.Tests.{and_true}
 use Rattle.refusals.proofs.All.{fails, passes}
 use Rattle.file_refusals.proofs.file_header.Headers.{tests_by, by-found}
 use Rattle.file_refusals.proofs.file_header.good_header.Goals.{After-read_numbers}
+use mathlib.Core.Path.{ap}
+use mathlib.Core.Bool.{not}
 use Rattle.file_refusals.proofs.file_header.good_header.Goals as goal
 
 abbrev bytes : After-read_numbers → List ℕ
@@ -37,14 +39,14 @@ returns-then-version-gt2 c = rw (tests (goal.at.returns-then-version-gt2 c).Afte
 
 pub returns-then-not-as_long : goal.returns-then-not-as_long
 unfolding every
-returns-then-not-as_long c = rw (tests ((goal.at.returns-then-not-as_long c).After-read_numbers), fails c.as_long.ensures c.if-not-as_long.true) (simp and-false)
+returns-then-not-as_long c = rw (tests ((goal.at.returns-then-not-as_long c).After-read_numbers), fails c.as_long.ensures (ap not c.if-not-as_long.true)) (simp and-false)
 
 pub header_of-called_for-requires : goal.header_of-called_for-requires
 header_of-called_for-requires c =
     let xs = found ((goal.at.header_of-called_for-requires c).After-read_numbers) in
-    let e : length (bytes ((goal.at.header_of-called_for-requires c).After-read_numbers)) ≡ file_length (get_or xs 0 0) (get_or xs 2 0) (get_or xs 3 0) (get_or xs 4 0) = eqb-true _ _ (passes c.as_long.ensures c.if-not-as_long.false) in
+    let e : length (bytes ((goal.at.header_of-called_for-requires c).After-read_numbers)) ≡ file_length (get_or xs 0 0) (get_or xs 2 0) (get_or xs 3 0) (get_or xs 4 0) = eqb-true _ _ (passes c.as_long.ensures (ap not c.if-not-as_long.false)) in
     (omega arith, omega arith, omega arith)
 
 pub returns : goal.returns
 unfolding every
-returns c = rw (tests ((goal.at.returns c).After-read_numbers), le-leb _ _ c.if-bytes-lt-SETTINGS_AT.false, le-leb _ _ c.if-version-lt1.false, le-leb _ _ c.if-version-gt2.false, passes c.as_long.ensures c.if-not-as_long.false) (simp and_true (rw c.header_of-called_for.ensures at c.same_numbers.ensures))
+returns c = rw (tests ((goal.at.returns c).After-read_numbers), le-leb _ _ c.if-bytes-lt-SETTINGS_AT.false, le-leb _ _ c.if-version-lt1.false, le-leb _ _ c.if-version-gt2.false, passes c.as_long.ensures (ap not c.if-not-as_long.false)) (simp and_true (rw c.header_of-called_for.ensures at c.same_numbers.ensures))

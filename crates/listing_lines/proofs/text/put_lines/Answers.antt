@@ -17,7 +17,7 @@ loop-i-init c =
 pub returns-in_default : goal.returns-in_default
 returns-in_default c =
     let shaped = (registry-shaped _ c.requires.0.0).long in
-    let over = fitting_wide _ _ shaped c.requires.0.1 c.loop-i.inv.1 c.loop-i-test.taken
+    let over = fitting_wide _ _ shaped c.requires.0.1 c.loop-i.invariant.1 c.loop-i-test.true
     (wide _ _ c.net_change.ensures c.in_default.is) in
     absurd (let none : ◌≡◌ {A = ℕ} 7 0 = over ∙ c.requires.1.1 in omega arith)
 

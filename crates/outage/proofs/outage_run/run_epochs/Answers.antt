@@ -34,15 +34,15 @@ try_epoch-closed-requires c =
     (g.1, record { entries = omega (arith, k.closing-entries, r.entries, k.entries); sums = omega (arith, k.closing-sums, r.sums, k.sums); few = omega arith; heads = omega (arith, g.0.inside, c.loop-i-test.true, r.heads, k.bytes) })
 
 pub returns-then-closed-ne0 : goal.returns-then-closed-ne0
-returns-then-closed-ne0 c = running-stop c.loop-i.inv.0 c.loop-i-test.taken c.try_epoch-closed.ensures c.if-closed-ne0.true
+returns-then-closed-ne0 c = running-stop c.loop-i.invariant.0 c.loop-i-test.true c.try_epoch-closed.ensures c.if-closed-ne0.true
 
 pub loop-i-preserved : goal.loop-i-preserved
 loop-i-preserved c =
-    let g = c.loop-i.inv in
+    let g = c.loop-i.invariant in
     let kept = c.try_epoch-closed.kept.1.1.1.1 in
     let w = c.try_epoch-closed.ensures in
     let z = c.if-closed-ne0.false in
-    (running_more g.0 c.loop-i-test.taken w z, ready-more g.1 (went-small _ w z) kept.0 kept.1.1.0, lasting (goal.at.loop-i-preserved c).After-try_epoch-closed)
+    (running_more g.0 c.loop-i-test.true w z, ready-more g.1 (went-small _ w z) kept.0 kept.1.1.0, lasting (goal.at.loop-i-preserved c).After-try_epoch-closed)
 
 pub shape_of-registry-then-closed-ne0 : goal.shape_of-registry-then-closed-ne0
 shape_of-registry-then-closed-ne0 c = (lasting (goal.at.shape_of-registry-then-closed-ne0 c).After-try_epoch-closed).entries

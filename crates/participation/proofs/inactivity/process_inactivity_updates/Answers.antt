@@ -25,4 +25,4 @@ put_back-requires c = omega (arith, (registry-passed _ _ _ _ _ c.registry_tests-
 pub returns : goal.returns
 returns c =
     let a = c.args in
-    step-put_back (process_inactivity_updates a.s a.state-slot a.finalized-epoch) _ c.registry_tests-refusal.ensures c.if-refusal-ne0.false c.copy.ensures c.inactivity_core-done.ensures c.put_back.ensures
+    step-put_back (process_inactivity_updates a.s a.state_slot a.finalized_epoch) _ c.registry_tests-refusal.ensures c.if-refusal-ne0.false c.copy.ensures c.inactivity_core-done.ensures c.put_back.ensures

@@ -7,12 +7,14 @@ use Rattle.laws.proofs.Encode.{ten}
 use Rattle.refusals.proofs.All.{fails, passes}
 use Rattle.definitions.specs.Record.{decode_one}
 use borrow.Author.Rules.{rules}
+use mathlib.Core.Path.{ap}
+use mathlib.Core.Bool.{not}
 use Rattle.registry.proofs.activation.admit_entry.Goals as goal
 
 pub returns-then-not-entry_is_eligible_for_activation : goal.returns-then-not-entry_is_eligible_for_activation
 unfolding admit_one queued_before queued_at
 returns-then-not-entry_is_eligible_for_activation c =
-    let t = fails c.entry_is_eligible_for_activation.ensures c.if-not-entry_is_eligible_for_activation.true in
+    let t = fails c.entry_is_eligible_for_activation.ensures (ap not c.if-not-entry_is_eligible_for_activation.true) in
     (rw t (ten c.args.entry.now c.requires), rw t (omega arith))
 
 pub returns-then-bound-since : goal.returns-then-bound-since
@@ -20,7 +22,7 @@ unfolding admit_one queued_before queued_at
 returns-then-bound-since c =
     let x = (decode_one c.args.entry.now).activation_eligibility_epoch in
     let bound = c.args.bound in
-    let t = passes c.entry_is_eligible_for_activation.ensures c.if-not-entry_is_eligible_for_activation.false in
+    let t = passes c.entry_is_eligible_for_activation.ensures (ap not c.if-not-entry_is_eligible_for_activation.false) in
     let h : bound < x = c.if-bound-since.true in
     let n = ne_eqb x bound (λ e. omega arith) in
     (rw (t, le-ltb x bound (omega arith), n) (ten c.args.entry.now c.requires), rw (t, n) (omega arith))
@@ -30,7 +32,7 @@ unfolding admit_one queued_before queued_at
 returns-then-since-bound c =
     let x = (decode_one c.args.entry.now).activation_eligibility_epoch in
     let bound = c.args.bound in
-    let t = passes c.entry_is_eligible_for_activation.ensures c.if-not-entry_is_eligible_for_activation.false in
+    let t = passes c.entry_is_eligible_for_activation.ensures (ap not c.if-not-entry_is_eligible_for_activation.false) in
     let h : x < bound = c.if-since-bound.true in
     (rw (t, lt-ltb x bound h, ten c.args.entry.now c.requires), rw (t, ne_eqb x bound (λ e. omega arith)) (omega arith))
 
@@ -39,7 +41,7 @@ unfolding admit_one queued_before queued_at
 returns-then-left-eq0 c =
     let x = (decode_one c.args.entry.now).activation_eligibility_epoch in
     let bound = c.args.bound in
-    let t = passes c.entry_is_eligible_for_activation.ensures c.if-not-entry_is_eligible_for_activation.false in
+    let t = passes c.entry_is_eligible_for_activation.ensures (ap not c.if-not-entry_is_eligible_for_activation.false) in
     let h : x ≡ bound = omega (arith, c.if-since-bound.false, c.if-bound-since.false) in
     let q = eq-eqb x bound h in
     (rw (t, le-ltb x bound (omega arith), q, c.if-left-eq0.true) (ten c.args.entry.now c.requires), rw (t, q) (omega arith))
@@ -49,7 +51,7 @@ unfolding admit_one queued_before queued_at
 returns c =
     let x = (decode_one c.args.entry.now).activation_eligibility_epoch in
     let bound = c.args.bound in
-    let t = passes c.entry_is_eligible_for_activation.ensures c.if-not-entry_is_eligible_for_activation.false in
+    let t = passes c.entry_is_eligible_for_activation.ensures (ap not c.if-not-entry_is_eligible_for_activation.false) in
     let h : x ≡ bound = omega (arith, c.if-since-bound.false, c.if-bound-since.false) in
     let q = eq-eqb x bound h in
     (rw (t, le-ltb x bound (omega arith), q, lt-ltb 0 c.args.left (omega arith), ten c.args.entry.now c.requires), rw (t, q))

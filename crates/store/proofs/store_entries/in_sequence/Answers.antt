@@ -5,6 +5,8 @@ use Rattle.definitions_close.specs.Store.{entries_from}
 use Rattle.refusals.proofs.All.{fails, passes}
 use Rattle.store.proofs.store_entries.Entries.{length-entries, part_length}
 use Rattle.store.proofs.store_entries.Sequence.{Following, following_first, following_more, following_stop, following_all, neighbours}
+use mathlib.Core.Path.{ap}
+use mathlib.Core.Bool.{not}
 use Rattle.store.proofs.store_entries.in_sequence.Goals as goal
 
 pub loop-i-init : goal.loop-i-init
@@ -20,12 +22,12 @@ follows-requires c =
 
 pub returns-then-not-follows : goal.returns-then-not-follows
 returns-then-not-follows c =
-    let t = fails c.follows.ensures c.if-not-follows.true in
+    let t = fails c.follows.ensures (ap not c.if-not-follows.true) in
     sym (following_stop c.loop-i.invariant (omega (arith, length-entries c.args.n c.args.store.now)) (neighbours c.args.n c.args.store.now c.loop-i.invariant c.requires c.loop-i-test.true t))
 
 pub loop-i-preserved : goal.loop-i-preserved
 loop-i-preserved c =
-    let t = passes c.follows.ensures c.if-not-follows.false in
+    let t = passes c.follows.ensures (ap not c.if-not-follows.false) in
     following_more c.loop-i.invariant (omega (arith, length-entries c.args.n c.args.store.now)) (neighbours c.args.n c.args.store.now c.loop-i.invariant c.requires c.loop-i-test.true t)
 
 pub returns : goal.returns

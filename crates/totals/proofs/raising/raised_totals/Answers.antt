@@ -13,4 +13,4 @@ pub returns : goal.returns
 returns c =
     let a = c.args in
     let now = c.current_epoch-now.ensures in
-    c.raised_of.ensures ∙ three-raised a.s (small (goal.at.returns c).Start) a.state-slot _ now (three-totals a.s a.state-slot _ now c.previous_epoch-before.ensures c.active_total-active.ensures c.participating_total-previous.ensures c.participating_total-current.ensures)
+    c.raised_of.ensures ∙ three-raised a.s (small (goal.at.returns c).Start) a.state_slot _ now (three-totals a.s a.state_slot _ now c.previous_epoch-before.ensures c.active_total-active.ensures c.participating_total-previous.ensures c.participating_total-current.ensures)
