@@ -29,7 +29,7 @@ abbrev gwei : ℕ
 gwei = 1_000_000_000
 
 -- active, with this effective balance, exit epoch, withdrawable epoch and balance
-abbrev validator : ℕ → ℕ → ℕ → ℕ → ℕ → Validator
+abbrev pub validator : ℕ → ℕ → ℕ → ℕ → ℕ → Validator
 validator effective slashed exit withdrawable balance =
     record {
       effective_balance = effective;
@@ -44,14 +44,14 @@ validator effective slashed exit withdrawable balance =
       inactivity_score = 0;
     }
 
-abbrev full : Validator
+abbrev pub full : Validator
 full = validator 32_000_000_000 0 FAR_FUTURE_EPOCH FAR_FUTURE_EPOCH 32_000_000_000
 
 abbrev checkpoint : ℕ → Checkpoint
 checkpoint epoch = record { epoch = epoch; root = replicate 32 0 }
 
 -- keys in register's order, nothing to consume, the bridge's deposits all there
-abbrev state : List Validator → List ℕ → ExitChurn → List PendingDeposit → List PendingConsolidation → ElectraState
+abbrev pub state : List Validator → List ℕ → ExitChurn → List PendingDeposit → List PendingConsolidation → ElectraState
 state vs slashings churn deposits consolidations =
     record {
       altair = record {
@@ -76,20 +76,20 @@ state vs slashings churn deposits consolidations =
       pending_consolidations = consolidations;
     }
 
-abbrev churn : ℕ → ℕ → ExitChurn
+abbrev pub churn : ℕ → ℕ → ExitChurn
 churn left epoch = record { exit_balance_to_consume = left; earliest_exit_epoch = epoch }
 
-abbrev deposit : ℕ → ℕ → ℕ → ℕ → PendingDeposit
+abbrev pub deposit : ℕ → ℕ → ℕ → ℕ → PendingDeposit
 deposit key amount slot valid = record { pubkey = key; compounding = 1; amount = amount; slot = slot; valid = valid }
 
 abbrev pair : ℕ → ℕ → PendingConsolidation
 pair source target = record { source_index = source; target_index = target }
 
-abbrev balances : Checked ElectraState → List ℕ
+abbrev pub balances : Checked ElectraState → List ℕ
 balances (value st) = map (λ v. v.balance) st.altair.validators
 balances (refused r) = []
 
-abbrev effectives : Checked ElectraState → List ℕ
+abbrev pub effectives : Checked ElectraState → List ℕ
 effectives (value st) = map (λ v. v.effective_balance) st.altair.validators
 effectives (refused r) = []
 
@@ -174,7 +174,7 @@ registry_after vs c = process_registry_updates mainnet_rules (state vs [] c [] [
 abbrev depositing : List PendingDeposit → Checked ElectraState
 depositing ds = process_pending_deposits mainnet_rules (pending ds)
 
-abbrev depositing_after : ℕ → List PendingDeposit → Checked ElectraState
+abbrev pub depositing_after : ℕ → List PendingDeposit → Checked ElectraState
 depositing_after left ds = process_pending_deposits mainnet_rules (carrying left ds)
 
 abbrev after_pairs : List PendingConsolidation → Checked ElectraState

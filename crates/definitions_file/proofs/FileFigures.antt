@@ -15,7 +15,7 @@ use Rattle.definitions_file.specs.Decimal.{digits, decimal}
 use Rattle.definitions_file.specs.Lines.{ascii, raised_figures}
 use Rattle.definitions_file.specs.File.{Contents, no_checkpoint, little_endian, from_little_endian, numbers_to_bytes, numbers_from_bytes, file_of, contents_of, queue_in, same_numbers, good_header, file_shaped, bad_place, stopped_at, position}
 
-abbrev finality : ℕ → ℕ → Finality
+abbrev pub finality : ℕ → ℕ → Finality
 finality slot bits =
     record {
       slot = slot;
@@ -26,10 +26,10 @@ finality slot bits =
     }
 
 -- of one validator, whose exit epoch is 9
-abbrev validator : ℕ → ℕ → List ℕ
+abbrev pub validator : ℕ → ℕ → List ℕ
 validator slashed flags = 1 ∷ slashed ∷ 0 ∷ 0 ∷ 9 ∷ 9 ∷ 5 ∷ 0 ∷ flags ∷ 0 ∷ []
 
-abbrev contents : Finality → List ℕ → Contents
+abbrev pub contents : Finality → List ℕ → Contents
 contents f registry =
     record {
       settings = settings_from (8 ∷ 1 ∷ 1 ∷ drop 3 (settings_numbers mainnet));
@@ -39,7 +39,7 @@ contents f registry =
       slashings = 0 ∷ [];
     }
 
-abbrev pair : ℕ → ExitQueue
+abbrev pub pair : ℕ → ExitQueue
 pair number = record { last_epoch = 9; number = number }
 
 abbrev stops : Contents → ExitQueue → ℕ
