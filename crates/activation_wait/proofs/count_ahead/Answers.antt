@@ -28,7 +28,7 @@ loop-j-preserved c =
 pub returns : goal.returns
 returns c =
     let inv = c.loop-j.invariant in
-    (counted-ahead _ _ _ c.requires.0 _ c.requires.1 inv.0 inv.1 c.loop-j-test.false, omega (arith, inv.0.most, inv.1))
+    record { value = counted-ahead _ _ _ c.requires.0 _ c.requires.1 inv.0 inv.1 c.loop-j-test.false; upper_bound = omega (arith, inv.0.most, inv.1) }
 
 pub loop-j-init : goal.loop-j-init
 loop-j-init c = (below_none _, omega arith)

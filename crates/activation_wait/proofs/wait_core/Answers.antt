@@ -12,11 +12,11 @@ returns-then-not-entry_is_eligible_for_activation c = c.no_wait.ensures ∙ wait
 
 pub closes_for-requires : goal.closes_for-requires
 closes_for-requires c =
-    let few = c.count_ahead-k.ensures.1 in
+    let few = c.count_ahead-k.ensures.upper_bound in
     omega (arith, few, c.requires.0)
 
 pub returns : goal.returns
-returns c = rw c.closes_for.ensures (wait-some _ _ _ _ _ c.requires.0 c.requires.1 c.entry_is_eligible_for_activation.ensures (not-false _ (ap not c.if-not-entry_is_eligible_for_activation.false)) c.count_ahead-k.ensures.0)
+returns c = rw c.closes_for.ensures (wait-some _ _ _ _ _ c.requires.0 c.requires.1 c.entry_is_eligible_for_activation.ensures (not-false _ (ap not c.if-not-entry_is_eligible_for_activation.false)) c.count_ahead-k.ensures.value)
 
 pub entry_is_eligible_for_activation-requires : goal.entry_is_eligible_for_activation-requires
 entry_is_eligible_for_activation-requires c = entry-ten _ _ _ c.requires.0 c.requires.1

@@ -13,7 +13,7 @@ returns-then-refusal-ne0 c = tests-refused _ (record_refused Churn _ c.record_te
 pub close_tested-requires : goal.close_tested-requires
 close_tested-requires c =
     let p = lent Churn _ c.record_tests-refusal.ensures c.if-refusal-ne0.false in
-    (rw c.settings_under-s.ensures p.opening, ((p.closing_registry, p.closing_slashings), (blank-length 64 64 (omega arith), blank_part 64 64 (omega arith) (omega arith))))
+    record { tested = rw c.settings_under-s.ensures p.opening; closing_registry_len = (p.closing_registry, p.closing_slashings); kept_len = (blank-length 64 64 (omega arith), blank_part 64 64 (omega arith) (omega arith)) }
 
 pub returns : goal.returns
 returns c = c.close_tested.ensures.under _ (sym c.settings_under-s.ensures) (sym c.record_tests-refusal.ensures ∙ c.if-refusal-ne0.false)

@@ -8,16 +8,16 @@ use Rattle.close.proofs.Worked.{closed-refused, closed-done}
 use Rattle.close.proofs.close_surveyed.Goals as goal
 
 pub copy-requires : goal.copy-requires
-copy-requires c = c.requires.1.0.1
+copy-requires c = c.requires.closing_registry_len.1
 
 pub slashings_reset_core-requires : goal.slashings_reset_core-requires
-slashings_reset_core-requires c = (ap length c.copy.ensures ∙ c.requires.0.slashings, c.requires.0.settings)
+slashings_reset_core-requires c = (ap length c.copy.ensures ∙ c.requires.tested.slashings, c.requires.tested.settings)
 
 pub returns-then-answer-eq0 : goal.returns-then-answer-eq0
-returns-then-answer-eq0 c = (closed-done c.run_steps-stepped.ensures.0 (omega (arith, c.if-answer-eq0.true)) (c.slashings_reset_core.ensures ∙ ap (reset_slashings _ _) c.copy.ensures), c.run_steps-stepped.ensures.1)
+returns-then-answer-eq0 c = (closed-done c.run_steps-stepped.ensures.limited_worked (omega (arith, c.if-answer-eq0.true)) (c.slashings_reset_core.ensures ∙ ap (reset_slashings _ _) c.copy.ensures), c.run_steps-stepped.ensures.1)
 
 pub copy-requires-2 : goal.copy-requires-2
-copy-requires-2 c = omega (arith, c.requires.1.0.0, c.closing_registry-1.given)
+copy-requires-2 c = omega (arith, c.requires.closing_registry_len.0, c.closing_registry-1.given)
 
 pub returns : goal.returns
-returns c = (closed-refused c.run_steps-stepped.ensures.0 (λ y. omega (arith, c.if-answer-eq0.false)) refl (λ same. search rules) (λ none. search rules) c.copy-2.ensures c.copy.ensures, (record { booked = λ z. absurd (omega (arith, z, c.if-answer-eq0.false)) }, record { pair = λ z. absurd (omega (arith, z, c.if-answer-eq0.false)) }))
+returns c = record { steps_closed = closed-refused c.run_steps-stepped.ensures.limited_worked (λ y. omega (arith, c.if-answer-eq0.false)) refl (λ same. search rules) (λ none. search rules) c.copy-2.ensures c.copy.ensures; books = record { booked = λ z. absurd (omega (arith, z, c.if-answer-eq0.false)) }; pair_of = record { pair = λ z. absurd (omega (arith, z, c.if-answer-eq0.false)) } }

@@ -9,7 +9,7 @@ pub returns-then-refusal-ne0 : goal.returns-then-refusal-ne0
 returns-then-refusal-ne0 c = let a = c.args in later-away (full_called a.rules a.finality a.queue a.registry.now a.slashings.now a.roots.now a.closing_registry.now a.closing_slashings.now a.amounts.now) a.running (λ e. omega (arith, e, c.requires.0)) c.whole_tests-refusal.ensures c.if-refusal-ne0.true
 
 pub later_tested-requires : goal.later_tested-requires
-later_tested-requires c = let a = c.args in (c.requires, rw c.settings_under-s.ensures (ready (so_far a.running (full_called a.rules a.finality a.queue a.registry.now a.slashings.now a.roots.now a.closing_registry.now a.closing_slashings.now a.amounts.now)) c.whole_tests-refusal.ensures c.if-refusal-ne0.false))
+later_tested-requires c = let a = c.args in record { le_done = c.requires; ready = rw c.settings_under-s.ensures (ready (so_far a.running (full_called a.rules a.finality a.queue a.registry.now a.slashings.now a.roots.now a.closing_registry.now a.closing_slashings.now a.amounts.now)) c.whole_tests-refusal.ensures c.if-refusal-ne0.false) }
 
 pub returns : goal.returns
 returns c = let a = c.args in later-called (full_called a.rules a.finality a.queue a.registry.now a.slashings.now a.roots.now a.closing_registry.now a.closing_slashings.now a.amounts.now) a.running (λ e. omega (arith, e, c.requires.0)) c.whole_tests-refusal.ensures c.if-refusal-ne0.false c.settings_under-s.ensures c.later_tested.ensures

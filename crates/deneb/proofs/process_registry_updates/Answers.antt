@@ -25,7 +25,7 @@ returns-then-refusal-ne0 c =
 pub step_surveyed-requires : goal.step_surveyed-requires
 step_surveyed-requires c =
     let a = (start (goal.at.step_surveyed-requires c).After-limit_refusal-refusal).args in
-    (first-passed a.rules a.state_slot a.finalized_epoch a.queue a.opening.now a.closing.now (tested (goal.at.step_surveyed-requires c).After-limit_refusal-refusal) c.if-refusal-ne0.false, (blank-length 64 64 (omega arith), blank_part 64 64 (omega arith) (omega arith)))
+    record { closing_value = first-passed a.rules a.state_slot a.finalized_epoch a.queue a.opening.now a.closing.now (tested (goal.at.step_surveyed-requires c).After-limit_refusal-refusal) c.if-refusal-ne0.false; kept_len = (blank-length 64 64 (omega arith), blank_part 64 64 (omega arith) (omega arith)) }
 
 pub returns : goal.returns
 returns c =

@@ -9,12 +9,12 @@ use Rattle.electra_added.proofs.New.{tested-by, counted-by}
 use Rattle.electra_added.proofs.new_refusal.Goals as goal
 
 pub hysteresis-requires : goal.hysteresis-requires
-hysteresis-requires c = (good-electra c.args.rules c.requires.0.0).positive.hysteresis_quotient
+hysteresis-requires c = (good-electra c.args.rules c.requires.rules_value.0).positive.hysteresis_quotient
 
 pub new_pass-counted-requires : goal.new_pass-counted-requires
 new_pass-counted-requires c =
     let p = c.requires in
-    ((c.clear.ensures ∙ ap (λ (m : ℕ). replicate m 0) p.1.1, p.0.1, p.1.0), rw c.new_numbers-k.ensures (good-electra _ p.0.0).positive.effective_balance_increment)
+    record { places_value = (c.clear.ensures ∙ ap (λ (m : ℕ). replicate m 0) p.index_in_bounds.1, p.rules_value.1, p.index_in_bounds.0); increment_nonzero = rw c.new_numbers-k.ensures (good-electra _ p.rules_value.0).positive.effective_balance_increment }
 
 pub returns-in_default : goal.returns-in_default
 returns-in_default c = rw c.refusal_of.ensures (counted-by _ (answers_overflow tells_thresholds c.hysteresis.ensures (only-thresholds _) c.in_default.is).0 (rw c.new_numbers-k.ensures at c.new_pass-counted.ensures))
@@ -22,7 +22,7 @@ returns-in_default c = rw c.refusal_of.ensures (counted-by _ (answers_overflow t
 pub new_pass-tested-requires : goal.new_pass-tested-requires
 new_pass-tested-requires c =
     let p = c.requires in
-    ((c.clear.ensures ∙ ap (λ (m : ℕ). replicate m 0) p.1.1, p.0.1, p.1.0), rw c.new_numbers-k.ensures (good-electra _ p.0.0).positive.effective_balance_increment)
+    record { places_value = (c.clear.ensures ∙ ap (λ (m : ℕ). replicate m 0) p.index_in_bounds.1, p.rules_value.1, p.index_in_bounds.0); increment_nonzero = rw c.new_numbers-k.ensures (good-electra _ p.rules_value.0).positive.effective_balance_increment }
 
 pub returns : goal.returns
 returns c = rw c.refusal_of-2.ensures (tested-by _ (answers-value tells_thresholds c.hysteresis.ensures c.in-Value.is) (rw c.new_numbers-k.ensures at c.new_pass-tested.ensures))

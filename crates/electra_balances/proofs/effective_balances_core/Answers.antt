@@ -22,4 +22,4 @@ returns-in_default c =
     ran_overflow (none-updated a.rules (answers_overflow tells_thresholds c.hysteresis.ensures (only-thresholds _) c.in_default.is).0 a.compounding.now _ (omega (arith, some)) (sym (length-decode _ _ c.requires.0)))
 
 pub update_all-requires : goal.update_all-requires
-update_all-requires c = ((c.requires.0, (good-settings c.args.rules.settings c.requires.1).positive.effective_balance_increment), answers-value tells_thresholds c.hysteresis.ensures c.in-Value.is)
+update_all-requires c = record { registry_len = (c.requires.0, (good-settings c.args.rules.settings c.requires.1).positive.effective_balance_increment); settings_value = answers-value tells_thresholds c.hysteresis.ensures c.in-Value.is }

@@ -5,10 +5,10 @@ use Rattle.electra_balances.proofs.Turns.{Updating, none_yet, next-ten, all-upda
 use Rattle.electra_balances.proofs.update_all.Goals as goal
 
 pub loop-i-init : goal.loop-i-init
-loop-i-init c = none_yet _ c.requires.0.0
+loop-i-init c = none_yet _ c.requires.registry_len.0
 
 pub entry_update_own-refusal-requires : goal.entry_update_own-refusal-requires
-entry_update_own-refusal-requires c = ((next-ten c.loop-i.invariant c.loop-i-test.true, c.requires.0.1), c.requires.1)
+entry_update_own-refusal-requires c = record { len = (next-ten c.loop-i.invariant c.loop-i-test.true, c.requires.registry_len.1); settings_value = c.requires.settings_value }
 
 pub returns-then-refusal-ne0 : goal.returns-then-refusal-ne0
 returns-then-refusal-ne0 c = one-refused c.loop-i.invariant c.loop-i-test.true c.entry_update_own-refusal.ensures c.if-refusal-ne0.true

@@ -40,7 +40,7 @@ returns-then-front-ne0 c =
     let s = at-steps.before.before.before.before.before.before.before.before.before.before.before.before.before.before.before.before.before in
     let o = at_open.open-registry.ensures in
     let q = c.open_queues.ensures in
-    put_back (called s) s.pre (passed s) at-steps.steps-in-front.ensures c.if-front-ne0.true c.opening_answer.ensures o.0 o.1.0 q.0 q.1.0 q.1.1 o.1.1
+    put_back (called s) s.pre (passed s) at-steps.steps-in-front.ensures c.if-front-ne0.true c.opening_answer.ensures o.0 o.1.0 q.closing_slashings_after q.closing_deposits_after q.closing_consolidations_after o.1.1
 
 pub finish-counts-requires : goal.finish-counts-requires
 finish-counts-requires c =

@@ -14,10 +14,10 @@ last_two-requires c =
     let p = c.requires in
     let b = 10 * c.args.count in
     let z : b - 0 ≡ b = omega arith in
-    let t = length-take-le b c.args.registry.now p.1.1 in
-    rw (c.under-s.ensures, z) (p.0, (p.1.0, omega (arith, t)))
+    let t = length-take-le b c.args.registry.now p.closing_slashings_len.1 in
+    rw (c.under-s.ensures, z) (p.slashings_len, (p.closing_slashings_len.0, omega (arith, t)))
 
 pub returns : goal.returns
 returns c =
-    let resets = c.last_two.ensures.0 in
-    ((rw c.under-s.ensures at resets), front-rotated (10 * c.args.count) c.args.registry.now c.last_two.ensures.1)
+    let resets = c.last_two.ensures.closing_slashings_after in
+    record { closing_slashings_after = (rw c.under-s.ensures at resets); registry_after = front-rotated (10 * c.args.count) c.args.registry.now c.last_two.ensures.registry_after }

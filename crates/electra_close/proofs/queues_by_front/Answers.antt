@@ -10,8 +10,8 @@ write_queues-requires c =
     let p = c.requires in
     let a = 10 * c.args.n in
     let z : a - 0 ≡ a = omega arith in
-    let t = length-take-le a c.args.registry.now p.0.0 in
-    rw z ((omega (arith, t), p.0.1), p.1)
+    let t = length-take-le a c.args.registry.now p.n_in_bounds.0 in
+    rw z ((omega (arith, t), p.n_in_bounds.1), p.1)
 
 pub returns : goal.returns
 returns c =

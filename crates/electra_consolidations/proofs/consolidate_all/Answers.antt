@@ -5,7 +5,7 @@ use Rattle.electra_consolidations.proofs.Moves.{Booking, booking_none, booking_l
 use Rattle.electra_consolidations.proofs.consolidate_all.Goals as goal
 
 pub loop-i-init : goal.loop-i-init
-loop-i-init c = (refl, c.requires.1, going_none _ _ c.requires.0.0, booking_none _ _ _ _ _)
+loop-i-init c = (refl, c.requires.pairs_value, going_none _ _ c.requires.registry_len.0, booking_none _ _ _ _ _)
 
 pub stops_at-requires : goal.stops_at-requires
 stops_at-requires c = (c.loop-i.invariant.2.long, source-placed _ _ _ (omega arith) c.loop-i.invariant.1)
@@ -14,7 +14,7 @@ pub returns-then-stops_at : goal.returns-then-stops_at
 returns-then-stops_at c =
     let g = c.loop-i.invariant.2 in
     let stopped = c.stops_at.ensures in
-    (going_left g (omega arith) refl refl stopped c.if-stops_at.true, booking_left g c.loop-i.invariant.3 (omega arith) refl refl stopped c.if-stops_at.true)
+    record { consolidates = going_left g (omega arith) refl refl stopped c.if-stops_at.true; moves_booked = booking_left g c.loop-i.invariant.3 (omega arith) refl refl stopped c.if-stops_at.true }
 
 pub moved_from-moved-requires : goal.moved_from-moved-requires
 moved_from-moved-requires c = (c.loop-i.invariant.2.long, source-placed _ _ _ (omega arith) c.loop-i.invariant.1)
@@ -35,7 +35,7 @@ returns-then-refusal-ne0 c =
     let p = c.loop-i.invariant.1 in
     let stopped = c.stops_at.ensures in
     let ran = c.consolidation_turn-refusal.ensures in
-    (going_stop g (omega (arith, c.loop-i-test.true, c.loop-i.invariant.0)) refl refl stopped c.if-stops_at.false ran c.if-refusal-ne0.true, booking_stop g c.loop-i.invariant.3 (omega (arith, c.loop-i-test.true, c.loop-i.invariant.0)) refl refl stopped c.if-stops_at.false (source-placed _ _ _ (omega (arith, c.loop-i-test.true, c.loop-i.invariant.0)) p) (target-placed _ _ _ (omega (arith, c.loop-i-test.true, c.loop-i.invariant.0)) p) c.moved_from-moved.ensures c.book_move.ensures ran c.if-refusal-ne0.true)
+    record { consolidates = going_stop g (omega (arith, c.loop-i-test.true, c.loop-i.invariant.0)) refl refl stopped c.if-stops_at.false ran c.if-refusal-ne0.true; moves_booked = booking_stop g c.loop-i.invariant.3 (omega (arith, c.loop-i-test.true, c.loop-i.invariant.0)) refl refl stopped c.if-stops_at.false (source-placed _ _ _ (omega (arith, c.loop-i-test.true, c.loop-i.invariant.0)) p) (target-placed _ _ _ (omega (arith, c.loop-i-test.true, c.loop-i.invariant.0)) p) c.moved_from-moved.ensures c.book_move.ensures ran c.if-refusal-ne0.true }
 
 pub loop-i-preserved : goal.loop-i-preserved
 loop-i-preserved c =
@@ -50,4 +50,4 @@ loop-i-preserved c =
 pub returns : goal.returns
 returns c =
     let g = c.loop-i.invariant.2 in
-    (going_all g (omega arith), booking_all g c.loop-i.invariant.3 (omega arith))
+    record { consolidates = going_all g (omega arith); moves_booked = booking_all g c.loop-i.invariant.3 (omega arith) }

@@ -25,18 +25,18 @@ overflow_add-next_epoch c = let p = passed (search rules) in omega (arith, (boun
 pub consolidate_all-done-requires : goal.consolidate_all-done-requires
 consolidate_all-done-requires c =
     let p = passed (search rules) in
-    ((rw c.copy.ensures p.shape.long, p.queue.long), placed_of _ _ p.indices)
+    record { registry_len = (rw c.copy.ensures p.shape.long, p.queue.long); pairs_value = placed_of _ _ p.indices }
 
 pub put_back-requires : goal.put_back-requires
 put_back-requires c = omega (arith, (passed (search rules)).same)
 
 pub overflow_mul-done : goal.overflow_mul-done
-overflow_mul-done c = omega (arith, c.consolidate_all-done.ensures.0.most, (passed (search rules)).queue.few)
+overflow_mul-done c = omega (arith, c.consolidate_all-done.ensures.consolidates.most, (passed (search rules)).queue.few)
 
 pub keep_rest-requires : goal.keep_rest-requires
-keep_rest-requires c = ((passed (search rules)).same_queue, omega (arith, c.consolidate_all-done.ensures.0.most))
+keep_rest-requires c = ((passed (search rules)).same_queue, omega (arith, c.consolidate_all-done.ensures.consolidates.most))
 
 pub returns : goal.returns
 returns c =
     let p = passed (goal.at.returns c).Else-refusal-ne0 in
-    call-done _ _ _ _ _ c.consolidations_tests-refusal.ensures c.if-refusal-ne0.false p.settings p.queue.long (rw (c.copy.ensures, c.current_epoch-next_epoch.ensures) at c.consolidate_all-done.ensures.0) c.put_back.ensures c.keep_rest.ensures
+    call-done _ _ _ _ _ c.consolidations_tests-refusal.ensures c.if-refusal-ne0.false p.settings p.queue.long (rw (c.copy.ensures, c.current_epoch-next_epoch.ensures) at c.consolidate_all-done.ensures.consolidates) c.put_back.ensures c.keep_rest.ensures

@@ -22,7 +22,7 @@ use Rattle.electra_first.proofs.five_surveyed.Goals as goal
 -- what justification answered, by the survey's sums
 justified : (c : After-justification_core-justified) → c.justification_core-justified.result ≡ close_answer_for (process_justification_and_finalization (start c).args.s (start c).args.roots.now (start c).args.finality (decode (start c).args.registry.now)) (start c).args.finality (raised_totals (start c).args.s (start c).args.finality.slot (decode (start c).args.registry.now))
 justified c =
-    c.justification_core-justified.ensures.of (decode c.args.registry.now) (totals-found c.args.s c.args.finality.slot c.args.registry.now c.requires.1.1.1 c.total_of-active.ensures c.total_of-target.ensures c.total_of-current_target.ensures)
+    c.justification_core-justified.ensures.of (decode c.args.registry.now) (totals-found c.args.s c.args.finality.slot c.args.registry.now c.requires.finds c.total_of-active.ensures c.total_of-target.ensures c.total_of-current_target.ensures)
 
 same-slot : (c : Else-justified-ne0) → (core c).justification-core.result.finality.slot ≡ (start (core c)).args.finality.slot
 same-slot c = let a = (start c.After-justification_core-justified).args in slot_kept a.rules a.s a.finality a.churn a.registry.now a.slashings.now a.roots.now (justified c.After-justification_core-justified) c.if-justified-ne0.false
@@ -31,7 +31,7 @@ small : (c : Else-justified-ne0) → (core c).justification-core.result.finality
 small c = rw (same-slot c) (good-finality _ (start c.After-justification_core-justified).requires.0.3).slot
 
 pub justification_core-justified-requires : goal.justification_core-justified-requires
-justification_core-justified-requires c = c.requires.1.0
+justification_core-justified-requires c = c.requires.finality_value
 
 pub returns-then-justified-ne0 : goal.returns-then-justified-ne0
 returns-then-justified-ne0 c =
@@ -44,8 +44,8 @@ returns-then-not-all_fit c =
     let j = c.justification_core-justified.result.finality in
     let over = fails c.all_fit.ensures (ap not c.if-not-all_fit.true) in
     four-stop a.rules a.s a.finality a.churn a.registry.now a.slashings.now a.roots.now (justified (goal.at.returns-then-not-all_fit c).After-justification_core-justified) c.if-justified-ne0.false
-    (four-refused a.rules a.s j.slot j.finalized_checkpoint.epoch a.slashings.now a.churn c.requires.0.2 c.requires.0.0 (epochs _ _ (good-electra _ c.requires.0.0).settings (small (goal.at.returns-then-not-all_fit c).Else-justified-ne0)) (decode a.registry.now)
-    (over-accepted a.rules a.s _ _ (same-slot (goal.at.returns-then-not-all_fit c).Else-justified-ne0) a.registry.now c.requires.1.1.1 over) {u = record { refusal = 5; churn = a.churn }} refl)
+    (four-refused a.rules a.s j.slot j.finalized_checkpoint.epoch a.slashings.now a.churn c.requires.rules_value.2 c.requires.rules_value.0 (epochs _ _ (good-electra _ c.requires.rules_value.0).settings (small (goal.at.returns-then-not-all_fit c).Else-justified-ne0)) (decode a.registry.now)
+    (over-accepted a.rules a.s _ _ (same-slot (goal.at.returns-then-not-all_fit c).Else-justified-ne0) a.registry.now c.requires.finds over) {u = record { refusal = 5; churn = a.churn }} refl)
     (λ z. omega (arith, z)) refl
 
 pub finalizing_test-test-requires : goal.finalizing_test-test-requires
@@ -57,7 +57,7 @@ pub four_steps-done-requires : goal.four_steps-done-requires
 four_steps-done-requires c =
     let a = (start (goal.at.four_steps-done-requires c).After-justification_core-justified).requires in
     let fit = passes c.all_fit.ensures (ap not c.if-not-all_fit.false) in
-    ((a.0.0, small (goal.at.four_steps-done-requires c).Else-justified-ne0, a.0.1, a.0.2), (a.1.1.0, rw (same-slot (goal.at.four_steps-done-requires c).Else-justified-ne0, c.raised_totals.ensures) (raised-totals _ (plain-sums a.1.1.1 fit))))
+    record { rules_value = (a.0.0, small (goal.at.four_steps-done-requires c).Else-justified-ne0, a.0.1, a.0.2); opening_len = a.1.1.0; totals_of = rw (same-slot (goal.at.four_steps-done-requires c).Else-justified-ne0, c.raised_totals.ensures) (raised-totals _ (plain-sums a.1.1.1 fit)) }
 
 pub returns : goal.returns
 returns c =

@@ -23,10 +23,10 @@ use Rattle.electra_first.proofs.four_steps.Goals.{After-current_epoch-current, A
 use Rattle.electra_first.proofs.four_steps.Goals as goal
 
 eps : (c : Start) → Epochs c.args.s c.args.state_slot
-eps c = epochs _ _ c.requires.0.2 c.requires.0.1
+eps c = epochs _ _ c.requires.rules_value.2 c.requires.rules_value.1
 
 ep : (c : Start) → Epochs c.args.rules.settings c.args.state_slot
-ep c = epochs _ _ (good-electra _ c.requires.0.0).settings c.requires.0.1
+ep c = epochs _ _ (good-electra _ c.requires.rules_value.0).settings c.requires.rules_value.1
 
 abbrev Accepted-at : Start → Type 0
 Accepted-at c = Accepted c.args.rules c.args.s c.args.state_slot c.args.finalized_epoch c.args.slashings.now (decode c.args.opening.now)
@@ -36,39 +36,39 @@ small : (c : After-make_plan-p) → (first c).current-epoch.result < 2 ^ 48
 small c = rw c.current_epoch-current.ensures (eps (start c.After-current_epoch-current)).small
 
 pub current_epoch-current-requires : goal.current_epoch-current-requires
-current_epoch-current-requires c = (good-settings _ c.requires.0.2).positive.slots_per_epoch
+current_epoch-current-requires c = (good-settings _ c.requires.rules_value.2).positive.slots_per_epoch
 
 pub previous_epoch-previous-requires : goal.previous_epoch-previous-requires
-previous_epoch-previous-requires c = (good-settings _ c.requires.0.2).positive.slots_per_epoch
+previous_epoch-previous-requires c = (good-settings _ c.requires.rules_value.2).positive.slots_per_epoch
 
 pub leak_of-requires : goal.leak_of-requires
-leak_of-requires c = ((good-settings _ c.requires.0.2).positive.slots_per_epoch, c.current_epoch-current.ensures)
+leak_of-requires c = ((good-settings _ c.requires.rules_value.2).positive.slots_per_epoch, c.current_epoch-current.ensures)
 
 pub returns-in_default : goal.returns-in_default
 returns-in_default c =
     let a = c.args in
     let no = (answers_overflow tells_truth c.leak_of.ensures (only-leak _ _ _) c.in_default.is).0 in
-    four-refused a.rules a.s a.state_slot a.finalized_epoch a.slashings.now a.churn c.requires.0.3 c.requires.0.0 (ep (goal.at.returns-in_default c).Start) (decode a.opening.now) (λ (g : Accepted-at (goal.at.returns-in_default c).Start). none-gave no g.sums.leak) refl
+    four-refused a.rules a.s a.state_slot a.finalized_epoch a.slashings.now a.churn c.requires.rules_value.3 c.requires.rules_value.0 (ep (goal.at.returns-in_default c).Start) (decode a.opening.now) (λ (g : Accepted-at (goal.at.returns-in_default c).Start). none-gave no g.sums.leak) refl
 
 pub returns-in_default-adjusted_balance : goal.returns-in_default-adjusted_balance
 returns-in_default-adjusted_balance c =
     let a = c.args in
     let no = (says_overflow c.adjusted_balance.ensures (only-adjusted _ _ _) c.in_default-adjusted_balance.is).0 in
-    four-refused a.rules a.s a.state_slot a.finalized_epoch a.slashings.now a.churn c.requires.0.3 c.requires.0.0 (ep (goal.at.returns-in_default-adjusted_balance c).Start) (decode a.opening.now) (λ (g : Accepted-at (goal.at.returns-in_default-adjusted_balance c).Start). none-gave no (g.adjusted _)) refl
+    four-refused a.rules a.s a.state_slot a.finalized_epoch a.slashings.now a.churn c.requires.rules_value.3 c.requires.rules_value.0 (ep (goal.at.returns-in_default-adjusted_balance c).Start) (decode a.opening.now) (λ (g : Accepted-at (goal.at.returns-in_default-adjusted_balance c).Start). none-gave no (g.adjusted _)) refl
 
 pub nonzero_div-increments : goal.nonzero_div-increments
-nonzero_div-increments c = (good-settings _ c.requires.0.2).positive.effective_balance_increment
+nonzero_div-increments c = (good-settings _ c.requires.rules_value.2).positive.effective_balance_increment
 
 pub nonzero_div-adjusted : goal.nonzero_div-adjusted
 nonzero_div-adjusted c =
     let a = c.requires in
-    some_increments _ _ a.1.1.active (good-settings _ a.0.2).positive.effective_balance_increment
+    some_increments _ _ a.totals_of.active (good-settings _ a.rules_value.2).positive.effective_balance_increment
 
 pub make_plan-p-requires : goal.make_plan-p-requires
 make_plan-p-requires c =
     let a = c.requires in
-    let p = (good-settings _ a.0.2).positive in
-    ((p.effective_balance_increment, total-least _ _ a.1.1.active), (p.inactivity_score_bias, p.inactivity_penalty_quotient_altair))
+    let p = (good-settings _ a.rules_value.2).positive in
+    record { effective_balance_increment_nonzero = (p.effective_balance_increment, total-least _ _ a.totals_of.active); inactivity_score_bias_nonzero = (p.inactivity_score_bias, p.inactivity_penalty_quotient_altair) }
 
 pub numbers_by-n-requires : goal.numbers_by-n-requires
 numbers_by-n-requires c = ((start (goal.at.numbers_by-n-requires c).After-current_epoch-current).requires.0.0, small (goal.at.numbers_by-n-requires c).After-make_plan-p)
@@ -83,14 +83,14 @@ pub write_later-done-requires : goal.write_later-done-requires
 write_later-done-requires c =
     let a = (start (goal.at.write_later-done-requires c).After-current_epoch-current).requires in
     let m = c.make_plan-p.ensures in
-    (m.planned, ((a.1.0.0, a.1.0.1), (rw m.is (small (goal.at.write_later-done-requires c).After-make_plan-p), rw c.numbers_by-n.ensures (small (goal.at.write_later-done-requires c).After-make_plan-p))))
+    record { planned = m.planned; opening_len = (a.1.0.0, a.1.0.1); current_epoch_bound = (rw m.is (small (goal.at.write_later-done-requires c).After-make_plan-p), rw c.numbers_by-n.ensures (small (goal.at.write_later-done-requires c).After-make_plan-p)) }
 
 pub returns-then-done-ne0 : goal.returns-then-done-ne0
 returns-then-done-ne0 c =
     let at-start = start (goal.at.returns-then-done-ne0 c).After-current_epoch-current in
     let a = at-start.args in
     let now = c.current_epoch-current.ensures in
-    by-refused a.rules a.s a.state_slot a.finalized_epoch a.slashings.now a.churn at-start.pre.0.3 at-start.pre.0.0 (ep at-start) (eps at-start) a.opening.now at-start.pre.1.1 _ (answers-value tells_truth c.leak_of.ensures c.in-Value.is) _ (says-value c.adjusted_balance.ensures c.in-Value-adjusted_balance.is) now c.previous_epoch-previous.ensures c.make_plan-p.ensures c.numbers_by-n.ensures c.write_later-done.ensures.0 c.if-done-ne0.true
+    by-refused a.rules a.s a.state_slot a.finalized_epoch a.slashings.now a.churn at-start.pre.0.3 at-start.pre.0.0 (ep at-start) (eps at-start) a.opening.now at-start.pre.1.1 _ (answers-value tells_truth c.leak_of.ensures c.in-Value.is) _ (says-value c.adjusted_balance.ensures c.in-Value-adjusted_balance.is) now c.previous_epoch-previous.ensures c.make_plan-p.ensures c.numbers_by-n.ensures c.write_later-done.ensures.swept c.if-done-ne0.true
 
 pub returns : goal.returns
 returns c =

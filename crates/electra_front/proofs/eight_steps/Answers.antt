@@ -28,7 +28,7 @@ later_three-later-requires c =
     let a = c.args in
     let at-else1 : tie.Else1 = (goal.at.later_three-later-requires c).Else-first-ne0 in
     let k = c.first_five-first.kept in
-    (l.good, (record { tens = omega (arith, k, l.later.tens); twelves = omega (arith, k, l.later.twelves); fives = l.later.fives; keys = l.later.keys; twos = l.later.twos; within = l.later.within; table = l.later.table }, none_yet a.rules a.finality a.churn a.numbers a.registry.now a.compounding.now a.slashings.now a.roots.now a.deposits.now a.pairs.now l (omega (arith, k, l.later.tens)) (omega (arith, k, l.later.twelves)) (rw c.under-s.ensures at c.first_five-first.ensures) at-else1.if1.false))
+    record { rules_value = l.good; later_lent = record { tens = omega (arith, k, l.later.tens); twelves = omega (arith, k, l.later.twelves); fives = l.later.fives; keys = l.later.keys; twos = l.later.twos; within = l.later.within; table = l.later.table }; none_yet = none_yet a.rules a.finality a.churn a.numbers a.registry.now a.compounding.now a.slashings.now a.roots.now a.deposits.now a.pairs.now l (omega (arith, k, l.later.tens)) (omega (arith, k, l.later.twelves)) (rw c.under-s.ensures at c.first_five-first.ensures) at-else1.if1.false }
 
 pub returns : goal.returns
 returns c =

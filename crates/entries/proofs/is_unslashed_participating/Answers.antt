@@ -13,7 +13,7 @@ current_epoch-current-requires c = (participation_entry_passed _ _ _ _ _ c.parti
 pub entry_is_participating-participating-requires : goal.entry_is_participating-participating-requires
 entry_is_participating-participating-requires c =
     let p = participation_entry_passed _ _ _ _ _ c.participation_entry_tests-refusal.ensures c.if-refusal-ne0.false in
-    (p.others.own.long, omega (arith, p.flag))
+    record { len = p.others.own.long; flag_index_bound = omega (arith, p.flag) }
 
 pub returns : goal.returns
 returns c = rw (← c.current_epoch-current.ensures) (truth_passed _ c.participation_entry_tests-refusal.ensures c.if-refusal-ne0.false c.entry_is_participating-participating.ensures)

@@ -53,7 +53,7 @@ queue_tests-requires c =
     let h = head ((goal.at.queue_tests-requires c).Else-not-good_header) in
     let counts = c.read_counts-counts.ensures in
     let v = counts.3 in
-    ((v, c.validators_at-from.ensures, counts.0), (omega (arith, h.some-version), omega (arith, h.known-version), omega (arith, count ((goal.at.queue_tests-requires c).After-read_counts-counts), from ((goal.at.queue_tests-requires c).After-validators_at-from), h.long)))
+    record { version_value = (v, c.validators_at-from.ensures, counts.0); le_version = (omega (arith, h.some-version), omega (arith, h.known-version), omega (arith, count ((goal.at.queue_tests-requires c).After-read_counts-counts), from ((goal.at.queue_tests-requires c).After-validators_at-from), h.long)) }
 
 pub returns-then-not-good_finality : goal.returns-then-not-good_finality
 returns-then-not-good_finality c = rw c.refused-then-not-good_finality.ensures (answered-finality (tested (goal.at.returns-then-not-good_finality c).After-other_tests-others) c.if-others-ne3.false (fails (finality (goal.at.returns-then-not-good_finality c).After-good_finality) (ap not c.if-not-good_finality.true)))

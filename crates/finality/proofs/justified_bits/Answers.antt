@@ -5,4 +5,4 @@ use Rattle.finality.proofs.justified_bits.Goals as goal
 
 pub returns : goal.returns
 unfolding justified_bits
-returns c = c.with_bit-2.ensures.0 ∙ rw c.with_bit.ensures.0
+returns c = c.with_bit-2.ensures.is ∙ rw c.with_bit.ensures.is

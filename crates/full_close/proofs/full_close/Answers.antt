@@ -28,7 +28,7 @@ returns-then-refusal-ne0 c =
 pub full_tested-requires : goal.full_tested-requires
 full_tested-requires c =
     let p = lent _ _ (limit_record _ _ c.limit_refusal-refusal.ensures c.record_tests-by_rules.ensures) c.if-refusal-ne0.false in
-    (rw c.settings_under-s.ensures p.opening, ((p.closing_registry, p.closing_slashings, c.if-amounts-registry.false), (blank-length 64 64 (omega arith), blank_part 64 64 (omega arith) (omega arith))))
+    record { tested = rw c.settings_under-s.ensures p.opening; closing_registry_len = (p.closing_registry, p.closing_slashings, c.if-amounts-registry.false); kept_len = (blank-length 64 64 (omega arith), blank_part 64 64 (omega arith) (omega arith)) }
 
 pub returns : goal.returns
 returns c =

@@ -10,17 +10,17 @@ use Rattle.full_close.proofs.full_surveyed.Goals.{After-close_surveyed-stepped, 
 use Rattle.full_close.proofs.full_surveyed.Goals as goal
 
 ep : (c : Start) → Epochs c.args.s c.args.finality.slot
-ep c = let p = c.requires.0.settings in epochs c.args.s c.args.finality.slot p.good (small _ p.small)
+ep c = let p = c.requires.tested.settings in epochs c.args.s c.args.finality.slot p.good (small _ p.small)
 
 -- the steps were accepted
 given : (c : Else-answer-ne0) → (surveyed c.After-struct_known-1).close-surveyed.result.answer.refusal ≡ 0
 given c = omega (arith, c.if-answer-ne0.false)
 
 pub close_surveyed-stepped-requires : goal.close_surveyed-stepped-requires
-close_surveyed-stepped-requires c = (c.requires.0, ((c.requires.1.0.0, c.requires.1.0.1), c.requires.1.1))
+close_surveyed-stepped-requires c = record { tested = c.requires.tested; closing_registry_len = (c.requires.closing_registry_len.0, c.requires.closing_registry_len.1); finds = c.requires.finds }
 
 pub returns-then-answer-ne0 : goal.returns-then-answer-ne0
-returns-then-answer-ne0 c = full-refused c.close_surveyed-stepped.ensures.0 c.if-answer-ne0.true refl refl refl refl refl (c.clear.ensures ∙ ap (λ (n : ℕ). replicate n 0) c.amounts-1.given)
+returns-then-answer-ne0 c = full-refused c.close_surveyed-stepped.ensures.steps_closed c.if-answer-ne0.true refl refl refl refl refl (c.clear.ensures ∙ ap (λ (n : ℕ). replicate n 0) c.amounts-1.given)
 
 pub finalizing_test-test-requires : goal.finalizing_test-test-requires
 finalizing_test-test-requires c =
@@ -30,5 +30,5 @@ finalizing_test-test-requires c =
 pub returns : goal.returns
 returns c =
     let closed = c.close_surveyed-stepped.ensures in
-    full-accepted closed.0 (given (goal.at.returns c).Else-answer-ne0) refl refl (closed.1.1.pair (given (goal.at.returns c).Else-answer-ne0)) refl c.finalizing_test-test.ensures
-    (booked-gave closed.0 (given (goal.at.returns c).Else-answer-ne0) (ep (goal.at.returns c).Start) c.args.registry.now refl c.requires.0.registry (closed.1.0.booked (given (goal.at.returns c).Else-answer-ne0) c.requires.1.0.2))
+    full-accepted closed.steps_closed (given (goal.at.returns c).Else-answer-ne0) refl refl (closed.pair_of.pair (given (goal.at.returns c).Else-answer-ne0)) refl c.finalizing_test-test.ensures
+    (booked-gave closed.steps_closed (given (goal.at.returns c).Else-answer-ne0) (ep (goal.at.returns c).Start) c.args.registry.now refl c.requires.tested.registry (closed.books.booked (given (goal.at.returns c).Else-answer-ne0) c.requires.closing_registry_len.2))

@@ -25,10 +25,10 @@ pub active_total-total-requires : goal.active_total-total-requires
 active_total-total-requires c = (tested (goal.at.active_total-total-requires c).Else-refusal-ne0).shape.long
 
 pub participating_total-previous_target-requires : goal.participating_total-previous_target-requires
-participating_total-previous_target-requires c = ((tested (goal.at.participating_total-previous_target-requires c).Else-refusal-ne0).shape.long, omega arith)
+participating_total-previous_target-requires c = record { registry_len = (tested (goal.at.participating_total-previous_target-requires c).Else-refusal-ne0).shape.long; flag_index_bound = omega arith }
 
 pub participating_total-current_target-requires : goal.participating_total-current_target-requires
-participating_total-current_target-requires c = ((tested (goal.at.participating_total-current_target-requires c).Else-refusal-ne0).shape.long, omega arith)
+participating_total-current_target-requires c = record { registry_len = (tested (goal.at.participating_total-current_target-requires c).Else-refusal-ne0).shape.long; flag_index_bound = omega arith }
 
 pub justification_core-requires : goal.justification_core-requires
 justification_core-requires c = (tested ((goal.at.justification_core-requires c).Else-refusal-ne0)).weighs

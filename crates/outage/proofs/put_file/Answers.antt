@@ -20,7 +20,7 @@ exact c = let kept = c.read_file-read.auto.1 in exact_read c.requires kept.0 kep
 opened : (c : Else-read-ne0) → let r = reading c.After-struct_known-1 in let read = r.read-file.last.1 in Opened (start r).args.file.now r.read-file.result.settings r.read-file.result.finality read.0 read.1.0
 opened c =
     let e = c.read_file-read.ensures in
-    opened-from c.requires e.0 c.if-read-ne0.false e.1.1.0 e.1.1.1.0 e.1.1.1.1.1.0 e.1.1.1.1.1.1
+    opened-from c.requires e.refusal_value c.if-read-ne0.false e.settings_value e.finality_value e.registry_after e.slashings_after
 
 tested : (c : After-good_tail) → let a = (start (reading c.After-struct_known-1)).args in c.good_tail.result ≡ good_tail (count_of a.file.now) a.tail.now
 tested c =
@@ -30,8 +30,8 @@ pub returns-then-read-ne0 : goal.returns-then-read-ne0
 returns-then-read-ne0 c =
     let p = c.put_refused.ensures in
     record {
-      put = rw (text-refused c.args.file.now c.args.tail.now (refusal-read c.requires c.read_file-read.ensures.0) c.if-read-ne0.true) p.0;
-      inside = omega (arith, p.1, c.requires.bytes);
+      put = rw (text-refused c.args.file.now c.args.tail.now (refusal-read c.requires c.read_file-read.ensures.refusal_value) c.if-read-ne0.true) p.put;
+      inside = omega (arith, p.upper_bound, c.requires.bytes);
     }
 
 pub returns-then-not-good_tail : goal.returns-then-not-good_tail
@@ -39,12 +39,12 @@ returns-then-not-good_tail c =
     let at-start = start (goal.at.returns-then-not-good_tail c).After-read_file-read in
     let p = c.put_refused-then-not-good_tail.ensures in
     record {
-      put = rw (text-tail at-start.args.file.now at-start.args.tail.now (opened (goal.at.returns-then-not-good_tail c).Else-read-ne0).accepted (fails (tested (goal.at.returns-then-not-good_tail c).After-good_tail) (ap not c.if-not-good_tail.true))) p.0;
-      inside = omega (arith, p.1, at-start.pre.bytes);
+      put = rw (text-tail at-start.args.file.now at-start.args.tail.now (opened (goal.at.returns-then-not-good_tail c).Else-read-ne0).accepted (fails (tested (goal.at.returns-then-not-good_tail c).After-good_tail) (ap not c.if-not-good_tail.true))) p.put;
+      inside = omega (arith, p.upper_bound, at-start.pre.bytes);
     }
 
 pub put_read-requires : goal.put_read-requires
-put_read-requires c = (exact (goal.at.put_read-requires c).After-read_file-read, (opened (goal.at.put_read-requires c).Else-read-ne0, passes (tested (goal.at.put_read-requires c).After-good_tail) (ap not c.if-not-good_tail.false)))
+put_read-requires c = record { exact = exact (goal.at.put_read-requires c).After-read_file-read; opened = opened (goal.at.put_read-requires c).Else-read-ne0; tail_value = passes (tested (goal.at.put_read-requires c).After-good_tail) (ap not c.if-not-good_tail.false) }
 
 pub put_refused-requires : goal.put_refused-requires
 put_refused-requires c = omega (arith, (start (goal.at.put_refused-requires c).After-read_file-read).requires.bytes)

@@ -9,15 +9,15 @@ use Rattle.outage.proofs.put_read.Goals.{Start}
 use Rattle.outage.proofs.put_read.Goals as goal
 
 behind : (s : Start) → Tail (count_of s.args.file.now) s.args.tail.now
-behind s = good-tail (count_of s.args.file.now) s.args.tail.now s.requires.1.1
+behind s = good-tail (count_of s.args.file.now) s.args.tail.now s.requires.tail_value
 
 pub put_bytes-requires : goal.put_bytes-requires
-put_bytes-requires c = omega (arith, roots-long c.requires.0 c.requires.1.0 c.file_roots-read_roots.ensures)
+put_bytes-requires c = omega (arith, roots-long c.requires.exact c.requires.opened c.file_roots-read_roots.ensures)
 
 pub put_run-requires : goal.put_run-requires
 put_run-requires c =
-    let x = c.requires.0 in
-    let o = c.requires.1.0 in
+    let x = c.requires.exact in
+    let o = c.requires.opened in
     let t = behind c in
     let n = c.read_number-epochs.ensures.0 in (
       ready x o c.roots-1.given (simp (length-take, length-drop) (omega (arith, t.long))) c.absences-1.given,
@@ -26,19 +26,19 @@ put_run-requires c =
 
 pub returns : goal.returns
 returns c =
-    let x = c.requires.0 in
-    let o = c.requires.1.0 in
-    let run = text-run c.args.file.now c.args.tail.now o.accepted (filled x o c.copy.ensures c.file_roots-read_roots.ensures c.put_bytes.ensures) (planned x o c.args.tail.now c.read_numbers.ensures) c.read_number-epochs.ensures.0 c.requires.1.1 in
+    let x = c.requires.exact in
+    let o = c.requires.opened in
+    let run = text-run c.args.file.now c.args.tail.now o.accepted (filled x o c.copy.ensures c.file_roots-read_roots.ensures c.put_bytes.ensures) (planned x o c.args.tail.now c.read_numbers.ensures) c.read_number-epochs.ensures.0 c.requires.tail_value in
     printed-same run c.put_run.ensures
 
 pub copy-requires : goal.copy-requires
-copy-requires c = omega (arith, c.requires.0.openings, c.requires.0.entries)
+copy-requires c = omega (arith, c.requires.exact.openings, c.requires.exact.entries)
 
 pub file_roots-read_roots-requires : goal.file_roots-read_roots-requires
-file_roots-read_roots-requires c = c.requires.0.header
+file_roots-read_roots-requires c = c.requires.exact.header
 
 pub read_numbers-requires : goal.read_numbers-requires
-read_numbers-requires c = omega (arith, c.requires.0.pairs, (behind c).long)
+read_numbers-requires c = omega (arith, c.requires.exact.pairs, (behind c).long)
 
 pub read_number-epochs-requires : goal.read_number-epochs-requires
 read_number-epochs-requires c = omega (arith, (behind c).long)

@@ -7,21 +7,21 @@ use borrow.Author.Rules.{rules}
 use Rattle.outage.proofs.put_rows.Goals as goal
 
 pub changes-refusal-requires : goal.changes-refusal-requires
-changes-refusal-requires c = ((registry-shaped _ c.requires.0.0).long, c.requires.0.1)
+changes-refusal-requires c = ((registry-shaped _ c.requires.opening_value.0).long, c.requires.opening_value.1)
 
 pub returns-then-refusal-ne0 : goal.returns-then-refusal-ne0
 unfolding lines_text
 returns-then-refusal-ne0 c =
     let p = c.put_refused.ensures in
-    (rw (or_refused_lem _ c.changes-refusal.ensures c.if-refusal-ne0.true) p.0, omega (arith, p.1, c.requires.1))
+    record { put = rw (or_refused_lem _ c.changes-refusal.ensures c.if-refusal-ne0.true) p.put; upper_bound = omega (arith, p.upper_bound, c.requires.opening_in_bounds) }
 
 pub put_lines-requires : goal.put_lines-requires
 put_lines-requires c =
     let fits = sym c.changes-refusal.ensures ∙ c.if-refusal-ne0.false in
-    (search rules, (search rules, fits))
+    record { opening_value = search rules; opening_in_bounds = search rules; closing_value = fits }
 
 pub returns : goal.returns
 unfolding lines_text
 returns c =
     let p = c.put_lines.ensures in
-    (rw (or_text _ (sym c.changes-refusal.ensures ∙ c.if-refusal-ne0.false)) p.0, p.1)
+    record { put = rw (or_text _ (sym c.changes-refusal.ensures ∙ c.if-refusal-ne0.false)) p.put; upper_bound = p.upper_bound }

@@ -7,28 +7,28 @@ use borrow.Author.Rules.{rules}
 use Rattle.outage.proofs.put_run.Goals as goal
 
 pub run_epochs-ran-requires : goal.run_epochs-ran-requires
-run_epochs-ran-requires c = (c.requires.0, c.requires.1.0)
+run_epochs-ran-requires c = record { ready = c.requires.ready; room = c.requires.room }
 
 pub put_refused-requires : goal.put_refused-requires
-put_refused-requires c = omega (arith, c.run_epochs-ran.ensures.inside, c.text-1.given, c.requires.1.1.1)
+put_refused-requires c = omega (arith, c.run_epochs-ran.ensures.inside, c.text-1.given, c.requires.opening_in_bounds)
 
 pub returns-then-ran-ne0 : goal.returns-then-ran-ne0
 returns-then-ran-ne0 c =
     let a = c.args in
     let w = c.run_epochs-ran.ensures in
     let p = c.put_refused.ensures in
-    rw c.requires.1.1.0.1
-    (run-refused (contents_with a.s a.finality a.registry.now a.roots.now a.slashings.now) w c.if-ran-ne0.true p.0 (omega (arith, p.1, w.inside, c.requires.1.1.1)))
+    rw c.requires.opening_value.1
+    (run-refused (contents_with a.s a.finality a.registry.now a.roots.now a.slashings.now) w c.if-ran-ne0.true p.put (omega (arith, p.upper_bound, w.inside, c.requires.opening_in_bounds)))
 
 pub put_rows-requires : goal.put_rows-requires
 put_rows-requires c =
-    let e = ap length c.requires.1.1.0.1 in
-    ((c.requires.1.1.0.0, c.registry-1.given ∙ sym e), omega (arith, c.run_epochs-ran.ensures.inside, c.text-1.given, c.requires.1.1.1))
+    let e = ap length c.requires.opening_value.1 in
+    record { opening_value = (c.requires.opening_value.0, c.registry-1.given ∙ sym e); opening_in_bounds = omega (arith, c.run_epochs-ran.ensures.inside, c.text-1.given, c.requires.opening_in_bounds) }
 
 pub returns : goal.returns
 returns c =
     let a = c.args in
     let p = c.put_rows.ensures in
-    let q = rw c.requires.1.1.0.1 at p.0 in
-    rw c.requires.1.1.0.1
-    (run-lines (contents_with a.s a.finality a.registry.now a.roots.now a.slashings.now) c.run_epochs-ran.ensures c.if-ran-ne0.false q p.1)
+    let q = rw c.requires.opening_value.1 at p.put in
+    rw c.requires.opening_value.1
+    (run-lines (contents_with a.s a.finality a.registry.now a.roots.now a.slashings.now) c.run_epochs-ran.ensures c.if-ran-ne0.false q p.upper_bound)

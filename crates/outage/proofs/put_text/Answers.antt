@@ -22,8 +22,8 @@ returns-then-h-ne0 c =
     let a = c.args in
     let p = c.put_refused.ensures in
     record {
-      put = rw (text-headless a.file.now a.tail.now (headless a.file.now c.read_header-h.ensures c.if-h-ne0.true)) p.0;
-      inside = omega (arith, p.1, c.requires.bytes);
+      put = rw (text-headless a.file.now a.tail.now (headless a.file.now c.read_header-h.ensures c.if-h-ne0.true)) p.put;
+      inside = omega (arith, p.upper_bound, c.requires.bytes);
     }
 
 pub overflow_mul-entries : goal.overflow_mul-entries

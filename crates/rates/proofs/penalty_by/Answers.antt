@@ -15,26 +15,26 @@ pub returns-then-hit : goal.returns-then-hit
 returns-then-hit c = target_hit _ _ _ _ _ _ (ap not c.if-not-eligible.false) c.if-hit.true
 
 pub returns-in_default : goal.returns-in_default
-returns-in_default c = no-product _ _ _ _ _ _ (ap not c.if-not-eligible.false) c.if-hit.false (says_overflow c.requires.1.0 (only-mul64 _ _) c.in_default.is).0
+returns-in_default c = no-product _ _ _ _ _ _ (ap not c.if-not-eligible.false) c.if-hit.false (says_overflow c.requires.says (only-mul64 _ _) c.in_default.is).0
 
 pub returns-then-score-eq0 : goal.returns-then-score-eq0
 returns-then-score-eq0 c =
     let a = c.requires in
-    none-charged _ _ _ _ _ _ (ap not c.if-not-eligible.false) c.if-hit.false (says-value a.1.0 c.in-Value.is) (product-divides a.0.0 a.0.1 a.1.0 c.in-Value.is) c.if-score-eq0.true
+    none-charged _ _ _ _ _ _ (ap not c.if-not-eligible.false) c.if-hit.false (says-value a.says c.in-Value.is) (product-divides a.bias_nonzero.0 a.bias_nonzero.1 a.says c.in-Value.is) c.if-score-eq0.true
 
 pub returns-then-most_score-score : goal.returns-then-most_score-score
-returns-then-most_score-score c = too_much _ _ _ _ _ _ (ap not c.if-not-eligible.false) c.if-hit.false (c.requires.1.1.over _ (omega arith) c.if-most_score-score.true)
+returns-then-most_score-score c = too_much _ _ _ _ _ _ (ap not c.if-not-eligible.false) c.if-hit.false (c.requires.most.over _ (omega arith) c.if-most_score-score.true)
 
 pub overflow_mul-penalty : goal.overflow_mul-penalty
-overflow_mul-penalty c = record { fits = c.requires.1.1.fits _ c.if-most_score-score.false }
+overflow_mul-penalty c = record { fits = c.requires.most.fits _ c.if-most_score-score.false }
 
 pub nonzero_div-penalty : goal.nonzero_div-penalty
 nonzero_div-penalty c =
     let a = c.requires in
-    let p = product-divides a.0.0 a.0.1 a.1.0 c.in-Value.is in
+    let p = product-divides a.bias_nonzero.0 a.bias_nonzero.1 a.says c.in-Value.is in
     omega (arith, p)
 
 pub returns : goal.returns
 returns c =
     let a = c.requires in
-    by_division _ _ _ _ _ _ (ap not c.if-not-eligible.false) c.if-hit.false (says-value a.1.0 c.in-Value.is) (a.1.1.fits _ c.if-most_score-score.false)
+    by_division _ _ _ _ _ _ (ap not c.if-not-eligible.false) c.if-hit.false (says-value a.says c.in-Value.is) (a.most.fits _ c.if-most_score-score.false)

@@ -23,11 +23,11 @@ returns-then-is_of c =
     let row = c.args.row.now in
     let test = c.is_of.ensures in
     record {
-      fits = c.requires.1.1.fits (is-told (get_or row 1 0) (get_or row 0 0) c.args.balance test c.if-is_of.true);
+      fits = c.requires.row_of.fits (is-told (get_or row 1 0) (get_or row 0 0) c.args.balance test c.if-is_of.true);
       same = is_same (get_or row 1 0) (get_or row 0 0) c.args.balance test c.if-is_of.true;
     }
 
 pub returns : goal.returns
 returns c =
     let made = c.rates_of-made.ensures in
-    subst (λ (row : List ℕ). RowFor c.args.s c.args.h c.args.source c.args.target c.args.head c.args.balance row) (sym c.put_rates.ensures) (record { fits = fits_each made.0; same = made.1 })
+    subst (λ (row : List ℕ). RowFor c.args.s c.args.h c.args.source c.args.target c.args.head c.args.balance row) (sym c.put_rates.ensures) (record { fits = fits_each made.fits; same = made.effective_balance_value })

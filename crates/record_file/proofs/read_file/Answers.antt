@@ -21,7 +21,7 @@ returns-then-tested-ne0 c =
     let finality = c.no_finality.ensures ∙ sym (ap (λ (k : Contents). k.finality) g.contents) in
     let registry = sym (ap (λ (k : Contents). k.registry) g.contents) in
     let slashings = sym (ap (λ (k : Contents). k.slashings) g.contents) in
-    (g.number, (t.place, (settings, (finality, (t.pair, (registry, slashings))))))
+    record { refusal_value = g.number; position_value = t.place; settings_value = settings; finality_value = finality; queue_value = t.pair; registry_after = registry; slashings_after = slashings }
 
 pub registry_at-from-requires : goal.registry_at-from-requires
 registry_at-from-requires c = (lengths (goal.at.registry_at-from-requires c).Else-tested-ne0).header
@@ -42,7 +42,7 @@ returns c =
     let finality = c.read_finality-finality.ensures ∙ sym (ap (λ (k : Contents). k.finality) g.contents) in
     let registry = (rw c.registry_at-from.ensures at c.read_numbers.ensures) ∙ registry-part l ∙ sym (ap (λ (k : Contents). k.registry) g.contents) in
     let slashings = c.read_numbers-2.ensures ∙ slashings-part l ∙ sym (ap (λ (k : Contents). k.slashings) g.contents) in
-    (g.number, (t.place, (settings, (finality, (t.pair, (registry, slashings))))))
+    record { refusal_value = g.number; position_value = t.place; settings_value = settings; finality_value = finality; queue_value = t.pair; registry_after = registry; slashings_after = slashings }
 
 pub read_settings-settings-requires : goal.read_settings-settings-requires
 read_settings-settings-requires c = omega (arith, lengths ((goal.at.read_settings-settings-requires c).Else-tested-ne0))

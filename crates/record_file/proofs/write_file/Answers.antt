@@ -9,7 +9,7 @@ use Rattle.record_file.proofs.write_file.Goals as goal
 pub returns-then-refusal-ne0 : goal.returns-then-refusal-ne0
 returns-then-refusal-ne0 c =
     let e = c.write_tests-refusal.ensures in
-    (e, write_refused _ _ _ e c.if-refusal-ne0.true)
+    record { value = e; file_after = write_refused _ _ _ e c.if-refusal-ne0.true }
 
 pub put_record-requires : goal.put_record-requires
 put_record-requires c =
@@ -20,4 +20,4 @@ pub returns : goal.returns
 returns c =
     let e = c.write_tests-refusal.ensures in
     let z = c.if-refusal-ne0.false in
-    (sym z ∙ e, c.put_record.ensures ∙ sym (is-file _ _ _ (passed _ e z)))
+    record { value = sym z ∙ e; file_after = c.put_record.ensures ∙ sym (is-file _ _ _ (passed _ e z)) }

@@ -10,4 +10,4 @@ pub returns-then-refusal-ne0 : goal.returns-then-refusal-ne0
 returns-then-refusal-ne0 c = let a = c.args in step-refused Churn a.stop a.s a.state_slot a.finalized_epoch a.queue a.opening.now a.closing.now c.step_tests-refusal.ensures c.if-refusal-ne0.true
 
 pub step_surveyed-requires : goal.step_surveyed-requires
-step_surveyed-requires c = (sym c.step_tests-refusal.ensures ∙ c.if-refusal-ne0.false, (blank-length 64 64 (omega arith), blank_part 64 64 (omega arith) (omega arith)))
+step_surveyed-requires c = record { closing_value = sym c.step_tests-refusal.ensures ∙ c.if-refusal-ne0.false; kept_len = (blank-length 64 64 (omega arith), blank_part 64 64 (omega arith) (omega arith)) }

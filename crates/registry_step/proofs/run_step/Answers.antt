@@ -5,7 +5,7 @@ use Rattle.registry_step.proofs.Run.{run-restored, run-done}
 use Rattle.registry_step.proofs.run_step.Goals as goal
 
 pub update_registry-done-requires : goal.update_registry-done-requires
-update_registry-done-requires c = (c.requires.0, (c.requires.1.0, ((c.requires.1.1.0.0, c.copy.ensures), c.requires.1.1.1)))
+update_registry-done-requires c = (c.requires.s_value, (c.requires.state_slot_bound, ((c.requires.opening_len.0, c.copy.ensures), c.requires.1.1.1)))
 
 pub returns-then-done-ne0 : goal.returns-then-done-ne0
 returns-then-done-ne0 c =

@@ -8,7 +8,7 @@ use Rattle.registry_step.proofs.step_surveyed.Goals.{Start}
 use Rattle.registry_step.proofs.step_surveyed.Goals as goal
 
 abbrev tested : (c : Start) → StepPassed c.args.stop c.args.s c.args.state_slot c.args.finalized_epoch c.args.opening.now c.args.closing.now
-tested c = let a = c.args in step-passed a.limit a.stop a.s a.state_slot a.finalized_epoch a.queue a.opening.now a.closing.now (sym c.requires.0) refl
+tested c = let a = c.args in step-passed a.limit a.stop a.s a.state_slot a.finalized_epoch a.queue a.opening.now a.closing.now (sym c.requires.closing_value) refl
 
 pub current_epoch-epoch-requires : goal.current_epoch-epoch-requires
 current_epoch-epoch-requires c = (tested (goal.at.current_epoch-epoch-requires c).Start).positive.slots_per_epoch
@@ -19,23 +19,23 @@ previous_epoch-previous-requires c = (tested (goal.at.previous_epoch-previous-re
 pub survey_registry-found-requires : goal.survey_registry-found-requires
 survey_registry-found-requires c =
     let p = tested ((goal.at.survey_registry-found-requires c).Start) in
-    (p.long, (omega (arith, (epochs _ _ p.good p.slot).small, c.current_epoch-epoch.ensures), c.requires.1))
+    record { registry_len = p.long; current_epoch_bound = omega (arith, (epochs _ _ p.good p.slot).small, c.current_epoch-epoch.ensures); kept_len = c.requires.kept_len }
 
 pub returns-then-refusal-ne0 : goal.returns-then-refusal-ne0
 returns-then-refusal-ne0 c =
     let a = c.args in
-    let e = found-tests a.limit a.stop a.s a.state_slot a.finalized_epoch a.queue a.opening.now a.closing.now (sym c.requires.0) refl c.survey_registry-found.ensures c.found_refusal-refusal.ensures in
+    let e = found-tests a.limit a.stop a.s a.state_slot a.finalized_epoch a.queue a.opening.now a.closing.now (sym c.requires.closing_value) refl c.survey_registry-found.ensures c.found_refusal-refusal.ensures in
     turned-away a.limit a.stop a.s a.state_slot a.finalized_epoch a.queue a.opening.now a.closing.now e c.if-refusal-ne0.true
 
 pub run_step-requires : goal.run_step-requires
 run_step-requires c =
     let a = c.args in
-    let e = found-tests a.limit a.stop a.s a.state_slot a.finalized_epoch a.queue a.opening.now a.closing.now (sym c.requires.0) refl c.survey_registry-found.ensures c.found_refusal-refusal.ensures in
+    let e = found-tests a.limit a.stop a.s a.state_slot a.finalized_epoch a.queue a.opening.now a.closing.now (sym c.requires.closing_value) refl c.survey_registry-found.ensures c.found_refusal-refusal.ensures in
     let p = tested (goal.at.run_step-requires c).Start in
-    (p.good, ((p.slot, p.finalized), ((p.long, p.same), (p.stops, (true_pair a.limit a.stop a.s a.state_slot a.finalized_epoch a.queue a.opening.now a.closing.now e c.if-refusal-ne0.false, rw (← c.current_epoch-epoch.ensures, ← c.previous_epoch-previous.ensures) c.survey_registry-found.ensures)))))
+    record { s_value = p.good; state_slot_bound = (p.slot, p.finalized); opening_len = (p.long, p.same); stop_in_bounds = p.stops; queue_value = true_pair a.limit a.stop a.s a.state_slot a.finalized_epoch a.queue a.opening.now a.closing.now e c.if-refusal-ne0.false; finds = rw (← c.current_epoch-epoch.ensures, ← c.previous_epoch-previous.ensures) c.survey_registry-found.ensures }
 
 pub returns : goal.returns
 returns c =
     let a = c.args in
-    let e = found-tests a.limit a.stop a.s a.state_slot a.finalized_epoch a.queue a.opening.now a.closing.now (sym c.requires.0) refl c.survey_registry-found.ensures c.found_refusal-refusal.ensures in
+    let e = found-tests a.limit a.stop a.s a.state_slot a.finalized_epoch a.queue a.opening.now a.closing.now (sym c.requires.closing_value) refl c.survey_registry-found.ensures c.found_refusal-refusal.ensures in
     step-ran a.limit a.stop a.s a.state_slot a.finalized_epoch a.queue a.opening.now a.closing.now e c.if-refusal-ne0.false c.run_step.ensures

@@ -17,7 +17,7 @@ previous_epoch-previous-requires c = rw c.settings_under-s.ensures (penalty-pass
 pub penalty_deltas-requires : goal.penalty_deltas-requires
 penalty_deltas-requires c =
     let p = penalty-passed _ _ _ c.penalty_tests-refusal.ensures c.if-refusal-ne0.false in
-    (rw c.settings_under-s.ensures p.settings.positive.inactivity_score_bias, (rw c.settings_under-s.ensures p.settings.positive.inactivity_penalty_quotient_altair, (p.long, c.mul64-product.ensures)))
+    record { inactivity_score_bias_nonzero = rw c.settings_under-s.ensures p.settings.positive.inactivity_score_bias; quotient_nonzero = rw c.settings_under-s.ensures p.settings.positive.inactivity_penalty_quotient_altair; len = p.long; says = c.mul64-product.ensures }
 
 pub returns : goal.returns
 unfolding get_inactivity_penalty_deltas

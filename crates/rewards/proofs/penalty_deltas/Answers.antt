@@ -17,7 +17,7 @@ pub returns-in_default-product : goal.returns-in_default-product
 returns-in_default-product c = search (rules, chain, penalty_miss) depth 9
 
 pub nonzero_div-penalty : goal.nonzero_div-penalty
-nonzero_div-penalty c = let a = c.requires in let p = product-divides a.0 a.1.0 a.1.1.1 c.in-Value-product.is in omega arith
+nonzero_div-penalty c = let a = c.requires in let p = product-divides a.inactivity_score_bias_nonzero a.quotient_nonzero a.says c.in-Value-product.is in omega arith
 
 pub returns : goal.returns
 returns c = search (rules, chain, penalty_miss) depth 9

@@ -11,7 +11,7 @@ loop-i-init c = checking-none _ (omega arith)
 pub entry_reward-refusal-requires : goal.entry_reward-refusal-requires
 entry_reward-refusal-requires c =
     let a = c.requires in
-    (a.0, (a.1.0, (a.1.1.0, checking-ten c.loop-i.invariant c.loop-i-test.true)))
+    record { shared_by = a.shared_by; inactivity_score_bias_nonzero = a.inactivity_score_bias_nonzero; says = a.says; len = checking-ten c.loop-i.invariant c.loop-i-test.true }
 
 pub returns-then-refusal-ne0 : goal.returns-then-refusal-ne0
 returns-then-refusal-ne0 c = checking-stop c.loop-i.invariant c.loop-i-test.true c.entry_reward-refusal.ensures c.if-refusal-ne0.true

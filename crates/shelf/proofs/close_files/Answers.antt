@@ -31,7 +31,7 @@ close_file-answer-requires c =
     let file = file-long _ _ _ _ _ g l in
     let most = each-longest c.args.lengths.now k.i l in
     let all = longest-drop c.args.lengths.now k.i in
-    (part-long _ _ _ _ _ g l ∙ sym file, (omega (arith, file, most, all, p.opening-room, k.invariant.1), omega (arith, file, most, all, p.closing-room, k.invariant.2)))
+    record { part_len = part-long _ _ _ _ _ g l ∙ sym file; file_len_bound = (omega (arith, file, most, all, p.opening-room, k.invariant.1), omega (arith, file, most, all, p.closing-room, k.invariant.2)) }
 
 pub loop-more-preserved : goal.loop-more-preserved
 loop-more-preserved c =

@@ -6,7 +6,6 @@ use lib.Dec.{ltb}
 use lib.ListN.{length, get_or}
 use Rattle.shelf.proofs.Lengths.{each-longest, longest-drop}
 use Rattle.shelf.proofs.Shelving.{Shelving, shelving-none, shelving-more, shelving-all, inside, file-long, part-long, shaped}
-use Rattle.shelf.proofs.close_files.Goals.{At-loop-more, In-loop-more}
 use Rattle.shelf.proofs.close_files.Given as goal
 
 abbrev pub invariant-loop-more : goal.invariant-loop-more

@@ -8,7 +8,7 @@ use Rattle.shelf.proofs.close_shelf.Goals as goal
 
 pub returns-then-not-shelf_shaped : goal.returns-then-not-shelf_shaped
 unfolding shelf_refusal answers_after closing_after
-returns-then-not-shelf_shaped c = let f = fails c.shelf_shaped.ensures (ap not c.if-not-shelf_shaped.true) in (rw f, (rw f, (rw f, (record { long = refl; unwritten = λ _. refl }, record { long = refl; unwritten = λ _. refl }))))
+returns-then-not-shelf_shaped c = let f = fails c.shelf_shaped.ensures (ap not c.if-not-shelf_shaped.true) in record { value = rw f; answers_after = rw f; closing_after = rw f; working = record { long = refl; unwritten = λ _. refl }; working_2 = record { long = refl; unwritten = λ _. refl } }
 
 pub close_files-requires : goal.close_files-requires
 close_files-requires c = passes c.shelf_shaped.ensures (ap not c.if-not-shelf_shaped.false)
@@ -19,4 +19,4 @@ returns c =
     let t = passes c.shelf_shaped.ensures (ap not c.if-not-shelf_shaped.false) in
     let f = c.close_files in
     let e = f.ensures in
-    (rw t, (rw t e.0, (rw t e.1, (record { long = f.kept.1.1.1.0; unwritten = λ n. absurd (n refl) }, record { long = f.kept.1.1.1.1.0; unwritten = λ n. absurd (n refl) }))))
+    record { value = rw t; answers_after = rw t e.0; closing_after = rw t e.1; working = record { long = f.kept.1.1.1.0; unwritten = λ n. absurd (n refl) }; working_2 = record { long = f.kept.1.1.1.1.0; unwritten = λ n. absurd (n refl) } }

@@ -35,34 +35,34 @@ counts c =
 
 -- the working lists have room
 counted : (c : After-read_counts-counts) → let n = c.read_counts-counts.result in let a = (start c.Else-not-on_shelf).args in Counted a.file.now (10 * n.validators) (10 * n.validators + n.slashings) a.opening-numbers.now
-counted c = let k = counts c in record { counts = k; room = omega (arith, counts-long k, k, c.requires.1.0) }
+counted c = let k = counts c in record { counts = k; room = omega (arith, counts-long k, k, c.requires.file_len_bound.0) }
 
 closing-room : (c : After-read_counts-counts) → 10 * c.read_counts-counts.result.validators ≤ length (start c.Else-not-on_shelf).args.closing-numbers.now
-closing-room c = let k = counts c in omega (arith, counts-long k, k, c.requires.1.1)
+closing-room c = let k = counts c in omega (arith, counts-long k, k, c.requires.file_len_bound.1)
 
 pub returns-then-not-on_shelf : goal.returns-then-not-on_shelf
 returns-then-not-on_shelf c =
     let f = off_shelf c.args.fork c.args.bellatrix c.args.file.now (fails c.on_shelf.ensures (ap not c.if-not-on_shelf.true)) c.args.part.now in
-    (f.number, f.part)
+    record { value = f.number; part_after = f.part }
 
 pub file_tests-refusal-requires : goal.file_tests-refusal-requires
 unfolding contents_of
-file_tests-refusal-requires c = (counted (goal.at.file_tests-refusal-requires c).Else-not-on_shelf, c.read_settings-settings.ensures)
+file_tests-refusal-requires c = record { counted = counted (goal.at.file_tests-refusal-requires c).Else-not-on_shelf; settings_value = c.read_settings-settings.ensures }
 
 pub returns-then-refusal-ne0 : goal.returns-then-refusal-ne0
 returns-then-refusal-ne0 c =
     let f = refused-tests c.args.fork c.args.bellatrix c.args.file.now c.file_tests-refusal.ensures c.if-refusal-ne0.true c.args.part.now in
-    (f.number, f.part)
+    record { value = f.number; part_after = f.part }
 
 pub slice_bounds-close_passed-end-2 : goal.slice_bounds-close_passed-end-2
 slice_bounds-close_passed-end-2 c = omega (arith, closing-room (goal.at.slice_bounds-close_passed-end-2 c).Else-not-on_shelf, length-take (10 * c.read_counts-counts.result.validators) c.args.closing_numbers.now)
 
 pub close_passed-requires : goal.close_passed-requires
 unfolding contents_of
-close_passed-requires c = (counted (goal.at.close_passed-requires c).Else-not-on_shelf, ((c.read_settings-settings.ensures, passed _ c.file_tests-refusal.ensures c.if-refusal-ne0.false), (length-take-le _ c.args.closing_numbers.now (closing-room (goal.at.close_passed-requires c).Else-not-on_shelf), c.requires.0)))
+close_passed-requires c = record { counted = counted (goal.at.close_passed-requires c).Else-not-on_shelf; settings_value = (c.read_settings-settings.ensures, passed _ c.file_tests-refusal.ensures c.if-refusal-ne0.false); closing_len = (length-take-le _ c.args.closing_numbers.now (closing-room (goal.at.close_passed-requires c).Else-not-on_shelf), c.requires.part_len) }
 
 pub returns : goal.returns
-returns c = let f = c.close_passed.ensures in (f.number, f.part)
+returns c = let f = c.close_passed.ensures in record { value = f.number; part_after = f.part }
 
 pub read_counts-counts-requires : goal.read_counts-counts-requires
 read_counts-counts-requires c = (good-header _ (head (goal.at.read_counts-counts-requires c).Else-not-on_shelf).0).enough

@@ -18,17 +18,17 @@ abbrev numbers : After-file_roots-roots → List ℕ
 numbers c = c.read_opening.new.1.1.1.0
 
 ordered : (c : Start) → c.args.a ≤ c.args.b
-ordered c = omega (arith, c.requires.0.counts)
+ordered c = omega (arith, c.requires.counted.counts)
 
 within : (c : After-file_roots-roots) → (start c).args.b ≤ length (numbers c)
-within c = omega (arith, c.requires.0.room, c.read_opening.auto)
+within c = omega (arith, c.requires.counted.room, c.read_opening.auto)
 
 read : (c : After-file_roots-roots) → let a = (start c).args in let at-read-finality = (opened c).before.before in FileRead a.rules a.file.now at-read-finality.before.settings-under.result at-read-finality.read-finality.result (take a.a (numbers c)) (numbers_behind a.a a.b (numbers c)) c.file_roots-roots.result.now
 unfolding contents_of
 read c =
     record {
-      tests = c.requires.1.0.1;
-      settings = c.requires.1.0.0;
+      tests = c.requires.settings_value.1;
+      settings = c.requires.settings_value.0;
       under = c.settings_under-s.ensures;
       finality = c.read_finality-finality.ensures;
       registry = c.read_opening.ensures.registry;
@@ -41,21 +41,21 @@ behind : (c : After-slashings_reset_core) → let at-file-roots = with-roots c.A
 behind c = behind-put _ _ _ _ (ordered c) (within c.After-slice_known-4-1) c.slashings_reset_core.auto.1.1.0
 
 pub close_opening-answer-requires : goal.close_opening-answer-requires
-close_opening-answer-requires c = ((ordered c, within (goal.at.close_opening-answer-requires c).After-slice_known-4-1, c.requires.1.1.0), read-tested (read (goal.at.close_opening-answer-requires c).After-slice_known-4-1))
+close_opening-answer-requires c = record { a_le_b = (ordered c, within (goal.at.close_opening-answer-requires c).After-slice_known-4-1, c.requires.closing_len.0); tested = read-tested (read (goal.at.close_opening-answer-requires c).After-slice_known-4-1) }
 
 pub returns-then-answer-ne0 : goal.returns-then-answer-ne0
-returns-then-answer-ne0 c = put_refused (read (goal.at.returns-then-answer-ne0 c).After-slice_known-4-1) c.close_opening-answer.ensures (λ z. omega (arith, z, c.if-answer-ne0.true)) _ (c.put_bytes.ensures ∙ sets-whole c.args.part.now c.args.file.now (sym c.requires.1.1.1))
+returns-then-answer-ne0 c = put_refused (read (goal.at.returns-then-answer-ne0 c).After-slice_known-4-1) c.close_opening-answer.ensures (λ z. omega (arith, z, c.if-answer-ne0.true)) _ (c.put_bytes.ensures ∙ sets-whole c.args.part.now c.args.file.now (sym c.requires.closing_len.1))
 
 pub put_closed-requires : goal.put_closed-requires
 put_closed-requires c =
     let p = c.requires in
-    ((ordered c, omega (arith, within (goal.at.put_closed-requires c).After-read_opening, c.numbers-2-1.given)), sized (read (goal.at.put_closed-requires c).After-read_opening) (c.closing-1.given ∙ p.1.1.0 ∙ p.0.counts.registry) (ap length (behind (goal.at.put_closed-requires c).After-after-1) ∙ c.slashings_reset_core.auto.1.1.0) p.1.1.1)
+    record { a_le_b = (ordered c, omega (arith, within (goal.at.put_closed-requires c).After-read_opening, c.numbers-2-1.given)); sized = sized (read (goal.at.put_closed-requires c).After-read_opening) (c.closing-1.given ∙ p.closing_len.0 ∙ p.counted.counts.registry) (ap length (behind (goal.at.put_closed-requires c).After-after-1) ∙ c.slashings_reset_core.auto.1.1.0) p.closing_len.1 }
 
 pub returns : goal.returns
 returns c = put-done (read (goal.at.returns c).After-read_opening) c.close_opening-answer.ensures (omega (arith, c.if-answer-ne0.false)) _ (behind (goal.at.returns c).After-after-1 ∙ c.slashings_reset_core.ensures) c.put_closed.ensures
 
 pub read_finality-finality-requires : goal.read_finality-finality-requires
-read_finality-finality-requires c = omega (arith, counts-long c.requires.0.counts)
+read_finality-finality-requires c = omega (arith, counts-long c.requires.counted.counts)
 
 pub put_bytes-requires : goal.put_bytes-requires
 put_bytes-requires c = omega (arith, (start (goal.at.put_bytes-requires c).After-slice_known-4-1).requires.1.1.1)

@@ -14,8 +14,8 @@ slice_bounds-read_tests-end c = omega (arith, length-take c.args.a c.args.number
 pub returns : goal.returns
 returns c =
     let a = c.args in
-    let p = c.requires.0 in
+    let p = c.requires.counted in
     let k = p.counts in
     let t = c.read_tests-tested in
-    let e = c.rules_refusal.ensures ∙ ap (λ (r : Rules). rules_refusal r t.result.refusal) (same-rules a.rules.fork a.rules.bellatrix a.file.now a.rules c.requires.1 refl refl) in
+    let e = c.rules_refusal.ensures ∙ ap (λ (r : Rules). rules_refusal r t.result.refusal) (same-rules a.rules.fork a.rules.bellatrix a.file.now a.rules c.requires.settings_value refl refl) in
     tested a.rules.fork a.rules.bellatrix a.file.now k.header k.second _ _ (front_length p ∙ k.registry) (behind-length p) e t.ensures.number

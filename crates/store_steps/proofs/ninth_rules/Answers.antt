@@ -10,7 +10,7 @@ returns-then-refusal-ne0 c = c.turned_away.ensures ∙ with-refused _ _ _ _ _ _ 
 pub rules_at_slot-requires : goal.rules_at_slot-requires
 rules_at_slot-requires c =
     let p = with-passed _ _ _ _ _ _ c.ninth_tests-refusal.ensures c.if-refusal-ne0.false in
-    (p.shape.fits, p.entries-good)
+    record { n_in_bounds = p.shape.fits; store_value = p.entries-good }
 
 pub returns : goal.returns
 returns c = c.rules_at_slot.ensures ∙ ap rules_answer_for (sym (with-rules _ _ _ _ _ _ c.ninth_tests-refusal.ensures _ c.if-refusal-ne0.false))

@@ -11,7 +11,7 @@ fewer c =
     omega (arith, c.loop-i-test.true, c.well_formed.1.1.1.0.0)
 
 pub loop-i-init : goal.loop-i-init
-loop-i-init c = rw (c.no_sums.ensures, c.no_overs.ensures) (seeing_none _ _ _ c.requires.0 c.requires.1.1.0 c.requires.1.1.1)
+loop-i-init c = rw (c.no_sums.ensures, c.no_overs.ensures) (seeing_none _ _ _ c.requires.registry_len c.requires.kept_len.0 c.requires.kept_len.1)
 
 pub survey_entry-found-requires : goal.survey_entry-found-requires
 survey_entry-found-requires c =

@@ -9,7 +9,7 @@ returns-then-refusal-ne0 c = says-refused _ c.slot_registry_tests-refusal.ensure
 pub charged_count-count-requires : goal.charged_count-count-requires
 charged_count-count-requires c =
     let passed = slot_registry_passed _ _ _ c.slot_registry_tests-refusal.ensures c.if-refusal-ne0.false in
-    (passed.shape.long, passed.positive.slots_per_epoch)
+    record { registry_len = passed.shape.long; slots_per_epoch_nonzero = passed.positive.slots_per_epoch }
 
 pub returns : goal.returns
 returns c = says_plain _ c.slot_registry_tests-refusal.ensures c.if-refusal-ne0.false c.charged_count-count.ensures

@@ -14,7 +14,7 @@ current_epoch-current-requires c = (participation_passed _ _ _ _ _ c.participati
 pub participating_total-requires : goal.participating_total-requires
 participating_total-requires c =
     let p = participation_passed _ _ _ _ _ c.participation_tests-refusal.ensures c.if-refusal-ne0.false in
-    (p.others.shape.long, omega (arith, p.flag))
+    record { registry_len = p.others.shape.long; flag_index_bound = omega (arith, p.flag) }
 
 pub returns : goal.returns
 unfolding get_unslashed_participating_indices

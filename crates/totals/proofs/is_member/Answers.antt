@@ -2,7 +2,7 @@ use borrow.Author.Rules.{rules}
 use Rattle.totals.proofs.is_member.Goals as goal
 
 pub entry_is_participating-requires : goal.entry_is_participating-requires
-entry_is_participating-requires c = (c.requires.0, rw c.in-Participating.is at c.requires.1)
+entry_is_participating-requires c = record { len = c.requires.len; flag_index_bound = rw c.in-Participating.is at c.requires.members_bound }
 
 pub returns-in-Active : goal.returns-in-Active
 returns-in-Active c = rw c.in-Active.is c.entry_is_active.ensures

@@ -7,10 +7,10 @@ use Rattle.totals.proofs.Sums.{weight, balance-summed, balance-over}
 use Rattle.totals.proofs.members_balance.Goals as goal
 
 pub loop-i-init : goal.loop-i-init
-loop-i-init c = summed-none _ c.requires.0
+loop-i-init c = summed-none _ c.requires.registry_len
 
 pub member_weight-weight-requires : goal.member_weight-weight-requires
-member_weight-weight-requires c = (reading_ten c.loop-i.invariant.at c.loop-i-test.true, c.requires.1)
+member_weight-weight-requires c = record { len = reading_ten c.loop-i.invariant.at c.loop-i-test.true; members_bound = c.requires.members_bound }
 
 pub returns-then-sum-weight : goal.returns-then-sum-weight
 returns-then-sum-weight c = balance-over _ c.loop-i.invariant c.loop-i-test.true c.member_weight-weight.ensures (omega arith)

@@ -9,10 +9,10 @@ use mathlib.Core.Bool.{not}
 use Rattle.totals.proofs.members_count.Goals as goal
 
 pub loop-i-init : goal.loop-i-init
-loop-i-init c = counted_none _ c.requires.0
+loop-i-init c = counted_none _ c.requires.registry_len
 
 pub is_member-requires : goal.is_member-requires
-is_member-requires c = (reading_ten c.loop-i.invariant.at c.loop-i-test.true, c.requires.1)
+is_member-requires c = record { len = reading_ten c.loop-i.invariant.at c.loop-i-test.true; members_bound = c.requires.members_bound }
 
 pub loop-i-preserved-then-not-is_member : goal.loop-i-preserved-then-not-is_member
 loop-i-preserved-then-not-is_member c = counted-no c.loop-i.invariant c.loop-i-test.true c.is_member.ensures (not-true _ (ap not c.if-not-is_member.true))

@@ -5,16 +5,16 @@ use Rattle.validator_exit.proofs.InPlace.{starts-few, pair-few, leaves-known, le
 use Rattle.validator_exit.proofs.exit_in_place.Goals as goal
 
 pub returns-then-registry-at : goal.returns-then-registry-at
-returns-then-registry-at c = leaves-known _ _ _ _ _ _ c.requires.0.0 c.requires.0.1 c.requires.0.2 c.requires.1 c.if-registry-at.true
+returns-then-registry-at c = leaves-known _ _ _ _ _ _ c.requires.registry_len.0 c.requires.registry_len.1 c.requires.registry_len.2 c.requires.queue_value c.if-registry-at.true
 
 pub exit_entry-turn-requires : goal.exit_entry-turn-requires
-exit_entry-turn-requires c = (entry-ten _ _ _ c.requires.0.0 c.requires.0.1, rw c.start_pair-start.ensures (omega (arith, starts-few _ 0 0 _ _ _ c.requires.0.0 c.requires.0.1 c.requires.0.2 c.requires.1)))
+exit_entry-turn-requires c = (entry-ten _ _ _ c.requires.registry_len.0 c.requires.registry_len.1, rw c.start_pair-start.ensures (omega (arith, starts-few _ 0 0 _ _ _ c.requires.registry_len.0 c.requires.registry_len.1 c.requires.registry_len.2 c.requires.queue_value)))
 
 pub returns-then-refusal-ne0 : goal.returns-then-refusal-ne0
-returns-then-refusal-ne0 c = leaves-refused _ _ _ _ _ _ c.requires.0.0 c.requires.0.1 c.requires.0.2 c.requires.1 c.start_pair-start.ensures c.exit_entry-turn.ensures c.if-refusal-ne0.true
+returns-then-refusal-ne0 c = leaves-refused _ _ _ _ _ _ c.requires.registry_len.0 c.requires.registry_len.1 c.requires.registry_len.2 c.requires.queue_value c.start_pair-start.ensures c.exit_entry-turn.ensures c.if-refusal-ne0.true
 
 pub exited-moved-requires : goal.exited-moved-requires
-exited-moved-requires c = omega (arith, pair-few _ 0 0 _ _ _ c.requires.0.0 c.requires.0.1 c.requires.0.2 c.requires.1)
+exited-moved-requires c = omega (arith, pair-few _ 0 0 _ _ _ c.requires.registry_len.0 c.requires.registry_len.1 c.requires.registry_len.2 c.requires.queue_value)
 
 pub returns : goal.returns
-returns c = leaves-written _ _ _ _ _ _ c.requires.0.0 c.requires.0.1 c.requires.0.2 c.requires.1 c.start_pair-start.ensures c.exit_entry-turn.ensures c.if-registry-at.false c.if-refusal-ne0.false (omega arith) c.exited-moved.ensures
+returns c = leaves-written _ _ _ _ _ _ c.requires.registry_len.0 c.requires.registry_len.1 c.requires.registry_len.2 c.requires.queue_value c.start_pair-start.ensures c.exit_entry-turn.ensures c.if-registry-at.false c.if-refusal-ne0.false (omega arith) c.exited-moved.ensures

@@ -40,7 +40,7 @@ exit_in_place-turn-requires c =
     let a = c.args in
     let e = seen-code a.s a.state_slot a.index a.queue a.registry.now c.shape_tests-shaped.ensures c.if-shaped-ne0.false c.see_registry-seen.ensures c.found_refusal-tested.ensures in
     let p = all-passed a.s a.state_slot a.index a.queue a.registry.now e c.if-tested-ne0.false in
-    ((p.others.shape.long, p.known, omega (arith, least-real a.s a.state_slot a.index a.queue a.registry.now e c.if-tested-ne0.false, c.current_epoch-epoch.ensures)), (both-passed a.s a.state_slot a.index a.queue a.registry.now e c.if-tested-ne0.false).queue)
+    record { registry_len = (p.others.shape.long, p.known, omega (arith, least-real a.s a.state_slot a.index a.queue a.registry.now e c.if-tested-ne0.false, c.current_epoch-epoch.ensures)); queue_value = (both-passed a.s a.state_slot a.index a.queue a.registry.now e c.if-tested-ne0.false).queue }
 
 pub returns : goal.returns
 returns c =

@@ -43,7 +43,7 @@ pub count_votes-requires : goal.count_votes-requires
 count_votes-requires c =
     let e = begun (goal.at.count_votes-requires c).After-epoch_lookup-before in
     let p = votes-passed _ _ _ _ _ e.before.before.before.before.before.pre in
-    (p.shape.long, (p.marked, previous-earlier _ _ e.before.current_epoch.ensures c.previous_epoch-previous.ensures e.if1.left))
+    record { registry_len = p.shape.long; marks_len = p.marked; previous_epoch_lt_current_epoch = previous-earlier _ _ e.before.current_epoch.ensures c.previous_epoch-previous.ensures e.if1.left }
 
 pub returns-in_default : goal.returns-in_default
 returns-in_default c =
@@ -54,7 +54,7 @@ pub weigh_votes-requires : goal.weigh_votes-requires
 weigh_votes-requires c =
     let e = begun (first ((goal.at.weigh_votes-requires c).After-epoch_lookup-now)) in
     let p = (votes-passed _ _ _ _ _ e.before.before.before.before.before.pre).finality in
-    (p.bits, (p.previous, p.current))
+    record { justification_bits_bound = p.bits; previous_justified_checkpoint_bound = (p.previous, p.current) }
 
 pub returns : goal.returns
 returns c =

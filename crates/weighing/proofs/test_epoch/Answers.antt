@@ -22,10 +22,10 @@ returns-then-refusal-ne0 c = test-refused _ _ _ _ _ _ (answers-value tells_truth
 pub epoch_root-requires : goal.epoch_root-requires
 epoch_root-requires c =
     let g = given (get_block_root _ _ _ _) c.epoch_lookup-refusal.ensures c.if-refusal-ne0.false in
-    (c.requires.0, (c.requires.1, (epoch-value _ _ _ _ g.is).fits))
+    record { roots_len = c.requires.roots_len; slots_per_historical_root_nonzero = c.requires.slots_per_historical_root_nonzero; slots_per_epoch_bound = (epoch-value _ _ _ _ g.is).fits }
 
 pub root_copy-root-requires : goal.root_copy-root-requires
-root_copy-root-requires c = rw c.epoch_root.ensures (root-long _ _ _ c.requires.0 c.requires.1)
+root_copy-root-requires c = rw c.epoch_root.ensures (root-long _ _ _ c.requires.roots_len c.requires.slots_per_historical_root_nonzero)
 
 pub returns : goal.returns
 returns c =

@@ -8,10 +8,10 @@ use Rattle.write_pass.proofs.write_all.Goals as goal
 pub write_by-passed-requires : goal.write_by-passed-requires
 write_by-passed-requires c =
     let a = c.requires in
-    (a.0, (table_none _ _ _ _ _, (a.1.0, (a.1.1.0, omega arith, a.1.1.1))))
+    record { planned = a.planned; table_for = table_none _ _ _ _ _; opening_len = a.opening_len; current_epoch_bound = (a.current_epoch_bound.0, omega arith, a.current_epoch_bound.1) }
 
 pub returns : goal.returns
 returns c =
     let a = c.args in
     let h = c.write_by-passed.ensures in
-    (altair-ran a.s a.p a.t (record { epoch = 0; finalized_epoch = 0; least = 0; limit = 0; delay = 0; min_activation_balance = 0; ejection_balance = 0 }) (record { queue = a.first; left = a.quota; churn = record { exit_balance_to_consume = 0; earliest_exit_epoch = 0 } }) (decode a.opening.now) h.0, h.1)
+    (altair-ran a.s a.p a.t (record { epoch = 0; finalized_epoch = 0; least = 0; limit = 0; delay = 0; min_activation_balance = 0; ejection_balance = 0 }) (record { queue = a.first; left = a.quota; churn = record { exit_balance_to_consume = 0; earliest_exit_epoch = 0 } }) (decode a.opening.now) h.swept, h.1)

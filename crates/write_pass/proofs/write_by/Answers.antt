@@ -23,10 +23,10 @@ part_end c =
     passing_room at-in-loop.before.loop.inv at-in-loop.loop-test.taken c.write_entry-written.ensures c.if-refusal-ne0.false (ten c.After-write_entry-written)
 
 pub loop-i-init : goal.loop-i-init
-loop-i-init c = passing_none _ _ _ _ _ (omega (arith, c.requires.1.1.0)) (omega (arith, c.requires.1.1.0)) c.requires.1.0 (omega (arith, c.requires.1.1.0, c.well_formed.1.1.1.1.1.1.0))
+loop-i-init c = passing_none _ _ _ _ _ (omega (arith, c.requires.opening_len)) (omega (arith, c.requires.opening_len)) c.requires.table_for (omega (arith, c.requires.opening_len, c.well_formed.1.1.1.1.1.1.0))
 
 pub rates_in-rates-requires : goal.rates_in-rates-requires
-rates_in-rates-requires c = (c.requires.0.shared, c.loop-i.invariant.told)
+rates_in-rates-requires c = record { shared_by = c.requires.planned.shared; table_of = c.loop-i.invariant.told }
 
 pub write_entry-written-requires : goal.write_entry-written-requires
 write_entry-written-requires c =
@@ -34,7 +34,7 @@ write_entry-written-requires c =
     let l = c.loop-i-test.true in
     let a = c.requires in
     let told = c.rates_in-rates.ensures.1 in
-    (a.0, (record { fits = told.0; same = told.1 ∙ sym (passing_balance g l) }, ((passing_from g l, passing_to g l), (a.1.1.1.0, a.1.1.1.1, passing_few g l a.1.1.1.2))))
+    record { planned = a.planned; rates_for = record { fits = told.0; same = told.1 ∙ sym (passing_balance g l) }; from_len = (passing_from g l, passing_to g l); current_epoch_bound = (a.current_epoch_bound.0, a.current_epoch_bound.1, passing_few g l a.current_epoch_bound.2) }
 
 pub shape_of-closing-then-refusal-ne0 : goal.shape_of-closing-then-refusal-ne0
 shape_of-closing-then-refusal-ne0 c =
@@ -42,7 +42,7 @@ shape_of-closing-then-refusal-ne0 c =
     omega (arith, ten (goal.at.shape_of-closing-then-refusal-ne0 c).After-write_entry-written, inside (turn (goal.at.shape_of-closing-then-refusal-ne0 c).After-write_entry-written), at-loop.loop.inv.writing.long, at-loop.loop.inv.writing.at.long, at-loop.before.before.before.before.before.pre.1.1.0)
 
 pub shape_of-table-then-refusal-ne0 : goal.shape_of-table-then-refusal-ne0
-shape_of-table-then-refusal-ne0 c = c.rates_in-rates.ensures.0.long ∙ sym (start (turn (goal.at.shape_of-table-then-refusal-ne0 c).After-write_entry-written).before).pre.1.0.long
+shape_of-table-then-refusal-ne0 c = c.rates_in-rates.ensures.table_of_2.long ∙ sym (start (turn (goal.at.shape_of-table-then-refusal-ne0 c).After-write_entry-written).before).pre.1.0.long
 
 pub returns-then-refusal-ne0 : goal.returns-then-refusal-ne0
 returns-then-refusal-ne0 c =
@@ -56,13 +56,13 @@ book_entry-requires c =
     let l = at-in-loop.loop-test.taken in
     let w = c.write_entry-written.ensures in
     let z = c.if-refusal-ne0.false in
-    (at-in-loop.before.before.before.before.before.before.pre.0, (w.answer z, ((passing_from g l, passing_ten g l w z (ten (goal.at.book_entry-requires c).After-write_entry-arg-1), omega (arith, inside at-in-loop)), passing_between g l w z (ten (goal.at.book_entry-requires c).After-write_entry-arg-1))))
+    record { planned = at-in-loop.before.before.before.before.before.before.pre.0; answer_for = w.answer z; from_len = (passing_from g l, passing_ten g l w z (ten (goal.at.book_entry-requires c).After-write_entry-arg-1), omega (arith, inside at-in-loop)); between = passing_between g l w z (ten (goal.at.book_entry-requires c).After-write_entry-arg-1) }
 
 pub loop-i-preserved : goal.loop-i-preserved
 loop-i-preserved c =
     let at-in-loop = turn (goal.at.loop-i-preserved c).After-write_entry-arg-1 in
     let b = c.book_entry in
-    passing_more at-in-loop.before.loop.inv at-in-loop.loop-test.taken c.write_entry-written.ensures c.if-refusal-ne0.false (ten (goal.at.loop-i-preserved c).After-write_entry-arg-1) c.rates_in-rates.ensures.0 b.auto.1.1.1.1.1.1.0 b.ensures c.exited-pair.ensures
+    passing_more at-in-loop.before.loop.inv at-in-loop.loop-test.taken c.write_entry-written.ensures c.if-refusal-ne0.false (ten (goal.at.loop-i-preserved c).After-write_entry-arg-1) c.rates_in-rates.ensures.table_of_2 b.auto.1.1.1.1.1.1.0 b.ensures c.exited-pair.ensures
 
 pub bounds-closing-i : goal.bounds-closing-i
 bounds-closing-i c =
@@ -73,7 +73,7 @@ pub exited-pair-requires : goal.exited-pair-requires
 exited-pair-requires c = let at-in-loop = turn (written (goal.at.exited-pair-requires c).Else-refusal-ne0) in passing_pair_few at-in-loop.before.loop.inv at-in-loop.loop-test.taken
 
 pub returns : goal.returns
-returns c = let g = c.loop-i.invariant in let l = c.loop-i-test.false in (passing_all g l, (passing_filled g l (omega (arith, g.writing.at.long)), passing_pair g l))
+returns c = let g = c.loop-i.invariant in let l = c.loop-i-test.false in record { swept = passing_all g l; fills = passing_filled g l (omega (arith, g.writing.at.long)); pair_of = passing_pair g l }
 
 pub overflow_mul-a : goal.overflow_mul-a
 overflow_mul-a c = omega (arith, inside (goal.at.overflow_mul-a c).In-loop-i)
@@ -148,10 +148,10 @@ pub loop-i-smaller : goal.loop-i-smaller
 loop-i-smaller c = omega (arith, (turn (written (goal.at.loop-i-smaller c).Else-refusal-ne0)).loop-test.taken)
 
 pub shape_of-closing : goal.shape_of-closing
-shape_of-closing c = omega (arith, c.loop-i.invariant.writing.long, c.loop-i.invariant.writing.at.long, c.requires.1.1.0)
+shape_of-closing c = omega (arith, c.loop-i.invariant.writing.long, c.loop-i.invariant.writing.at.long, c.requires.opening_len)
 
 pub shape_of-amounts : goal.shape_of-amounts
 shape_of-amounts c = c.loop-i.invariant.kept
 
 pub shape_of-table : goal.shape_of-table
-shape_of-table c = c.loop-i.invariant.told.long ∙ sym c.requires.1.0.long
+shape_of-table c = c.loop-i.invariant.told.long ∙ sym c.requires.table_for.long

@@ -8,10 +8,10 @@ use Rattle.write_pass.proofs.write_later.Goals as goal
 pub write_by-passed-requires : goal.write_by-passed-requires
 write_by-passed-requires c =
     let a = c.requires in
-    (a.0, (table_none _ _ _ _ _, (a.1.0, (a.1.1.0, a.1.1.1, omega arith))))
+    record { planned = a.planned; table_for = table_none _ _ _ _ _; opening_len = a.opening_len; current_epoch_bound = (a.current_epoch_bound.0, a.current_epoch_bound.1, omega arith) }
 
 pub returns : goal.returns
 returns c =
     let a = c.args in
     let h = c.write_by-passed.ensures in
-    (later_swept a.s a.p (record { limit = 0; finalized_epoch = 0; bound = 0; activation_epoch = 0 }) a.e (record { queue = record { last_epoch = 0; number = 0 }; left = 0; churn = a.churn }) (decode a.opening.now) h.0, h.1.0)
+    record { swept = later_swept a.s a.p (record { limit = 0; finalized_epoch = 0; bound = 0; activation_epoch = 0 }) a.e (record { queue = record { last_epoch = 0; number = 0 }; left = 0; churn = a.churn }) (decode a.opening.now) h.swept; fills = h.fills }

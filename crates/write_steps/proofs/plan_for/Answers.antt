@@ -33,7 +33,7 @@ returns-in_default-hysteresis c = plan_lacks (no_thresholds (answers_overflow te
 pub make_plan-p-requires : goal.make_plan-p-requires
 make_plan-p-requires c =
     let p = (good-settings _ c.requires.0).positive in
-    ((p.effective_balance_increment, c.requires.1), (p.inactivity_score_bias, p.inactivity_penalty_quotient_altair))
+    record { effective_balance_increment_nonzero = (p.effective_balance_increment, c.requires.1); inactivity_score_bias_nonzero = (p.inactivity_score_bias, p.inactivity_penalty_quotient_altair) }
 
 pub returns : goal.returns
 returns c =

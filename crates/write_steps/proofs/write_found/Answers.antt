@@ -15,7 +15,7 @@ use Rattle.write_steps.proofs.write_found.Goals.{After-current_epoch-current, St
 use Rattle.write_steps.proofs.write_found.Goals as goal
 
 ep : (c : Start) → Epochs c.args.s c.args.state_slot
-ep c = epochs c.args.s c.args.state_slot c.requires.0.0 c.requires.0.1
+ep c = epochs c.args.s c.args.state_slot c.requires.s_value.0 c.requires.s_value.1
 
 abbrev Accepted-at : Start → Type 0
 Accepted-at c = Accepted c.args.s c.args.state_slot c.args.finalized_epoch c.args.slashings.now (decode c.args.opening.now)
@@ -24,29 +24,29 @@ current-small : (c : After-current_epoch-current) → c.current_epoch-current.re
 current-small c = rw c.current_epoch-current.ensures (ep c.Start).small
 
 pub plan_for-requires : goal.plan_for-requires
-plan_for-requires c = (c.requires.0.0, total-least _ _ c.requires.1.1.totals.active)
+plan_for-requires c = (c.requires.s_value.0, total-least _ _ c.requires.found.totals.active)
 
 pub returns-in_default : goal.returns-in_default
 returns-in_default c =
     let lacks = c.plan_for.ensures.none _ c.in_default.is in
-    (record { under = λ by cut. ran_overflow (not_accepted by _ _ _ (ep (goal.at.returns-in_default c).Start) _ _ (λ (g : Accepted-at (goal.at.returns-in_default c).Start). none_lacks g lacks)) }, (record { booked = λ z. absurd (omega (arith, z)) }, record { pair = λ z. absurd (omega (arith, z)) }))
+    record { ran_under = record { under = λ by cut. ran_overflow (not_accepted by _ _ _ (ep (goal.at.returns-in_default c).Start) _ _ (λ (g : Accepted-at (goal.at.returns-in_default c).Start). none_lacks g lacks)) }; books = record { booked = λ z. absurd (omega (arith, z)) }; pair_of = record { pair = λ z. absurd (omega (arith, z)) } }
 
 pub current_epoch-current-requires : goal.current_epoch-current-requires
-current_epoch-current-requires c = (good-settings _ c.requires.0.0).positive.slots_per_epoch
+current_epoch-current-requires c = (good-settings _ c.requires.s_value.0).positive.slots_per_epoch
 
 pub overflow_add-course-2 : goal.overflow_add-course-2
-overflow_add-course-2 c = omega (arith, current-small (goal.at.overflow_add-course-2 c).After-current_epoch-current, (good-settings _ c.requires.0.0).small.max_seed_lookahead)
+overflow_add-course-2 c = omega (arith, current-small (goal.at.overflow_add-course-2 c).After-current_epoch-current, (good-settings _ c.requires.s_value.0).small.max_seed_lookahead)
 
 pub write_all-requires : goal.write_all-requires
 write_all-requires c =
     let m = (c.plan_for.ensures.given _ c.in-Value.is).makes in
-    (m.planned, (c.requires.1.0, (rw m.is (ep (goal.at.write_all-requires c).Start).small, queue-few c.args.opening.now c.requires.1.0.0 c.requires.1.1.queue)))
+    record { planned = m.planned; opening_len = c.requires.opening_len; current_epoch_bound = (rw m.is (ep (goal.at.write_all-requires c).Start).small, queue-few c.args.opening.now c.requires.opening_len.0 c.requires.found.queue) }
 
 pub returns : goal.returns
 returns c =
     let by = c.plan_for.ensures.given _ c.in-Value.is in
     let wrote = c.write_all.ensures in
-    (steps-run (ep (goal.at.returns c).Start) c.args.slashings.now _ c.requires.1.1 refl (rw c.current_epoch-current.ensures refl) by wrote.0, (record { booked = λ z long. record { totals = c.args.totals; plan = _; summed = c.requires.1.1.totals; planned = by; filled = wrote.1.0.filled z long } }, wrote.1.1))
+    record { ran_under = steps-run (ep (goal.at.returns c).Start) c.args.slashings.now _ c.requires.found refl (rw c.current_epoch-current.ensures refl) by wrote.ran; books = record { booked = λ z long. record { totals = c.args.totals; plan = _; summed = c.requires.found.totals; planned = by; filled = wrote.fills.filled z long } }; pair_of = wrote.pair_of }
 
 pub overflow_add-course : goal.overflow_add-course
 overflow_add-course c = omega (arith, current-small (goal.at.overflow_add-course c).After-current_epoch-current)

@@ -6,7 +6,7 @@ use borrow.Author.Rules.{rules}
 use Rattle.write_turn.proofs.entry_pay.Goals as goal
 
 pub returns-then-h-eq0 : goal.returns-then-h-eq0
-returns-then-h-eq0 c = record { runs = pays-none c.args.s c.args.p c.requires.1.0 (omega (arith, c.if-h-eq0.true)); answer = λ z. record { says = λ n x e. absurd (n (omega (arith, c.if-h-eq0.true))) } }
+returns-then-h-eq0 c = record { runs = pays-none c.args.s c.args.p c.requires.len (omega (arith, c.if-h-eq0.true)); answer = λ z. record { says = λ n x e. absurd (n (omega (arith, c.if-h-eq0.true))) } }
 
 pub returns-then-scored-ne0 : goal.returns-then-scored-ne0
 returns-then-scored-ne0 c =
@@ -18,14 +18,14 @@ returns-then-scored-ne0 c =
 pub entry_reward_by-rewarded-requires : goal.entry_reward_by-rewarded-requires
 entry_reward_by-rewarded-requires c =
     let a = c.requires in
-    let rates = a.1.1 in
-    (a.0.shared, ((a.0.bias, a.0.quotient), (a.0.product, (c.entry_update_score-scored.kept.1.1.1.1.0 ∙ a.1.0, (rates.fits, rates.same ∙ sym (balance-scored _ _ _ _ c.entry_update_score-scored.ensures))))))
+    let rates = a.rates_for in
+    record { shared_by = a.planned.shared; inactivity_score_bias_nonzero = (a.planned.bias, a.planned.quotient); says = a.planned.product; len = c.entry_update_score-scored.kept.1.1.1.1.0 ∙ a.len; fits = rates.fits; effective_balance_value = rates.same ∙ sym (balance-scored _ _ _ _ c.entry_update_score-scored.ensures) }
 
 pub returns : goal.returns
 returns c =
     let scored = settles-runs c.entry_update_score-scored.ensures in
     let rewarded = c.entry_reward_by-rewarded.ensures in
     record {
-      runs = pays-some c.args.s c.args.p (λ z. omega (arith, c.if-h-eq0.false)) (runs_then _ scored (omega (arith, c.if-scored-ne0.false)) (settles-runs rewarded.0));
-      answer = λ z. answer-scored c.args.s c.args.p scored rewarded.1;
+      runs = pays-some c.args.s c.args.p (λ z. omega (arith, c.if-h-eq0.false)) (runs_then _ scored (omega (arith, c.if-scored-ne0.false)) (settles-runs rewarded.settles));
+      answer = λ z. answer-scored c.args.s c.args.p scored rewarded.says_pairs;
     }

@@ -6,7 +6,7 @@ use borrow.Author.Rules.{rules}
 use Rattle.write_turn.proofs.write_entry.Goals as goal
 
 pub entry_pay-paid-requires : goal.entry_pay-paid-requires
-entry_pay-paid-requires c = let a = c.requires in (a.0, (search rules, rw c.copy_entry.ensures a.1.0))
+entry_pay-paid-requires c = let a = c.requires in record { planned = a.planned; len = search rules; rates_for = rw c.copy_entry.ensures a.rates_for }
 
 pub returns-then-paid-ne0 : goal.returns-then-paid-ne0
 returns-then-paid-ne0 c =
@@ -17,7 +17,7 @@ returns-then-paid-ne0 c =
 pub entry_turn-turned-requires : goal.entry_turn-turned-requires
 entry_turn-turned-requires c =
     let a = c.requires in
-    (a.0, (c.entry_pay-paid.kept.1.1.1.0 ∙ c.copy_entry.kept.1.0 ∙ a.1.1.0.1, a.1.1.1.1))
+    record { planned = a.planned; len = (c.entry_pay-paid.kept.1.1.1.0 ∙ c.copy_entry.kept.1.0 ∙ a.from_len.1, a.current_epoch_bound.1) }
 
 pub returns-then-later-ne0 : goal.returns-then-later-ne0
 returns-then-later-ne0 c =
@@ -35,7 +35,7 @@ returns-then-later-ne0 c =
 pub entry_move-moved-requires : goal.entry_move-moved-requires
 entry_move-moved-requires c =
     let a = c.requires in
-    (c.entry_pay-paid.kept.1.1.1.0 ∙ c.copy_entry.kept.1.0 ∙ a.1.1.0.1, a.1.1.1.0, a.1.1.1.2)
+    (c.entry_pay-paid.kept.1.1.1.0 ∙ c.copy_entry.kept.1.0 ∙ a.from_len.1, a.current_epoch_bound.0, a.current_epoch_bound.2)
 
 pub returns-then-moved-ne0 : goal.returns-then-moved-ne0
 returns-then-moved-ne0 c =
@@ -54,7 +54,7 @@ pub entry_finish-refusal-requires : goal.entry_finish-refusal-requires
 entry_finish-refusal-requires c =
     let at-else1 : tie.Else1 = (goal.at.entry_finish-refusal-requires c).Else-paid-ne0 in
     let a = at-else1.before.before.before.before.before.before.before.before.before.before.before.before.requires in
-    (a.0, c.entry_move-moved.auto.1.1.1.1.1.0 ∙ at-else1.before.before.before.before.entry-pay.auto.1.1.1.0 ∙ at-else1.before.before.before.before.before.before.before.before.copy-entry.auto.1.0 ∙ a.1.1.0.1)
+    record { planned = a.0; len = c.entry_move-moved.auto.1.1.1.1.1.0 ∙ at-else1.before.before.before.before.entry-pay.auto.1.1.1.0 ∙ at-else1.before.before.before.before.before.before.before.before.copy-entry.auto.1.0 ∙ a.1.1.0.1 }
 
 pub returns : goal.returns
 returns c =

@@ -7,10 +7,10 @@ use borrow.Author.Rules.{rules}
 use Rattle.close_by_steps.proofs.close_steps.later_tested.Goals as goal
 
 pub later_step-refusal-requires : goal.later_step-refusal-requires
-later_step-refusal-requires c = let a = c.requires in let o = a.1.opening in let g = good-finality _ o.finality in ((a.0.0, a.0.1, o.settings.good), ((o.settings, g.slot, g.finalized), (o.registry, a.1.amounts, o.slashings)))
+later_step-refusal-requires c = let a = c.requires in let o = a.ready.opening in let g = good-finality _ o.finality in record { le_done = (a.le_done.0, a.le_done.1, o.settings.good); passed = (o.settings, g.slot, g.finalized); registry_len = (o.registry, a.ready.amounts, o.slashings) }
 
 pub shape_of-closing_slashings-then-refusal-ne0 : goal.shape_of-closing_slashings-then-refusal-ne0
-shape_of-closing_slashings-then-refusal-ne0 c = let a = c.requires.1 in omega (arith, ap length c.copy-then-refusal-ne0.ensures, a.slashings_same)
+shape_of-closing_slashings-then-refusal-ne0 c = let a = c.requires.ready in omega (arith, ap length c.copy-then-refusal-ne0.ensures, a.slashings_same)
 
 pub returns-then-refusal-ne0 : goal.returns-then-refusal-ne0
 returns-then-refusal-ne0 c = later-refused _ _ _ _ _ _ _ _ _ _ _ _ c.later_step-refusal.ensures c.if-refusal-ne0.true c.copy.ensures c.copy-then-refusal-ne0.ensures c.clear.ensures (omega arith) c.ended_by.ensures

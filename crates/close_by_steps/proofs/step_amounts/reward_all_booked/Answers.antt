@@ -8,14 +8,14 @@ use native.Mathlib.Omega.{arith}
 use Rattle.close_by_steps.proofs.step_amounts.reward_all_booked.Goals as goal
 
 pub loop-i-init : goal.loop-i-init
-loop-i-init c = booking_none (omega (arith, c.requires.1.1.1.0)) (omega (arith, c.requires.1.1.1.1)) (omega (arith, c.requires.1.1.1.0, c.well_formed.1.1.1.1.1.1.1.0))
+loop-i-init c = booking_none (omega (arith, c.requires.registry_len.0)) (omega (arith, c.requires.registry_len.1)) (omega (arith, c.requires.registry_len.0, c.well_formed.1.1.1.1.1.1.1.0))
 
 pub entry_reward_booked-refusal-requires : goal.entry_reward_booked-refusal-requires
 entry_reward_booked-refusal-requires c =
     let a = c.requires in
     let g = c.loop-i.invariant in
     let l = c.loop-i-test.true in
-    (a.0, (a.1.0, (a.1.1.0, (booking_ten g l, booking_nine g l))))
+    record { shared_by = a.shared_by; inactivity_score_bias_nonzero = a.inactivity_score_bias_nonzero; says = a.says; len = (booking_ten g l, booking_nine g l) }
 
 pub shape_of-registry-then-refusal-ne0 : goal.shape_of-registry-then-refusal-ne0
 shape_of-registry-then-refusal-ne0 c =
@@ -62,7 +62,7 @@ pub loop-i-smaller : goal.loop-i-smaller
 loop-i-smaller c = omega (arith, c.loop-i-test.true)
 
 pub shape_of-registry : goal.shape_of-registry
-shape_of-registry c = let g = c.loop-i.invariant in omega (arith, g.checking.mapped.long, g.long, g.first, c.requires.1.1.1.1)
+shape_of-registry c = let g = c.loop-i.invariant in omega (arith, g.checking.mapped.long, g.long, g.first, c.requires.registry_len.1)
 
 pub shape_of-amounts : goal.shape_of-amounts
-shape_of-amounts c = let g = c.loop-i.invariant in omega (arith, g.checking.mapped.long, g.long, g.first, c.requires.1.1.1.1)
+shape_of-amounts c = let g = c.loop-i.invariant in omega (arith, g.checking.mapped.long, g.long, g.first, c.requires.registry_len.1)

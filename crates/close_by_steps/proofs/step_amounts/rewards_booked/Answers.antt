@@ -6,25 +6,25 @@ use borrow.Author.Rules.{rules}
 use Rattle.close_by_steps.proofs.step_amounts.rewards_booked.Goals as goal
 
 pub current_epoch-current-requires : goal.current_epoch-current-requires
-current_epoch-current-requires c = (good-settings _ c.requires.0).positive.slots_per_epoch
+current_epoch-current-requires c = (good-settings _ c.requires.s_value).positive.slots_per_epoch
 
 pub returns-then-current-eq0 : goal.returns-then-current-eq0
 returns-then-current-eq0 c =
     let a = c.requires in
-    genesis-booked _ _ _ _ _ a.1.1.0 c.current_epoch-current.ensures c.if-current-eq0.true c.args.amounts.now a.1.1.1 c.clear.ensures
+    genesis-booked _ _ _ _ _ a.registry_len.0 c.current_epoch-current.ensures c.if-current-eq0.true c.args.amounts.now a.registry_len.1 c.clear.ensures
 
 pub previous_epoch-previous-requires : goal.previous_epoch-previous-requires
-previous_epoch-previous-requires c = (good-settings _ c.requires.0).positive.slots_per_epoch
+previous_epoch-previous-requires c = (good-settings _ c.requires.s_value).positive.slots_per_epoch
 
 pub returns-in_default : goal.returns-in_default
-returns-in_default c = refused-booked _ _ _ _ _ c.requires.1.1.0 c.current_epoch-current.ensures c.previous_epoch-previous.ensures c.if-current-eq0.false (answers_overflow tells_totals c.step_totals.ensures (only-totals _ _ _ _ _ _) c.in_default.is).0
+returns-in_default c = refused-booked _ _ _ _ _ c.requires.registry_len.0 c.current_epoch-current.ensures c.previous_epoch-previous.ensures c.if-current-eq0.false (answers_overflow tells_totals c.step_totals.ensures (only-totals _ _ _ _ _ _) c.in_default.is).0
 
 pub reward_registry_booked-requires : goal.reward_registry_booked-requires
 reward_registry_booked-requires c =
     let a = c.requires in
-    let p = (good-settings _ a.0).positive in
+    let p = (good-settings _ a.s_value).positive in
     let least = totals-least _ _ _ _ _ _ (answers-value tells_totals c.step_totals.ensures c.in-Value.is) in
-    ((p.effective_balance_increment, least), ((p.inactivity_score_bias, a.1.0), a.1.1))
+    record { effective_balance_increment_nonzero = (p.effective_balance_increment, least); inactivity_score_bias_nonzero = (p.inactivity_score_bias, a.quotient_nonzero); registry_len = a.registry_len }
 
 pub returns : goal.returns
-returns c = step-booked _ _ _ _ _ c.requires.1.1.0 c.current_epoch-current.ensures c.previous_epoch-previous.ensures c.if-current-eq0.false (answers-value tells_totals c.step_totals.ensures c.in-Value.is) c.reward_registry_booked.ensures
+returns c = step-booked _ _ _ _ _ c.requires.registry_len.0 c.current_epoch-current.ensures c.previous_epoch-previous.ensures c.if-current-eq0.false (answers-value tells_totals c.step_totals.ensures c.in-Value.is) c.reward_registry_booked.ensures

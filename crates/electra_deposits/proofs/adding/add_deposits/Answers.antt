@@ -11,7 +11,7 @@ use Rattle.electra_deposits.proofs.adding.add_deposits.Goals as goal
 pub loop-i-init : goal.loop-i-init
 loop-i-init c =
     let p = c.requires in
-    (p.1.2, p.1.1, p.0.2, refl, refl, refl, adding_none _ _ _ _ _ _ _ p.0.0 p.0.1 p.1.0)
+    (p.places_value.2, p.places_value.1, p.registry_len.2, refl, refl, refl, adding_none _ _ _ _ _ _ _ p.registry_len.0 p.registry_len.1 p.places_value.0)
 
 pub deposit_at-d-requires : goal.deposit_at-d-requires
 deposit_at-d-requires c = omega (arith, c.loop-i.invariant.0)
@@ -21,12 +21,12 @@ join-applied-requires c =
     let inv = c.loop-i.invariant in
     let l = c.loop-i-test.true in
     let key = key_here _ _ inv.0 l c.deposit_at-d.ensures _ inv.1 in
-    ((inv.6.long, room-left inv.6 inv.0 l, inv.2), (omega (arith, key, table-long inv.6 inv.0 l), place-below inv.6 inv.0 l _ key))
+    record { registry_len = (inv.6.long, room-left inv.6 inv.0 l, inv.2); pubkey_bound = (omega (arith, key, table-long inv.6 inv.0 l), place-below inv.6 inv.0 l _ key) }
 
 pub returns-then-applied-ne0 : goal.returns-then-applied-ne0
 returns-then-applied-ne0 c =
     let inv = c.loop-i.invariant in
-    (adding_stop inv.6 inv.0 c.loop-i-test.true c.deposit_at-d.ensures inv.1 c.join-applied.ensures c.if-applied-ne0.true, adding_within inv.6 inv.0)
+    record { added = adding_stop inv.6 inv.0 c.loop-i-test.true c.deposit_at-d.ensures inv.1 c.join-applied.ensures c.if-applied-ne0.true; lower_bound = adding_within inv.6 inv.0 }
 
 pub loop-i-preserved : goal.loop-i-preserved
 loop-i-preserved c =
@@ -37,4 +37,4 @@ loop-i-preserved c =
 pub returns : goal.returns
 returns c =
     let inv = c.loop-i.invariant in
-    (adding_all inv.6 inv.0 c.loop-i-test.false, adding_within inv.6 inv.0)
+    record { added = adding_all inv.6 inv.0 c.loop-i-test.false; lower_bound = adding_within inv.6 inv.0 }

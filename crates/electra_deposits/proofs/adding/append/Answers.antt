@@ -4,4 +4,4 @@ use borrow.Author.Rules.{rules}
 use Rattle.electra_deposits.proofs.adding.append.Goals as goal
 
 pub returns : goal.returns
-returns c = (entry-back _ _ _ c.requires.0 c.requires.1 _ c.write_validator.ensures, (refl, refl))
+returns c = record { registry_after = entry-back _ _ _ c.requires.0 c.requires.1 _ c.write_validator.ensures; compounding_after = refl; places_after = refl }

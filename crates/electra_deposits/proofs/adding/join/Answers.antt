@@ -4,15 +4,15 @@ use borrow.Author.Rules.{rules}
 use Rattle.electra_deposits.proofs.adding.join.Goals as goal
 
 pub returns-then-d-n : goal.returns-then-d-n
-returns-then-d-n c = joined-front _ _ _ _ _ _ _ c.requires.0.0 c.if-d-n.true
+returns-then-d-n c = joined-front _ _ _ _ _ _ _ c.requires.registry_len.0 c.if-d-n.true
 
 pub returns-then-place-ne0 : goal.returns-then-place-ne0
-returns-then-place-ne0 c = joined-new _ _ _ _ _ _ _ c.if-d-n.false (applied-known _ _ _ _ _ _ _ _ c.requires.0.0 c.if-place-ne0.true (omega arith) c.entry_increase_balance-refusal.ensures)
+returns-then-place-ne0 c = joined-new _ _ _ _ _ _ _ c.if-d-n.false (applied-known _ _ _ _ _ _ _ _ c.requires.registry_len.0 c.if-place-ne0.true (omega arith) c.entry_increase_balance-refusal.ensures)
 
 pub returns-then-d-ne1 : goal.returns-then-d-ne1
-returns-then-d-ne1 c = joined-new _ _ _ _ _ _ _ c.if-d-n.false (applied-invalid _ _ _ _ _ _ _ _ c.requires.0.0 c.if-place-ne0.false c.if-d-ne1.true)
+returns-then-d-ne1 c = joined-new _ _ _ _ _ _ _ c.if-d-n.false (applied-invalid _ _ _ _ _ _ _ _ c.requires.registry_len.0 c.if-place-ne0.false c.if-d-ne1.true)
 
 pub returns : goal.returns
 returns c =
     let new = c.append.ensures in
-    joined-new _ _ _ _ _ _ _ c.if-d-n.false (applied-new _ _ _ _ _ _ _ _ c.requires.0.0 c.if-place-ne0.false c.if-d-ne1.false c.new_effective-effective.ensures new.0 new.1.0 new.1.1)
+    joined-new _ _ _ _ _ _ _ c.if-d-n.false (applied-new _ _ _ _ _ _ _ _ c.requires.registry_len.0 c.if-place-ne0.false c.if-d-ne1.false c.new_effective-effective.ensures new.registry_after new.compounding_after new.places_after)

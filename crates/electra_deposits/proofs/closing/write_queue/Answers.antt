@@ -9,4 +9,4 @@ overflow_add-result c = omega (arith, postponing-few c.write_postponed-postponed
 pub returns : goal.returns
 returns c =
     let p = c.requires in
-    written _ _ _ _ p.0.1 p.1.0 c.copy_front.ensures c.write_postponed-postponed.ensures.queued
+    written _ _ _ _ p.registry_len.1 p.index_in_bounds.0 c.copy_front.ensures c.write_postponed-postponed.ensures.queued

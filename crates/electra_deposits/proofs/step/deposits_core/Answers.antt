@@ -11,12 +11,12 @@ returns-then-refusal-eq0 c =
 pub copy_front-requires-3 : goal.copy_front-requires-3
 copy_front-requires-3 c =
     let kept = c.run_deposits-done.auto in
-    let same = c.requires.1.1 in
+    let same = c.requires.settings_value.1 in
     omega (arith, kept, same)
 
 pub returns : goal.returns
 returns c =
     let a = c.args in
-    let same = c.requires.1.1 in
+    let same = c.requires.settings_value.1 in
     let kept = c.run_deposits-done.auto in
     rw c.opening_answer.ensures (close-back a.rules a.state_slot a.finalized_epoch a.numbers a.registry.now a.compounding.now a.deposits.now c.run_deposits-done.ensures c.if-refusal-eq0.false c.copy_front.ensures c.copy_front-2.ensures c.copy_front-3.ensures (omega (arith, kept, same)) same)

@@ -9,7 +9,7 @@ returns-then-refusal-ne0 c = rw c.opening_answer.ensures (tests-refused _ _ _ _ 
 pub deposits_core-requires : goal.deposits_core-requires
 deposits_core-requires c =
     let p = deposits-passed _ _ _ _ _ _ _ _ _ _ c.deposits_tests-refusal.ensures c.if-refusal-ne0.false in
-    (lent p, ((good-electra _ p.good).settings, p.same))
+    record { lent = lent p; settings_value = ((good-electra _ p.good).settings, p.same) }
 
 pub returns : goal.returns
 returns c = tests-passed _ _ _ _ _ _ c.deposits_tests-refusal.ensures c.if-refusal-ne0.false c.deposits_core.ensures

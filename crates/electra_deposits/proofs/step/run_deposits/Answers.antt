@@ -13,7 +13,7 @@ run_queue-requires c =
     let a = c.args in
     let p = c.requires in
     let g = queue-given c.queue_numbers.ensures c.in-Value.is in
-    (p.0, (rw c.new_numbers-k.ensures (good-settings a.rules.settings p.1.0).positive.effective_balance_increment, p.1.1, next-far _ _ g.is))
+    record { lent = p.lent; increment_nonzero = (rw c.new_numbers-k.ensures (good-settings a.rules.settings p.settings_value.0).positive.effective_balance_increment, p.settings_value.1, next-far _ _ g.is) }
 
 pub returns : goal.returns
 returns c =

@@ -5,30 +5,30 @@ use Rattle.electra_deposits.proofs.step.run_queue.Goals as goal
 
 pub run_alone-done-requires : goal.run_alone-done-requires
 run_alone-done-requires c =
-    let h = c.requires.0 in
+    let h = c.requires.lent in
     (h.tens, registry-fits h)
 
 pub returns-then-refusal-ne0 : goal.returns-then-refusal-ne0
 returns-then-refusal-ne0 c =
     let a = c.args in
     let p = c.requires in
-    rw c.answer_of.ensures (run-refused a.k a.q p.0 p.1.2 c.run_alone-done.ensures c.if-refusal-ne0.true)
+    rw c.answer_of.ensures (run-refused a.k a.q p.lent p.increment_nonzero.2 c.run_alone-done.ensures c.if-refusal-ne0.true)
 
 pub returns-in_default : goal.returns-in_default
 returns-in_default c =
     let a = c.args in
     let p = c.requires in
-    rw c.answer_of-in_default.ensures (run-over a.k a.q p.0 p.1.2 c.run_alone-done.ensures c.if-refusal-ne0.false c.left_to_consume.ensures c.in_default.is)
+    rw c.answer_of-in_default.ensures (run-over a.k a.q p.lent p.increment_nonzero.2 c.run_alone-done.ensures c.if-refusal-ne0.false c.left_to_consume.ensures c.in_default.is)
 
 pub finish-requires : goal.finish-requires
 finish-requires c =
     let a = c.args in
     let p = c.requires in
-    (lent_again p.0 c.run_alone-done.auto.1.1.1.0, (p.1.0, p.1.1, run-within a.k a.q p.0 p.1.2 c.run_alone-done.ensures c.if-refusal-ne0.false))
+    record { lent = lent_again p.lent c.run_alone-done.auto.1.1.1.0; increment_nonzero = (p.increment_nonzero.0, p.increment_nonzero.1, run-within a.k a.q p.lent p.increment_nonzero.2 c.run_alone-done.ensures c.if-refusal-ne0.false) }
 
 pub returns : goal.returns
 returns c =
     let a = c.args in
     let p = c.requires in
     let f = c.finish in
-    run-done a.k a.q p.0 p.1.2 c.run_alone-done.ensures c.if-refusal-ne0.false c.left_to_consume.ensures c.in-Value.is f.ensures f.auto.1.1.1.1.1.1.0
+    run-done a.k a.q p.lent p.increment_nonzero.2 c.run_alone-done.ensures c.if-refusal-ne0.false c.left_to_consume.ensures c.in-Value.is f.ensures f.auto.1.1.1.1.1.1.0

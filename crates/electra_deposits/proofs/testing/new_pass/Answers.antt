@@ -15,7 +15,7 @@ use Rattle.electra_deposits.proofs.testing.new_pass.Goals as goal
 pub loop-i-init : goal.loop-i-init
 loop-i-init c =
     let p = c.requires in
-    (p.0.2, p.0.1, p.1, refl, testing_none _ _ _ _ _ _ _ p.0.0)
+    (p.places_value.2, p.places_value.1, p.increment_nonzero, refl, testing_none _ _ _ _ _ _ _ p.places_value.0)
 
 pub deposit_at-d-requires : goal.deposit_at-d-requires
 deposit_at-d-requires c = omega (arith, c.loop-i.invariant.0)

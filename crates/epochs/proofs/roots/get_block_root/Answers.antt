@@ -11,7 +11,7 @@ returns-then-get_block_root_refusal-ne0 c = no_bytes _ _ c.get_block_root_refusa
 pub epoch_root-requires : goal.epoch_root-requires
 epoch_root-requires c =
     let f = found_after _ _ _ _ c.get_block_root_refusal.ensures c.if-get_block_root_refusal-ne0.false in
-    (f.tests.long, (f.tests.slot.settings.shape.roots.least, (epoch-value _ _ _ _ f.is).fits))
+    record { roots_len = f.tests.long; slots_per_historical_root_nonzero = f.tests.slot.settings.shape.roots.least; slots_per_epoch_bound = (epoch-value _ _ _ _ f.is).fits }
 
 pub returns : goal.returns
 returns c =

@@ -11,7 +11,7 @@ returns-then-get_block_root_at_slot_refusal-ne0 c = no_bytes _ _ c.get_block_roo
 pub slot_root-requires : goal.slot_root-requires
 slot_root-requires c =
     let f = found_after _ _ _ _ c.get_block_root_at_slot_refusal.ensures c.if-get_block_root_at_slot_refusal-ne0.false in
-    (f.tests.long, f.tests.slot.settings.shape.roots.least)
+    record { roots_len = f.tests.long; slots_per_historical_root_nonzero = f.tests.slot.settings.shape.roots.least }
 
 pub returns : goal.returns
 returns c =

@@ -15,10 +15,10 @@ returns c =
     rw k
 
 pub overflow_mul-a : goal.overflow_mul-a
-overflow_mul-a c = omega (arith, mod-lt c.args.slot c.requires.1)
+overflow_mul-a c = omega (arith, mod-lt c.args.slot c.requires.slots_per_historical_root_nonzero)
 
 pub overflow_add-b : goal.overflow_add-b
-overflow_add-b c = omega (arith, mod-lt c.args.slot c.requires.1)
+overflow_add-b c = omega (arith, mod-lt c.args.slot c.requires.slots_per_historical_root_nonzero)
 
 pub slice_bounds-result-end : goal.slice_bounds-result-end
-slice_bounds-result-end c = omega (arith, mod-lt c.args.slot c.requires.1)
+slice_bounds-result-end c = omega (arith, mod-lt c.args.slot c.requires.slots_per_historical_root_nonzero)

@@ -18,9 +18,9 @@ gained c = gain _ (fits c.Start) c.if-change-lt0.false
 pub returns-then-change-lt0 : goal.returns-then-change-lt0
 returns-then-change-lt0 c =
     let p = c.put_labelled.ensures in
-    (rw (← (lost (goal.at.returns-then-change-lt0 c).Then-change-lt0).text) p.0, omega (arith, p.1))
+    record { put = rw (← (lost (goal.at.returns-then-change-lt0 c).Then-change-lt0).text) p.put; upper_bound = omega (arith, p.upper_bound) }
 
 pub returns : goal.returns
 returns c =
     let p = c.put_labelled-2.ensures in
-    (rw (← (gained (goal.at.returns c).Else-change-lt0).text) p.0, omega (arith, p.1))
+    record { put = rw (← (gained (goal.at.returns c).Else-change-lt0).text) p.put; upper_bound = omega (arith, p.upper_bound) }

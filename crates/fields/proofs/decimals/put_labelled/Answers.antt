@@ -11,4 +11,4 @@ pub returns : goal.returns
 returns c =
     let a = c.args in
     let p = c.put_decimal.ensures in
-    (put-more (put a.text.now a.at a.label.now c.put_bytes.ensures) p, omega (arith, p.stopped, twenty a.n (omega arith)))
+    record { put = put-more (put a.text.now a.at a.label.now c.put_bytes.ensures) p; upper_bound = omega (arith, p.stopped, twenty a.n (omega arith)) }

@@ -4,7 +4,6 @@ use native.Mathlib.Omega.{arith}
 use lib.ListN.{take, drop}
 use Rattle.definitions_file.specs.File.{from_little_endian}
 use Rattle.fields.proofs.reader.Bytes.{field_back, field_whole, field_small}
-use Rattle.fields.proofs.reader.number_at.Goals.{After-wide}
 use Rattle.fields.proofs.reader.number_at.Given as goal
 
 abbrev pub invariant-loop-k : goal.invariant-loop-k

@@ -19,16 +19,16 @@ passed c = accepted _ (sym (ap (λ (o : Outcome). o.refusal) c.close_as_altair-c
 pub returns-then-closed-ne0 : goal.returns-then-closed-ne0
 returns-then-closed-ne0 c =
     let p = c.put_refused.ensures in
-    record { text = rw (printed-refused (handed (goal.at.returns-then-closed-ne0 c).Start) c.close_as_altair-closed.ensures c.if-closed-ne0.true) p.0; inside = omega (arith, p.1, c.requires) }
+    record { text = rw (printed-refused (handed (goal.at.returns-then-closed-ne0 c).Start) c.close_as_altair-closed.ensures c.if-closed-ne0.true) p.put; inside = omega (arith, p.upper_bound, c.requires) }
 
 pub put_close-requires : goal.put_close-requires
 put_close-requires c =
     let a = passed (goal.at.put_close-requires c).Else-closed-ne0 in
-    (a.epochs, ((a.shaped, omega (arith, a.alike, c.closing_registry-1.given)), c.requires))
+    record { slots_per_epoch_nonzero = a.epochs; registry_value = (a.shaped, omega (arith, a.alike, c.closing_registry-1.given)); registry_in_bounds = c.requires }
 
 pub returns : goal.returns
 unfolding close_text accepted_text
 returns c =
     let closed = c.close_as_altair-closed.ensures in
     let flags = ap (λ (o : Outcome). o.raised) closed ∙ (passed (goal.at.returns c).Else-closed-ne0).raised in
-    record { text = rw (printed-text (handed (goal.at.returns c).Start) closed c.if-closed-ne0.false) (rw (← flags) at c.put_close.ensures.0); inside = c.put_close.ensures.1 }
+    record { text = rw (printed-text (handed (goal.at.returns c).Start) closed c.if-closed-ne0.false) (rw (← flags) at c.put_close.ensures.put); inside = c.put_close.ensures.upper_bound }

@@ -8,4 +8,4 @@ returns c =
     let p = c.put_row-row.ensures in
     let q = c.put_raised-end.ensures in
     let r = c.put_end.ensures in
-    (put-more (put-more p.0 q.0) r, omega (arith, p.1, q.1, r.stopped))
+    record { put = put-more (put-more p.put q.put) r; upper_bound = omega (arith, p.upper_bound, q.upper_bound, r.stopped) }

@@ -18,4 +18,4 @@ returns c =
     let q = c.put_change-end.ensures in
     let r = c.put_end.ensures in
     let change : to_z w64 (of_z w64 c.args.change) ≡ sub_ℕ c.args.closing c.args.opening = to_z-of_z (fits (goal.at.returns c).Start) ∙ c.requires.1 in
-    (put-more (put-more p.0 (rw (← change) q.0)) r, omega (arith, p.1, q.1, r.stopped))
+    record { put = put-more (put-more p.put (rw (← change) q.put)) r; upper_bound = omega (arith, p.upper_bound, q.upper_bound, r.stopped) }

@@ -10,16 +10,16 @@ use Rattle.listing_lines.proofs.text.put_lines.Goals as goal
 
 pub loop-i-init : goal.loop-i-init
 loop-i-init c =
-    let shaped = c.requires.0.0 in
-    (lining_none _ _ shaped c.requires.0.1 _ _ c.requires.1.0, fitting_none _ _ (registry-shaped _ shaped).long c.requires.0.1)
+    let shaped = c.requires.opening_value.0 in
+    (lining_none _ _ shaped c.requires.opening_value.1 _ _ c.requires.opening_in_bounds, fitting_none _ _ (registry-shaped _ shaped).long c.requires.opening_value.1)
 
 -- the tests have passed: no net change is refused
 pub returns-in_default : goal.returns-in_default
 returns-in_default c =
-    let shaped = (registry-shaped _ c.requires.0.0).long in
-    let over = fitting_wide _ _ shaped c.requires.0.1 c.loop-i.invariant.1 c.loop-i-test.true
+    let shaped = (registry-shaped _ c.requires.opening_value.0).long in
+    let over = fitting_wide _ _ shaped c.requires.opening_value.1 c.loop-i.invariant.1 c.loop-i-test.true
     (wide _ _ c.net_change.ensures c.in_default.is) in
-    absurd (let none : ◌≡◌ {A = ℕ} 7 0 = over ∙ c.requires.1.1 in omega arith)
+    absurd (let none : ◌≡◌ {A = ℕ} 7 0 = over ∙ c.requires.closing_value in omega arith)
 
 pub put_line-end-requires : goal.put_line-end-requires
 put_line-end-requires c =
@@ -29,15 +29,15 @@ put_line-end-requires c =
 
 pub loop-i-preserved : goal.loop-i-preserved
 loop-i-preserved c =
-    let shaped = c.requires.0.0 in
-    let alike = c.requires.0.1 in
+    let shaped = c.requires.opening_value.0 in
+    let alike = c.requires.opening_value.1 in
     let p = c.put_line-end.ensures in
     let change = given _ c.net_change.ensures c.in-Value.is in (
-      lining_more _ _ shaped alike c.loop-i.invariant.0 c.loop-i-test.true p.0 p.1,
+      lining_more _ _ shaped alike c.loop-i.invariant.0 c.loop-i-test.true p.put p.upper_bound,
       fitting_more _ _ (registry-shaped _ shaped).long alike c.loop-i.invariant.1 c.loop-i-test.true change,
     )
 
 pub returns : goal.returns
 returns c =
     let v = c.loop-i.invariant.0 in
-    (lining_all _ _ c.requires.0.0 c.requires.0.1 v c.loop-i-test.false, omega (arith, v.room, v.long))
+    record { put = lining_all _ _ c.requires.opening_value.0 c.requires.opening_value.1 v c.loop-i-test.false; upper_bound = omega (arith, v.room, v.long) }

@@ -8,4 +8,4 @@ returns c =
     let p1 = c.put_labelled-first.ensures in
     let p2 = c.put_labelled-second.ensures in
     let p3 = c.put_labelled.ensures in
-    (put-more (put-more p1.0 p2.0) p3.0, omega (arith, p1.1, p2.1, p3.1))
+    record { put = put-more (put-more p1.put p2.put) p3.put; upper_bound = omega (arith, p1.upper_bound, p2.upper_bound, p3.upper_bound) }

@@ -7,4 +7,4 @@ pub returns : goal.returns
 returns c =
     let p = c.put_labelled-end.ensures in
     let q = c.put_end.ensures in
-    (put-more p.0 q, omega (arith, p.1, q.stopped))
+    record { put = put-more p.put q; upper_bound = omega (arith, p.upper_bound, q.stopped) }

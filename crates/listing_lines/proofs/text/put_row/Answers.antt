@@ -10,4 +10,4 @@ returns c =
     let p3 = c.put_labelled-third.ensures in
     let p4 = c.put_labelled-fourth.ensures in
     let p5 = c.put_labelled.ensures in
-    (put-more (put-more (put-more (put-more p1.0 p2.0) p3.0) p4.0) p5.0, omega (arith, p1.1, p2.1, p3.1, p4.1, p5.1))
+    record { put = put-more (put-more (put-more (put-more p1.put p2.put) p3.put) p4.put) p5.put; upper_bound = omega (arith, p1.upper_bound, p2.upper_bound, p3.upper_bound, p4.upper_bound, p5.upper_bound) }

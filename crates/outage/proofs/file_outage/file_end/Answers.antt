@@ -4,7 +4,7 @@ use borrow.Author.Rules.{rules}
 use Rattle.outage.proofs.file_outage.file_end.Goals as goal
 
 pub returns-then-input-next : goal.returns-then-input-next
-returns-then-input-next c = (omega arith, ends-early c.args.input.now c.read_number-next.ensures.0 c.if-input-next.true)
+returns-then-input-next c = record { upper_bound = omega arith; input_value = ends-early c.args.input.now c.read_number-next.ensures.0 c.if-input-next.true }
 
 pub returns : goal.returns
-returns c = (c.if-input-next.false, ends_there c.args.input.now c.read_number-next.ensures.0)
+returns c = record { upper_bound = c.if-input-next.false; input_value = ends_there c.args.input.now c.read_number-next.ensures.0 }

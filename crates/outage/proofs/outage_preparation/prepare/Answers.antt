@@ -8,13 +8,13 @@ pub last_slot_of_next-new-requires : goal.last_slot_of_next-new-requires
 last_slot_of_next-new-requires c = let r = c.requires in (r.positive, r.short, r.small)
 
 pub put_roots-requires : goal.put_roots-requires
-put_roots-requires c = let r = c.requires in ((r.some-roots, r.few-roots, r.small), (r.places, r.bytes))
+put_roots-requires c = let r = c.requires in record { places_nonzero = (r.some-roots, r.few-roots, r.small); roots_len = (r.places, r.bytes) }
 
 pub current_epoch-requires : goal.current_epoch-requires
 current_epoch-requires c = c.requires.positive
 
 pub set_flags-requires : goal.set_flags-requires
-set_flags-requires c = let r = c.requires in (r.entries, r.pairs)
+set_flags-requires c = let r = c.requires in record { registry_len = r.entries; absences_len = r.pairs }
 
 pub returns : goal.returns
 returns c =

@@ -3,7 +3,6 @@ use native.Mathlib.Nat.{mod-lt}
 use native.Mathlib.Omega.{arith}
 use borrow.Author.Rules.{rules}
 use Rattle.outage.proofs.outage_preparation.Roots.{Rooting, rooting_none, rooting_more, rooting_all}
-use Rattle.outage.proofs.outage_preparation.put_roots.Goals.{At-loop-i}
 use Rattle.outage.proofs.outage_preparation.put_roots.Given as goal
 
 abbrev pub invariant-loop-i : goal.invariant-loop-i

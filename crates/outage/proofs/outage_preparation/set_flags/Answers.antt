@@ -8,7 +8,7 @@ use Rattle.outage.proofs.outage_preparation.Prepared.{flags-all}
 use Rattle.outage.proofs.outage_preparation.set_flags.Goals as goal
 
 pub loop-i-init : goal.loop-i-init
-loop-i-init c = (omega arith, placed-none _ c.requires.0)
+loop-i-init c = (omega arith, placed-none _ c.requires.registry_len)
 
 pub entry_flags-requires : goal.entry_flags-requires
 entry_flags-requires c = entry-ten _ _ _ c.loop-i.invariant.1.long c.loop-i-test.true

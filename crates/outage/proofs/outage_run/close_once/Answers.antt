@@ -24,7 +24,7 @@ returns-then-closed-ne0 c = once-refused (handed c) c.args.closing_registry.now 
 pub head_core-h-requires : goal.head_core-h-requires
 head_core-h-requires c =
     let h = accepted (called_with (c)) (sym (ap (λ (o : Outcome). o.refusal) c.close_as_altair-closed.ensures) ∙ c.if-closed-ne0.false) in
-    (h.epochs, (registry-shaped _ h.shaped).long)
+    record { slots_per_epoch_nonzero = h.epochs; opening_len = (registry-shaped _ h.shaped).long }
 
 pub put_head-last-requires : goal.put_head-last-requires
 put_head-last-requires c = omega (arith, c.requires.heads)
@@ -43,4 +43,4 @@ returns c =
     let z = c.if-closed-ne0.false in
     let flags = ap (λ (o : Outcome). o.raised) e ∙ (accepted (called_with c) (sym (ap (λ (o : Outcome). o.refusal) e) ∙ z)).raised in
     rw (c.copy.ensures, c.copy-2.ensures)
-    (once_closed (handed c) c.args.closing_registry.now c.args.closing_slashings.now c.requires.entries c.requires.sums e z (rw (c.head_core-h.ensures, ← flags) at p.0) (omega (arith, p.1)))
+    (once_closed (handed c) c.args.closing_registry.now c.args.closing_slashings.now c.requires.entries c.requires.sums e z (rw (c.head_core-h.ensures, ← flags) at p.put) (omega (arith, p.upper_bound)))

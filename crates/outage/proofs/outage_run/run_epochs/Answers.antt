@@ -24,14 +24,14 @@ lasting c =
     }
 
 pub loop-i-init : goal.loop-i-init
-loop-i-init c = (running_none _ _ _ _, c.requires.0, record { entries = refl; sums = refl; places = refl; closing-entries = refl; closing-sums = refl; bytes = refl })
+loop-i-init c = (running_none _ _ _ _, c.requires.ready, record { entries = refl; sums = refl; places = refl; closing-entries = refl; closing-sums = refl; bytes = refl })
 
 pub try_epoch-closed-requires : goal.try_epoch-closed-requires
 try_epoch-closed-requires c =
     let g = c.loop-i.invariant in
     let k = g.2 in
-    let r = c.requires.1 in
-    (g.1, record { entries = omega (arith, k.closing-entries, r.entries, k.entries); sums = omega (arith, k.closing-sums, r.sums, k.sums); few = omega arith; heads = omega (arith, g.0.inside, c.loop-i-test.true, r.heads, k.bytes) })
+    let r = c.requires.room in
+    record { ready = g.1; room = record { entries = omega (arith, k.closing-entries, r.entries, k.entries); sums = omega (arith, k.closing-sums, r.sums, k.sums); few = omega arith; heads = omega (arith, g.0.inside, c.loop-i-test.true, r.heads, k.bytes) } }
 
 pub returns-then-closed-ne0 : goal.returns-then-closed-ne0
 returns-then-closed-ne0 c = running-stop c.loop-i.invariant.0 c.loop-i-test.true c.try_epoch-closed.ensures c.if-closed-ne0.true

@@ -7,7 +7,6 @@ use Rattle.definitions_file.specs.OutageInput.{plan_of}
 use Rattle.outage.specs.Ready.{Ready}
 use Rattle.outage.proofs.outage_run.Slot.{went-small}
 use Rattle.outage.proofs.outage_run.Running.{Running, running_none, running_more, running-stop, running-all, ready-more, Lasting}
-use Rattle.outage.proofs.outage_run.run_epochs.Goals.{After-try_epoch-closed}
 use Rattle.outage.proofs.outage_run.run_epochs.Given as goal
 
 abbrev pub invariant-loop-i : goal.invariant-loop-i

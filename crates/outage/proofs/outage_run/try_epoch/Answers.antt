@@ -4,11 +4,11 @@ use borrow.Author.Rules.{rules}
 use Rattle.outage.proofs.outage_run.try_epoch.Goals as goal
 
 pub prepare-moved-requires : goal.prepare-moved-requires
-prepare-moved-requires c = c.requires.0
+prepare-moved-requires c = c.requires.ready
 
 pub close_once-requires : goal.close_once-requires
 close_once-requires c =
-    let r = c.requires.1 in
+    let r = c.requires.room in
     record { entries = omega (arith, r.entries, c.registry-1.given); sums = r.sums; few = r.few; heads = r.heads }
 
 pub returns : goal.returns

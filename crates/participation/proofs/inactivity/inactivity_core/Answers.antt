@@ -12,14 +12,14 @@ use Rattle.finality.proofs.Passed.{only-leak}
 use Rattle.participation.proofs.inactivity.inactivity_core.Goals as goal
 
 pub current_epoch-current-requires : goal.current_epoch-current-requires
-current_epoch-current-requires c = (good-settings _ c.requires.0).positive.slots_per_epoch
+current_epoch-current-requires c = (good-settings _ c.requires.s_value).positive.slots_per_epoch
 
 pub returns-then-current-eq0 : goal.returns-then-current-eq0
 unfolding process_inactivity_updates
-returns-then-current-eq0 c = rw (← c.current_epoch-current.ensures, c.if-current-eq0.true) (ran-value (sym (encode-decode _ _ c.requires.1)))
+returns-then-current-eq0 c = rw (← c.current_epoch-current.ensures, c.if-current-eq0.true) (ran-value (sym (encode-decode _ _ c.requires.registry_len)))
 
 pub inactivity_leak-requires : goal.inactivity_leak-requires
-inactivity_leak-requires c = (good-settings _ c.requires.0).positive.slots_per_epoch
+inactivity_leak-requires c = (good-settings _ c.requires.s_value).positive.slots_per_epoch
 
 pub returns-in_default : goal.returns-in_default
 unfolding process_inactivity_updates bind
@@ -28,7 +28,7 @@ returns-in_default c =
     rw (← c.current_epoch-current.ensures, ne_eqb _ _ c.if-current-eq0.false, k) (ran_overflow refl)
 
 pub previous_epoch-previous-requires : goal.previous_epoch-previous-requires
-previous_epoch-previous-requires c = (good-settings _ c.requires.0).positive.slots_per_epoch
+previous_epoch-previous-requires c = (good-settings _ c.requires.s_value).positive.slots_per_epoch
 
 pub returns : goal.returns
 unfolding process_inactivity_updates bind

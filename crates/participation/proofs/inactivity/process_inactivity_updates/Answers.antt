@@ -17,7 +17,7 @@ copy-requires c = let p = registry-passed _ _ _ _ _ c.registry_tests-refusal.ens
 pub inactivity_core-done-requires : goal.inactivity_core-done-requires
 inactivity_core-done-requires c =
     let p = registry-passed _ _ _ _ _ c.registry_tests-refusal.ensures c.if-refusal-ne0.false in
-    (p.opened.settings.good, omega (arith, p.opened.shape.long, ap length c.copy.ensures))
+    record { s_value = p.opened.settings.good; registry_len = omega (arith, p.opened.shape.long, ap length c.copy.ensures) }
 
 pub put_back-requires : goal.put_back-requires
 put_back-requires c = omega (arith, (registry-passed _ _ _ _ _ c.registry_tests-refusal.ensures c.if-refusal-ne0.false).same)

@@ -11,7 +11,7 @@ pub admit_entry-left-requires : goal.admit_entry-left-requires
 admit_entry-left-requires c = admitting_ten c.loop-i.invariant c.loop-i-test.true
 
 pub loop-i-preserved : goal.loop-i-preserved
-loop-i-preserved c = admitting_more c.loop-i.invariant c.loop-i-test.true c.admit_entry-left.ensures.0 c.admit_entry-left.ensures.1
+loop-i-preserved c = admitting_more c.loop-i.invariant c.loop-i-test.true c.admit_entry-left.ensures.after c.admit_entry-left.ensures.value
 
 pub returns : goal.returns
 returns c = admitting_all c.loop-i.invariant c.loop-i-test.false

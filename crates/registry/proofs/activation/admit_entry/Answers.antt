@@ -15,7 +15,7 @@ pub returns-then-not-entry_is_eligible_for_activation : goal.returns-then-not-en
 unfolding admit_one queued_before queued_at
 returns-then-not-entry_is_eligible_for_activation c =
     let t = fails c.entry_is_eligible_for_activation.ensures (ap not c.if-not-entry_is_eligible_for_activation.true) in
-    (rw t (ten c.args.entry.now c.requires), rw t (omega arith))
+    record { after = rw t (ten c.args.entry.now c.requires); value = rw t (omega arith) }
 
 pub returns-then-bound-since : goal.returns-then-bound-since
 unfolding admit_one queued_before queued_at
@@ -25,7 +25,7 @@ returns-then-bound-since c =
     let t = passes c.entry_is_eligible_for_activation.ensures (ap not c.if-not-entry_is_eligible_for_activation.false) in
     let h : bound < x = c.if-bound-since.true in
     let n = ne_eqb x bound (λ e. omega arith) in
-    (rw (t, le-ltb x bound (omega arith), n) (ten c.args.entry.now c.requires), rw (t, n) (omega arith))
+    record { after = rw (t, le-ltb x bound (omega arith), n) (ten c.args.entry.now c.requires); value = rw (t, n) (omega arith) }
 
 pub returns-then-since-bound : goal.returns-then-since-bound
 unfolding admit_one queued_before queued_at
@@ -34,7 +34,7 @@ returns-then-since-bound c =
     let bound = c.args.bound in
     let t = passes c.entry_is_eligible_for_activation.ensures (ap not c.if-not-entry_is_eligible_for_activation.false) in
     let h : x < bound = c.if-since-bound.true in
-    (rw (t, lt-ltb x bound h, ten c.args.entry.now c.requires), rw (t, ne_eqb x bound (λ e. omega arith)) (omega arith))
+    record { after = rw (t, lt-ltb x bound h, ten c.args.entry.now c.requires); value = rw (t, ne_eqb x bound (λ e. omega arith)) (omega arith) }
 
 pub returns-then-left-eq0 : goal.returns-then-left-eq0
 unfolding admit_one queued_before queued_at
@@ -44,7 +44,7 @@ returns-then-left-eq0 c =
     let t = passes c.entry_is_eligible_for_activation.ensures (ap not c.if-not-entry_is_eligible_for_activation.false) in
     let h : x ≡ bound = omega (arith, c.if-since-bound.false, c.if-bound-since.false) in
     let q = eq-eqb x bound h in
-    (rw (t, le-ltb x bound (omega arith), q, c.if-left-eq0.true) (ten c.args.entry.now c.requires), rw (t, q) (omega arith))
+    record { after = rw (t, le-ltb x bound (omega arith), q, c.if-left-eq0.true) (ten c.args.entry.now c.requires); value = rw (t, q) (omega arith) }
 
 pub returns : goal.returns
 unfolding admit_one queued_before queued_at
@@ -54,4 +54,4 @@ returns c =
     let t = passes c.entry_is_eligible_for_activation.ensures (ap not c.if-not-entry_is_eligible_for_activation.false) in
     let h : x ≡ bound = omega (arith, c.if-since-bound.false, c.if-bound-since.false) in
     let q = eq-eqb x bound h in
-    (rw (t, le-ltb x bound (omega arith), q, lt-ltb 0 c.args.left (omega arith), ten c.args.entry.now c.requires), rw (t, q))
+    record { after = rw (t, le-ltb x bound (omega arith), q, lt-ltb 0 c.args.left (omega arith), ten c.args.entry.now c.requires); value = rw (t, q) }

@@ -13,7 +13,7 @@ base_reward_per_increment-per_increment-requires c = entry_total_not_zero _ _ _ 
 pub entry_base_reward-requires : goal.entry_base_reward-requires
 entry_base_reward-requires c =
     let p = total_entry_passed _ _ _ c.total_entry_tests-refusal.ensures c.if-refusal-ne0.false in
-    (p.settings.positive.effective_balance_increment, (p.own.long, c.base_reward_per_increment-per_increment.ensures))
+    record { effective_balance_increment_nonzero = p.settings.positive.effective_balance_increment; len = p.own.long; says = c.base_reward_per_increment-per_increment.ensures }
 
 pub returns : goal.returns
 returns c = tests-passed _ _ c.total_entry_tests-refusal.ensures c.if-refusal-ne0.false c.entry_base_reward.ensures

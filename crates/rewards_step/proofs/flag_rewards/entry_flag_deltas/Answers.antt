@@ -7,13 +7,13 @@ pub entry_base_reward-base-requires : goal.entry_base_reward-base-requires
 entry_base_reward-base-requires c =
     let a = c.requires in
     let e = c.shared_numbers-shared.ensures in
-    (a.0, (a.1.1.1, rw e.is at e.by.per_increment))
+    record { effective_balance_increment_nonzero = a.effective_balance_increment_nonzero; len = a.len; says = rw e.is at e.by.per_increment }
 
 pub flag_deltas-requires : goal.flag_deltas-requires
 flag_deltas-requires c =
     let a = c.requires in
     let e = c.shared_numbers-shared.ensures in
-    (e.by, (a.1.1.0, (a.1.1.1, rw (ap (λ (h : Shared). h.total) e.is) c.entry_base_reward-base.ensures)))
+    record { shared_by = e.by; flag_index_bound = a.flag_index_bound; len = a.len; says = rw (ap (λ (h : Shared). h.total) e.is) c.entry_base_reward-base.ensures }
 
 pub returns : goal.returns
 returns c = rw c.shared_numbers-shared.ensures.is at c.flag_deltas.ensures

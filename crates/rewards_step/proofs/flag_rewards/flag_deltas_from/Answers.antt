@@ -12,7 +12,7 @@ pub returns-in_default : goal.returns-in_default
 returns-in_default c = search (rules, chain-told, only-total)
 
 pub inactivity_leak-requires : goal.inactivity_leak-requires
-inactivity_leak-requires c = (good-settings _ c.requires.0).positive.slots_per_epoch
+inactivity_leak-requires c = (good-settings _ c.requires.s_value).positive.slots_per_epoch
 
 pub returns-in_default-inactivity_leak : goal.returns-in_default-inactivity_leak
 returns-in_default-inactivity_leak c = search (rules, chain-told, only-leak)
@@ -21,7 +21,7 @@ pub entry_flag_deltas-requires : goal.entry_flag_deltas-requires
 entry_flag_deltas-requires c =
     let a = c.requires in
     let least = total-least _ _ (says-value c.total_active.ensures c.in-Value.is) in
-    ((good-settings _ a.0).positive.effective_balance_increment, (least, (a.1.0.0, part_length _ _ a.1.0.1)))
+    record { effective_balance_increment_nonzero = (good-settings _ a.s_value).positive.effective_balance_increment; effective_balance_increment_bound = least; flag_index_bound = a.flag_index_bound.0; len = part_length _ _ a.flag_index_bound.1 }
 
 pub returns : goal.returns
-returns c = rw (← part-decoded c.args.registry.now c.args.index nobody c.requires.1.0.1) (search (rules, chain-told))
+returns c = rw (← part-decoded c.args.registry.now c.args.index nobody c.requires.flag_index_bound.1) (search (rules, chain-told))

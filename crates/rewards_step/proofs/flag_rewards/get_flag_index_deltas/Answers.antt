@@ -10,7 +10,7 @@ returns-then-refusal-ne0 c = tests-refused _ _ c.flag_deltas_tests-refusal.ensur
 pub tested_flag_deltas-requires : goal.tested_flag_deltas-requires
 tested_flag_deltas-requires c =
     let p = flag-passed _ _ _ _ _ _ c.flag_deltas_tests-refusal.ensures c.if-refusal-ne0.false in
-    (p.opened.settings.good, ((p.flag, p.inside), p.opened.shape.long))
+    record { s_value = p.opened.settings.good; flag_index_bound = (p.flag, p.inside); registry_len = p.opened.shape.long }
 
 pub returns : goal.returns
 returns c = tests-passed _ _ c.flag_deltas_tests-refusal.ensures c.if-refusal-ne0.false c.tested_flag_deltas.ensures

@@ -19,13 +19,13 @@ returns c =
     let a = c.args in
     let e = c.read_file.ensures in
     let t = typed (contents (goal.at.returns c).Start) a.queue a.file.now p.tests c.well_formed.1.0 (λ i. (c.shared_slice_known-1.given i).fits) (λ i. (c.shared_slice_known-2-1.given i).fits) (λ i. (c.shared_slice_known-3-1.given i).fits) in
-    let same = read_back (contents (goal.at.returns c).Start) a.queue a.file.now a.registry_read.now a.slashings_read.now t (pair (goal.at.returns c).Start) c.write_file.ensures.1 p in
+    let same = read_back (contents (goal.at.returns c).Start) a.queue a.file.now a.registry_read.now a.slashings_read.now t (pair (goal.at.returns c).Start) c.write_file.ensures.file_after p in
     record {
-      accepted = e.0 ∙ ap (λ (o : ReadOutcome). o.refusal) same;
-      to_end = e.1.0 ∙ ap (λ (o : ReadOutcome). o.position) same;
-      settings = e.1.1.0 ∙ ap (λ (o : ReadOutcome). o.contents.settings) same;
-      finality = e.1.1.1.0 ∙ ap (λ (o : ReadOutcome). o.contents.finality) same;
-      queue = e.1.1.1.1.0 ∙ ap (λ (o : ReadOutcome). o.queue) same;
-      registry = e.1.1.1.1.1.0 ∙ ap (λ (o : ReadOutcome). o.contents.registry) same;
-      slashings = e.1.1.1.1.1.1 ∙ ap (λ (o : ReadOutcome). o.contents.slashings) same;
+      accepted = e.refusal_value ∙ ap (λ (o : ReadOutcome). o.refusal) same;
+      to_end = e.position_value ∙ ap (λ (o : ReadOutcome). o.position) same;
+      settings = e.settings_value ∙ ap (λ (o : ReadOutcome). o.contents.settings) same;
+      finality = e.finality_value ∙ ap (λ (o : ReadOutcome). o.contents.finality) same;
+      queue = e.queue_value ∙ ap (λ (o : ReadOutcome). o.queue) same;
+      registry = e.registry_after ∙ ap (λ (o : ReadOutcome). o.contents.registry) same;
+      slashings = e.slashings_after ∙ ap (λ (o : ReadOutcome). o.contents.slashings) same;
     }

@@ -9,10 +9,10 @@ use native.Mathlib.Omega.{arith}
 use Rattle.selection.proofs.queue_cut.bisect.Goals as goal
 
 pub loop-low-init : goal.loop-low-init
-loop-low-init c = c.requires.1.1
+loop-low-init c = c.requires.finalized_epoch_bound.1
 
 pub count_waiting-c-requires : goal.count_waiting-c-requires
-count_waiting-c-requires c = c.requires.0
+count_waiting-c-requires c = c.requires.registry_len
 
 pub returns-then-c-limit : goal.returns-then-c-limit
 returns-then-c-limit c = let a = c.args in bracket_hit c.loop-low.invariant (c.count_waiting-c.ensures ∙ count-waiting a.s a.epoch _ (omega arith) (decode a.registry.now)) (omega arith) c.if-c-limit.true

@@ -8,4 +8,4 @@ pub returns-then-limit-eq0 : goal.returns-then-limit-eq0
 returns-then-limit-eq0 c = cut-none c.if-limit-eq0.true
 
 pub returns-then-limit-le64 : goal.returns-then-limit-le64
-returns-then-limit-le64 c = cut-kept c.requires.1.1 (omega arith) (omega arith) c.cut_few.ensures
+returns-then-limit-le64 c = cut-kept c.requires.smallest (omega arith) (omega arith) c.cut_few.ensures

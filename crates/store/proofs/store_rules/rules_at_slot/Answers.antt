@@ -14,7 +14,7 @@ returns-then-n-eq0 c = c.turned_away.ensures ∙ rw c.if-n-eq0.true
 pub nonzero_div-slot : goal.nonzero_div-slot
 nonzero_div-slot c =
     let a = c.args in
-    omega (arith, last_positive a.n a.store.now (omega (arith, c.if-n-eq0.false)) c.requires.1)
+    omega (arith, last_positive a.n a.store.now (omega (arith, c.if-n-eq0.false)) c.requires.store_value)
 
 pub returns : goal.returns
 returns c =

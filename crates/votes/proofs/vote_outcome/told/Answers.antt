@@ -6,8 +6,8 @@ use Rattle.votes.proofs.vote_outcome.told.Goals as goal
 pub returns : goal.returns
 unfolding outcome_of
 returns c =
-    let e = rw c.finalized_after.ensures at c.inserted-one.ensures.0 in
-    let f = rw c.finalized_after-2.ensures at c.inserted-two.ensures.0 in
-    let g = rw c.finalized_after-3.ensures at c.inserted-three.ensures.0 in
-    let h = rw c.finalized_after-4.ensures at c.inserted-list.ensures.0 in
+    let e = rw c.finalized_after.ensures at c.inserted-one.ensures.is in
+    let f = rw c.finalized_after-2.ensures at c.inserted-two.ensures.is in
+    let g = rw c.finalized_after-3.ensures at c.inserted-three.ensures.is in
+    let h = rw c.finalized_after-4.ensures at c.inserted-list.ensures.is in
     told-answer _ (four_inserted _ _ _ _ e f g h) c.verdict_number-previous_target.ensures c.verdict_number-current_target.ensures

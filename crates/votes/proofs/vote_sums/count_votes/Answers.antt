@@ -7,10 +7,10 @@ use Rattle.votes.proofs.vote_sums.Counting.{Counting, tells_sums, counting_none,
 use Rattle.votes.proofs.vote_sums.count_votes.Goals as goal
 
 pub loop-i-init : goal.loop-i-init
-loop-i-init c = counting_none _ _ _ c.requires.0
+loop-i-init c = counting_none _ _ _ c.requires.registry_len
 
 pub entry_sums-own-requires : goal.entry_sums-own-requires
-entry_sums-own-requires c = (reading_ten (counting_at c.loop-i.invariant) c.loop-i-test.true, c.requires.1.1)
+entry_sums-own-requires c = record { len = reading_ten (counting_at c.loop-i.invariant) c.loop-i-test.true; previous_epoch_lt_current_epoch = c.requires.previous_epoch_lt_current_epoch }
 
 pub returns-in_default : goal.returns-in_default
 returns-in_default c = counted-refused (counting_over c.loop-i.invariant c.loop-i-test.true c.entry_sums-own.ensures (answers-refused tells_sums c.added.ensures c.in_default.is).gave)

@@ -8,4 +8,4 @@ pub returns : goal.returns
 returns c =
     let a = c.args in
     c.weight_where.ensures
-    ∙ rw (c.filled_in-hit.ensures, c.flag_is_set.ensures, c.previous_unknown.ensures, c.entry_is_active-active.ensures) (sym (previous-is _ _ _ (uniform a.set a.set 0) _ c.requires.1))
+    ∙ rw (c.filled_in-hit.ensures, c.flag_is_set.ensures, c.previous_unknown.ensures, c.entry_is_active-active.ensures) (sym (previous-is _ _ _ (uniform a.set a.set 0) _ c.requires.previous_epoch_lt_current_epoch))
