@@ -14,7 +14,7 @@ use mathlib.Core.Bool.{not}
 use Rattle.outage.proofs.put_file.Goals as goal
 
 -- what was read is as long as the header calls for
-exact : (c : After-read_file-read) → let a = (start c).args in let read = c.read_file-read.new.1 in Exact a.file.now a.opening.now a.absences.now read.0 read.1.0 a.roots.now a.closing-registry.now a.closing-slashings.now a.text.now
+exact : (c : After-read_file-read) → let a = (start c).args in let read = c.read_file-read.new.slashings in Exact a.file.now a.opening.now a.absences.now read.0 read.1.0 a.roots.now a.closing-registry.now a.closing-slashings.now a.text.now
 exact c = let kept = c.read_file-read.auto.1 in exact_read c.requires kept.0 kept.1.0
 
 opened : (c : Else-read-ne0) → let r = reading c.After-struct_known-1 in let read = r.read-file.last.1 in Opened (start r).args.file.now r.read-file.result.settings r.read-file.result.finality read.0 read.1.0

@@ -11,7 +11,7 @@ use Rattle.rates.proofs.rates_in.Goals.{After-refresh}
 use Rattle.rates.proofs.rates_in.Goals as goal
 
 -- the row came back with its fifteen numbers
-fifteen : (c : After-refresh) → length c.refresh.new.1.1.1.1.1.1.0 ≡ 15
+fifteen : (c : After-refresh) → length c.refresh.new.row.1.1.1.1.1.1.0 ≡ 15
 fifteen c =
     c.refresh.auto.1.1.1.1.1.1.0 ∙ row-fifteen c.args.table.now c.requires.table_of.long c.row_of-i.result c.row_of-i.ensures
 

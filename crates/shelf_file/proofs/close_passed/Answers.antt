@@ -15,7 +15,7 @@ use Rattle.shelf_file.proofs.close_passed.Goals as goal
 
 -- the working list as it was read
 abbrev numbers : After-file_roots-roots → List ℕ
-numbers c = c.read_opening.new.1.1.1.0
+numbers c = c.read_opening.new.numbers.1.1.1.0
 
 ordered : (c : Start) → c.args.a ≤ c.args.b
 ordered c = omega (arith, c.requires.counted.counts)
@@ -37,7 +37,7 @@ read c =
     }
 
 -- the slashings after their reset, in the list
-behind : (c : After-slashings_reset_core) → let at-file-roots = with-roots c.After-struct_known-1 in let a = (start at-file-roots).args in let ys = c.slashings_reset_core.new.1.1.0 in numbers_behind a.a a.b (take a.a (numbers at-file-roots) ++ (ys ++ drop (a.b - a.a) (drop a.a (numbers at-file-roots)))) ≡ ys
+behind : (c : After-slashings_reset_core) → let at-file-roots = with-roots c.After-struct_known-1 in let a = (start at-file-roots).args in let ys = c.slashings_reset_core.new.slashings.1.1.0 in numbers_behind a.a a.b (take a.a (numbers at-file-roots) ++ (ys ++ drop (a.b - a.a) (drop a.a (numbers at-file-roots)))) ≡ ys
 behind c = behind-put _ _ _ _ (ordered c) (within c.After-slice_known-4-1) c.slashings_reset_core.auto.1.1.0
 
 pub close_opening-answer-requires : goal.close_opening-answer-requires

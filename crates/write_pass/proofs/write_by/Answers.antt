@@ -14,7 +14,7 @@ turn c = c.After-shared_slice_known-in-loop-i-1
 inside : (c : In-loop-i) → let at = c.At-loop-i in let i = at.loop.i in (10 * i + 10 ≤ length (start at).args.opening.now) × (10 * i + 10 ≤ length at.loop.closing) × (10 * i + 10 < 1152921504606846976)
 inside c = passing_inside c.loop-i.invariant c.loop-i-test.true
 
-ten : (c : After-write_entry-written) → length c.write_entry-written.new.1.1.1.1.1.1.1.1.0 ≡ 10
+ten : (c : After-write_entry-written) → length c.write_entry-written.new.to.1.1.1.1.1.1.1.1.0 ≡ 10
 ten c = c.write_entry-written.auto.1.1.1.1.1.1.1.1.0 ∙ passing_to (turn c).before.loop.invariant (turn c).loop-test.true
 
 part_end : (c : After-carry-1) → let at-in-loop = turn (written c) in 10 * at-in-loop.before.loop.i + 10 ≤ length (put_at at-in-loop.before.loop.closing at-in-loop.before.loop.i (written c).write-entry.new.1.1.1.1.1.1.1.1.0)

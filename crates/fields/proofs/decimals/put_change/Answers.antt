@@ -3,17 +3,14 @@ use borrow.Author.Rules.{rules}
 use mir.Syntax.{w64}
 use mir.Val.{SFits}
 use Rattle.fields.proofs.decimals.Signed.{Loss, Gain, loss, gain}
-use Rattle.fields.proofs.decimals.put_change.Goals.{Else-change-lt0, Start, Then-change-lt0}
+use Rattle.fields.proofs.decimals.put_change.Goals.{Else-change-lt0, Then-change-lt0}
 use Rattle.fields.proofs.decimals.put_change.Goals as goal
 
-fits : (c : Start) → SFits w64 c.args.change
-fits c = search rules
-
 lost : (c : Then-change-lt0) → Loss c.args.change
-lost c = loss _ (fits c.Start) c.if-change-lt0.true
+lost c = let fits : SFits w64 c.args.change = search rules in loss _ fits c.if-change-lt0.true
 
 gained : (c : Else-change-lt0) → Gain c.args.change
-gained c = gain _ (fits c.Start) c.if-change-lt0.false
+gained c = let fits : SFits w64 c.args.change = search rules in gain _ fits c.if-change-lt0.false
 
 pub returns-then-change-lt0 : goal.returns-then-change-lt0
 returns-then-change-lt0 c =

@@ -20,7 +20,7 @@ abbrev bytes : After-read_numbers → List ℕ
 bytes c = c.args.bytes.now
 
 abbrev found : After-read_numbers → List ℕ
-found c = c.read_numbers.new.1.1.0
+found c = c.read_numbers.new.numbers.1.1.0
 
 tests : (c : After-read_numbers) → good_header (bytes c) ≡ every (tests_by (bytes c) (found c))
 tests c = by-found (bytes c) (found c) c.read_numbers.ensures
