@@ -7,21 +7,20 @@ use Rattle.definitions_electra_close.specs.Calls.{electra_called}
 use Rattle.electra_close_tests.proofs.Passed.{ElectraPassed, electra-passed}
 use Rattle.electra_close.proofs.Accepting.{put_back, accepted}
 use Rattle.electra_close.proofs.Requires.{steps-lent, finish-lent}
-use Rattle.electra_close.proofs.closed.Lts.{Args}
 use Rattle.electra_close.proofs.closed.Goals.{Start}
 use Rattle.electra_close.proofs.closed.Goals as goal
 
-abbrev called : Args → ElectraCall
+abbrev called : Start → ElectraCall
 called s =
-    let a = s in
+    let a = s.args in
     electra_called a.rules a.finality a.churn a.numbers a.registry.now a.compounding.now a.slashings.now a.roots.now a.deposits.now a.consolidations.now a.closing_registry.now a.closing_compounding.now a.closing_slashings.now a.closing_deposits.now a.closing_consolidations.now a.amounts.now a.places.now
 
-passed : (s : Start) → ElectraPassed (called s.args)
-passed s = electra-passed (called s.args) refl (ap code_of s.requires)
+passed : (s : Start) → ElectraPassed (called s)
+passed s = electra-passed (called s) refl (ap code_of s.requires)
 
 pub steps_in_front-front-requires : goal.steps_in_front-front-requires
 steps_in_front-front-requires c =
-    steps-lent (called c.args) (passed (goal.at.steps_in_front-front-requires c).Start)
+    steps-lent (called (goal.at.steps_in_front-front-requires c).Start) (passed (goal.at.steps_in_front-front-requires c).Start)
 
 pub open_registry-requires : goal.open_registry-requires
 open_registry-requires c =
@@ -47,7 +46,7 @@ returns-then-front-ne0 c =
 pub finish-counts-requires : goal.finish-counts-requires
 finish-counts-requires c =
     let k = c.steps_in_front-front.kept in
-    finish-lent (called c.args) (passed (goal.at.finish-counts-requires c).Start) c.steps_in_front-front.ensures c.if-front-ne0.false (omega (arith, k)) (omega (arith, k)) (omega (arith, k))
+    finish-lent (called (goal.at.finish-counts-requires c).Start) (passed (goal.at.finish-counts-requires c).Start) c.steps_in_front-front.ensures c.if-front-ne0.false (omega (arith, k)) (omega (arith, k)) (omega (arith, k))
 
 pub returns : goal.returns
 returns c =

@@ -19,7 +19,10 @@ use Rattle.write_steps.proofs.Accepted.{none-gave}
 use Rattle.electra_first.proofs.Accepted.{Accepted, four-refused}
 use Rattle.electra_first.proofs.Columns.{back_long}
 use Rattle.electra_first.proofs.Booked.{by-refused, by-ran}
-use Rattle.electra_first.proofs.four_steps.Lts.{Args}
+use Rattle.definitions_electra.specs.declared.ElectraRules.{ElectraRules}
+use Rattle.definitions.specs.declared.Settings.{Settings}
+use Prim.Native.Nat.{ℕ}
+use mathlib.Core.List.{List}
 use Rattle.electra_first.proofs.four_steps.Goals.{After-make_plan-p, Start}
 use Rattle.electra_first.proofs.four_steps.Goals as goal
 
@@ -29,8 +32,8 @@ eps c = epochs _ _ c.requires.rules_value.2 c.requires.rules_value.1
 ep : (c : Start) → Epochs c.args.rules.settings c.args.state_slot
 ep c = epochs _ _ (good-electra _ c.requires.rules_value.0).settings c.requires.rules_value.1
 
-abbrev Accepted-at : Args → Type 0
-Accepted-at c = Accepted c.rules c.s c.state_slot c.finalized_epoch c.slashings.now (decode c.opening.now)
+abbrev Accepted-at : ElectraRules → Settings → ℕ → ℕ → List ℕ → List ℕ → Type 0
+Accepted-at rules s state_slot finalized_epoch slashings opening = Accepted rules s state_slot finalized_epoch slashings (decode opening)
 
 -- the present epoch is small
 small : (c : After-make_plan-p) → c.current_epoch-current.result < 2 ^ 48
@@ -49,13 +52,13 @@ pub returns-in_default : goal.returns-in_default
 returns-in_default c =
     let a = c.args in
     let no = (answers_overflow tells_truth c.leak_of.ensures (only-leak _ _ _) c.in_default.is).0 in
-    four-refused a.rules a.s a.state_slot a.finalized_epoch a.slashings.now a.churn c.requires.rules_value.3 c.requires.rules_value.0 (ep (goal.at.returns-in_default c).Start) (decode a.opening.now) (λ (g : Accepted-at c.args). none-gave no g.sums.leak) refl
+    four-refused a.rules a.s a.state_slot a.finalized_epoch a.slashings.now a.churn c.requires.rules_value.3 c.requires.rules_value.0 (ep (goal.at.returns-in_default c).Start) (decode a.opening.now) (λ (g : Accepted-at c.args.rules c.args.s c.args.state_slot c.args.finalized_epoch c.args.slashings.now c.args.opening.now). none-gave no g.sums.leak) refl
 
 pub returns-in_default-adjusted_balance : goal.returns-in_default-adjusted_balance
 returns-in_default-adjusted_balance c =
     let a = c.args in
     let no = (says_overflow c.adjusted_balance.ensures (only-adjusted _ _ _) c.in_default-adjusted_balance.is).0 in
-    four-refused a.rules a.s a.state_slot a.finalized_epoch a.slashings.now a.churn c.requires.rules_value.3 c.requires.rules_value.0 (ep (goal.at.returns-in_default-adjusted_balance c).Start) (decode a.opening.now) (λ (g : Accepted-at c.args). none-gave no (g.adjusted _)) refl
+    four-refused a.rules a.s a.state_slot a.finalized_epoch a.slashings.now a.churn c.requires.rules_value.3 c.requires.rules_value.0 (ep (goal.at.returns-in_default-adjusted_balance c).Start) (decode a.opening.now) (λ (g : Accepted-at c.args.rules c.args.s c.args.state_slot c.args.finalized_epoch c.args.slashings.now c.args.opening.now). none-gave no (g.adjusted _)) refl
 
 pub nonzero_div-increments : goal.nonzero_div-increments
 nonzero_div-increments c = (good-settings _ c.requires.rules_value.2).positive.effective_balance_increment

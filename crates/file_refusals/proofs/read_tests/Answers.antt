@@ -12,40 +12,39 @@ use Rattle.laws_file.proofs.Passed.{Header, good-header}
 use Rattle.file_refusals.proofs.Registry.{registry_in, registry-tested}
 use Rattle.file_refusals.proofs.ReadTests.{Others, answered-short, answered-header, answered-sooner, answered-finality, answered-registry, answered-queue}
 use mathlib.Core.Bool.{not}
-use Rattle.file_refusals.proofs.read_tests.Lts.{Args}
 use Rattle.file_refusals.proofs.read_tests.Goals.{After-first_bad-stopped, After-good_finality, After-other_tests-others, After-read_counts-counts, After-validators_at-from, Else-not-good_header}
 use Rattle.file_refusals.proofs.read_tests.Goals as goal
 
-abbrev bytes : Args → List ℕ
-bytes c = c.bytes.now
+abbrev bytes : List ℕ → List ℕ
+bytes bytes' = bytes'
 
-header : (c : Else-not-good_header) → good_header (bytes c.args) ≡ true
+header : (c : Else-not-good_header) → good_header (bytes c.args.bytes.now) ≡ true
 header c = passes c.good_header.ensures (ap not c.if-not-good_header.false)
 
-head : (c : Else-not-good_header) → Header (bytes c.args)
+head : (c : Else-not-good_header) → Header (bytes c.args.bytes.now)
 head c = good-header _ (header c)
 
 -- where the registry stands, and where reading it stops
-count : (c : After-read_counts-counts) → c.read_counts-counts.result.validators ≡ count_of (bytes c.args)
+count : (c : After-read_counts-counts) → c.read_counts-counts.result.validators ≡ count_of (bytes c.args.bytes.now)
 count c = c.read_counts-counts.ensures.0
 
-from : (c : After-validators_at-from) → c.validators_at-from.result ≡ validators_at (version_of (bytes c.args))
+from : (c : After-validators_at-from) → c.validators_at-from.result ≡ validators_at (version_of (bytes c.args.bytes.now))
 from c = c.validators_at-from.ensures ∙ ap validators_at c.read_counts-counts.ensures.3
 
-stopped : (c : After-first_bad-stopped) → let xs = bytes c.args in let at = validators_at (version_of xs) in c.first_bad-stopped.result ≡ stopped_at at (registry_in xs at (count_of xs))
+stopped : (c : After-first_bad-stopped) → let xs = bytes c.args.bytes.now in let at = validators_at (version_of xs) in c.first_bad-stopped.result ≡ stopped_at at (registry_in xs at (count_of xs))
 stopped c = rw (from c.After-validators_at-from, count c.After-read_counts-counts) at c.first_bad-stopped.ensures
 
 tested : (c : After-other_tests-others) → let a = c.args in Others a.bytes.now a.registry.now a.slashings.now c.other_tests-others.result
 unfolding contents_of
 tested c =
-    let xs = bytes c.args in
+    let xs = bytes c.args.bytes.now in
     record {
       header = header c.Else-not-good_header;
       number = rw (stopped c.After-first_bad-stopped, from c.After-validators_at-from, count c.After-read_counts-counts, registry-tested xs (validators_at (version_of xs)) (count_of xs)) at c.other_tests-others.ensures;
     }
 
 -- the finality, where 3 was told
-finality : (c : After-good_finality) → c.good_finality.result ≡ good_finality (contents_of (bytes c.args)).finality
+finality : (c : After-good_finality) → c.good_finality.result ≡ good_finality (contents_of (bytes c.args.bytes.now)).finality
 unfolding contents_of
 finality c = rw c.read_finality.ensures at c.good_finality.ensures
 

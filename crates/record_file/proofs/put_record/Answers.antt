@@ -7,10 +7,10 @@ use Rattle.laws_file.proofs.Tests.{count_in}
 use Rattle.fields.proofs.Stores.{stored-first, stored_more, sets-whole}
 use Rattle.record_file.specs.Sized.{head_of}
 use Rattle.record_file.proofs.Writing.{Rooted, head-long}
-use Rattle.record_file.proofs.put_record.Lts.{Args}
+use Rattle.record_file.proofs.put_record.Goals.{Start}
 use Rattle.record_file.proofs.put_record.Goals as goal
 
-rooted : (c : Args) → Rooted c.finality
+rooted : (c : Start) → Rooted c.args.finality
 rooted c = search rules
 
 pub returns : goal.returns
@@ -20,7 +20,7 @@ returns c =
     let k = contents_with a.settings a.finality a.registry.now a.roots.now a.slashings.now in
     let sized = c.requires in
     let h = head_of a.settings a.finality a.queue (count_in k) in
-    let one = stored-first a.file.now 0 h (head-long a.settings a.queue (count_in k) (rooted c.args)) c.put_head.ensures in
+    let one = stored-first a.file.now 0 h (head-long a.settings a.queue (count_in k) (rooted (goal.at.returns c).Start)) c.put_head.ensures in
     let two = stored_more one (numbers_to_bytes k.registry) (length_to_bytes k.registry) refl refl c.put_numbers.ensures in
     let three = stored_more two k.roots refl refl (omega (arith, sized)) c.put_bytes.ensures in
     let four = stored_more three (numbers_to_bytes k.slashings) (length_to_bytes k.slashings) refl (omega (arith, sized)) c.put_numbers-2.ensures in

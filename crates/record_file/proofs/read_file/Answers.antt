@@ -3,14 +3,15 @@ use native.Mathlib.Omega.{arith}
 use borrow.Author.Rules.{rules}
 use Rattle.definitions_file.specs.File.{Contents, contents_of, read}
 use Rattle.record_file.proofs.Reading.{Lengths, read-refused, read-accepted, read-lengths, registry-part, slashings-part}
-use Rattle.record_file.proofs.read_file.Lts.{Args}
+use Prim.Native.Nat.{ℕ}
+use mathlib.Core.List.{List}
 use Rattle.record_file.proofs.read_file.Goals.{Else-tested-ne0}
 use Rattle.record_file.proofs.read_file.Goals as goal
 
-abbrev Long : Args → Type 0
-Long c = Lengths c.bytes.now c.registry.now c.slashings.now
+abbrev Long : List ℕ → List ℕ → List ℕ → Type 0
+Long bytes registry slashings = Lengths bytes registry slashings
 
-lengths : (c : Else-tested-ne0) → Long c.args
+lengths : (c : Else-tested-ne0) → Long c.args.bytes.now c.args.registry.now c.args.slashings.now
 lengths c = read-lengths _ _ _ c.read_tests-tested.ensures.number c.if-tested-ne0.false
 
 pub returns-then-tested-ne0 : goal.returns-then-tested-ne0

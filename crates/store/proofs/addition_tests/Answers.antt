@@ -15,17 +15,18 @@ use Rattle.refusals.proofs.All.{fails, passes}
 use Rattle.refusals.proofs.Answers.{after-passed, after-refused}
 use Rattle.store.proofs.Passed.{grouped, no_room}
 use mathlib.Core.Bool.{not}
-use Rattle.store.proofs.addition_tests.Lts.{Args}
+use Rattle.definitions.specs.declared.Rules.{Rules}
+use mathlib.Core.List.{List}
 use Rattle.store.proofs.addition_tests.Goals.{After-in_order-refusal}
 use Rattle.store.proofs.addition_tests.Goals as goal
 
-abbrev store : Args → Store
-store c = lent c.store.now c.count
+abbrev store : List ℕ → ℕ → Store
+store store' count = lent store' count
 
-abbrev new : Args → Entry
-new c = new_entry c.start c.rules
+abbrev new : ℕ → Rules → Entry
+new start rules = new_entry start rules
 
-told : (c : After-in_order-refusal) → c.in_order-refusal.result ≡ code_of (first (store c.args) (new c.args))
+told : (c : After-in_order-refusal) → c.in_order-refusal.result ≡ code_of (first (store c.args.store.now c.args.count) (new c.args.start c.args.rules))
 unfolding addition_shaped
 told c =
     grouped _ _ _ (rw (c.store_shaped.ensures, c.rules_shaped.ensures, c.keeps_last.ensures, c.good_entries.ensures, c.good_rules.ensures) at c.in_order-refusal.ensures)
@@ -54,12 +55,12 @@ unfolding addition_shaped
 returns-then-store-n c = refuses _ _ (grouped _ _ _ (shape-failed _ _ _ 0 (no_room _ c.if-store-n.true))) (λ z. omega arith)
 
 pub returns-then-refusal-ne0 : goal.returns-then-refusal-ne0
-returns-then-refusal-ne0 c = refuses (store c.args) (new c.args) (told (goal.at.returns-then-refusal-ne0 c).After-in_order-refusal) c.if-refusal-ne0.true
+returns-then-refusal-ne0 c = refuses (store c.args.store.now c.args.count) (new c.args.start c.args.rules) (told (goal.at.returns-then-refusal-ne0 c).After-in_order-refusal) c.if-refusal-ne0.true
 
 pub returns-then-not-starts_after : goal.returns-then-not-starts_after
 returns-then-not-starts_after c =
-    starts (store c.args) (new c.args) (told (goal.at.returns-then-not-starts_after c).After-in_order-refusal) c.if-refusal-ne0.false _ (fails c.starts_after.ensures (ap not c.if-not-starts_after.true))
+    starts (store c.args.store.now c.args.count) (new c.args.start c.args.rules) (told (goal.at.returns-then-not-starts_after c).After-in_order-refusal) c.if-refusal-ne0.false _ (fails c.starts_after.ensures (ap not c.if-not-starts_after.true))
 
 pub returns : goal.returns
 returns c =
-    starts (store c.args) (new c.args) (told (goal.at.returns c).After-in_order-refusal) c.if-refusal-ne0.false _ (passes c.starts_after.ensures (ap not c.if-not-starts_after.false))
+    starts (store c.args.store.now c.args.count) (new c.args.start c.args.rules) (told (goal.at.returns c).After-in_order-refusal) c.if-refusal-ne0.false _ (passes c.starts_after.ensures (ap not c.if-not-starts_after.false))

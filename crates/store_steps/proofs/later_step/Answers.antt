@@ -7,24 +7,23 @@ use Rattle.definitions_close.specs.Calls.{lent, store_called, store_step_called}
 use Rattle.store.proofs.store_rules.Given.{rules-with}
 use Rattle.store_steps.proofs.Steps.{later-by, later-turned}
 use borrow.Author.Rules.{rules}
-use Rattle.store_steps.proofs.later_step.Lts.{Args}
 use Rattle.store_steps.proofs.later_step.Goals.{After-rules_for-found}
 use Rattle.store_steps.proofs.later_step.Goals as goal
 
-abbrev call : Args → StoreStepCall
+abbrev call : After-rules_for-found → StoreStepCall
 call c =
-    let a = c in
+    let a = c.args in
     store_step_called a.number a.so_far (store_called (lent a.store.now a.count) a.finality a.queue a.registry.now a.slashings.now a.roots.now a.closing_registry.now a.closing_slashings.now a.amounts.now)
 
-abbrev so_far : Args → StoreCall
+abbrev so_far : After-rules_for-found → StoreCall
 so_far c = store_so_far (call c).running (call c).whole
 
-asked : (c : After-rules_for-found) → c.rules_for-found.result ≡ rules_answer_for (rules_for (so_far c.args))
-asked c = c.rules_for-found.ensures ∙ ap rules_answer_for (rules-with (so_far c.args))
+asked : (c : After-rules_for-found) → c.rules_for-found.result ≡ rules_answer_for (rules_for (so_far c))
+asked c = c.rules_for-found.ensures ∙ ap rules_answer_for (rules-with (so_far c))
 
 pub returns-then-refusal-ne0 : goal.returns-then-refusal-ne0
-returns-then-refusal-ne0 c = later-turned (call c.args) (asked (goal.at.returns-then-refusal-ne0 c).After-rules_for-found) c.requires c.if-refusal-ne0.true
+returns-then-refusal-ne0 c = later-turned (call (goal.at.returns-then-refusal-ne0 c).After-rules_for-found) (asked (goal.at.returns-then-refusal-ne0 c).After-rules_for-found) c.requires c.if-refusal-ne0.true
 
 pub returns : goal.returns
 returns c =
-    c.close_step.ensures ∙ later-by (call c.args) (asked (goal.at.returns c).After-rules_for-found) c.if-refusal-ne0.false
+    c.close_step.ensures ∙ later-by (call (goal.at.returns c).After-rules_for-found) (asked (goal.at.returns c).After-rules_for-found) c.if-refusal-ne0.false

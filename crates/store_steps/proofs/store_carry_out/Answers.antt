@@ -5,18 +5,17 @@ use Rattle.definitions_close.specs.StoreSteps.{StoreNinthCall, ninth_rules, stor
 use Rattle.definitions_close.specs.Calls.{lent, store_ninth_called}
 use Rattle.store_steps.proofs.Steps.{ninth-with, ninth-turned, ninth-by}
 use borrow.Author.Rules.{rules}
-use Rattle.store_steps.proofs.store_carry_out.Lts.{Args}
 use Rattle.store_steps.proofs.store_carry_out.Goals.{After-ninth_rules-found}
 use Rattle.store_steps.proofs.store_carry_out.Goals as goal
 
 -- the call, and that its rules were asked
-abbrev call : Args → StoreNinthCall
+abbrev call : After-ninth_rules-found → StoreNinthCall
 call c =
-    let a = c in
+    let a = c.args in
     store_ninth_called (lent a.store.now a.count) a.shard_committee_period a.running a.closing_registry.now a.orders.now a.answers.now
 
-asked : (c : After-ninth_rules-found) → c.ninth_rules-found.result ≡ rules_answer_for (ninth_rules (call c.args))
-asked c = c.ninth_rules-found.ensures ∙ ap rules_answer_for (ninth-with (call c.args))
+asked : (c : After-ninth_rules-found) → c.ninth_rules-found.result ≡ rules_answer_for (ninth_rules (call c))
+asked c = c.ninth_rules-found.ensures ∙ ap rules_answer_for (ninth-with (call c))
 
 pub returns-then-done-eq9 : goal.returns-then-done-eq9
 unfolding store_carry_out
@@ -28,8 +27,8 @@ returns-then-done-ne8 c = rw (ne_eqb _ _ c.if-done-eq9.false, ne_eqb _ _ c.if-do
 
 pub returns-then-refusal-ne0 : goal.returns-then-refusal-ne0
 returns-then-refusal-ne0 c =
-    ninth-turned (call c.args) (asked (goal.at.returns-then-refusal-ne0 c).After-ninth_rules-found) c.if-done-ne8.false c.if-refusal-ne0.true
+    ninth-turned (call (goal.at.returns-then-refusal-ne0 c).After-ninth_rules-found) (asked (goal.at.returns-then-refusal-ne0 c).After-ninth_rules-found) c.if-done-ne8.false c.if-refusal-ne0.true
 
 pub returns : goal.returns
 returns c =
-    c.carry_out.ensures ∙ ninth-by (call c.args) (asked (goal.at.returns c).After-ninth_rules-found) c.if-done-ne8.false c.if-refusal-ne0.false
+    c.carry_out.ensures ∙ ninth-by (call (goal.at.returns c).After-ninth_rules-found) (asked (goal.at.returns c).After-ninth_rules-found) c.if-done-ne8.false c.if-refusal-ne0.false

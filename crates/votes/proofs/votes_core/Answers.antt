@@ -7,22 +7,25 @@ use Rattle.definitions_votes.specs.Exact.{Ballot, current_of, previous_of}
 use Rattle.definitions_votes.specs.Votes.{ballot_of}
 use Rattle.votes.proofs.Passed.{votes-passed, previous-earlier}
 use Rattle.votes.proofs.Answered.{lookup, counted-at, ends-early, ends-lost, ends_lost_2, ends-over, ends-told}
-use Rattle.votes.proofs.votes_core.Lts.{Args}
+use Rattle.definitions.specs.declared.Finality.{Finality}
+use Rattle.definitions.specs.declared.Settings.{Settings}
+use Prim.Native.Nat.{ℕ}
+use mathlib.Core.List.{List}
 use Rattle.votes.proofs.votes_core.Goals.{After-epoch_lookup-before, After-epoch_lookup-now, Else-current-le1}
 use Rattle.votes.proofs.votes_core.Goals as goal
 
-abbrev ballot : Args → Ballot
-ballot c = ballot_of c.s c.roots.now c.old c.registry.now c.marks.now
+abbrev ballot : Settings → List ℕ → Finality → List ℕ → List ℕ → Ballot
+ballot s roots old registry marks = ballot_of s roots old registry marks
 
 -- epoch 2 or later
-late : (c : Else-current-le1) → 1 < current_of (ballot c.args)
+late : (c : Else-current-le1) → 1 < current_of (ballot c.args.s c.args.roots.now c.args.old c.args.registry.now c.args.marks.now)
 late c = rw c.current_epoch-current.ensures at c.if-current-le1.false
 
 -- the numbers of the two lookups
-previous-root : (c : After-epoch_lookup-before) → c.epoch_lookup-before.result ≡ code_of (lookup (ballot c.args) (previous_of (ballot c.args)))
+previous-root : (c : After-epoch_lookup-before) → c.epoch_lookup-before.result ≡ code_of (lookup (ballot c.args.s c.args.roots.now c.args.old c.args.registry.now c.args.marks.now) (previous_of (ballot c.args.s c.args.roots.now c.args.old c.args.registry.now c.args.marks.now)))
 previous-root c = rw c.previous_epoch-previous.ensures at c.epoch_lookup-before.ensures
 
-current-root : (c : After-epoch_lookup-now) → c.epoch_lookup-now.result ≡ code_of (lookup (ballot c.args) (current_of (ballot c.args)))
+current-root : (c : After-epoch_lookup-now) → c.epoch_lookup-now.result ≡ code_of (lookup (ballot c.args.s c.args.roots.now c.args.old c.args.registry.now c.args.marks.now) (current_of (ballot c.args.s c.args.roots.now c.args.old c.args.registry.now c.args.marks.now)))
 current-root c = rw c.current_epoch-current.ensures at c.epoch_lookup-now.ensures
 
 pub current_epoch-current-requires : goal.current_epoch-current-requires

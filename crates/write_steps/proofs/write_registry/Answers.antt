@@ -13,15 +13,17 @@ use Rattle.write_steps.proofs.Accepted.{Accepted, not_accepted}
 use Rattle.write_steps.proofs.Made.{plain-fit, found_all}
 use mathlib.Core.Path.{ap}
 use mathlib.Core.Bool.{not}
-use Rattle.write_steps.proofs.write_registry.Lts.{Args}
+use Rattle.definitions.specs.declared.Settings.{Settings}
+use Prim.Native.Nat.{ℕ}
+use mathlib.Core.List.{List}
 use Rattle.write_steps.proofs.write_registry.Goals.{After-current_epoch-epoch, Start}
 use Rattle.write_steps.proofs.write_registry.Goals as goal
 
 ep : (c : Start) → Epochs c.args.s c.args.state_slot
 ep c = epochs c.args.s c.args.state_slot c.requires.s_value.0 c.requires.s_value.1
 
-abbrev Accepted-at : Args → Type 0
-Accepted-at c = Accepted c.s c.state_slot c.finalized_epoch c.slashings.now (decode c.opening.now)
+abbrev Accepted-at : Settings → ℕ → ℕ → List ℕ → List ℕ → Type 0
+Accepted-at s state_slot finalized_epoch slashings opening = Accepted s state_slot finalized_epoch slashings (decode opening)
 
 -- the present epoch is small
 current-small : (c : After-current_epoch-epoch) → c.current_epoch-epoch.result < 2 ^ 48
@@ -31,7 +33,7 @@ current-small c =
 pub returns-then-not-all_fit : goal.returns-then-not-all_fit
 returns-then-not-all_fit c =
     let over = fails c.all_fit.ensures (ap not c.if-not-all_fit.true) in
-    record { ran = ran_overflow (not_accepted _ _ _ _ (ep (goal.at.returns-then-not-all_fit c).Start) _ _ (λ (g : Accepted-at c.args). true≢false (sym (plain-fit c.requires.finds g.plain) ∙ over))); books = record { booked = λ z. absurd (omega (arith, z)) }; pair_of = record { pair = λ z. absurd (omega (arith, z)) } }
+    record { ran = ran_overflow (not_accepted _ _ _ _ (ep (goal.at.returns-then-not-all_fit c).Start) _ _ (λ (g : Accepted-at c.args.s c.args.state_slot c.args.finalized_epoch c.args.slashings.now c.args.opening.now). true≢false (sym (plain-fit c.requires.finds g.plain) ∙ over))); books = record { booked = λ z. absurd (omega (arith, z)) }; pair_of = record { pair = λ z. absurd (omega (arith, z)) } }
 
 pub current_epoch-epoch-requires : goal.current_epoch-epoch-requires
 current_epoch-epoch-requires c =

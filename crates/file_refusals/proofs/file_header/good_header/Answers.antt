@@ -13,18 +13,17 @@ use Rattle.refusals.proofs.All.{fails, passes}
 use Rattle.file_refusals.proofs.file_header.Headers.{tests_by, by-found}
 use mathlib.Core.Path.{ap}
 use mathlib.Core.Bool.{not}
-use Rattle.file_refusals.proofs.file_header.good_header.Lts.{Args}
 use Rattle.file_refusals.proofs.file_header.good_header.Goals.{After-read_numbers}
 use Rattle.file_refusals.proofs.file_header.good_header.Goals as goal
 
-abbrev bytes : Args → List ℕ
-bytes c = c.bytes.now
+abbrev bytes : List ℕ → List ℕ
+bytes bytes' = bytes'
 
 abbrev found : After-read_numbers → List ℕ
 found c = c.read_numbers.new.numbers.1.1.0
 
-tests : (c : After-read_numbers) → good_header (bytes c.args) ≡ every (tests_by (bytes c.args) (found c))
-tests c = by-found (bytes c.args) (found c) c.read_numbers.ensures
+tests : (c : After-read_numbers) → good_header (bytes c.args.bytes.now) ≡ every (tests_by (bytes c.args.bytes.now) (found c))
+tests c = by-found (bytes c.args.bytes.now) (found c) c.read_numbers.ensures
 
 pub returns-then-bytes-lt-SETTINGS_AT : goal.returns-then-bytes-lt-SETTINGS_AT
 unfolding good_header every
@@ -46,7 +45,7 @@ returns-then-not-as_long c =
 pub header_of-called_for-requires : goal.header_of-called_for-requires
 header_of-called_for-requires c =
     let xs = found (goal.at.header_of-called_for-requires c).After-read_numbers in
-    let e : length (bytes c.args) ≡ file_length (get_or xs 0 0) (get_or xs 2 0) (get_or xs 3 0) (get_or xs 4 0) = eqb-true _ _ (passes c.as_long.ensures (ap not c.if-not-as_long.false)) in
+    let e : length (bytes c.args.bytes.now) ≡ file_length (get_or xs 0 0) (get_or xs 2 0) (get_or xs 3 0) (get_or xs 4 0) = eqb-true _ _ (passes c.as_long.ensures (ap not c.if-not-as_long.false)) in
     (omega arith, omega arith, omega arith)
 
 pub returns : goal.returns

@@ -9,22 +9,25 @@ use Rattle.refusals.proofs.Laws.{registry-shaped}
 use Rattle.listing.proofs.listing_close.Accepted.{accepted}
 use Rattle.definitions_file.specs.OutageRun.{head_of}
 use Rattle.outage.proofs.outage_run.Once.{once-refused, once_closed}
-use Rattle.outage.proofs.outage_run.close_once.Lts.{Args}
+use Rattle.definitions.specs.declared.Finality.{Finality}
+use Rattle.definitions.specs.declared.Settings.{Settings}
+use Prim.Native.Nat.{ℕ}
+use mathlib.Core.List.{List}
 use Rattle.outage.proofs.outage_run.close_once.Goals as goal
 
-abbrev handed : Args → Contents
-handed s = contents_with s.s s.finality s.registry.now s.roots.now s.slashings.now
+abbrev handed : Settings → Finality → List ℕ → List ℕ → List ℕ → Contents
+handed s' finality registry roots slashings = contents_with s' finality registry roots slashings
 
-abbrev called_with : Args → Call
-called_with s = called (altair_rules s.s) s.finality s.registry.now s.slashings.now s.roots.now s.closing_registry.now s.closing_slashings.now
+abbrev called_with : Settings → Finality → List ℕ → List ℕ → List ℕ → List ℕ → List ℕ → Call
+called_with s' finality registry slashings roots closing_registry closing_slashings = called (altair_rules s') finality registry slashings roots closing_registry closing_slashings
 
 pub returns-then-closed-ne0 : goal.returns-then-closed-ne0
 returns-then-closed-ne0 c =
-    once-refused (handed c.args) c.args.closing_registry.now c.args.closing_slashings.now c.requires.entries c.requires.sums c.close_as_altair-closed.ensures c.if-closed-ne0.true
+    once-refused (handed c.args.s c.args.finality c.args.registry.now c.args.roots.now c.args.slashings.now) c.args.closing_registry.now c.args.closing_slashings.now c.requires.entries c.requires.sums c.close_as_altair-closed.ensures c.if-closed-ne0.true
 
 pub head_core-h-requires : goal.head_core-h-requires
 head_core-h-requires c =
-    let h = accepted (called_with c.args) (sym (ap (λ (o : Outcome). o.refusal) c.close_as_altair-closed.ensures) ∙ c.if-closed-ne0.false) in
+    let h = accepted (called_with c.args.s c.args.finality c.args.registry.now c.args.slashings.now c.args.roots.now c.args.closing_registry.now c.args.closing_slashings.now) (sym (ap (λ (o : Outcome). o.refusal) c.close_as_altair-closed.ensures) ∙ c.if-closed-ne0.false) in
     record { slots_per_epoch_nonzero = h.epochs; opening_len = (registry-shaped _ h.shaped).long }
 
 pub put_head-last-requires : goal.put_head-last-requires
@@ -45,6 +48,6 @@ returns c =
     let p = c.put_head-last.ensures in
     let e = c.close_as_altair-closed.ensures in
     let z = c.if-closed-ne0.false in
-    let flags = ap (λ (o : Outcome). o.raised) e ∙ (accepted (called_with c.args) (sym (ap (λ (o : Outcome). o.refusal) e) ∙ z)).raised in
+    let flags = ap (λ (o : Outcome). o.raised) e ∙ (accepted (called_with c.args.s c.args.finality c.args.registry.now c.args.slashings.now c.args.roots.now c.args.closing_registry.now c.args.closing_slashings.now) (sym (ap (λ (o : Outcome). o.refusal) e) ∙ z)).raised in
     rw (c.copy.ensures, c.copy-2.ensures)
-    (once_closed (handed c.args) c.args.closing_registry.now c.args.closing_slashings.now c.requires.entries c.requires.sums e z (rw (c.head_core-h.ensures, ← flags) at p.put) (omega (arith, p.upper_bound)))
+    (once_closed (handed c.args.s c.args.finality c.args.registry.now c.args.roots.now c.args.slashings.now) c.args.closing_registry.now c.args.closing_slashings.now c.requires.entries c.requires.sums e z (rw (c.head_core-h.ensures, ← flags) at p.put) (omega (arith, p.upper_bound)))

@@ -8,12 +8,15 @@ use Rattle.refusals.proofs.Answers.{passed}
 use Rattle.round_trip.specs.RoundTrip.{TypedQueue}
 use Rattle.round_trip.proofs.file_round_trips.Types.{typed}
 use Rattle.round_trip.proofs.file_round_trips.RoundTrips.{written-roots}
-use Rattle.round_trip.proofs.file_round_trips.write_then_roots.Lts.{Args}
+use Rattle.definitions.specs.declared.Finality.{Finality}
+use Rattle.definitions.specs.declared.Settings.{Settings}
+use Prim.Native.Nat.{ℕ}
+use mathlib.Core.List.{List}
 use Rattle.round_trip.proofs.file_round_trips.write_then_roots.Goals.{Else-refusal-ne0, Start}
 use Rattle.round_trip.proofs.file_round_trips.write_then_roots.Goals as goal
 
-abbrev contents : Args → Contents
-contents c = contents_with c.settings c.finality c.registry.now c.roots.now c.slashings.now
+abbrev contents : Settings → Finality → List ℕ → List ℕ → List ℕ → Contents
+contents settings finality registry roots slashings = contents_with settings finality registry roots slashings
 
 pair : (c : Start) → TypedQueue c.args.queue
 pair c = record { last = omega (arith, c.well_formed); number = omega (arith, c.well_formed) }
@@ -22,8 +25,8 @@ back : (c : Else-refusal-ne0) → let bytes = c.write_file-refusal.new.file.1.1.
 back c =
     let w = c.write_file-refusal.ensures in
     let e = passed _ w.value c.if-refusal-ne0.false in
-    let t = typed (contents c.args) c.args.queue c.args.file.now e c.well_formed.1.0 (λ i. (c.shared_slice_known-1.given i).fits) (λ i. (c.shared_slice_known-2-1.given i).fits) (λ i. (c.shared_slice_known-3-1.given i).fits) in
-    written-roots (contents c.args) c.args.queue c.args.file.now t (pair c.Start) w.file_after e
+    let t = typed (contents c.args.settings c.args.finality c.args.registry.now c.args.roots.now c.args.slashings.now) c.args.queue c.args.file.now e c.well_formed.1.0 (λ i. (c.shared_slice_known-1.given i).fits) (λ i. (c.shared_slice_known-2-1.given i).fits) (λ i. (c.shared_slice_known-3-1.given i).fits) in
+    written-roots (contents c.args.settings c.args.finality c.args.registry.now c.args.roots.now c.args.slashings.now) c.args.queue c.args.file.now t (pair c.Start) w.file_after e
 
 pub returns-then-refusal-ne0 : goal.returns-then-refusal-ne0
 returns-then-refusal-ne0 c =
