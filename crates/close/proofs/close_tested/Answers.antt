@@ -12,32 +12,41 @@ use Rattle.close.specs.Called.{called}
 use Rattle.close.specs.Worked.{record_tests}
 use Rattle.close.proofs.Lent.{entries-tested}
 use Rattle.close.proofs.Outcome.{tests-refused, steps-closed}
-use Rattle.close.proofs.close_tested.Goals.{After-survey_registry-arg-1, After-survey_registry-found, Start}
+use Rattle.definitions.specs.declared.Finality.{Finality}
+use Prim.Native.Nat.{ℕ}
+use mathlib.Core.List.{List}
+use Rattle.close.proofs.close_tested.Goals.{After-survey_registry-found, Start}
 use Rattle.close.proofs.close_tested.Goals as goal
 
-abbrev call : Rules → Start → Call
-call r c = called r c.args.finality c.args.registry.now c.args.slashings.now c.args.roots.now c.args.closing_registry.now c.args.closing_slashings.now
+abbrev call : Rules → Finality → List ℕ → List ℕ → List ℕ → List ℕ → List ℕ → Call
+call r finality registry slashings roots closing_registry closing_slashings = called r finality registry slashings roots closing_registry closing_slashings
 
 ep : (c : Start) → Epochs c.args.s c.args.finality.slot
 ep c = let p = c.requires.tested.settings in epochs c.args.s c.args.finality.slot p.good (small _ p.small)
 
-tested : (r : Rules) (c : After-survey_registry-found) → code_of (record_tests (call r (start c))) ≡ 0 → c.survey_registry-found.result.refusal ≡ code_of (close_tests (call r (start c)))
-tested r c z = entries-tested Churn (call r c.before.before.before.before.before.before.before.before.before.before) (sym z) refl c.survey-registry.ensures.tested
+tested : (r : Rules) (c : After-survey_registry-found) → code_of (record_tests (call r c.args.finality c.args.registry.now c.args.slashings.now c.args.roots.now c.args.closing_registry.now c.args.closing_slashings.now)) ≡ 0 → c.survey_registry-found.result.refusal ≡ code_of (close_tests (call r c.args.finality c.args.registry.now c.args.slashings.now c.args.roots.now c.args.closing_registry.now c.args.closing_slashings.now))
+tested r c z = entries-tested Churn (call r.args.finality r.args.registry.now r.args.slashings.now r.args.roots.now r.args.closing_registry.now r.args.closing_slashings.now (start c)) (sym z) refl c.survey-registry.ensures.tested
 
 pub current_epoch-current-requires : goal.current_epoch-current-requires
-current_epoch-current-requires c = (good-settings _ c.requires.tested.settings.good).positive.slots_per_epoch
+current_epoch-current-requires c =
+    (good-settings _ c.requires.tested.settings.good).positive.slots_per_epoch
 
 pub previous_epoch-previous-requires : goal.previous_epoch-previous-requires
-previous_epoch-previous-requires c = (good-settings _ c.requires.tested.settings.good).positive.slots_per_epoch
+previous_epoch-previous-requires c =
+    (good-settings _ c.requires.tested.settings.good).positive.slots_per_epoch
 
 pub survey_registry-found-requires : goal.survey_registry-found-requires
-survey_registry-found-requires c = record { registry_len = c.requires.tested.registry; current_epoch_bound = omega (arith, c.current_epoch-current.ensures, (ep (goal.at.survey_registry-found-requires c).Start).small); kept_len = c.requires.kept_len }
+survey_registry-found-requires c =
+    record { registry_len = c.requires.tested.registry; current_epoch_bound = omega (arith, c.current_epoch-current.ensures, (ep (goal.at.survey_registry-found-requires c).Start).small); kept_len = c.requires.kept_len }
 
 pub returns-then-refusal-ne0 : goal.returns-then-refusal-ne0
-returns-then-refusal-ne0 c = record { under = λ r u z. tests-refused (call r (goal.at.returns-then-refusal-ne0 c).Start) (tested r (goal.at.returns-then-refusal-ne0 c).After-survey_registry-found z) (λ y. omega (arith, c.if-refusal-ne0.true)) c.none_raised.ensures }
+returns-then-refusal-ne0 c =
+    record { under = λ r u z. tests-refused (call r c.args.finality c.args.registry.now c.args.slashings.now c.args.roots.now c.args.closing_registry.now c.args.closing_slashings.now) (tested r (goal.at.returns-then-refusal-ne0 c).After-survey_registry-found z) (λ y. omega (arith, c.if-refusal-ne0.true)) c.none_raised.ensures }
 
 pub close_surveyed-closed-requires : goal.close_surveyed-closed-requires
-close_surveyed-closed-requires c = record { tested = c.requires.tested; closing_registry_len = c.requires.closing_registry_len; finds = rw (← c.current_epoch-current.ensures, ← c.previous_epoch-previous.ensures) c.survey_registry-found.ensures }
+close_surveyed-closed-requires c =
+    record { tested = c.requires.tested; closing_registry_len = c.requires.closing_registry_len; finds = rw (← c.current_epoch-current.ensures, ← c.previous_epoch-previous.ensures) c.survey_registry-found.ensures }
 
 pub returns : goal.returns
-returns c = record { under = λ r u z. steps-closed (call r c) (tested r (goal.at.returns c).After-survey_registry-arg-1 z) (omega (arith, c.if-refusal-ne0.false)) u c.close_surveyed-closed.ensures.steps_closed }
+returns c =
+    record { under = λ r u z. steps-closed (call r c.args.finality c.args.registry.now c.args.slashings.now c.args.roots.now c.args.closing_registry.now c.args.closing_slashings.now) (tested r (goal.at.returns c).After-survey_registry-found z) (omega (arith, c.if-refusal-ne0.false)) u c.close_surveyed-closed.ensures.steps_closed }

@@ -5,29 +5,26 @@ use borrow.Author.Rules.{rules}
 use Rattle.definitions.specs.Checked.{code_of}
 use Rattle.selection.proofs.Picking.{blank-length, blank_part}
 use Rattle.deneb.proofs.Step.{first, first-tested, first-passed, step-refused, step-done}
-use Rattle.deneb.proofs.process_registry_updates.Goals.{After-limit_refusal-refusal, Start}
+use Rattle.deneb.proofs.process_registry_updates.Goals.{After-limit_refusal-refusal}
 use Rattle.deneb.proofs.process_registry_updates.Goals as goal
 
-abbrev start : After-limit_refusal-refusal → Start
-start c = c
-
-tested : (c : After-limit_refusal-refusal) → let a = (start c).args in c.limit_refusal-refusal.result ≡ code_of (first a.rules a.state-slot a.finalized-epoch a.queue a.opening.now a.closing.now)
+tested : (c : After-limit_refusal-refusal) → let a = c.args in c.limit_refusal-refusal.result ≡ code_of (first a.rules a.state_slot a.finalized_epoch a.queue a.opening.now a.closing.now)
 tested c =
-    let a = (start c).args in
+    let a = c.args in
     first-tested a.rules a.state_slot a.finalized_epoch a.queue a.opening.now a.closing.now c.step_tests-by_settings.ensures
     (rw c.under_bellatrix-under.ensures at c.rules_refusal-by_rules.ensures) (rw c.limit_of-limit.ensures at c.limit_refusal-refusal.ensures)
 
 pub returns-then-refusal-ne0 : goal.returns-then-refusal-ne0
 returns-then-refusal-ne0 c =
-    let a = (start (goal.at.returns-then-refusal-ne0 c).After-limit_refusal-refusal).args in
+    let a = c.args in
     step-refused a.rules a.state_slot a.finalized_epoch a.queue a.opening.now a.closing.now (tested (goal.at.returns-then-refusal-ne0 c).After-limit_refusal-refusal) c.if-refusal-ne0.true
 
 pub step_surveyed-requires : goal.step_surveyed-requires
 step_surveyed-requires c =
-    let a = (start (goal.at.step_surveyed-requires c).After-limit_refusal-refusal).args in
+    let a = c.args in
     record { closing_value = first-passed a.rules a.state_slot a.finalized_epoch a.queue a.opening.now a.closing.now (tested (goal.at.step_surveyed-requires c).After-limit_refusal-refusal) c.if-refusal-ne0.false; kept_len = (blank-length 64 64 (omega arith), blank_part 64 64 (omega arith) (omega arith)) }
 
 pub returns : goal.returns
 returns c =
-    let a = (start (goal.at.returns c).After-limit_refusal-refusal).args in
+    let a = c.args in
     step-done a.rules a.state_slot a.finalized_epoch a.queue a.opening.now a.closing.now (tested (goal.at.returns c).After-limit_refusal-refusal) c.if-refusal-ne0.false (rw c.limit_of-limit.ensures at c.step_surveyed.ensures)

@@ -7,7 +7,7 @@ use Rattle.definitions_electra_close.specs.Calls.{electra_called}
 use Rattle.electra_close_tests.proofs.Passed.{ElectraPassed, electra-passed}
 use Rattle.electra_close.proofs.Accepting.{put_back, accepted}
 use Rattle.electra_close.proofs.Requires.{steps-lent, finish-lent}
-use Rattle.electra_close.proofs.closed.Goals.{After-open_registry, After-steps_in_front-front, Else-front-ne0, Start}
+use Rattle.electra_close.proofs.closed.Goals.{Start}
 use Rattle.electra_close.proofs.closed.Goals as goal
 
 abbrev called : Start → ElectraCall
@@ -19,7 +19,8 @@ passed : (s : Start) → ElectraPassed (called s)
 passed s = electra-passed (called s) refl (ap code_of s.requires)
 
 pub steps_in_front-front-requires : goal.steps_in_front-front-requires
-steps_in_front-front-requires c = steps-lent (called (goal.at.steps_in_front-front-requires c).Start) (passed (goal.at.steps_in_front-front-requires c).Start)
+steps_in_front-front-requires c =
+    steps-lent (called (goal.at.steps_in_front-front-requires c).Start) (passed (goal.at.steps_in_front-front-requires c).Start)
 
 pub open_registry-requires : goal.open_registry-requires
 open_registry-requires c =
@@ -30,14 +31,14 @@ open_registry-requires c =
 pub open_queues-requires : goal.open_queues-requires
 open_queues-requires c =
     let at-steps : tie.After-steps-in-front = (goal.at.open_queues-requires c).After-steps_in_front-front in
-    let p = passed at-steps.before.before.before.before.before.before.before.before.before.before.before.before.before.before.before.before.before in
+    let p = passed (start at-steps) in
     (p.same_slashings, p.same_deposits, p.same_consolidations)
 
 pub returns-then-front-ne0 : goal.returns-then-front-ne0
 returns-then-front-ne0 c =
     let at_open : tie.After-open-registry = (goal.at.returns-then-front-ne0 c).After-open_registry in
     let at-steps : tie.After-steps-in-front = at_open.before.before.before.before.before.before.before.before.before.before.before.before in
-    let s = at-steps.before.before.before.before.before.before.before.before.before.before.before.before.before.before.before.before.before in
+    let s = start at-steps in
     let o = at_open.open-registry.ensures in
     let q = c.open_queues.ensures in
     put_back (called s) s.pre (passed s) at-steps.steps-in-front.ensures c.if-front-ne0.true c.opening_answer.ensures o.0 o.1.0 q.closing_slashings_after q.closing_deposits_after q.closing_consolidations_after o.1.1
@@ -51,7 +52,7 @@ pub returns : goal.returns
 returns c =
     let at-steps : tie.After-steps-in-front = (goal.at.returns c).After-steps_in_front-front in
     let at-else1 : tie.Else1 = (goal.at.returns c).Else-front-ne0 in
-    let s = at-steps.before.before.before.before.before.before.before.before.before.before.before.before.before.before.before.before.before in
+    let s = start at-steps in
     accepted (called s) s.pre (passed s) at-steps.steps-in-front.ensures at-else1.if1.left c.finish-counts.ensures c.closed_answer.ensures
 
 pub shape_of-closing_registry-then-front-ne0 : goal.shape_of-closing_registry-then-front-ne0

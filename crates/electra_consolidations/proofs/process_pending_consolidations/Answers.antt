@@ -7,7 +7,7 @@ use Rattle.electra_consolidations.proofs.Closing.{placed_of, call-refused, call-
 use Rattle.electra_consolidations.proofs.process_pending_consolidations.Goals.{Else-refusal-ne0}
 use Rattle.electra_consolidations.proofs.process_pending_consolidations.Goals as goal
 
-passed : (c : Else-refusal-ne0) → let a = (start c).args in ConsolidationsPassed a.rules a.state-slot a.registry.now a.consolidations.now a.closing-registry.now a.closing-consolidations.now
+passed : (c : Else-refusal-ne0) → let a = c.args in ConsolidationsPassed a.rules a.state_slot a.registry.now a.consolidations.now a.closing_registry.now a.closing_consolidations.now
 passed c = consolidations-passed _ _ _ _ _ _ c.consolidations_tests-refusal.ensures c.if-refusal-ne0.false
 
 pub returns-then-refusal-ne0 : goal.returns-then-refusal-ne0
@@ -31,10 +31,12 @@ pub put_back-requires : goal.put_back-requires
 put_back-requires c = omega (arith, (passed (search rules)).same)
 
 pub overflow_mul-done : goal.overflow_mul-done
-overflow_mul-done c = omega (arith, c.consolidate_all-done.ensures.consolidates.most, (passed (search rules)).queue.few)
+overflow_mul-done c =
+    omega (arith, c.consolidate_all-done.ensures.consolidates.most, (passed (search rules)).queue.few)
 
 pub keep_rest-requires : goal.keep_rest-requires
-keep_rest-requires c = ((passed (search rules)).same_queue, omega (arith, c.consolidate_all-done.ensures.consolidates.most))
+keep_rest-requires c =
+    ((passed (search rules)).same_queue, omega (arith, c.consolidate_all-done.ensures.consolidates.most))
 
 pub returns : goal.returns
 returns c =

@@ -15,7 +15,8 @@ pub previous_epoch-previous-requires : goal.previous_epoch-previous-requires
 previous_epoch-previous-requires c = (good-settings _ c.requires.rules_value.1).positive.slots_per_epoch
 
 pub survey_registry-found-requires : goal.survey_registry-found-requires
-survey_registry-found-requires c = record { registry_len = c.requires.registry_len.0; current_epoch_bound = omega (arith, c.current_epoch-current.ensures, (ep (goal.at.survey_registry-found-requires c).Start).small); kept_len = c.requires.kept_len }
+survey_registry-found-requires c =
+    record { registry_len = c.requires.registry_len.0; current_epoch_bound = omega (arith, c.current_epoch-current.ensures, (ep (goal.at.survey_registry-found-requires c).Start).small); kept_len = c.requires.kept_len }
 
 pub five_surveyed-requires : goal.five_surveyed-requires
 five_surveyed-requires c =

@@ -14,21 +14,21 @@ use Rattle.survey.proofs.Found.{plain-sums}
 use Rattle.registry_close.proofs.Justified.{totals-found}
 use Rattle.electra_first.proofs.Accepted.{over-accepted, four-refused}
 use Rattle.electra_first.proofs.Firsts.{first-refused, first_goes, four-stop, slot_kept}
-use Rattle.electra_first.proofs.five_surveyed.Goals.{After-justification_core-justified, Else-justified-ne0}
 use mathlib.Core.Path.{ap}
 use mathlib.Core.Bool.{not}
+use Rattle.electra_first.proofs.five_surveyed.Goals.{After-justification_core-justified, Else-justified-ne0}
 use Rattle.electra_first.proofs.five_surveyed.Goals as goal
 
 -- what justification answered, by the survey's sums
-justified : (c : After-justification_core-justified) → c.justification_core-justified.result ≡ close_answer_for (process_justification_and_finalization (start c).args.s (start c).args.roots.now (start c).args.finality (decode (start c).args.registry.now)) (start c).args.finality (raised_totals (start c).args.s (start c).args.finality.slot (decode (start c).args.registry.now))
+justified : (c : After-justification_core-justified) → c.justification_core-justified.result ≡ close_answer_for (process_justification_and_finalization c.args.s c.args.roots.now c.args.finality (decode c.args.registry.now)) c.args.finality (raised_totals c.args.s c.args.finality.slot (decode c.args.registry.now))
 justified c =
     c.justification_core-justified.ensures.of (decode c.args.registry.now) (totals-found c.args.s c.args.finality.slot c.args.registry.now c.requires.finds c.total_of-active.ensures c.total_of-target.ensures c.total_of-current_target.ensures)
 
-same-slot : (c : Else-justified-ne0) → (core c).justification-core.result.finality.slot ≡ (start (core c)).args.finality.slot
-same-slot c = let a = (start c.After-justification_core-justified).args in slot_kept a.rules a.s a.finality a.churn a.registry.now a.slashings.now a.roots.now (justified c.After-justification_core-justified) c.if-justified-ne0.false
+same-slot : (c : Else-justified-ne0) → c.justification_core-justified.result.finality.slot ≡ c.args.finality.slot
+same-slot c = let a = c.args in slot_kept a.rules a.s a.finality a.churn a.registry.now a.slashings.now a.roots.now (justified c.After-justification_core-justified) c.if-justified-ne0.false
 
-small : (c : Else-justified-ne0) → (core c).justification-core.result.finality.slot < 2 ^ 48
-small c = rw (same-slot c) (good-finality _ (start c.After-justification_core-justified).requires.0.3).slot
+small : (c : Else-justified-ne0) → c.justification_core-justified.result.finality.slot < 2 ^ 48
+small c = rw (same-slot c) (good-finality _ c.requires.rules_value.3).slot
 
 pub justification_core-justified-requires : goal.justification_core-justified-requires
 justification_core-justified-requires c = c.requires.finality_value
@@ -50,14 +50,14 @@ returns-then-not-all_fit c =
 
 pub finalizing_test-test-requires : goal.finalizing_test-test-requires
 finalizing_test-test-requires c =
-    let a = (start (goal.at.finalizing_test-test-requires c).After-justification_core-justified).requires in
-    ((good-settings _ a.0.1).positive.slots_per_epoch, a.0.3)
+    let a = c.requires in
+    ((good-settings _ a.rules_value.1).positive.slots_per_epoch, a.rules_value.3)
 
 pub four_steps-done-requires : goal.four_steps-done-requires
 four_steps-done-requires c =
-    let a = (start (goal.at.four_steps-done-requires c).After-justification_core-justified).requires in
+    let a = c.requires in
     let fit = passes c.all_fit.ensures (ap not c.if-not-all_fit.false) in
-    record { rules_value = (a.0.0, small (goal.at.four_steps-done-requires c).Else-justified-ne0, a.0.1, a.0.2); opening_len = a.1.1.0; totals_of = rw (same-slot (goal.at.four_steps-done-requires c).Else-justified-ne0, c.raised_totals.ensures) (raised-totals _ (plain-sums a.1.1.1 fit)) }
+    record { rules_value = (a.rules_value.0, small (goal.at.four_steps-done-requires c).Else-justified-ne0, a.rules_value.1, a.rules_value.2); opening_len = a.registry_len; totals_of = rw (same-slot (goal.at.four_steps-done-requires c).Else-justified-ne0, c.raised_totals.ensures) (raised-totals _ (plain-sums a.finds fit)) }
 
 pub returns : goal.returns
 returns c =

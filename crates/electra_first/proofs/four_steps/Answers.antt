@@ -19,7 +19,11 @@ use Rattle.write_steps.proofs.Accepted.{none-gave}
 use Rattle.electra_first.proofs.Accepted.{Accepted, four-refused}
 use Rattle.electra_first.proofs.Columns.{back_long}
 use Rattle.electra_first.proofs.Booked.{by-refused, by-ran}
-use Rattle.electra_first.proofs.four_steps.Goals.{After-current_epoch-current, After-make_plan-p, Start}
+use Rattle.definitions_electra.specs.declared.ElectraRules.{ElectraRules}
+use Rattle.definitions.specs.declared.Settings.{Settings}
+use Prim.Native.Nat.{ℕ}
+use mathlib.Core.List.{List}
+use Rattle.electra_first.proofs.four_steps.Goals.{After-make_plan-p, Start}
 use Rattle.electra_first.proofs.four_steps.Goals as goal
 
 eps : (c : Start) → Epochs c.args.s c.args.state_slot
@@ -28,12 +32,12 @@ eps c = epochs _ _ c.requires.rules_value.2 c.requires.rules_value.1
 ep : (c : Start) → Epochs c.args.rules.settings c.args.state_slot
 ep c = epochs _ _ (good-electra _ c.requires.rules_value.0).settings c.requires.rules_value.1
 
-abbrev Accepted-at : Start → Type 0
-Accepted-at c = Accepted c.args.rules c.args.s c.args.state_slot c.args.finalized_epoch c.args.slashings.now (decode c.args.opening.now)
+abbrev Accepted-at : ElectraRules → Settings → ℕ → ℕ → List ℕ → List ℕ → Type 0
+Accepted-at rules s state_slot finalized_epoch slashings opening = Accepted rules s state_slot finalized_epoch slashings (decode opening)
 
 -- the present epoch is small
-small : (c : After-make_plan-p) → (first c).current-epoch.result < 2 ^ 48
-small c = rw c.current_epoch-current.ensures (eps (start c.After-current_epoch-current)).small
+small : (c : After-make_plan-p) → c.current_epoch-current.result < 2 ^ 48
+small c = rw c.current_epoch-current.ensures (eps c.Start).small
 
 pub current_epoch-current-requires : goal.current_epoch-current-requires
 current_epoch-current-requires c = (good-settings _ c.requires.rules_value.2).positive.slots_per_epoch
@@ -48,13 +52,13 @@ pub returns-in_default : goal.returns-in_default
 returns-in_default c =
     let a = c.args in
     let no = (answers_overflow tells_truth c.leak_of.ensures (only-leak _ _ _) c.in_default.is).0 in
-    four-refused a.rules a.s a.state_slot a.finalized_epoch a.slashings.now a.churn c.requires.rules_value.3 c.requires.rules_value.0 (ep (goal.at.returns-in_default c).Start) (decode a.opening.now) (λ (g : Accepted-at (goal.at.returns-in_default c).Start). none-gave no g.sums.leak) refl
+    four-refused a.rules a.s a.state_slot a.finalized_epoch a.slashings.now a.churn c.requires.rules_value.3 c.requires.rules_value.0 (ep (goal.at.returns-in_default c).Start) (decode a.opening.now) (λ (g : Accepted-at c.args.rules c.args.s c.args.state_slot c.args.finalized_epoch c.args.slashings.now c.args.opening.now). none-gave no g.sums.leak) refl
 
 pub returns-in_default-adjusted_balance : goal.returns-in_default-adjusted_balance
 returns-in_default-adjusted_balance c =
     let a = c.args in
     let no = (says_overflow c.adjusted_balance.ensures (only-adjusted _ _ _) c.in_default-adjusted_balance.is).0 in
-    four-refused a.rules a.s a.state_slot a.finalized_epoch a.slashings.now a.churn c.requires.rules_value.3 c.requires.rules_value.0 (ep (goal.at.returns-in_default-adjusted_balance c).Start) (decode a.opening.now) (λ (g : Accepted-at (goal.at.returns-in_default-adjusted_balance c).Start). none-gave no (g.adjusted _)) refl
+    four-refused a.rules a.s a.state_slot a.finalized_epoch a.slashings.now a.churn c.requires.rules_value.3 c.requires.rules_value.0 (ep (goal.at.returns-in_default-adjusted_balance c).Start) (decode a.opening.now) (λ (g : Accepted-at c.args.rules c.args.s c.args.state_slot c.args.finalized_epoch c.args.slashings.now c.args.opening.now). none-gave no (g.adjusted _)) refl
 
 pub nonzero_div-increments : goal.nonzero_div-increments
 nonzero_div-increments c = (good-settings _ c.requires.rules_value.2).positive.effective_balance_increment
@@ -71,34 +75,32 @@ make_plan-p-requires c =
     record { effective_balance_increment_nonzero = (p.effective_balance_increment, total-least _ _ a.totals_of.active); inactivity_score_bias_nonzero = (p.inactivity_score_bias, p.inactivity_penalty_quotient_altair) }
 
 pub numbers_by-n-requires : goal.numbers_by-n-requires
-numbers_by-n-requires c = ((start (goal.at.numbers_by-n-requires c).After-current_epoch-current).requires.0.0, small (goal.at.numbers_by-n-requires c).After-make_plan-p)
+numbers_by-n-requires c = (c.requires.rules_value.0, small (goal.at.numbers_by-n-requires c).After-make_plan-p)
 
 pub overflow_mul-nines : goal.overflow_mul-nines
-overflow_mul-nines c = let a = start (goal.at.overflow_mul-nines c).After-current_epoch-current in omega (arith, a.good.1.1.1.1.1.1.1.0)
+overflow_mul-nines c = omega (arith, c.well_formed.1.1.1.1.1.1.1.0)
 
 pub slice_bounds-write_later-end : goal.slice_bounds-write_later-end
-slice_bounds-write_later-end c = let a = start (goal.at.slice_bounds-write_later-end c).After-current_epoch-current in omega (arith, a.pre.1.0)
+slice_bounds-write_later-end c = omega (arith, c.requires.opening_len)
 
 pub write_later-done-requires : goal.write_later-done-requires
 write_later-done-requires c =
-    let a = (start (goal.at.write_later-done-requires c).After-current_epoch-current).requires in
+    let a = c.requires in
     let m = c.make_plan-p.ensures in
-    record { planned = m.planned; opening_len = (a.1.0.0, a.1.0.1); current_epoch_bound = (rw m.is (small (goal.at.write_later-done-requires c).After-make_plan-p), rw c.numbers_by-n.ensures (small (goal.at.write_later-done-requires c).After-make_plan-p)) }
+    record { planned = m.planned; opening_len = (a.opening_len.0, a.opening_len.1); current_epoch_bound = (rw m.is (small (goal.at.write_later-done-requires c).After-make_plan-p), rw c.numbers_by-n.ensures (small (goal.at.write_later-done-requires c).After-make_plan-p)) }
 
 pub returns-then-done-ne0 : goal.returns-then-done-ne0
 returns-then-done-ne0 c =
-    let at-start = start (goal.at.returns-then-done-ne0 c).After-current_epoch-current in
-    let a = at-start.args in
+    let a = c.args in
     let now = c.current_epoch-current.ensures in
-    by-refused a.rules a.s a.state_slot a.finalized_epoch a.slashings.now a.churn at-start.pre.0.3 at-start.pre.0.0 (ep at-start) (eps at-start) a.opening.now at-start.pre.1.1 _ (answers-value tells_truth c.leak_of.ensures c.in-Value.is) _ (says-value c.adjusted_balance.ensures c.in-Value-adjusted_balance.is) now c.previous_epoch-previous.ensures c.make_plan-p.ensures c.numbers_by-n.ensures c.write_later-done.ensures.swept c.if-done-ne0.true
+    by-refused a.rules a.s a.state_slot a.finalized_epoch a.slashings.now a.churn c.requires.rules_value.3 c.requires.rules_value.0 (ep (goal.at.returns-then-done-ne0 c).Start) (eps (goal.at.returns-then-done-ne0 c).Start) a.opening.now c.requires.totals_of _ (answers-value tells_truth c.leak_of.ensures c.in-Value.is) _ (says-value c.adjusted_balance.ensures c.in-Value-adjusted_balance.is) now c.previous_epoch-previous.ensures c.make_plan-p.ensures c.numbers_by-n.ensures c.write_later-done.ensures.swept c.if-done-ne0.true
 
 pub returns : goal.returns
 returns c =
-    let at-start = start (goal.at.returns c).After-current_epoch-current in
-    let a = at-start.args in
+    let a = c.args in
     let now = c.current_epoch-current.ensures in
     let wrote = c.write_later-done in
     let z = c.if-done-ne0.false in
-    let long = at-start.pre.1.0 in
+    let long = c.requires.opening_len in
     let nines : length (take (9 * (length a.opening.now / 10) - 0) a.amounts.now) ≡ 9 * (length a.opening.now / 10) = simp length-take (omega (arith, long)) in
-    by-ran a.rules a.s a.state_slot a.finalized_epoch a.slashings.now a.churn at-start.pre.0.3 at-start.pre.0.0 (ep at-start) (eps at-start) a.opening.now at-start.pre.1.1 _ (answers-value tells_truth c.leak_of.ensures c.in-Value.is) _ (says-value c.adjusted_balance.ensures c.in-Value-adjusted_balance.is) now c.previous_epoch-previous.ensures c.make_plan-p.ensures c.numbers_by-n.ensures wrote.ensures.0 long.0 (wrote.auto.1.1.1.1.1.0 ∙ long.1) _ (wrote.ensures.1.filled z nines) refl c.spread.ensures (back_long (9 * (length a.opening.now / 10) - 0) wrote.new.1.1.1.1.1.1.0 a.amounts.now wrote.auto.1.1.1.1.1.1.0 ∙ long.2)
+    by-ran a.rules a.s a.state_slot a.finalized_epoch a.slashings.now a.churn c.requires.rules_value.3 c.requires.rules_value.0 (ep (goal.at.returns c).Start) (eps (goal.at.returns c).Start) a.opening.now c.requires.totals_of _ (answers-value tells_truth c.leak_of.ensures c.in-Value.is) _ (says-value c.adjusted_balance.ensures c.in-Value-adjusted_balance.is) now c.previous_epoch-previous.ensures c.make_plan-p.ensures c.numbers_by-n.ensures wrote.ensures.0 long.0 (wrote.auto.1.1.1.1.1.0 ∙ long.1) _ (wrote.ensures.1.filled z nines) refl c.spread.ensures (back_long (9 * (length a.opening.now / 10) - 0) wrote.new.1.1.1.1.1.1.0 a.amounts.now wrote.auto.1.1.1.1.1.1.0 ∙ long.2)

@@ -20,7 +20,8 @@ pub bounds-deposits-k : goal.bounds-deposits-k
 bounds-deposits-k c = omega (arith, c.loop-k-test.true, c.loop-k.invariant.0)
 
 pub book_one-requires : goal.book_one-requires
-book_one-requires c = (c.requires.0, c.loop-k.invariant.1 ∙ c.requires.1)
+book_one-requires c =
+    (c.requires.0, c.loop-k.invariant.1 ∙ c.requires.1)
 
 pub overflow_step-k : goal.overflow_step-k
 overflow_step-k c = omega (arith, c.loop-k-test.true, c.loop-k.invariant.0, c.well_formed.1.0)

@@ -11,56 +11,58 @@ use Rattle.refusals.proofs.All.{fails, passes}
 use Rattle.laws_file.proofs.Passed.{Header, good-header}
 use Rattle.file_refusals.proofs.Registry.{registry_in, registry-tested}
 use Rattle.file_refusals.proofs.ReadTests.{Others, answered-short, answered-header, answered-sooner, answered-finality, answered-registry, answered-queue}
-use Rattle.file_refusals.proofs.read_tests.Goals.{After-first_bad-stopped, After-good_finality, After-other_tests-others, After-read_counts-counts, After-validators_at-from, Else-not-good_header}
 use mathlib.Core.Bool.{not}
+use Rattle.file_refusals.proofs.read_tests.Goals.{After-first_bad-stopped, After-good_finality, After-other_tests-others, After-read_counts-counts, After-validators_at-from, Else-not-good_header}
 use Rattle.file_refusals.proofs.read_tests.Goals as goal
 
-abbrev bytes : Else-not-good_header → List ℕ
-bytes c = c.args.bytes.now
+abbrev bytes : List ℕ → List ℕ
+bytes bytes' = bytes'
 
-header : (c : Else-not-good_header) → good_header (bytes c) ≡ true
+header : (c : Else-not-good_header) → good_header (bytes c.args.bytes.now) ≡ true
 header c = passes c.good_header.ensures (ap not c.if-not-good_header.false)
 
-head : (c : Else-not-good_header) → Header (bytes c)
+head : (c : Else-not-good_header) → Header (bytes c.args.bytes.now)
 head c = good-header _ (header c)
 
 -- where the registry stands, and where reading it stops
-count : (c : After-read_counts-counts) → c.read_counts-counts.result.validators ≡ count_of (bytes c)
+count : (c : After-read_counts-counts) → c.read_counts-counts.result.validators ≡ count_of (bytes c.args.bytes.now)
 count c = c.read_counts-counts.ensures.0
 
-from : (c : After-validators_at-from) → c.validators_at-from.result ≡ validators_at (version_of (bytes c.Else-not-good_header))
+from : (c : After-validators_at-from) → c.validators_at-from.result ≡ validators_at (version_of (bytes c.args.bytes.now))
 from c = c.validators_at-from.ensures ∙ ap validators_at c.read_counts-counts.ensures.3
 
-stopped : (c : After-first_bad-stopped) → let xs = bytes c.Else-not-good_header in let at = validators_at (version_of xs) in c.first_bad-stopped.result ≡ stopped_at at (registry_in xs at (count_of xs))
+stopped : (c : After-first_bad-stopped) → let xs = bytes c.args.bytes.now in let at = validators_at (version_of xs) in c.first_bad-stopped.result ≡ stopped_at at (registry_in xs at (count_of xs))
 stopped c = rw (from c.After-validators_at-from, count c.After-read_counts-counts) at c.first_bad-stopped.ensures
 
-tested : (c : After-other_tests-others) → let a = (start c.Else-not-good_header).args in Others a.bytes.now a.registry.now a.slashings.now c.other_tests-others.result
+tested : (c : After-other_tests-others) → let a = c.args in Others a.bytes.now a.registry.now a.slashings.now c.other_tests-others.result
 unfolding contents_of
 tested c =
-    let xs = bytes c.Else-not-good_header in
+    let xs = bytes c.args.bytes.now in
     record {
       header = header c.Else-not-good_header;
       number = rw (stopped c.After-first_bad-stopped, from c.After-validators_at-from, count c.After-read_counts-counts, registry-tested xs (validators_at (version_of xs)) (count_of xs)) at c.other_tests-others.ensures;
     }
 
 -- the finality, where 3 was told
-finality : (c : After-good_finality) → let at-other-tests = c in c.good_finality.result ≡ good_finality (contents_of (bytes at-other-tests.before.before.before.before)).finality
+finality : (c : After-good_finality) → c.good_finality.result ≡ good_finality (contents_of (bytes c.args.bytes.now)).finality
 unfolding contents_of
 finality c = rw c.read_finality.ensures at c.good_finality.ensures
 
 pub queue_tests-requires : goal.queue_tests-requires
 queue_tests-requires c =
-    let h = head ((goal.at.queue_tests-requires c).Else-not-good_header) in
+    let h = head (goal.at.queue_tests-requires c).Else-not-good_header in
     let counts = c.read_counts-counts.ensures in
     let v = counts.3 in
-    record { version_value = (v, c.validators_at-from.ensures, counts.0); le_version = (omega (arith, h.some-version), omega (arith, h.known-version), omega (arith, count ((goal.at.queue_tests-requires c).After-read_counts-counts), from ((goal.at.queue_tests-requires c).After-validators_at-from), h.long)) }
+    record { version_value = (v, c.validators_at-from.ensures, counts.0); le_version = (omega (arith, h.some-version), omega (arith, h.known-version), omega (arith, count (goal.at.queue_tests-requires c).After-read_counts-counts, from (goal.at.queue_tests-requires c).After-validators_at-from, h.long)) }
 
 pub returns-then-not-good_finality : goal.returns-then-not-good_finality
-returns-then-not-good_finality c = rw c.refused-then-not-good_finality.ensures (answered-finality (tested (goal.at.returns-then-not-good_finality c).After-other_tests-others) c.if-others-ne3.false (fails (finality (goal.at.returns-then-not-good_finality c).After-good_finality) (ap not c.if-not-good_finality.true)))
+returns-then-not-good_finality c =
+    rw c.refused-then-not-good_finality.ensures (answered-finality (tested (goal.at.returns-then-not-good_finality c).After-other_tests-others) c.if-others-ne3.false (fails (finality (goal.at.returns-then-not-good_finality c).After-good_finality) (ap not c.if-not-good_finality.true)))
 
 pub returns : goal.returns
 unfolding contents_of
-returns c = rw (c.refused-2.ensures, stopped (goal.at.returns c).After-first_bad-stopped) (answered-registry (tested (goal.at.returns c).After-other_tests-others) c.if-others-ne3.false (passes (finality (goal.at.returns c).After-good_finality) (ap not c.if-not-good_finality.false)))
+returns c =
+    rw (c.refused-2.ensures, stopped (goal.at.returns c).After-first_bad-stopped) (answered-registry (tested (goal.at.returns c).After-other_tests-others) c.if-others-ne3.false (passes (finality (goal.at.returns c).After-good_finality) (ap not c.if-not-good_finality.false)))
 
 pub returns-then-bytes-lt-SETTINGS_AT : goal.returns-then-bytes-lt-SETTINGS_AT
 returns-then-bytes-lt-SETTINGS_AT c = rw c.refused.ensures (answered-short _ _ _ c.if-bytes-lt-SETTINGS_AT.true)

@@ -4,12 +4,12 @@ use Rattle.definitions.specs.Checked.{code_of}
 use Rattle.definitions_file.specs.File.{contents_with}
 use Rattle.refusals.proofs.All.{fails, passes}
 use Rattle.file_refusals.proofs.WriteTests.{others, others-refused, tens, queue-tested}
-use Rattle.file_refusals.proofs.write_tests.Goals.{After-in_order-others}
 use mathlib.Core.Path.{ap}
 use mathlib.Core.Bool.{not}
+use Rattle.file_refusals.proofs.write_tests.Goals.{After-in_order-others}
 use Rattle.file_refusals.proofs.write_tests.Goals as goal
 
-tested : (c : After-in_order-others) → let a = (start c).args in c.in_order-others.result ≡ code_of (others (contents_with a.settings a.finality a.registry.now a.roots.now a.slashings.now) a.file.now)
+tested : (c : After-in_order-others) → let a = c.args in c.in_order-others.result ≡ code_of (others (contents_with a.settings a.finality a.registry.now a.roots.now a.slashings.now) a.file.now)
 tested c =
     rw (← c.settings_shaped.ensures, ← c.registry_shaped.ensures, ← c.roots_shaped.ensures, ← c.as_long.ensures, ← c.good_settings.ensures, ← c.good_finality.ensures, ← c.good_registry.ensures) c.in_order-others.ensures
 

@@ -7,20 +7,24 @@ use Rattle.close.proofs.Lent.{lent, limit_record, record_refused}
 use Rattle.full_close.specs.Called.{full_called}
 use Rattle.full_close.proofs.Tests.{amounts-refused, close-refused}
 use Rattle.full_close.proofs.Outcome.{full_tests-refused}
-use Rattle.full_close.proofs.full_close.Goals.{Start}
+use Rattle.definitions.specs.declared.ExitQueue.{ExitQueue}
+use Rattle.definitions.specs.declared.Finality.{Finality}
+use Rattle.definitions.specs.declared.Rules.{Rules}
+use Prim.Native.Nat.{ℕ}
+use mathlib.Core.List.{List}
 use Rattle.full_close.proofs.full_close.Goals as goal
 
-abbrev call : Start → FullCall
-call c = full_called c.args.rules c.args.finality c.args.queue c.args.registry.now c.args.slashings.now c.args.roots.now c.args.closing_registry.now c.args.closing_slashings.now c.args.amounts.now
+abbrev call : Rules → Finality → ExitQueue → List ℕ → List ℕ → List ℕ → List ℕ → List ℕ → List ℕ → FullCall
+call rules finality queue registry slashings roots closing_registry closing_slashings amounts = full_called rules finality queue registry slashings roots closing_registry closing_slashings amounts
 
 pub returns-then-amounts-registry : goal.returns-then-amounts-registry
 returns-then-amounts-registry c =
-    let a = call ((goal.at.returns-then-amounts-registry c).Start) in
+    let a = call c.args.rules c.args.finality c.args.queue c.args.registry.now c.args.slashings.now c.args.roots.now c.args.closing_registry.now c.args.closing_slashings.now c.args.amounts.now in
     full_tests-refused c.args.limit a (amounts-refused c.args.limit a c.if-amounts-registry.true) (λ z. omega arith) c.unclosed.ensures
 
 pub returns-then-refusal-ne0 : goal.returns-then-refusal-ne0
 returns-then-refusal-ne0 c =
-    let a = call (c) in
+    let a = call c.args.rules c.args.finality c.args.queue c.args.registry.now c.args.slashings.now c.args.roots.now c.args.closing_registry.now c.args.closing_slashings.now c.args.amounts.now in
     let n = c.if-refusal-ne0.true in
     let t = limit_record c.args.limit a.call c.limit_refusal-refusal.ensures c.record_tests-by_rules.ensures in
     full_tests-refused c.args.limit a (close-refused c.args.limit a c.if-amounts-registry.false (record_refused c.args.limit a.call t n) n) n c.unclosed-then-refusal-ne0.ensures

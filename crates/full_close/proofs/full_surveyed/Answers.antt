@@ -6,26 +6,27 @@ use borrow.Author.Rules.{rules}
 use Rattle.refusals.proofs.Laws.{small, good-settings}
 use Rattle.registry.proofs.Epochs.{Epochs, epochs}
 use Rattle.full_close.proofs.Worked.{full-refused, booked-gave, full-accepted}
-use Rattle.full_close.proofs.full_surveyed.Goals.{After-close_surveyed-stepped, After-struct_known-1, Else-answer-ne0, Start}
+use Rattle.full_close.proofs.full_surveyed.Goals.{Else-answer-ne0, Start}
 use Rattle.full_close.proofs.full_surveyed.Goals as goal
 
 ep : (c : Start) → Epochs c.args.s c.args.finality.slot
 ep c = let p = c.requires.tested.settings in epochs c.args.s c.args.finality.slot p.good (small _ p.small)
 
 -- the steps were accepted
-given : (c : Else-answer-ne0) → (surveyed c.After-struct_known-1).close-surveyed.result.answer.refusal ≡ 0
+given : (c : Else-answer-ne0) → c.close_surveyed-stepped.result.answer.refusal ≡ 0
 given c = omega (arith, c.if-answer-ne0.false)
 
 pub close_surveyed-stepped-requires : goal.close_surveyed-stepped-requires
-close_surveyed-stepped-requires c = record { tested = c.requires.tested; closing_registry_len = (c.requires.closing_registry_len.0, c.requires.closing_registry_len.1); finds = c.requires.finds }
+close_surveyed-stepped-requires c =
+    record { tested = c.requires.tested; closing_registry_len = (c.requires.closing_registry_len.0, c.requires.closing_registry_len.1); finds = c.requires.finds }
 
 pub returns-then-answer-ne0 : goal.returns-then-answer-ne0
-returns-then-answer-ne0 c = full-refused c.close_surveyed-stepped.ensures.steps_closed c.if-answer-ne0.true refl refl refl refl refl (c.clear.ensures ∙ ap (λ (n : ℕ). replicate n 0) c.amounts-1.given)
+returns-then-answer-ne0 c =
+    full-refused c.close_surveyed-stepped.ensures.steps_closed c.if-answer-ne0.true refl refl refl refl refl (c.clear.ensures ∙ ap (λ (n : ℕ). replicate n 0) c.amounts-1.given)
 
 pub finalizing_test-test-requires : goal.finalizing_test-test-requires
 finalizing_test-test-requires c =
-    let at-start = start (goal.at.finalizing_test-test-requires c).After-close_surveyed-stepped in
-    ((good-settings _ at-start.pre.0.settings.good).positive.slots_per_epoch, at-start.pre.0.finality)
+    ((good-settings _ c.requires.tested.settings.good).positive.slots_per_epoch, c.requires.tested.finality)
 
 pub returns : goal.returns
 returns c =

@@ -13,35 +13,45 @@ use Rattle.close.proofs.Lent.{entries-tested}
 use Rattle.full_close.specs.Called.{full_called}
 use Rattle.full_close.proofs.Tests.{queue-tested}
 use Rattle.full_close.proofs.Outcome.{full_tests-refused, full_steps_closed}
-use Rattle.full_close.proofs.full_tested.Goals.{After-first_refusal-refusal, After-queue_refusal-wrong, Start}
+use Rattle.definitions.specs.declared.ExitQueue.{ExitQueue}
+use Rattle.definitions.specs.declared.Finality.{Finality}
+use Prim.Native.Nat.{ℕ}
+use mathlib.Core.List.{List}
+use Rattle.full_close.proofs.full_tested.Goals.{After-first_refusal-refusal, Start}
 use Rattle.full_close.proofs.full_tested.Goals as goal
 
-abbrev call : Rules → Start → FullCall
-call r c = full_called r c.args.finality c.args.queue c.args.registry.now c.args.slashings.now c.args.roots.now c.args.closing_registry.now c.args.closing_slashings.now c.args.amounts.now
+abbrev call : Rules → Finality → ExitQueue → List ℕ → List ℕ → List ℕ → List ℕ → List ℕ → List ℕ → FullCall
+call r finality queue registry slashings roots closing_registry closing_slashings amounts = full_called r finality queue registry slashings roots closing_registry closing_slashings amounts
 
 ep : (c : Start) → Epochs c.args.s c.args.finality.slot
 ep c = let p = c.requires.tested.settings in epochs c.args.s c.args.finality.slot p.good (small _ p.small)
 
-tested : (r : Rules) (c : After-first_refusal-refusal) → code_of (limited_record_tests (start c).args.limit (call r (start c)).call) ≡ 0 → c.first_refusal-refusal.result ≡ code_of (limited_full_tests (start c).args.limit (call r (start c)))
+tested : (r : Rules) (c : After-first_refusal-refusal) → code_of (limited_record_tests c.args.limit (call r c.args.finality c.args.queue c.args.registry.now c.args.slashings.now c.args.roots.now c.args.closing_registry.now c.args.closing_slashings.now c.args.amounts.now).call) ≡ 0 → c.first_refusal-refusal.result ≡ code_of (limited_full_tests c.args.limit (call r c.args.finality c.args.queue c.args.registry.now c.args.slashings.now c.args.roots.now c.args.closing_registry.now c.args.closing_slashings.now c.args.amounts.now))
 tested r c z =
     let at-survey-registry = c.before.before.before.before.before in
     let found = at-survey-registry.survey-registry.ensures in
-    queue-tested c.before.before.before.before.before.before.before.before.before.before.before.before.before.before.before.before.args.limit (call r c.before.before.before.before.before.before.before.before.before.before.before.before.before.before.before.before) c.before.before.before.before.before.before.before.before.before.before.before.before.before.before.before.before.requires.1.0.2 (entries-tested c.before.before.before.before.before.before.before.before.before.before.before.before.before.before.before.before.args.limit (call r c.before.before.before.before.before.before.before.before.before.before.before.before.before.before.before.before).call (sym z) refl found.tested) (tracks-is found.queue) c.before.queue-refusal.ensures c.first-refusal.ensures
+    queue-tested (start c).args.limit (call r.args.finality r.args.queue r.args.registry.now r.args.slashings.now r.args.roots.now r.args.closing_registry.now r.args.closing_slashings.now r.args.amounts.now (start c)) (start c).requires.1.0.2 (entries-tested (start c).args.limit (call r.args.finality r.args.queue r.args.registry.now r.args.slashings.now r.args.roots.now r.args.closing_registry.now r.args.closing_slashings.now r.args.amounts.now (start c)).call (sym z) refl found.tested) (tracks-is found.queue) c.before.queue-refusal.ensures c.first-refusal.ensures
 
 pub current_epoch-current-requires : goal.current_epoch-current-requires
-current_epoch-current-requires c = (good-settings _ c.requires.tested.settings.good).positive.slots_per_epoch
+current_epoch-current-requires c =
+    (good-settings _ c.requires.tested.settings.good).positive.slots_per_epoch
 
 pub previous_epoch-previous-requires : goal.previous_epoch-previous-requires
-previous_epoch-previous-requires c = (good-settings _ c.requires.tested.settings.good).positive.slots_per_epoch
+previous_epoch-previous-requires c =
+    (good-settings _ c.requires.tested.settings.good).positive.slots_per_epoch
 
 pub survey_registry-found-requires : goal.survey_registry-found-requires
-survey_registry-found-requires c = record { registry_len = c.requires.tested.registry; current_epoch_bound = omega (arith, c.current_epoch-current.ensures, (ep (goal.at.survey_registry-found-requires c).Start).small); kept_len = c.requires.kept_len }
+survey_registry-found-requires c =
+    record { registry_len = c.requires.tested.registry; current_epoch_bound = omega (arith, c.current_epoch-current.ensures, (ep (goal.at.survey_registry-found-requires c).Start).small); kept_len = c.requires.kept_len }
 
 pub returns-then-refusal-ne0 : goal.returns-then-refusal-ne0
-returns-then-refusal-ne0 c = record { under = λ r u z. full_tests-refused _ (call r (goal.at.returns-then-refusal-ne0 c).Start) (tested r (goal.at.returns-then-refusal-ne0 c).After-first_refusal-refusal z) c.if-refusal-ne0.true c.unclosed.ensures }
+returns-then-refusal-ne0 c =
+    record { under = λ r u z. full_tests-refused _ (call r c.args.finality c.args.queue c.args.registry.now c.args.slashings.now c.args.roots.now c.args.closing_registry.now c.args.closing_slashings.now c.args.amounts.now) (tested r (goal.at.returns-then-refusal-ne0 c).After-first_refusal-refusal z) c.if-refusal-ne0.true c.unclosed.ensures }
 
 pub full_surveyed-requires : goal.full_surveyed-requires
-full_surveyed-requires c = record { tested = c.requires.tested; closing_registry_len = c.requires.closing_registry_len; finds = rw (← c.current_epoch-current.ensures, ← c.previous_epoch-previous.ensures) c.survey_registry-found.ensures }
+full_surveyed-requires c =
+    record { tested = c.requires.tested; closing_registry_len = c.requires.closing_registry_len; finds = rw (← c.current_epoch-current.ensures, ← c.previous_epoch-previous.ensures) c.survey_registry-found.ensures }
 
 pub returns : goal.returns
-returns c = record { under = λ r u z. full_steps_closed _ (call r c) (tested r (goal.at.returns c).After-queue_refusal-wrong z) (omega (arith, c.if-refusal-ne0.false)) u c.full_surveyed.ensures }
+returns c =
+    record { under = λ r u z. full_steps_closed _ (call r c.args.finality c.args.queue c.args.registry.now c.args.slashings.now c.args.roots.now c.args.closing_registry.now c.args.closing_slashings.now c.args.amounts.now) (tested r (goal.at.returns c).After-first_refusal-refusal z) (omega (arith, c.if-refusal-ne0.false)) u c.full_surveyed.ensures }

@@ -31,7 +31,8 @@ pub participating_total-current_target-requires : goal.participating_total-curre
 participating_total-current_target-requires c = record { registry_len = (tested (goal.at.participating_total-current_target-requires c).Else-refusal-ne0).shape.long; flag_index_bound = omega arith }
 
 pub justification_core-requires : goal.justification_core-requires
-justification_core-requires c = (tested ((goal.at.justification_core-requires c).Else-refusal-ne0)).weighs
+justification_core-requires c =
+    (tested (goal.at.justification_core-requires c).Else-refusal-ne0).weighs
 
 pub returns : goal.returns
 returns c =

@@ -16,10 +16,12 @@ returns-then-bytes-gt-MOST_INPUT c =
     long-enough _ c.if-text-lt-LONGEST_LISTING.false (long-listed _ c.if-bytes-gt-MOST_INPUT.true q.put) (omega (arith, q.upper_bound, c.if-text-lt-LONGEST_LISTING.false)) c.text-1.given
 
 pub list_record-requires : goal.list_record-requires
-list_record-requires c = exact _ c.read_header-h.ensures c.if-bytes-gt-MOST_INPUT.false _ _ _ _ c.room-registry.ensures c.room-slashings.ensures c.room-closing_registry.ensures c.room-closing_slashings.ensures c.if-text-lt-LONGEST_LISTING.false
+list_record-requires c =
+    exact _ c.read_header-h.ensures c.if-bytes-gt-MOST_INPUT.false _ _ _ _ c.room-registry.ensures c.room-slashings.ensures c.room-closing_registry.ensures c.room-closing_slashings.ensures c.if-text-lt-LONGEST_LISTING.false
 
 pub returns : goal.returns
-returns c = long-enough _ c.if-text-lt-LONGEST_LISTING.false c.list_record.ensures.put c.list_record.ensures.upper_bound c.text-2-1.given
+returns c =
+    long-enough _ c.if-text-lt-LONGEST_LISTING.false c.list_record.ensures.put c.list_record.ensures.upper_bound c.text-2-1.given
 
 pub returns-then-text-lt-LONGEST_LISTING : goal.returns-then-text-lt-LONGEST_LISTING
 returns-then-text-lt-LONGEST_LISTING c = too_short _ _ c.if-text-lt-LONGEST_LISTING.true

@@ -8,9 +8,9 @@ use Rattle.laws.proofs.Loops.Entry.{entry-ten, entry-is}
 use Rattle.definitions.specs.Record.{decode, nobody}
 use Rattle.definitions.specs.Refusals.{good_validator}
 use Rattle.listing_lines.proofs.LineNumbers.{Shaped, shape-refused, shape-passed, entries-tested}
-use Rattle.listing_lines.proofs.line_tests.Goals.{After-good_entry, After-good_entry-2, Else-shaped-ne0}
 use mathlib.Core.Path.{ap}
 use mathlib.Core.Bool.{not}
+use Rattle.listing_lines.proofs.line_tests.Goals.{After-good_entry, After-good_entry-2, Else-shaped-ne0}
 use Rattle.listing_lines.proofs.line_tests.Goals as goal
 
 shaped : (c : Else-shaped-ne0) → Shaped c.args.opening.now c.args.closing.now c.args.index
@@ -27,13 +27,16 @@ pub returns-then-shaped-ne0 : goal.returns-then-shaped-ne0
 returns-then-shaped-ne0 c = shape-refused _ _ _ c.line_shaped-shaped.ensures c.if-shaped-ne0.true
 
 pub returns-then-not-good_entry : goal.returns-then-not-good_entry
-returns-then-not-good_entry c = sym (entries-tested _ _ _ c.line_shaped-shaped.ensures c.if-shaped-ne0.false (opening-is (goal.at.returns-then-not-good_entry c).After-good_entry (not-true _ (ap not c.if-not-good_entry.true))) refl)
+returns-then-not-good_entry c =
+    sym (entries-tested _ _ _ c.line_shaped-shaped.ensures c.if-shaped-ne0.false (opening-is (goal.at.returns-then-not-good_entry c).After-good_entry (not-true _ (ap not c.if-not-good_entry.true))) refl)
 
 pub returns-then-not-good_entry-2 : goal.returns-then-not-good_entry-2
-returns-then-not-good_entry-2 c = sym (entries-tested _ _ _ c.line_shaped-shaped.ensures c.if-shaped-ne0.false (opening-is (goal.at.returns-then-not-good_entry-2 c).After-good_entry (not-false _ (ap not c.if-not-good_entry.false))) (closing-is (goal.at.returns-then-not-good_entry-2 c).After-good_entry-2 (not-true _ (ap not c.if-not-good_entry-2.true))))
+returns-then-not-good_entry-2 c =
+    sym (entries-tested _ _ _ c.line_shaped-shaped.ensures c.if-shaped-ne0.false (opening-is (goal.at.returns-then-not-good_entry-2 c).After-good_entry (not-false _ (ap not c.if-not-good_entry.false))) (closing-is (goal.at.returns-then-not-good_entry-2 c).After-good_entry-2 (not-true _ (ap not c.if-not-good_entry-2.true))))
 
 pub returns : goal.returns
-returns c = sym (entries-tested _ _ _ c.line_shaped-shaped.ensures c.if-shaped-ne0.false (opening-is (goal.at.returns c).After-good_entry (not-false _ (ap not c.if-not-good_entry.false))) (closing-is (goal.at.returns c).After-good_entry-2 (not-false _ (ap not c.if-not-good_entry-2.false))))
+returns c =
+    sym (entries-tested _ _ _ c.line_shaped-shaped.ensures c.if-shaped-ne0.false (opening-is (goal.at.returns c).After-good_entry (not-false _ (ap not c.if-not-good_entry.false))) (closing-is (goal.at.returns c).After-good_entry-2 (not-false _ (ap not c.if-not-good_entry-2.false))))
 
 pub overflow_mul-a : goal.overflow_mul-a
 overflow_mul-a c = omega (arith, (shaped (goal.at.overflow_mul-a c).Else-shaped-ne0).below)

@@ -9,20 +9,20 @@ use Rattle.refusals.proofs.All.{fails, passes}
 use Rattle.outage.specs.Lent.{Exact, Opened}
 use Rattle.outage.proofs.Text.{text-refused, text-tail}
 use Rattle.outage.proofs.Filled.{exact_read, refusal-read, opened-from}
-use Rattle.outage.proofs.put_file.Goals.{After-good_tail, After-read_file-read, After-struct_known-1, Else-read-ne0}
 use mathlib.Core.Bool.{not}
+use Rattle.outage.proofs.put_file.Goals.{After-good_tail, After-read_file-read, Else-read-ne0}
 use Rattle.outage.proofs.put_file.Goals as goal
 
 -- what was read is as long as the header calls for
-exact : (c : After-read_file-read) → let a = (start c).args in let read = c.read_file-read.new.slashings in Exact a.file.now a.opening.now a.absences.now read.0 read.1.0 a.roots.now a.closing-registry.now a.closing-slashings.now a.text.now
+exact : (c : After-read_file-read) → let a = c.args in let read = c.read_file-read.new.slashings in Exact a.file.now a.opening.now a.absences.now read.0 read.1.0 a.roots.now a.closing_registry.now a.closing_slashings.now a.text.now
 exact c = let kept = c.read_file-read.auto.1 in exact_read c.requires kept.0 kept.1.0
 
-opened : (c : Else-read-ne0) → let r = reading c.After-struct_known-1 in let read = r.read-file.last.1 in Opened (start r).args.file.now r.read-file.result.settings r.read-file.result.finality read.0 read.1.0
+opened : (c : Else-read-ne0) → let read = c.read_file-read.last.1 in Opened c.args.file.now c.read_file-read.result.settings c.read_file-read.result.finality read.0 read.1.0
 opened c =
     let e = c.read_file-read.ensures in
     opened-from c.requires e.refusal_value c.if-read-ne0.false e.settings_value e.finality_value e.registry_after e.slashings_after
 
-tested : (c : After-good_tail) → let a = (start (reading c.After-struct_known-1)).args in c.good_tail.result ≡ good_tail (count_of a.file.now) a.tail.now
+tested : (c : After-good_tail) → let a = c.args in c.good_tail.result ≡ good_tail (count_of a.file.now) a.tail.now
 tested c =
     c.good_tail.ensures ∙ ap (λ (n : ℕ). good_tail n c.args.tail.now) (omega (arith, (exact c.After-read_file-read).entries))
 
@@ -36,21 +36,21 @@ returns-then-read-ne0 c =
 
 pub returns-then-not-good_tail : goal.returns-then-not-good_tail
 returns-then-not-good_tail c =
-    let at-start = start (goal.at.returns-then-not-good_tail c).After-read_file-read in
     let p = c.put_refused-then-not-good_tail.ensures in
     record {
-      put = rw (text-tail at-start.args.file.now at-start.args.tail.now (opened (goal.at.returns-then-not-good_tail c).Else-read-ne0).accepted (fails (tested (goal.at.returns-then-not-good_tail c).After-good_tail) (ap not c.if-not-good_tail.true))) p.put;
-      inside = omega (arith, p.upper_bound, at-start.pre.bytes);
+      put = rw (text-tail c.args.file.now c.args.tail.now (opened (goal.at.returns-then-not-good_tail c).Else-read-ne0).accepted (fails (tested (goal.at.returns-then-not-good_tail c).After-good_tail) (ap not c.if-not-good_tail.true))) p.put;
+      inside = omega (arith, p.upper_bound, c.requires.bytes);
     }
 
 pub put_read-requires : goal.put_read-requires
-put_read-requires c = record { exact = exact (goal.at.put_read-requires c).After-read_file-read; opened = opened (goal.at.put_read-requires c).Else-read-ne0; tail_value = passes (tested (goal.at.put_read-requires c).After-good_tail) (ap not c.if-not-good_tail.false) }
+put_read-requires c =
+    record { exact = exact (goal.at.put_read-requires c).After-read_file-read; opened = opened (goal.at.put_read-requires c).Else-read-ne0; tail_value = passes (tested (goal.at.put_read-requires c).After-good_tail) (ap not c.if-not-good_tail.false) }
 
 pub put_refused-requires : goal.put_refused-requires
-put_refused-requires c = omega (arith, (start (goal.at.put_refused-requires c).After-read_file-read).requires.bytes)
+put_refused-requires c = omega (arith, c.requires.bytes)
 
 pub good_tail-requires : goal.good_tail-requires
 good_tail-requires c = omega (arith, (exact (goal.at.good_tail-requires c).After-read_file-read).entries, (exact (goal.at.good_tail-requires c).After-read_file-read).few)
 
 pub put_refused-requires-then-not-good_tail : goal.put_refused-requires-then-not-good_tail
-put_refused-requires-then-not-good_tail c = omega (arith, (start (goal.at.put_refused-requires-then-not-good_tail c).After-read_file-read).requires.bytes)
+put_refused-requires-then-not-good_tail c = omega (arith, c.requires.bytes)

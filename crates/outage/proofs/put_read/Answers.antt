@@ -12,13 +12,14 @@ behind : (s : Start) → Tail (count_of s.args.file.now) s.args.tail.now
 behind s = good-tail (count_of s.args.file.now) s.args.tail.now s.requires.tail_value
 
 pub put_bytes-requires : goal.put_bytes-requires
-put_bytes-requires c = omega (arith, roots-long c.requires.exact c.requires.opened c.file_roots-read_roots.ensures)
+put_bytes-requires c =
+    omega (arith, roots-long c.requires.exact c.requires.opened c.file_roots-read_roots.ensures)
 
 pub put_run-requires : goal.put_run-requires
 put_run-requires c =
     let x = c.requires.exact in
     let o = c.requires.opened in
-    let t = behind c in
+    let t = behind (goal.at.put_run-requires c).Start in
     let n = c.read_number-epochs.ensures.0 in (
       ready x o c.roots-1.given (simp (length-take, length-drop) (omega (arith, t.long))) c.absences-1.given,
       (room x o (omega (arith, n, t.few)), ((shaped x o c.copy.ensures, c.copy.ensures), omega (arith, n, t.few, c.opening-1.given, x.openings, x.few, x.bytes))),
@@ -38,13 +39,13 @@ pub file_roots-read_roots-requires : goal.file_roots-read_roots-requires
 file_roots-read_roots-requires c = c.requires.exact.header
 
 pub read_numbers-requires : goal.read_numbers-requires
-read_numbers-requires c = omega (arith, c.requires.exact.pairs, (behind c).long)
+read_numbers-requires c = omega (arith, c.requires.exact.pairs, (behind (goal.at.read_numbers-requires c).Start).long)
 
 pub read_number-epochs-requires : goal.read_number-epochs-requires
-read_number-epochs-requires c = omega (arith, (behind c).long)
+read_number-epochs-requires c = omega (arith, (behind (goal.at.read_number-epochs-requires c).Start).long)
 
 pub slice_bounds-put_run-end : goal.slice_bounds-put_run-end
-slice_bounds-put_run-end c = omega (arith, (behind c).long)
+slice_bounds-put_run-end c = omega (arith, (behind (goal.at.slice_bounds-put_run-end c).Start).long)
 
 pub shape_of-opening : goal.shape_of-opening
 shape_of-opening c = search rules

@@ -4,17 +4,17 @@ use lib.Seq.{length-take-le}
 use Rattle.outage.proofs.Text.{text-headless}
 use Rattle.outage.proofs.Fronts.{Few, Counted, counted, headless, Fit, held, fit, exact}
 use borrow.Author.Rules.{rules}
-use Rattle.outage.proofs.put_text.Goals.{After-read_header-h, Else-h-ne0}
+use Rattle.outage.proofs.put_text.Goals.{Else-h-ne0}
 use Rattle.outage.proofs.put_text.Goals as goal
 
 -- where there is a header, what it counts is held by the file and fits what is lent
-counts : (c : Else-h-ne0) → Counted (start c.After-read_header-h).args.file.now c.read_header-h.result
+counts : (c : Else-h-ne0) → Counted c.args.file.now c.read_header-h.result
 counts c = counted _ c.read_header-h.ensures c.if-h-ne0.false
 
-holds : (c : Else-h-ne0) → Few (start c.After-read_header-h).args.file.now
+holds : (c : Else-h-ne0) → Few c.args.file.now
 holds c = held c.requires (counts c)
 
-fits : (c : Else-h-ne0) → let a = (start c.After-read_header-h).args in Fit c.read_header-h.result a.opening.now a.absences.now a.registry.now a.slashings.now a.roots.now a.closing-registry.now a.closing-slashings.now
+fits : (c : Else-h-ne0) → let a = c.args in Fit c.read_header-h.result a.opening.now a.absences.now a.registry.now a.slashings.now a.roots.now a.closing_registry.now a.closing_slashings.now
 fits c = fit c.requires (counts c)
 
 pub returns-then-h-ne0 : goal.returns-then-h-ne0

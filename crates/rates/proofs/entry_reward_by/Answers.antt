@@ -1,5 +1,4 @@
 use native.Mathlib.Omega.{arith}
-use borrow.Author.Rules.{rules}
 use Rattle.rates.proofs.Rated.{fits_each}
 use Rattle.rates.proofs.entry_reward_by.Goals as goal
 

@@ -1,4 +1,3 @@
-use borrow.Author.Rules.{rules}
 use Rattle.arithmetic.proofs.Laws.{says-value, says_overflow}
 use Rattle.arithmetic.proofs.Answers.{tells_deltas, answers-value, answers_overflow}
 use Rattle.rates.proofs.reward_balances.Only.{only_miss}

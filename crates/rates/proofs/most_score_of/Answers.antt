@@ -1,4 +1,3 @@
-use borrow.Author.Rules.{rules}
 use Rattle.rates.proofs.Charged.{most-none, most-some}
 use Rattle.rates.proofs.most_score_of.Goals as goal
 

@@ -3,7 +3,6 @@ use Rattle.arithmetic.proofs.Operations.{only-mul64}
 use Rattle.rewards.proofs.Penalties.{product-divides}
 use Rattle.rates.proofs.Charged.{not_eligible, target_hit, no-product, too_much, by_division, none-charged}
 use native.Mathlib.Omega.{arith}
-use borrow.Author.Rules.{rules}
 use mathlib.Core.Path.{ap}
 use mathlib.Core.Bool.{not}
 use Rattle.rates.proofs.penalty_by.Goals as goal

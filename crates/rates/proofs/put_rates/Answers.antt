@@ -1,6 +1,5 @@
 use lib.ListN.{length-set}
 use native.Mathlib.Omega.{arith}
-use borrow.Author.Rules.{rules}
 use Rattle.rates.proofs.Table.{row_put}
 use Rattle.rates.proofs.put_rates.Goals as goal
 

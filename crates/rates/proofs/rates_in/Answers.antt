@@ -1,7 +1,4 @@
 use mathlib.Core.Path.{◌≡◌, sym, ap, subst, ◌∙◌}
-use Prim.Native.Nat.{ℕ}
-use native.Mathlib.Omega.{arith}
-use borrow.Author.Rules.{rules}
 use lib.ListN.{length}
 use Rattle.rates.specs.declared.Rates.{Rates}
 use Rattle.rates.specs.Rated.{Fits}
@@ -11,9 +8,8 @@ use Rattle.rates.proofs.rates_in.Goals.{After-refresh}
 use Rattle.rates.proofs.rates_in.Goals as goal
 
 -- the row came back with its fifteen numbers
-fifteen : (c : After-refresh) → length c.refresh.new.row.1.1.1.1.1.1.0 ≡ 15
-fifteen c =
-    c.refresh.auto.1.1.1.1.1.1.0 ∙ row-fifteen c.args.table.now c.requires.table_of.long c.row_of-i.result c.row_of-i.ensures
+fifteen : (c : After-refresh) → length c.refresh.new.row ≡ 15
+fifteen c = c.refresh.auto.row ∙ row-fifteen c.args.table.now c.requires.table_of.long c.row_of-i.result c.row_of-i.ensures
 
 pub refresh-requires : goal.refresh-requires
 refresh-requires c =
@@ -25,7 +21,7 @@ returns c =
     let i = c.row_of-i.result in
     let l = c.row_of-i.ensures in
     let t = c.requires.table_of in
-    let e = c.refresh.last.1.1.1.1.1.1.0 in
+    let e = c.refresh.new.row in
     let row = c.refresh.ensures in
     let is : c.rates_at.result ≡ rates_at e = c.rates_at.ensures ∙ ap rates_at (row_same c.args.table.now t.long i l e (fifteen (goal.at.returns c).After-refresh)) in
     record { table_of_2 = table-put t i l e (fifteen (goal.at.returns c).After-refresh) (record { fits = λ _. row.fits }); fits = subst (Fits c.args.s c.args.h c.args.source c.args.target c.args.head) (sym is) row.fits; effective_balance_value = ap (λ (q : Rates). q.effective_balance) is ∙ row.same }

@@ -10,6 +10,10 @@ use Rattle.laws_file.proofs.Passed.{good-header}
 use Rattle.record_file.proofs.file_roots.Goals.{After-registry_at}
 use Rattle.record_file.proofs.file_roots.Goals as goal
 
+-- the counts call for no more than there is
+inside : (c : After-registry_at) → let k = c.read_counts-counts.result in c.registry_at.result + 80 * k.validators + 8 * k.slashings ≤ length c.args.bytes.now
+inside c = omega (arith, (good-header _ c.requires).long, c.read_counts-counts.ensures, c.registry_at.ensures)
+
 roots-part : (bytes : List ℕ) → good_header bytes ≡ true → {from n l : ℕ} → from ≡ validators_at (version_of bytes) → n ≡ count_of bytes → l ≡ slashing_count_of bytes → take (length bytes - 8 * l - (from + 80 * n)) (drop (from + 80 * n) bytes) ≡ (contents_of bytes).roots
 unfolding contents_of
 roots-part bytes g {from} {n} {l} e f h =
@@ -17,15 +21,12 @@ roots-part bytes g {from} {n} {l} e f h =
     let size : length bytes - 8 * l - roots_at (version_of bytes) (count_of bytes) ≡ 32 * root_count_of bytes = omega (arith, (good-header bytes g).long) in
     rw (at, size)
 
--- the counts call for no more than there is
-inside : (c : After-registry_at) → let k = c.read_counts-counts.result in c.registry_at.result + 80 * k.validators + 8 * k.slashings ≤ length c.args.bytes.now
-inside c = omega (arith, (good-header _ c.requires).long, c.read_counts-counts.ensures, c.registry_at.ensures)
-
 pub read_counts-counts-requires : goal.read_counts-counts-requires
 read_counts-counts-requires c = (good-header _ c.requires).enough
 
 pub returns : goal.returns
-returns c = roots-part _ c.requires c.registry_at.ensures c.read_counts-counts.ensures.0 c.read_counts-counts.ensures.2
+returns c =
+    roots-part _ c.requires c.registry_at.ensures c.read_counts-counts.ensures.0 c.read_counts-counts.ensures.2
 
 pub overflow_mul-from : goal.overflow_mul-from
 overflow_mul-from c = omega (arith, inside (goal.at.overflow_mul-from c).After-registry_at, c.well_formed)

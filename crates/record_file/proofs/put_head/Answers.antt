@@ -9,16 +9,17 @@ use Rattle.fields.proofs.Bytes.{length-queue}
 use Rattle.fields.proofs.Stores.{stored-first, stored_more}
 use Rattle.record_file.specs.Sized.{head_of}
 use Rattle.record_file.proofs.Writing.{Rooted, finality-long}
+use Rattle.definitions.specs.declared.Settings.{Settings}
 use Rattle.record_file.proofs.put_head.Goals.{After-header_of-head, Start}
 use Rattle.record_file.proofs.put_head.Goals as goal
 
 rooted : (c : Start) → Rooted c.args.finality
 rooted c = search rules
 
-abbrev numbers : Start → List ℕ
-numbers c = let s = c.args.settings in header 2 c.args.validators s.slots_per_historical_root s.epochs_per_slashings_vector
+abbrev numbers : Settings → ℕ → List ℕ
+numbers settings validators = let s = settings in header 2 validators s.slots_per_historical_root s.epochs_per_slashings_vector
 
-head : (c : After-header_of-head) → c.header_of-head.result ≡ numbers c
+head : (c : After-header_of-head) → c.header_of-head.result ≡ numbers c.args.settings c.args.validators
 head c = c.header_of-head.ensures
 
 pub returns : goal.returns
@@ -26,7 +27,7 @@ unfolding head_of
 returns c =
     let a = c.args in
     let s = settings_numbers a.settings in
-    let h = numbers (goal.at.returns c).Start in
+    let h = numbers c.args.settings c.args.validators in
     let one = stored-first a.file.now 0 (numbers_to_bytes h) (length_to_bytes h) (rw (head (goal.at.returns c).After-header_of-head) at c.put_numbers.ensures) in
     let two = stored_more one (numbers_to_bytes s) (length_to_bytes s) refl refl c.put_settings.ensures in
     let three = stored_more two (finality_to_bytes a.finality) (finality-long (rooted (goal.at.returns c).Start)) refl refl c.put_finality.ensures in

@@ -5,9 +5,9 @@ use Rattle.definitions_file.specs.File.{good_header}
 use Rattle.refusals.proofs.All.{fails, passes}
 use Rattle.laws_file.proofs.Passed.{good-header}
 use Rattle.record_file.proofs.Reading.{header_refused, header-accepted}
-use Rattle.record_file.proofs.read_header.Goals.{Else-not-good_header}
 use mathlib.Core.Path.{ap}
 use mathlib.Core.Bool.{not}
+use Rattle.record_file.proofs.read_header.Goals.{Else-not-good_header}
 use Rattle.record_file.proofs.read_header.Goals as goal
 
 header : (c : Else-not-good_header) → good_header c.args.bytes.now ≡ true

@@ -13,7 +13,7 @@ use Rattle.registry_close.proofs.Worked.{answered, slot_kept, finalized-small, w
 use Rattle.registry_close.proofs.run_steps.Goals.{After-justification_core-justified, Else-justified-ne0}
 use Rattle.registry_close.proofs.run_steps.Goals as goal
 
-justified : (c : After-justification_core-justified) → c.justification_core-justified.result ≡ close_answer_for (process_justification_and_finalization (start c).args.s (start c).args.roots.now (start c).args.finality (decode (start c).args.registry.now)) (start c).args.finality (raised_totals (start c).args.s (start c).args.finality.slot (decode (start c).args.registry.now))
+justified : (c : After-justification_core-justified) → c.justification_core-justified.result ≡ close_answer_for (process_justification_and_finalization c.args.s c.args.roots.now c.args.finality (decode c.args.registry.now)) c.args.finality (raised_totals c.args.s c.args.finality.slot (decode c.args.registry.now))
 justified c =
     c.justification_core-justified.ensures.of (decode c.args.registry.now) (totals-found c.args.s c.args.finality.slot c.args.registry.now c.requires.finds c.total_of-active.ensures c.total_of-target.ensures c.total_of-current_target.ensures)
 
@@ -22,23 +22,25 @@ given : (c : Else-justified-ne0) → c.justification_core-justified.result.refus
 given c = omega (arith, c.if-justified-ne0.false)
 
 pub justification_core-justified-requires : goal.justification_core-justified-requires
-justification_core-justified-requires c = c.requires.tested.weighs
+justification_core-justified-requires c =
+    c.requires.tested.weighs
 
 pub returns-then-justified-ne0 : goal.returns-then-justified-ne0
 returns-then-justified-ne0 c = record { limited_worked = worked_unjustified _ _ _ _ _ _ (justified (goal.at.returns-then-justified-ne0 c).After-justification_core-justified) (λ z. omega (arith, c.if-justified-ne0.true)); books = record { booked = λ z. absurd (omega (arith, z, c.if-justified-ne0.true)) }; pair_of = record { pair = λ z. absurd (omega (arith, z, c.if-justified-ne0.true)) } }
 
 pub write_registry-wrote-requires : goal.write_registry-wrote-requires
 write_registry-wrote-requires c =
-    let slot = slot_kept c.args.limit _ _ _ c.args.slashings.now _ (justified (goal.at.write_registry-wrote-requires c).After-justification_core-justified) (given ((goal.at.write_registry-wrote-requires c).Else-justified-ne0)) in
-    let finalized = finalized-small c.args.limit _ _ _ c.args.slashings.now _ (justified (goal.at.write_registry-wrote-requires c).After-justification_core-justified) (given ((goal.at.write_registry-wrote-requires c).Else-justified-ne0)) c.requires.tested.finality in
+    let slot = slot_kept c.args.limit _ _ _ c.args.slashings.now _ (justified (goal.at.write_registry-wrote-requires c).After-justification_core-justified) (given (goal.at.write_registry-wrote-requires c).Else-justified-ne0) in
+    let finalized = finalized-small c.args.limit _ _ _ c.args.slashings.now _ (justified (goal.at.write_registry-wrote-requires c).After-justification_core-justified) (given (goal.at.write_registry-wrote-requires c).Else-justified-ne0) c.requires.tested.finality in
     let opening = good-finality c.args.finality c.requires.tested.finality in
     record { s_value = (c.requires.tested.settings.good, rw slot (small _ c.requires.tested.settings.small), omega (arith, finalized, opening.finalized)); opening_len = (c.requires.tested.registry, c.requires.closing_registry_len); finds = rw slot c.requires.finds }
 
 pub returns-then-wrote-ne0 : goal.returns-then-wrote-ne0
-returns-then-wrote-ne0 c = record { limited_worked = worked-refused _ _ _ _ _ _ (justified ((goal.at.returns-then-wrote-ne0 c).After-justification_core-justified)) (given ((goal.at.returns-then-wrote-ne0 c).Else-justified-ne0)) c.write_registry-wrote.ensures.ran _ (λ z. omega (arith, c.if-wrote-ne0.true)) c.answer_with-refused.ensures; books = record { booked = λ z. absurd (omega (arith, c.if-wrote-ne0.true, answered _ _ _ c.answer_with-refused.ensures, z)) }; pair_of = record { pair = λ z. absurd (omega (arith, c.if-wrote-ne0.true, answered _ _ _ c.answer_with-refused.ensures, z)) } }
+returns-then-wrote-ne0 c =
+    record { limited_worked = worked-refused _ _ _ _ _ _ (justified (goal.at.returns-then-wrote-ne0 c).After-justification_core-justified) (given (goal.at.returns-then-wrote-ne0 c).Else-justified-ne0) c.write_registry-wrote.ensures.ran _ (λ z. omega (arith, c.if-wrote-ne0.true)) c.answer_with-refused.ensures; books = record { booked = λ z. absurd (omega (arith, c.if-wrote-ne0.true, answered _ _ _ c.answer_with-refused.ensures, z)) }; pair_of = record { pair = λ z. absurd (omega (arith, c.if-wrote-ne0.true, answered _ _ _ c.answer_with-refused.ensures, z)) } }
 
 pub returns : goal.returns
 returns c =
-    let slot = slot_kept c.args.limit _ _ _ c.args.slashings.now _ (justified (goal.at.returns c).After-justification_core-justified) (given ((goal.at.returns c).Else-justified-ne0)) in
-    let wrote = c.write_registry-wrote.ensures in record { limited_worked = worked-done _ _ _ _ _ _ (justified (goal.at.returns c).After-justification_core-justified) (given ((goal.at.returns c).Else-justified-ne0)) wrote.ran (omega (arith, c.if-wrote-ne0.false))
-          (ap (λ (slot : ℕ). reset_slashings c.args.s slot c.args.slashings.now) (sym slot)) (omega (arith, given ((goal.at.returns c).Else-justified-ne0))) refl refl; books = (record { booked = λ z. wrote.books.booked (omega (arith, c.if-wrote-ne0.false)) }, record { pair = λ z. wrote.pair_of.pair (omega (arith, c.if-wrote-ne0.false)) }); pair_of =  }
+    let slot = slot_kept c.args.limit _ _ _ c.args.slashings.now _ (justified (goal.at.returns c).After-justification_core-justified) (given (goal.at.returns c).Else-justified-ne0) in
+    let wrote = c.write_registry-wrote.ensures in record { limited_worked = worked-done _ _ _ _ _ _ (justified (goal.at.returns c).After-justification_core-justified) (given (goal.at.returns c).Else-justified-ne0) wrote.ran (omega (arith, c.if-wrote-ne0.false))
+          (ap (λ (slot : ℕ). reset_slashings c.args.s slot c.args.slashings.now) (sym slot)) (omega (arith, given (goal.at.returns c).Else-justified-ne0)) refl refl; books = (record { booked = λ z. wrote.books.booked (omega (arith, c.if-wrote-ne0.false)) }, record { pair = λ z. wrote.pair_of.pair (omega (arith, c.if-wrote-ne0.false)) }); pair_of =  }

@@ -18,7 +18,7 @@ previous_epoch-previous-requires c = (tested (goal.at.previous_epoch-previous-re
 
 pub survey_registry-found-requires : goal.survey_registry-found-requires
 survey_registry-found-requires c =
-    let p = tested ((goal.at.survey_registry-found-requires c).Start) in
+    let p = tested (goal.at.survey_registry-found-requires c).Start in
     record { registry_len = p.long; current_epoch_bound = omega (arith, (epochs _ _ p.good p.slot).small, c.current_epoch-epoch.ensures); kept_len = c.requires.kept_len }
 
 pub returns-then-refusal-ne0 : goal.returns-then-refusal-ne0

@@ -7,7 +7,6 @@ use Rattle.definitions.specs.Rust.Altair.EpochProcessing.{process_rewards_and_pe
 use Rattle.refusals.proofs.Laws.{good-settings}
 use Rattle.refusals.proofs.buffers.Closes.{closes-refused, step-put_back}
 use Rattle.rewards_step.proofs.Tests.{rewards-passed}
-use borrow.Author.Rules.{rules}
 use Rattle.rewards_step.proofs.process_rewards_and_penalties.Goals as goal
 
 pub returns-then-refusal-ne0 : goal.returns-then-refusal-ne0
@@ -19,7 +18,7 @@ copy-requires c = (rewards-passed _ _ _ _ _ c.rewards_tests-refusal.ensures c.if
 pub rewards_core-done-requires : goal.rewards_core-done-requires
 rewards_core-done-requires c =
     let p = rewards-passed _ _ _ _ _ c.rewards_tests-refusal.ensures c.if-refusal-ne0.false in
-    rw c.settings_under-s.ensures (p.good, ((good-settings _ p.good).positive.inactivity_penalty_quotient_altair, omega (arith, p.shape.long, ap length c.copy.ensures)))
+    rw c.settings_under-s.ensures (record { s_value = p.good; quotient_nonzero = (good-settings _ p.good).positive.inactivity_penalty_quotient_altair; registry_len = omega (arith, p.shape.long, ap length c.copy.ensures) })
 
 pub put_back-requires : goal.put_back-requires
 put_back-requires c = omega (arith, (rewards-passed _ _ _ _ _ c.rewards_tests-refusal.ensures c.if-refusal-ne0.false).same)

@@ -1,7 +1,6 @@
 use Prim.Native.Nat.{◌-◌}
 use Rattle.definitions.specs.Rust.Altair.EpochProcessing.{reward_and_penalize}
-use Rattle.laws.proofs.Loops.Checking.{Checking, checking-none, checking-ten, checking-more, checking-stop, checking-all}
-use native.Mathlib.Omega.{arith}
+use Rattle.laws.proofs.Loops.Checking.{Checking}
 use Rattle.rewards.specs.Shared.{totals_of}
 use Rattle.rewards_step.proofs.reward_all.Given as goal
 

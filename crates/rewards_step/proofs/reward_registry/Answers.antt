@@ -1,4 +1,3 @@
-use borrow.Author.Rules.{rules}
 use Rattle.rewards_step.proofs.reward_registry.Goals as goal
 
 pub returns : goal.returns

@@ -3,7 +3,6 @@ use Rattle.laws.proofs.Encode.{encode-decode}
 use Rattle.refusals.proofs.Laws.{good-settings}
 use Rattle.arithmetic.proofs.Answers.{answers-value, answers_overflow}
 use Rattle.rewards_step.proofs.Step.{tells_totals, only-totals, totals-least, rewards-genesis, rewards-refused, rewards-by}
-use borrow.Author.Rules.{rules}
 use Rattle.rewards_step.proofs.rewards_core.Goals as goal
 
 pub current_epoch-current-requires : goal.current_epoch-current-requires

@@ -1,4 +1,3 @@
-use borrow.Author.Rules.{rules}
 use Rattle.definitions.specs.Refusals.{registry_tests}
 use Rattle.definitions.specs.Rules.{rewards_tests}
 use Rattle.refusals.proofs.rules.Tests.{rules-tested}

@@ -1,6 +1,5 @@
 use Rattle.refusals.proofs.Laws.{good-settings}
 use Rattle.rewards_step.proofs.Step.{totals-told}
-use borrow.Author.Rules.{rules}
 use Rattle.rewards_step.proofs.step_totals.Goals as goal
 
 pub inactivity_leak-leaking-requires : goal.inactivity_leak-leaking-requires

@@ -6,28 +6,29 @@ use lib.Dec.{ltb}
 use lib.ListN.{length, get_or}
 use Rattle.shelf.proofs.Lengths.{each-longest, longest-drop}
 use Rattle.shelf.proofs.Shelving.{Shelving, shelving-none, shelving-more, shelving-all, inside, file-long, part-long, shaped}
-use Rattle.shelf.proofs.close_files.Goals.{At-loop-more, In-loop-more}
+use Rattle.shelf.proofs.close_files.Goals.{In-loop-more}
 use Rattle.shelf.proofs.close_files.Goals as goal
 
 -- a file is left
-left : (c : In-loop-more) → c.loop-more.i < length (start c.At-loop-more).args.lengths.now
+left : (c : In-loop-more → c.before.loop.i < length (start c.before).args.lengths.now
 left c = ltb-true _ _ (sym c.loop-more.invariant.3 ∙ c.loop-more-test.true)
 
 -- and ends within the shelf
-fits : (c : In-loop-more) → let k = c.loop-more in let a = (start c.At-loop-more).args in let end = k.at + get_or a.lengths.now k.i 0 in (end ≤ length a.files.now) × (end ≤ length k.closing)
+fits : (c : In-loop-more → let k = c.before.loop in let a = (start c.before).args in let end = k.at + get_or a.lengths.now k.i 0 in (end ≤ length a.files.now) × (end ≤ length k.closing)
 fits c =
     let g = c.loop-more.invariant.0 in
     let l = inside _ _ _ _ _ g (left c) in (l, omega (arith, l, g.as_long))
 
 pub loop-more-init : goal.loop-more-init
-loop-more-init c = let p = shaped _ c.requires in (shelving-none _ _ _ _ _ c.args.answers.now p.sums p.closing-long p.many, refl, refl, refl)
+loop-more-init c =
+    let p = shaped _ c.requires in (shelving-none _ _ _ _ _ c.args.answers.now p.sums p.closing-long p.many, refl, refl, refl)
 
 pub close_file-answer-requires : goal.close_file-answer-requires
 close_file-answer-requires c =
     let p = shaped _ c.requires in
     let k = c.loop-more in
     let g = k.invariant.0 in
-    let l = left ((goal.at.close_file-answer-requires c).In-loop-more) in
+    let l = left (goal.at.close_file-answer-requires c).In-loop-more in
     let file = file-long _ _ _ _ _ g l in
     let most = each-longest c.args.lengths.now k.i l in
     let all = longest-drop c.args.lengths.now k.i in
@@ -37,7 +38,7 @@ pub loop-more-preserved : goal.loop-more-preserved
 loop-more-preserved c =
     let k = c.loop-more in
     let g = k.inv.0 in
-    let l = left ((goal.at.loop-more-preserved c).In-loop-more) in
+    let l = left (goal.at.loop-more-preserved c).In-loop-more in
     let f = c.close_file-answer in
     (shelving-more _ _ _ _ _ g l f.ensures.0 f.ensures.1 (f.auto.1.1.1.1.1.0 ∙ part-long _ _ _ _ _ g l), c.opening_numbers-1.given ∙ k.inv.1, c.closing_numbers-1.given ∙ k.inv.2, refl)
 

@@ -15,14 +15,14 @@ use Rattle.laws_file.proofs.Passed.{good-header}
 use Rattle.shelf_file.specs.Parts.{Counts, Counted}
 use Rattle.shelf_file.proofs.Parts.{counts-long}
 use Rattle.shelf_file.proofs.Tests.{off_shelf, refused-tests}
-use Rattle.shelf_file.proofs.close_file.Goals.{After-read_counts-counts, Else-not-on_shelf}
 use mathlib.Core.Bool.{not}
+use Rattle.shelf_file.proofs.close_file.Goals.{After-read_counts-counts, Else-not-on_shelf}
 use Rattle.shelf_file.proofs.close_file.Goals as goal
 
-head : (c : Else-not-on_shelf) → let file = (start c).args.file.now in (good_header file ≡ true) × (eqb (version_of file) 2 ≡ true)
+head : (c : Else-not-on_shelf) → let file = c.args.file.now in (good_header file ≡ true) × (eqb (version_of file) 2 ≡ true)
 head c = both _ _ (passes c.on_shelf.ensures (ap not c.if-not-on_shelf.false))
 
-counts : (c : After-read_counts-counts) → let n = c.read_counts-counts.result in Counts (start c).args.file.now (10 * n.validators) (10 * n.validators + n.slashings)
+counts : (c : After-read_counts-counts) → let n = c.read_counts-counts.result in Counts c.args.file.now (10 * n.validators) (10 * n.validators + n.slashings)
 counts c =
     let e = c.read_counts-counts.ensures in
     let h = head c.Else-not-on_shelf in
@@ -34,10 +34,10 @@ counts c =
     }
 
 -- the working lists have room
-counted : (c : After-read_counts-counts) → let n = c.read_counts-counts.result in let a = (start c.Else-not-on_shelf).args in Counted a.file.now (10 * n.validators) (10 * n.validators + n.slashings) a.opening-numbers.now
+counted : (c : After-read_counts-counts) → let n = c.read_counts-counts.result in let a = c.args in Counted a.file.now (10 * n.validators) (10 * n.validators + n.slashings) a.opening_numbers.now
 counted c = let k = counts c in record { counts = k; room = omega (arith, counts-long k, k, c.requires.file_len_bound.0) }
 
-closing-room : (c : After-read_counts-counts) → 10 * c.read_counts-counts.result.validators ≤ length (start c.Else-not-on_shelf).args.closing-numbers.now
+closing-room : (c : After-read_counts-counts) → 10 * c.read_counts-counts.result.validators ≤ length c.args.closing_numbers.now
 closing-room c = let k = counts c in omega (arith, counts-long k, k, c.requires.file_len_bound.1)
 
 pub returns-then-not-on_shelf : goal.returns-then-not-on_shelf
@@ -47,7 +47,7 @@ returns-then-not-on_shelf c =
 
 pub file_tests-refusal-requires : goal.file_tests-refusal-requires
 unfolding contents_of
-file_tests-refusal-requires c = record { counted = counted (goal.at.file_tests-refusal-requires c).Else-not-on_shelf; settings_value = c.read_settings-settings.ensures }
+file_tests-refusal-requires c = record { counted = counted (goal.at.file_tests-refusal-requires c).After-read_counts-counts; settings_value = c.read_settings-settings.ensures }
 
 pub returns-then-refusal-ne0 : goal.returns-then-refusal-ne0
 returns-then-refusal-ne0 c =
@@ -55,14 +55,17 @@ returns-then-refusal-ne0 c =
     record { value = f.number; part_after = f.part }
 
 pub slice_bounds-close_passed-end-2 : goal.slice_bounds-close_passed-end-2
-slice_bounds-close_passed-end-2 c = omega (arith, closing-room (goal.at.slice_bounds-close_passed-end-2 c).Else-not-on_shelf, length-take (10 * c.read_counts-counts.result.validators) c.args.closing_numbers.now)
+slice_bounds-close_passed-end-2 c =
+    omega (arith, closing-room (goal.at.slice_bounds-close_passed-end-2 c).After-read_counts-counts, length-take (10 * c.read_counts-counts.result.validators) c.args.closing_numbers.now)
 
 pub close_passed-requires : goal.close_passed-requires
 unfolding contents_of
-close_passed-requires c = record { counted = counted (goal.at.close_passed-requires c).Else-not-on_shelf; settings_value = (c.read_settings-settings.ensures, passed _ c.file_tests-refusal.ensures c.if-refusal-ne0.false); closing_len = (length-take-le _ c.args.closing_numbers.now (closing-room (goal.at.close_passed-requires c).Else-not-on_shelf), c.requires.part_len) }
+close_passed-requires c =
+    record { counted = counted (goal.at.close_passed-requires c).After-read_counts-counts; settings_value = (c.read_settings-settings.ensures, passed _ c.file_tests-refusal.ensures c.if-refusal-ne0.false); closing_len = (length-take-le _ c.args.closing_numbers.now (closing-room (goal.at.close_passed-requires c).After-read_counts-counts), c.requires.part_len) }
 
 pub returns : goal.returns
-returns c = let f = c.close_passed.ensures in record { value = f.number; part_after = f.part }
+returns c =
+    let f = c.close_passed.ensures in record { value = f.number; part_after = f.part }
 
 pub read_counts-counts-requires : goal.read_counts-counts-requires
 read_counts-counts-requires c = (good-header _ (head (goal.at.read_counts-counts-requires c).Else-not-on_shelf).0).enough

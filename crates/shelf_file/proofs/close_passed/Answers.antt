@@ -10,7 +10,7 @@ use Rattle.fields.proofs.Stores.{sets-whole}
 use Rattle.shelf_file.specs.Parts.{numbers_behind}
 use Rattle.shelf_file.proofs.Parts.{counts-long, behind-put}
 use Rattle.shelf_file.proofs.Tests.{FileRead, read-tested, sized, put_refused, put-done}
-use Rattle.shelf_file.proofs.close_passed.Goals.{After-after-1, After-file_roots-roots, After-read_opening, After-slashings_reset_core, After-slice_known-4-1, After-struct_known-1, Start}
+use Rattle.shelf_file.proofs.close_passed.Goals.{After-file_roots-roots, After-slashings_reset_core, Start}
 use Rattle.shelf_file.proofs.close_passed.Goals as goal
 
 -- the working list as it was read
@@ -20,10 +20,10 @@ numbers c = c.read_opening.new.numbers.1.1.1.0
 ordered : (c : Start) → c.args.a ≤ c.args.b
 ordered c = omega (arith, c.requires.counted.counts)
 
-within : (c : After-file_roots-roots) → (start c).args.b ≤ length (numbers c)
+within : (c : After-file_roots-roots) → c.args.b ≤ length (numbers c)
 within c = omega (arith, c.requires.counted.room, c.read_opening.auto)
 
-read : (c : After-file_roots-roots) → let a = (start c).args in let at-read-finality = (opened c).before.before in FileRead a.rules a.file.now at-read-finality.before.settings-under.result at-read-finality.read-finality.result (take a.a (numbers c)) (numbers_behind a.a a.b (numbers c)) c.file_roots-roots.result.now
+read : (c : After-file_roots-roots) → let a = c.args in FileRead a.rules a.file.now c.settings_under-s.result c.read_finality-finality.result (take a.a (numbers c)) (numbers_behind a.a a.b (numbers c)) c.file_roots-roots.result.now
 unfolding contents_of
 read c =
     record {
@@ -37,40 +37,43 @@ read c =
     }
 
 -- the slashings after their reset, in the list
-behind : (c : After-slashings_reset_core) → let at-file-roots = with-roots c.After-struct_known-1 in let a = (start at-file-roots).args in let ys = c.slashings_reset_core.new.slashings.1.1.0 in numbers_behind a.a a.b (take a.a (numbers at-file-roots) ++ (ys ++ drop (a.b - a.a) (drop a.a (numbers at-file-roots)))) ≡ ys
-behind c = behind-put _ _ _ _ (ordered c) (within c.After-slice_known-4-1) c.slashings_reset_core.auto.1.1.0
+behind : (c : After-slashings_reset_core) → let a = c.args in let ys = c.slashings_reset_core.new.slashings.1.1.0 in numbers_behind a.a a.b (take a.a (numbers c.After-file_roots-roots) ++ (ys ++ drop (a.b - a.a) (drop a.a (numbers c.After-file_roots-roots)))) ≡ ys
+behind c = behind-put _ _ _ _ (ordered c.Start) (within c.After-file_roots-roots) c.slashings_reset_core.auto.1.1.0
 
 pub close_opening-answer-requires : goal.close_opening-answer-requires
-close_opening-answer-requires c = record { a_le_b = (ordered c, within (goal.at.close_opening-answer-requires c).After-slice_known-4-1, c.requires.closing_len.0); tested = read-tested (read (goal.at.close_opening-answer-requires c).After-slice_known-4-1) }
+close_opening-answer-requires c =
+    record { a_le_b = (ordered (goal.at.close_opening-answer-requires c).Start, within (goal.at.close_opening-answer-requires c).After-file_roots-roots, c.requires.closing_len.0); tested = read-tested (read (goal.at.close_opening-answer-requires c).After-file_roots-roots) }
 
 pub returns-then-answer-ne0 : goal.returns-then-answer-ne0
-returns-then-answer-ne0 c = put_refused (read (goal.at.returns-then-answer-ne0 c).After-slice_known-4-1) c.close_opening-answer.ensures (λ z. omega (arith, z, c.if-answer-ne0.true)) _ (c.put_bytes.ensures ∙ sets-whole c.args.part.now c.args.file.now (sym c.requires.closing_len.1))
+returns-then-answer-ne0 c =
+    put_refused (read (goal.at.returns-then-answer-ne0 c).After-file_roots-roots) c.close_opening-answer.ensures (λ z. omega (arith, z, c.if-answer-ne0.true)) _ (c.put_bytes.ensures ∙ sets-whole c.args.part.now c.args.file.now (sym c.requires.closing_len.1))
 
 pub put_closed-requires : goal.put_closed-requires
 put_closed-requires c =
     let p = c.requires in
-    record { a_le_b = (ordered c, omega (arith, within (goal.at.put_closed-requires c).After-read_opening, c.numbers-2-1.given)); sized = sized (read (goal.at.put_closed-requires c).After-read_opening) (c.closing-1.given ∙ p.closing_len.0 ∙ p.counted.counts.registry) (ap length (behind (goal.at.put_closed-requires c).After-after-1) ∙ c.slashings_reset_core.auto.1.1.0) p.closing_len.1 }
+    record { a_le_b = (ordered (goal.at.put_closed-requires c).Start, omega (arith, within (goal.at.put_closed-requires c).After-file_roots-roots, c.numbers-2-1.given)); sized = sized (read (goal.at.put_closed-requires c).After-file_roots-roots) (c.closing-1.given ∙ p.closing_len.0 ∙ p.counted.counts.registry) (ap length (behind (goal.at.put_closed-requires c).After-slashings_reset_core) ∙ c.slashings_reset_core.auto.1.1.0) p.closing_len.1 }
 
 pub returns : goal.returns
-returns c = put-done (read (goal.at.returns c).After-read_opening) c.close_opening-answer.ensures (omega (arith, c.if-answer-ne0.false)) _ (behind (goal.at.returns c).After-after-1 ∙ c.slashings_reset_core.ensures) c.put_closed.ensures
+returns c =
+    put-done (read (goal.at.returns c).After-file_roots-roots) c.close_opening-answer.ensures (omega (arith, c.if-answer-ne0.false)) _ (behind (goal.at.returns c).After-slashings_reset_core ∙ c.slashings_reset_core.ensures) c.put_closed.ensures
 
 pub read_finality-finality-requires : goal.read_finality-finality-requires
 read_finality-finality-requires c = omega (arith, counts-long c.requires.counted.counts)
 
 pub put_bytes-requires : goal.put_bytes-requires
-put_bytes-requires c = omega (arith, (start (goal.at.put_bytes-requires c).After-slice_known-4-1).requires.1.1.1)
+put_bytes-requires c = omega (arith, c.requires.closing_len.1)
 
 pub offset_bounds-numbers-a : goal.offset_bounds-numbers-a
-offset_bounds-numbers-a c = let at-start = start (goal.at.offset_bounds-numbers-a c).After-slice_known-4-1 in omega (arith, at-start.pre.0.counts, counts-long at-start.pre.0.counts, at-start.good.0)
+offset_bounds-numbers-a c = omega (arith, c.requires.counted.counts, counts-long c.requires.counted.counts, c.well_formed.0)
 
 pub slice_bounds-slashings_reset_core-count : goal.slice_bounds-slashings_reset_core-count
-slice_bounds-slashings_reset_core-count c = omega (arith, ordered (start (goal.at.slice_bounds-slashings_reset_core-count c).After-slice_known-4-1))
+slice_bounds-slashings_reset_core-count c = omega (arith, ordered (goal.at.slice_bounds-slashings_reset_core-count c).Start)
 
 pub slice_bounds-slashings_reset_core-start : goal.slice_bounds-slashings_reset_core-start
-slice_bounds-slashings_reset_core-start c = omega (arith, ordered (start (goal.at.slice_bounds-slashings_reset_core-start c).After-slice_known-4-1))
+slice_bounds-slashings_reset_core-start c = omega (arith, ordered (goal.at.slice_bounds-slashings_reset_core-start c).Start)
 
 pub slice_bounds-slashings_reset_core-end : goal.slice_bounds-slashings_reset_core-end
-slice_bounds-slashings_reset_core-end c = omega (arith, within (goal.at.slice_bounds-slashings_reset_core-end c).After-slice_known-4-1)
+slice_bounds-slashings_reset_core-end c = omega (arith, within (goal.at.slice_bounds-slashings_reset_core-end c).After-file_roots-roots)
 
 pub slashings_reset_core-requires : goal.slashings_reset_core-requires
-slashings_reset_core-requires c = let t = read-tested (read (goal.at.slashings_reset_core-requires c).After-slice_known-4-1) in (t.slashings, t.settings)
+slashings_reset_core-requires c = let t = read-tested (read (goal.at.slashings_reset_core-requires c).After-file_roots-roots) in (t.slashings, t.settings)

@@ -14,9 +14,22 @@ use Rattle.laws.proofs.Tests.{shape-failed}
 use Rattle.refusals.proofs.All.{fails, passes}
 use Rattle.refusals.proofs.Answers.{after-passed, after-refused}
 use Rattle.store.proofs.Passed.{grouped, no_room}
-use Rattle.store.proofs.addition_tests.Goals.{After-in_order-refusal}
 use mathlib.Core.Bool.{not}
+use Rattle.definitions.specs.declared.Rules.{Rules}
+use mathlib.Core.List.{List}
+use Rattle.store.proofs.addition_tests.Goals.{After-in_order-refusal}
 use Rattle.store.proofs.addition_tests.Goals as goal
+
+abbrev store : List ℕ → ℕ → Store
+store store' count = lent store' count
+
+abbrev new : ℕ → Rules → Entry
+new start rules = new_entry start rules
+
+told : (c : After-in_order-refusal) → c.in_order-refusal.result ≡ code_of (first (store c.args.store.now c.args.count) (new c.args.start c.args.rules))
+unfolding addition_shaped
+told c =
+    grouped _ _ _ (rw (c.store_shaped.ensures, c.rules_shaped.ensures, c.keeps_last.ensures, c.good_entries.ensures, c.good_rules.ensures) at c.in_order-refusal.ensures)
 
 abbrev first : Store → Entry → Checked (Unit {0})
 first s new = in_order (addition_shaped s new ∷ []) (good_entries (entries s) ∷ good_rules new.rules ∷ []) []
@@ -37,26 +50,17 @@ module _ (s : Store) (new : Entry) {x : ℕ} (e : x ≡ code_of (first s new)) w
       go true h = rw h
       go false h = rw h
 
-abbrev store : After-in_order-refusal → Store
-store c = lent c.args.store.now c.args.count
-
-abbrev new : After-in_order-refusal → Entry
-new c = new_entry c.args.start c.args.rules
-
-told : (c : After-in_order-refusal) → c.in_order-refusal.result ≡ code_of (first (store c) (new c))
-unfolding addition_shaped
-told c =
-    grouped _ _ _ (rw (c.store_shaped.ensures, c.rules_shaped.ensures, c.keeps_last.ensures, c.good_entries.ensures, c.good_rules.ensures) at c.in_order-refusal.ensures)
-
 pub returns-then-store-n : goal.returns-then-store-n
 unfolding addition_shaped
 returns-then-store-n c = refuses _ _ (grouped _ _ _ (shape-failed _ _ _ 0 (no_room _ c.if-store-n.true))) (λ z. omega arith)
 
 pub returns-then-refusal-ne0 : goal.returns-then-refusal-ne0
-returns-then-refusal-ne0 c = refuses (store (goal.at.returns-then-refusal-ne0 c).After-in_order-refusal) (new (goal.at.returns-then-refusal-ne0 c).After-in_order-refusal) (told (goal.at.returns-then-refusal-ne0 c).After-in_order-refusal) c.if-refusal-ne0.true
+returns-then-refusal-ne0 c = refuses (store c.args.store.now c.args.count) (new c.args.start c.args.rules) (told (goal.at.returns-then-refusal-ne0 c).After-in_order-refusal) c.if-refusal-ne0.true
 
 pub returns-then-not-starts_after : goal.returns-then-not-starts_after
-returns-then-not-starts_after c = starts (store (goal.at.returns-then-not-starts_after c).After-in_order-refusal) (new (goal.at.returns-then-not-starts_after c).After-in_order-refusal) (told (goal.at.returns-then-not-starts_after c).After-in_order-refusal) c.if-refusal-ne0.false _ (fails c.starts_after.ensures (ap not c.if-not-starts_after.true))
+returns-then-not-starts_after c =
+    starts (store c.args.store.now c.args.count) (new c.args.start c.args.rules) (told (goal.at.returns-then-not-starts_after c).After-in_order-refusal) c.if-refusal-ne0.false _ (fails c.starts_after.ensures (ap not c.if-not-starts_after.true))
 
 pub returns : goal.returns
-returns c = starts (store (goal.at.returns c).After-in_order-refusal) (new (goal.at.returns c).After-in_order-refusal) (told (goal.at.returns c).After-in_order-refusal) c.if-refusal-ne0.false _ (passes c.starts_after.ensures (ap not c.if-not-starts_after.false))
+returns c =
+    starts (store c.args.store.now c.args.count) (new c.args.start c.args.rules) (told (goal.at.returns c).After-in_order-refusal) c.if-refusal-ne0.false _ (passes c.starts_after.ensures (ap not c.if-not-starts_after.false))

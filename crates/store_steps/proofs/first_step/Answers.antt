@@ -7,7 +7,7 @@ use Rattle.definitions_close.specs.Calls.{lent, store_called, store_step_called}
 use Rattle.store.proofs.store_rules.Given.{rules-with}
 use Rattle.store_steps.proofs.Steps.{first_by, first-turned}
 use borrow.Author.Rules.{rules}
-use Rattle.store_steps.proofs.first_step.Goals.{After-rules_for-found, Else-refusal-ne0}
+use Rattle.store_steps.proofs.first_step.Goals.{After-rules_for-found}
 use Rattle.store_steps.proofs.first_step.Goals as goal
 
 abbrev call : After-rules_for-found → StoreStepCall
@@ -22,4 +22,5 @@ pub returns-then-refusal-ne0 : goal.returns-then-refusal-ne0
 returns-then-refusal-ne0 c = first-turned (call (goal.at.returns-then-refusal-ne0 c).After-rules_for-found) (asked (goal.at.returns-then-refusal-ne0 c).After-rules_for-found) c.requires c.if-refusal-ne0.true c.ended_by.ensures
 
 pub returns : goal.returns
-returns c = c.close_step.ensures ∙ first_by (call ((goal.at.returns c).Else-refusal-ne0)) (asked ((goal.at.returns c).Else-refusal-ne0)) c.if-refusal-ne0.false
+returns c =
+    c.close_step.ensures ∙ first_by (call (goal.at.returns c).After-rules_for-found) (asked (goal.at.returns c).After-rules_for-found) c.if-refusal-ne0.false

@@ -5,13 +5,13 @@ use Rattle.definitions_close.specs.StoreSteps.{StoreNinthCall, ninth_rules, stor
 use Rattle.definitions_close.specs.Calls.{lent, store_ninth_called}
 use Rattle.store_steps.proofs.Steps.{ninth-with, ninth-turned, ninth-by}
 use borrow.Author.Rules.{rules}
-use Rattle.store_steps.proofs.store_carry_out.Goals.{After-ninth_rules-found, After-slice_known-2-1, Else-refusal-ne0}
+use Rattle.store_steps.proofs.store_carry_out.Goals.{After-ninth_rules-found}
 use Rattle.store_steps.proofs.store_carry_out.Goals as goal
 
 -- the call, and that its rules were asked
 abbrev call : After-ninth_rules-found → StoreNinthCall
 call c =
-    let a = (start c.After-slice_known-2-1).args in
+    let a = c.args in
     store_ninth_called (lent a.store.now a.count) a.shard_committee_period a.running a.closing_registry.now a.orders.now a.answers.now
 
 asked : (c : After-ninth_rules-found) → c.ninth_rules-found.result ≡ rules_answer_for (ninth_rules (call c))
@@ -26,7 +26,9 @@ unfolding store_carry_out
 returns-then-done-ne8 c = rw (ne_eqb _ _ c.if-done-eq9.false, ne_eqb _ _ c.if-done-ne8.true)
 
 pub returns-then-refusal-ne0 : goal.returns-then-refusal-ne0
-returns-then-refusal-ne0 c = ninth-turned (call (goal.at.returns-then-refusal-ne0 c).After-ninth_rules-found) (asked (goal.at.returns-then-refusal-ne0 c).After-ninth_rules-found) c.if-done-ne8.false c.if-refusal-ne0.true
+returns-then-refusal-ne0 c =
+    ninth-turned (call (goal.at.returns-then-refusal-ne0 c).After-ninth_rules-found) (asked (goal.at.returns-then-refusal-ne0 c).After-ninth_rules-found) c.if-done-ne8.false c.if-refusal-ne0.true
 
 pub returns : goal.returns
-returns c = c.carry_out.ensures ∙ ninth-by (call (goal.at.returns c).Else-refusal-ne0) (asked (goal.at.returns c).Else-refusal-ne0) c.if-done-ne8.false c.if-refusal-ne0.false
+returns c =
+    c.carry_out.ensures ∙ ninth-by (call (goal.at.returns c).After-ninth_rules-found) (asked (goal.at.returns c).After-ninth_rules-found) c.if-done-ne8.false c.if-refusal-ne0.false

@@ -6,9 +6,9 @@ use Rattle.refusals.proofs.All.{fails, passes}
 use Rattle.definitions_close.specs.Calls.{lent, store_called, store_step_called}
 use Rattle.store_steps.proofs.Steps.{out_of_turn, first, later}
 use borrow.Author.Rules.{rules}
-use Rattle.store_steps.proofs.store_step.Goals.{Start}
 use mathlib.Core.Path.{ap}
 use mathlib.Core.Bool.{not}
+use Rattle.store_steps.proofs.store_step.Goals.{Start}
 use Rattle.store_steps.proofs.store_step.Goals as goal
 
 abbrev call : Start → StoreStepCall
@@ -21,10 +21,13 @@ unfolding store_step unwritten
 returns-then-done-eq9 c = rw (eq-eqb _ _ c.if-done-eq9.true)
 
 pub returns-then-not-in_turn : goal.returns-then-not-in_turn
-returns-then-not-in_turn c = out_of_turn (call ((goal.at.returns-then-not-in_turn c).Start)) c.if-done-eq9.false (fails c.in_turn.ensures (ap not c.if-not-in_turn.true))
+returns-then-not-in_turn c =
+    out_of_turn (call (goal.at.returns-then-not-in_turn c).Start) c.if-done-eq9.false (fails c.in_turn.ensures (ap not c.if-not-in_turn.true))
 
 pub returns-then-done-eq0 : goal.returns-then-done-eq0
-returns-then-done-eq0 c = c.first_step.ensures ∙ first (call ((goal.at.returns-then-done-eq0 c).Start)) c.if-done-eq9.false (passes c.in_turn.ensures (ap not c.if-not-in_turn.false)) c.if-done-eq0.true
+returns-then-done-eq0 c =
+    c.first_step.ensures ∙ first (call (goal.at.returns-then-done-eq0 c).Start) c.if-done-eq9.false (passes c.in_turn.ensures (ap not c.if-not-in_turn.false)) c.if-done-eq0.true
 
 pub returns : goal.returns
-returns c = c.later_step.ensures ∙ later (call ((goal.at.returns c).Start)) c.if-done-eq9.false (passes c.in_turn.ensures (ap not c.if-not-in_turn.false)) c.if-done-eq0.false
+returns c =
+    c.later_step.ensures ∙ later (call (goal.at.returns c).Start) c.if-done-eq9.false (passes c.in_turn.ensures (ap not c.if-not-in_turn.false)) c.if-done-eq0.false

@@ -6,7 +6,7 @@ use Rattle.survey.proofs.survey_registry.Goals.{In-loop-i}
 use Rattle.survey.proofs.survey_registry.Goals as goal
 
 -- the registry is lent, so that it has no 2^60 numbers
-fewer : (c : In-loop-i) → 10 * c.loop-i.i + 10 < 1152921504606846976
+fewer : (c : In-loop-i → 10 * c.before.loop.i + 10 < 1152921504606846976
 fewer c =
     omega (arith, c.loop-i-test.true, c.well_formed.1.1.1.0.0)
 
@@ -25,16 +25,20 @@ pub offset_bounds-kept-p : goal.offset_bounds-kept-p
 offset_bounds-kept-p c = omega (arith, c.loop-i.invariant.kept.top.inside, c.loop-i.invariant.kept.places)
 
 pub bounds-kept-p : goal.bounds-kept-p
-bounds-kept-p c = c.loop-i.invariant.kept.top.inside
+bounds-kept-p c =
+    c.loop-i.invariant.kept.top.inside
 
 pub loop-i-preserved-then-kept-p : goal.loop-i-preserved-then-kept-p
-loop-i-preserved-then-kept-p c = seeing_more c.loop-i.invariant c.loop-i-test.true c.survey_entry-found.ensures c.waiting_since-since.ensures (kept_same _ c.loop-i.invariant.kept.top c.if-kept-p.true)
+loop-i-preserved-then-kept-p c =
+    seeing_more c.loop-i.invariant c.loop-i-test.true c.survey_entry-found.ensures c.waiting_since-since.ensures (kept_same _ c.loop-i.invariant.kept.top c.if-kept-p.true)
 
 pub keep-p-requires : goal.keep-p-requires
-keep-p-requires c = c.loop-i.invariant.kept.top
+keep-p-requires c =
+    c.loop-i.invariant.kept.top
 
 pub loop-i-preserved : goal.loop-i-preserved
-loop-i-preserved c = seeing_more c.loop-i.invariant c.loop-i-test.true c.survey_entry-found.ensures c.waiting_since-since.ensures c.keep-p.ensures
+loop-i-preserved c =
+    seeing_more c.loop-i.invariant c.loop-i-test.true c.survey_entry-found.ensures c.waiting_since-since.ensures c.keep-p.ensures
 
 pub returns : goal.returns
 returns c = seeing_all _ c.loop-i.invariant c.loop-i-test.false

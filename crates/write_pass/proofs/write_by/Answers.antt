@@ -4,29 +4,27 @@ use lib.ListN.{length}
 use native.Mathlib.Omega.{arith}
 use Rattle.write_pass.proofs.Loop.{Passing, passing_none, passing_few, passing_balance, passing_from, passing_to, passing_inside, passing_ten, passing_between, passing_more, passing_stop, passing_all, passing_filled, passing_pair, passing_pair_few, passing_room, passing_exit}
 use Rattle.laws.proofs.Loops.Entry.{put_at}
-use Rattle.write_pass.proofs.write_by.Goals.{After-carry-1, After-shared_slice_known-in-loop-i-1, After-write_entry-arg-1, After-write_entry-written, At-loop-i, Else-refusal-ne0, In-loop-i}
+use Rattle.write_pass.proofs.write_by.Goals.{After-carry-1, After-write_entry-written, In-loop-i}
 use Rattle.write_pass.proofs.write_by.Goals as goal
 
-abbrev turn : After-write_entry-written → In-loop-i
-turn c = c.After-shared_slice_known-in-loop-i-1
-
 -- the turn's entry stands in both registries, and came back with its ten numbers
-inside : (c : In-loop-i) → let at = c.At-loop-i in let i = at.loop.i in (10 * i + 10 ≤ length (start at).args.opening.now) × (10 * i + 10 ≤ length at.loop.closing) × (10 * i + 10 < 1152921504606846976)
+inside : (c : In-loop-i → let at = c.before in let i = at.loop.i in (10 * i + 10 ≤ length (start at).args.opening.now) × (10 * i + 10 ≤ length at.loop.closing) × (10 * i + 10 < 1152921504606846976)
 inside c = passing_inside c.loop-i.invariant c.loop-i-test.true
 
-ten : (c : After-write_entry-written) → length c.write_entry-written.new.to.1.1.1.1.1.1.1.1.0 ≡ 10
-ten c = c.write_entry-written.auto.1.1.1.1.1.1.1.1.0 ∙ passing_to (turn c).before.loop.invariant (turn c).loop-test.true
+ten : (c : After-write_entry-written → length c.write-entry.new.1.1.1.1.1.1.1.1.0 ≡ 10
+ten c = c.write_entry-written.auto.1.1.1.1.1.1.1.1.0 ∙ passing_to c.loop-i.invariant c.loop-i-test.true
 
-part_end : (c : After-carry-1) → let at-in-loop = turn (written c) in 10 * at-in-loop.before.loop.i + 10 ≤ length (put_at at-in-loop.before.loop.closing at-in-loop.before.loop.i (written c).write-entry.new.1.1.1.1.1.1.1.1.0)
+part_end : (c : After-carry-1 → let at-in-loop = turn (written c) in 10 * at-in-loop.before.loop.i + 10 ≤ length (put_at at-in-loop.before.loop.closing at-in-loop.before.loop.i c.write_entry-written.new.to.1.1.1.1.1.1.1.1.0)
 part_end c =
-    let at-in-loop = turn c.After-write_entry-written in
-    passing_room at-in-loop.before.loop.inv at-in-loop.loop-test.taken c.write_entry-written.ensures c.if-refusal-ne0.false (ten c.After-write_entry-written)
+    passing_room c.loop-i.invariant c.loop-i-test.true c.write_entry-written.ensures c.if-refusal-ne0.false (ten c.After-write_entry-written)
 
 pub loop-i-init : goal.loop-i-init
-loop-i-init c = passing_none _ _ _ _ _ (omega (arith, c.requires.opening_len)) (omega (arith, c.requires.opening_len)) c.requires.table_for (omega (arith, c.requires.opening_len, c.well_formed.1.1.1.1.1.1.0))
+loop-i-init c =
+    passing_none _ _ _ _ _ (omega (arith, c.requires.opening_len)) (omega (arith, c.requires.opening_len)) c.requires.table_for (omega (arith, c.requires.opening_len, c.well_formed.1.1.1.1.1.1.0))
 
 pub rates_in-rates-requires : goal.rates_in-rates-requires
-rates_in-rates-requires c = record { shared_by = c.requires.planned.shared; table_of = c.loop-i.invariant.told }
+rates_in-rates-requires c =
+    record { shared_by = c.requires.planned.shared; table_of = c.loop-i.invariant.told }
 
 pub write_entry-written-requires : goal.write_entry-written-requires
 write_entry-written-requires c =
@@ -38,39 +36,35 @@ write_entry-written-requires c =
 
 pub shape_of-closing-then-refusal-ne0 : goal.shape_of-closing-then-refusal-ne0
 shape_of-closing-then-refusal-ne0 c =
-    let at-loop = (turn (goal.at.shape_of-closing-then-refusal-ne0 c).After-write_entry-written).before in
-    omega (arith, ten (goal.at.shape_of-closing-then-refusal-ne0 c).After-write_entry-written, inside (turn (goal.at.shape_of-closing-then-refusal-ne0 c).After-write_entry-written), at-loop.loop.inv.writing.long, at-loop.loop.inv.writing.at.long, at-loop.before.before.before.before.before.pre.1.1.0)
+    omega (arith, ten (goal.at.shape_of-closing-then-refusal-ne0 c).After-write_entry-written, inside (goal.at.shape_of-closing-then-refusal-ne0 c).In-loop-i, c.loop-i.invariant.writing.long, c.loop-i.invariant.writing.at.long, c.requires.opening_len)
 
 pub shape_of-table-then-refusal-ne0 : goal.shape_of-table-then-refusal-ne0
-shape_of-table-then-refusal-ne0 c = c.rates_in-rates.ensures.table_of_2.long ∙ sym (start (turn (goal.at.shape_of-table-then-refusal-ne0 c).After-write_entry-written).before).pre.1.0.long
+shape_of-table-then-refusal-ne0 c =
+    c.rates_in-rates.ensures.table_of_2.long ∙ sym c.requires.table_for.long
 
 pub returns-then-refusal-ne0 : goal.returns-then-refusal-ne0
 returns-then-refusal-ne0 c =
-    let at-in-loop = turn (goal.at.returns-then-refusal-ne0 c).After-write_entry-written in
-    passing_stop at-in-loop.before.loop.inv at-in-loop.loop-test.taken c.write_entry-written.ensures c.if-refusal-ne0.true
+    passing_stop c.loop-i.invariant c.loop-i-test.true c.write_entry-written.ensures c.if-refusal-ne0.true
 
 pub book_entry-requires : goal.book_entry-requires
 book_entry-requires c =
-    let at-in-loop = turn (goal.at.book_entry-requires c).After-write_entry-arg-1 in
-    let g = at-in-loop.before.loop.inv in
-    let l = at-in-loop.loop-test.taken in
+    let g = c.loop-i.invariant in
+    let l = c.loop-i-test.true in
     let w = c.write_entry-written.ensures in
     let z = c.if-refusal-ne0.false in
-    record { planned = at-in-loop.before.before.before.before.before.before.pre.0; answer_for = w.answer z; from_len = (passing_from g l, passing_ten g l w z (ten (goal.at.book_entry-requires c).After-write_entry-arg-1), omega (arith, inside at-in-loop)); between = passing_between g l w z (ten (goal.at.book_entry-requires c).After-write_entry-arg-1) }
+    record { planned = c.requires.planned; answer_for = w.answer z; from_len = (passing_from g l, passing_ten g l w z (ten (goal.at.book_entry-requires c).After-write_entry-written), omega (arith, inside (goal.at.book_entry-requires c).In-loop-i)); between = passing_between g l w z (ten (goal.at.book_entry-requires c).After-write_entry-written) }
 
 pub loop-i-preserved : goal.loop-i-preserved
 loop-i-preserved c =
-    let at-in-loop = turn (goal.at.loop-i-preserved c).After-write_entry-arg-1 in
     let b = c.book_entry in
-    passing_more at-in-loop.before.loop.inv at-in-loop.loop-test.taken c.write_entry-written.ensures c.if-refusal-ne0.false (ten (goal.at.loop-i-preserved c).After-write_entry-arg-1) c.rates_in-rates.ensures.table_of_2 b.auto.1.1.1.1.1.1.0 b.ensures c.exited-pair.ensures
+    passing_more c.loop-i.invariant c.loop-i-test.true c.write_entry-written.ensures c.if-refusal-ne0.false (ten (goal.at.loop-i-preserved c).After-write_entry-written) c.rates_in-rates.ensures.table_of_2 b.auto.1.1.1.1.1.1.0 b.ensures c.exited-pair.ensures
 
 pub bounds-closing-i : goal.bounds-closing-i
 bounds-closing-i c =
-    let at-in-loop = turn (goal.at.bounds-closing-i c).After-write_entry-arg-1 in
-    passing_exit at-in-loop.before.loop.inv at-in-loop.loop-test.taken c.write_entry-written.ensures c.if-refusal-ne0.false (ten (goal.at.bounds-closing-i c).After-write_entry-arg-1)
+    passing_exit c.loop-i.invariant c.loop-i-test.true c.write_entry-written.ensures c.if-refusal-ne0.false (ten (goal.at.bounds-closing-i c).After-write_entry-written)
 
 pub exited-pair-requires : goal.exited-pair-requires
-exited-pair-requires c = let at-in-loop = turn (written (goal.at.exited-pair-requires c).Else-refusal-ne0) in passing_pair_few at-in-loop.before.loop.inv at-in-loop.loop-test.taken
+exited-pair-requires c = passing_pair_few c.loop-i.invariant c.loop-i-test.true
 
 pub returns : goal.returns
 returns c = let g = c.loop-i.invariant in let l = c.loop-i-test.false in record { swept = passing_all g l; fills = passing_filled g l (omega (arith, g.writing.at.long)); pair_of = passing_pair g l }
@@ -94,58 +88,58 @@ pub bounds-opening-i : goal.bounds-opening-i
 bounds-opening-i c = omega (arith, inside (goal.at.bounds-opening-i c).In-loop-i)
 
 pub offset_bounds-opening-a : goal.offset_bounds-opening-a
-offset_bounds-opening-a c = omega (arith, inside (goal.at.offset_bounds-opening-a c).After-shared_slice_known-in-loop-i-1)
+offset_bounds-opening-a c = omega (arith, inside (goal.at.offset_bounds-opening-a c).In-loop-i)
 
 pub slice_bounds-from-count : goal.slice_bounds-from-count
-slice_bounds-from-count c = omega (arith, inside (goal.at.slice_bounds-from-count c).After-shared_slice_known-in-loop-i-1)
+slice_bounds-from-count c = omega (arith, inside (goal.at.slice_bounds-from-count c).In-loop-i)
 
 pub slice_bounds-from-start : goal.slice_bounds-from-start
-slice_bounds-from-start c = omega (arith, inside (goal.at.slice_bounds-from-start c).After-shared_slice_known-in-loop-i-1)
+slice_bounds-from-start c = omega (arith, inside (goal.at.slice_bounds-from-start c).In-loop-i)
 
 pub slice_bounds-from-end : goal.slice_bounds-from-end
-slice_bounds-from-end c = omega (arith, inside (goal.at.slice_bounds-from-end c).After-shared_slice_known-in-loop-i-1)
+slice_bounds-from-end c = omega (arith, inside (goal.at.slice_bounds-from-end c).In-loop-i)
 
 pub offset_bounds-closing-a : goal.offset_bounds-closing-a
-offset_bounds-closing-a c = omega (arith, inside (goal.at.offset_bounds-closing-a c).After-shared_slice_known-in-loop-i-1)
+offset_bounds-closing-a c = omega (arith, inside (goal.at.offset_bounds-closing-a c).In-loop-i)
 
 pub slice_bounds-write_entry-count : goal.slice_bounds-write_entry-count
-slice_bounds-write_entry-count c = omega (arith, inside (goal.at.slice_bounds-write_entry-count c).After-shared_slice_known-in-loop-i-1)
+slice_bounds-write_entry-count c = omega (arith, inside (goal.at.slice_bounds-write_entry-count c).In-loop-i)
 
 pub slice_bounds-write_entry-start : goal.slice_bounds-write_entry-start
-slice_bounds-write_entry-start c = omega (arith, inside (goal.at.slice_bounds-write_entry-start c).After-shared_slice_known-in-loop-i-1)
+slice_bounds-write_entry-start c = omega (arith, inside (goal.at.slice_bounds-write_entry-start c).In-loop-i)
 
 pub slice_bounds-write_entry-end : goal.slice_bounds-write_entry-end
-slice_bounds-write_entry-end c = omega (arith, inside (goal.at.slice_bounds-write_entry-end c).After-shared_slice_known-in-loop-i-1)
+slice_bounds-write_entry-end c = omega (arith, inside (goal.at.slice_bounds-write_entry-end c).In-loop-i)
 
 pub shape_of-amounts-then-refusal-ne0 : goal.shape_of-amounts-then-refusal-ne0
-shape_of-amounts-then-refusal-ne0 c = (turn (goal.at.shape_of-amounts-then-refusal-ne0 c).After-write_entry-written).before.loop.inv.kept
+shape_of-amounts-then-refusal-ne0 c = c.loop-i.invariant.kept
 
 pub offset_bounds-closing-a-in-loop-i : goal.offset_bounds-closing-a-in-loop-i
-offset_bounds-closing-a-in-loop-i c = omega (arith, inside (turn (goal.at.offset_bounds-closing-a-in-loop-i c).After-write_entry-written))
+offset_bounds-closing-a-in-loop-i c = omega (arith, inside (goal.at.offset_bounds-closing-a-in-loop-i c).In-loop-i)
 
 pub slice_bounds-book_entry-count : goal.slice_bounds-book_entry-count
-slice_bounds-book_entry-count c = omega (arith, inside (turn (goal.at.slice_bounds-book_entry-count c).After-write_entry-written))
+slice_bounds-book_entry-count c = omega (arith, inside (goal.at.slice_bounds-book_entry-count c).In-loop-i)
 
 pub slice_bounds-book_entry-start : goal.slice_bounds-book_entry-start
-slice_bounds-book_entry-start c = omega (arith, inside (turn (goal.at.slice_bounds-book_entry-start c).After-write_entry-arg-1), ten (goal.at.slice_bounds-book_entry-start c).After-write_entry-arg-1)
+slice_bounds-book_entry-start c = omega (arith, inside (goal.at.slice_bounds-book_entry-start c).In-loop-i, ten (goal.at.slice_bounds-book_entry-start c).After-write_entry-written)
 
 pub slice_bounds-book_entry-end : goal.slice_bounds-book_entry-end
-slice_bounds-book_entry-end c = part_end (goal.at.slice_bounds-book_entry-end c).Else-refusal-ne0
+slice_bounds-book_entry-end c = part_end (goal.at.slice_bounds-book_entry-end c).After-carry-1
 
 pub overflow_mul-i : goal.overflow_mul-i
-overflow_mul-i c = omega (arith, inside (turn (written (goal.at.overflow_mul-i c).Else-refusal-ne0)))
+overflow_mul-i c = omega (arith, inside (goal.at.overflow_mul-i c).In-loop-i)
 
 pub overflow_add-i : goal.overflow_add-i
-overflow_add-i c = omega (arith, inside (turn (written (goal.at.overflow_add-i c).Else-refusal-ne0)))
+overflow_add-i c = omega (arith, inside (goal.at.overflow_add-i c).In-loop-i)
 
 pub offset_bounds-closing-i : goal.offset_bounds-closing-i
-offset_bounds-closing-i c = omega (arith, inside (turn (written (goal.at.offset_bounds-closing-i c).Else-refusal-ne0)))
+offset_bounds-closing-i c = omega (arith, inside (goal.at.offset_bounds-closing-i c).In-loop-i)
 
 pub overflow_step-i : goal.overflow_step-i
-overflow_step-i c = omega (arith, inside (turn (written (goal.at.overflow_step-i c).Else-refusal-ne0)))
+overflow_step-i c = omega (arith, inside (goal.at.overflow_step-i c).In-loop-i)
 
 pub loop-i-smaller : goal.loop-i-smaller
-loop-i-smaller c = omega (arith, (turn (written (goal.at.loop-i-smaller c).Else-refusal-ne0)).loop-test.taken)
+loop-i-smaller c = omega (arith, c.loop-i-test.true)
 
 pub shape_of-closing : goal.shape_of-closing
 shape_of-closing c = omega (arith, c.loop-i.invariant.writing.long, c.loop-i.invariant.writing.at.long, c.requires.opening_len)

@@ -11,14 +11,17 @@ use Rattle.write_steps.proofs.Accepted.{Accepted, none_lacks, not_accepted}
 use Rattle.write_steps.proofs.Made.{queue-few}
 use Rattle.write_steps.proofs.Steps.{steps-run}
 use Rattle.rewards_step.proofs.flag_rewards.Totals.{total-least}
+use Rattle.definitions.specs.declared.Settings.{Settings}
+use Prim.Native.Nat.{ℕ}
+use mathlib.Core.List.{List}
 use Rattle.write_steps.proofs.write_found.Goals.{After-current_epoch-current, Start}
 use Rattle.write_steps.proofs.write_found.Goals as goal
 
 ep : (c : Start) → Epochs c.args.s c.args.state_slot
 ep c = epochs c.args.s c.args.state_slot c.requires.s_value.0 c.requires.s_value.1
 
-abbrev Accepted-at : Start → Type 0
-Accepted-at c = Accepted c.args.s c.args.state_slot c.args.finalized_epoch c.args.slashings.now (decode c.args.opening.now)
+abbrev Accepted-at : Settings → ℕ → ℕ → List ℕ → List ℕ → Type 0
+Accepted-at s state_slot finalized_epoch slashings opening = Accepted s state_slot finalized_epoch slashings (decode opening)
 
 current-small : (c : After-current_epoch-current) → c.current_epoch-current.result < 2 ^ 48
 current-small c = rw c.current_epoch-current.ensures (ep c.Start).small
@@ -29,10 +32,11 @@ plan_for-requires c = (c.requires.s_value.0, total-least _ _ c.requires.found.to
 pub returns-in_default : goal.returns-in_default
 returns-in_default c =
     let lacks = c.plan_for.ensures.none _ c.in_default.is in
-    record { ran_under = record { under = λ by cut. ran_overflow (not_accepted by _ _ _ (ep (goal.at.returns-in_default c).Start) _ _ (λ (g : Accepted-at (goal.at.returns-in_default c).Start). none_lacks g lacks)) }; books = record { booked = λ z. absurd (omega (arith, z)) }; pair_of = record { pair = λ z. absurd (omega (arith, z)) } }
+    record { ran_under = record { under = λ by cut. ran_overflow (not_accepted by _ _ _ (ep (goal.at.returns-in_default c).Start) _ _ (λ (g : Accepted-at c.args.s c.args.state_slot c.args.finalized_epoch c.args.slashings.now c.args.opening.now). none_lacks g lacks)) }; books = record { booked = λ z. absurd (omega (arith, z)) }; pair_of = record { pair = λ z. absurd (omega (arith, z)) } }
 
 pub current_epoch-current-requires : goal.current_epoch-current-requires
-current_epoch-current-requires c = (good-settings _ c.requires.s_value.0).positive.slots_per_epoch
+current_epoch-current-requires c =
+    (good-settings _ c.requires.s_value.0).positive.slots_per_epoch
 
 pub overflow_add-course-2 : goal.overflow_add-course-2
 overflow_add-course-2 c = omega (arith, current-small (goal.at.overflow_add-course-2 c).After-current_epoch-current, (good-settings _ c.requires.s_value.0).small.max_seed_lookahead)

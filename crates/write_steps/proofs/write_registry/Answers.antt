@@ -11,45 +11,51 @@ use Rattle.refusals.proofs.buffers.Chained.{ran_overflow}
 use Rattle.registry.proofs.Epochs.{Epochs, epochs}
 use Rattle.write_steps.proofs.Accepted.{Accepted, not_accepted}
 use Rattle.write_steps.proofs.Made.{plain-fit, found_all}
-use Rattle.write_steps.proofs.write_registry.Goals.{After-current_epoch-epoch, After-shared_slice_known-2-1, Start}
 use mathlib.Core.Path.{ap}
 use mathlib.Core.Bool.{not}
+use Rattle.definitions.specs.declared.Settings.{Settings}
+use Prim.Native.Nat.{ℕ}
+use mathlib.Core.List.{List}
+use Rattle.write_steps.proofs.write_registry.Goals.{After-current_epoch-epoch, Start}
 use Rattle.write_steps.proofs.write_registry.Goals as goal
 
 ep : (c : Start) → Epochs c.args.s c.args.state_slot
 ep c = epochs c.args.s c.args.state_slot c.requires.s_value.0 c.requires.s_value.1
 
-abbrev Accepted-at : Start → Type 0
-Accepted-at c = Accepted c.args.s c.args.state_slot c.args.finalized_epoch c.args.slashings.now (decode c.args.opening.now)
+abbrev Accepted-at : Settings → ℕ → ℕ → List ℕ → List ℕ → Type 0
+Accepted-at s state_slot finalized_epoch slashings opening = Accepted s state_slot finalized_epoch slashings (decode opening)
 
 -- the present epoch is small
 current-small : (c : After-current_epoch-epoch) → c.current_epoch-epoch.result < 2 ^ 48
 current-small c =
-    rw c.current_epoch-epoch.ensures (ep (c.After-shared_slice_known-2-1)).small
+    rw c.current_epoch-epoch.ensures (ep c.Start).small
 
 pub returns-then-not-all_fit : goal.returns-then-not-all_fit
 returns-then-not-all_fit c =
     let over = fails c.all_fit.ensures (ap not c.if-not-all_fit.true) in
-    record { ran = ran_overflow (not_accepted _ _ _ _ (ep (goal.at.returns-then-not-all_fit c).Start) _ _ (λ (g : Accepted-at (goal.at.returns-then-not-all_fit c).Start). true≢false (sym (plain-fit c.requires.finds g.plain) ∙ over))); books = record { booked = λ z. absurd (omega (arith, z)) }; pair_of = record { pair = λ z. absurd (omega (arith, z)) } }
+    record { ran = ran_overflow (not_accepted _ _ _ _ (ep (goal.at.returns-then-not-all_fit c).Start) _ _ (λ (g : Accepted-at c.args.s c.args.state_slot c.args.finalized_epoch c.args.slashings.now c.args.opening.now). true≢false (sym (plain-fit c.requires.finds g.plain) ∙ over))); books = record { booked = λ z. absurd (omega (arith, z)) }; pair_of = record { pair = λ z. absurd (omega (arith, z)) } }
 
 pub current_epoch-epoch-requires : goal.current_epoch-epoch-requires
-current_epoch-epoch-requires c = (good-settings _ c.requires.s_value.0).positive.slots_per_epoch
+current_epoch-epoch-requires c =
+    (good-settings _ c.requires.s_value.0).positive.slots_per_epoch
 
 pub churn_by-churn-requires : goal.churn_by-churn-requires
-churn_by-churn-requires c = (good-settings _ c.requires.s_value.0).positive.churn_limit_quotient
+churn_by-churn-requires c =
+    (good-settings _ c.requires.s_value.0).positive.churn_limit_quotient
 
 pub overflow_add-least-2 : goal.overflow_add-least-2
-overflow_add-least-2 c = omega (arith, current-small ((goal.at.overflow_add-least-2 c).After-current_epoch-epoch), (good-settings _ c.requires.s_value.0).small.max_seed_lookahead)
+overflow_add-least-2 c =
+    omega (arith, current-small (goal.at.overflow_add-least-2 c).After-current_epoch-epoch, (good-settings _ c.requires.s_value.0).small.max_seed_lookahead)
 
 pub cut_queue-cut-requires : goal.cut_queue-cut-requires
 cut_queue-cut-requires c =
     let a = c.requires in
-    record { registry_len = a.opening_len.0; epoch_bound = (omega (arith, current-small ((goal.at.cut_queue-cut-requires c).After-current_epoch-epoch)), omega (arith, a.s_value.2)); smallest = rw c.current_epoch-epoch.ensures a.finds.waiting }
+    record { registry_len = a.opening_len.0; epoch_bound = (omega (arith, current-small (goal.at.cut_queue-cut-requires c).After-current_epoch-epoch), omega (arith, a.s_value.2)); smallest = rw c.current_epoch-epoch.ensures a.finds.waiting }
 
 pub write_found-requires : goal.write_found-requires
 write_found-requires c =
     let e = c.current_epoch-epoch.ensures in
-    record { s_value = (c.requires.s_value.0, c.requires.s_value.1); opening_len = c.requires.opening_len; found = found_all c.args.s c.args.state_slot (ep (goal.at.write_found-requires c).After-shared_slice_known-2-1) c.args.opening.now c.requires.finds (passes c.all_fit.ensures (ap not c.if-not-all_fit.false)) c.raised_totals-totals.ensures c.churn_by-churn.ensures (rw e at c.start_pair-queue.ensures) }
+    record { s_value = (c.requires.s_value.0, c.requires.s_value.1); opening_len = c.requires.opening_len; found = found_all c.args.s c.args.state_slot (ep (goal.at.write_found-requires c).Start) c.args.opening.now c.requires.finds (passes c.all_fit.ensures (ap not c.if-not-all_fit.false)) c.raised_totals-totals.ensures c.churn_by-churn.ensures (rw e at c.start_pair-queue.ensures) }
 
 pub returns : goal.returns
 returns c =

@@ -6,12 +6,13 @@ use borrow.Author.Rules.{rules}
 use Rattle.write_turn.proofs.write_entry.Goals as goal
 
 pub entry_pay-paid-requires : goal.entry_pay-paid-requires
-entry_pay-paid-requires c = let a = c.requires in record { planned = a.planned; len = search rules; rates_for = rw c.copy_entry.ensures a.rates_for }
+entry_pay-paid-requires c =
+    let a = c.requires in record { planned = a.planned; len = search rules; rates_for = rw c.copy_entry.ensures a.rates_for }
 
 pub returns-then-paid-ne0 : goal.returns-then-paid-ne0
 returns-then-paid-ne0 c =
     let a = c.args in
-    let =.before.before.before.before c.entry_pay-paid.ensures in
+    let paid = c.entry_pay-paid.ensures in
     record { steps = steps_copied c.copy_entry.ensures (unpaid_steps a.later a.s a.p a.t a.n paid.runs c.if-paid-ne0.true); few = omega arith; answer = λ z. absurd (c.if-paid-ne0.true z) }
 
 pub entry_turn-turned-requires : goal.entry_turn-turned-requires
@@ -23,9 +24,9 @@ pub returns-then-later-ne0 : goal.returns-then-later-ne0
 returns-then-later-ne0 c =
     let at-then2 : tie.Then2 = (goal.at.returns-then-later-ne0 c).Then-later-ne0 in
     let at-else1 : tie.Else1 = (goal.at.returns-then-later-ne0 c).Else-paid-ne0 in
-    let a = at-else1.before.before.before.before.before.before.before.before.before.before.before.before.args in
-    let pays = at-else1.before.before.before.before.entry-pay.ensures in
-    let same = at-else1.before.before.before.before.before.before.before.before.copy-entry.ensures in
+    let a = (start at-else1).args in
+    let pays = (paid at-else1).entry-pay.ensures in
+    let same = (copied at-else1).copy-entry.ensures in
     record {
       steps = steps_copied same (later-steps a.later a.s a.p a.t a.n at-then2.if2.true (first_then pays.runs _ at-else1.if1.false c.entry_turn-turned.ensures));
       few = omega arith;
@@ -41,11 +42,11 @@ pub returns-then-moved-ne0 : goal.returns-then-moved-ne0
 returns-then-moved-ne0 c =
     let at-else2 : tie.Else2 = (goal.at.returns-then-moved-ne0 c).Else-later-ne0 in
     let at-else1 : tie.Else1 = (goal.at.returns-then-moved-ne0 c).Else-paid-ne0 in
-    let a = at-else1.before.before.before.before.before.before.before.before.before.before.before.before.args in
-    let pays = at-else1.before.before.before.before.entry-pay.ensures in
+    let a = (start at-else1).args in
+    let pays = (paid at-else1).entry-pay.ensures in
     let moved = c.entry_move-moved.ensures in
     record {
-      steps = steps_copied at-else1.before.before.before.before.before.before.before.before.copy-entry.ensures (queue-steps a.later a.s a.p a.t a.n (omega (arith, at-else2.if2.false)) (first_then pays.runs _ at-else1.if1.false (last-stop moved.steps _ c.if-moved-ne0.true)));
+      steps = steps_copied (copied at-else1).copy-entry.ensures (queue-steps a.later a.s a.p a.t a.n (omega (arith, at-else2.if2.false)) (first_then pays.runs _ at-else1.if1.false (last-stop moved.steps _ c.if-moved-ne0.true)));
       few = moved.few;
       answer = λ z. absurd (c.if-moved-ne0.true z);
     }
@@ -53,17 +54,17 @@ returns-then-moved-ne0 c =
 pub entry_finish-refusal-requires : goal.entry_finish-refusal-requires
 entry_finish-refusal-requires c =
     let at-else1 : tie.Else1 = (goal.at.entry_finish-refusal-requires c).Else-paid-ne0 in
-    let a = at-else1.before.before.before.before.before.before.before.before.before.before.before.before.requires in
-    record { planned = a.0; len = c.entry_move-moved.auto.1.1.1.1.1.0 ∙ at-else1.before.before.before.before.entry-pay.auto.1.1.1.0 ∙ at-else1.before.before.before.before.before.before.before.before.copy-entry.auto.1.0 ∙ a.1.1.0.1 }
+    let a = (start at-else1).requires in
+    record { planned = a.0; len = c.entry_move-moved.auto.1.1.1.1.1.0 ∙ (paid at-else1).entry-pay.auto.1.1.1.0 ∙ (copied at-else1).copy-entry.auto.1.0 ∙ a.1.1.0.1 }
 
 pub returns : goal.returns
 returns c =
     let at-else3 : tie.Else3 = (goal.at.returns c).Else-moved-ne0 in
     let at-else2 : tie.Else2 = (goal.at.returns c).Else-later-ne0 in
     let at-else1 : tie.Else1 = (goal.at.returns c).Else-paid-ne0 in
-    let a = at-else1.before.before.before.before.before.before.before.before.before.before.before.before.args in
-    let pays = at-else1.before.before.before.before.entry-pay.ensures in
-    let same = at-else1.before.before.before.before.before.before.before.before.copy-entry.ensures in
+    let a = (start at-else1).args in
+    let pays = (paid at-else1).entry-pay.ensures in
+    let same = (copied at-else1).copy-entry.ensures in
     let moved = c.entry_move-moved.ensures in
     record {
       steps = steps_copied same (queue-steps a.later a.s a.p a.t a.n (omega (arith, at-else2.if2.false)) (first_then pays.runs _ at-else1.if1.false (last_then moved.steps _ at-else3.if3.false c.entry_finish-refusal.ensures)));

@@ -6,10 +6,12 @@ use native.Mathlib.Omega.{arith}
 use Rattle.close_by_steps.proofs.slashings_amounts.keep_balances.Goals as goal
 
 pub loop-i-init : goal.loop-i-init
-loop-i-init c = putting-none (omega (arith, c.requires.1)) (omega (arith, c.requires.0, c.well_formed.0))
+loop-i-init c =
+    putting-none (omega (arith, c.requires.1)) (omega (arith, c.requires.0, c.well_formed.0))
 
 pub put_ninth-requires : goal.put_ninth-requires
-put_ninth-requires c = putting-nine c.loop-i.invariant c.loop-i-test.true
+put_ninth-requires c =
+    putting-nine c.loop-i.invariant c.loop-i-test.true
 
 pub loop-i-preserved : goal.loop-i-preserved
 loop-i-preserved c =

@@ -8,10 +8,12 @@ use native.Mathlib.Omega.{arith}
 use Rattle.close_by_steps.proofs.slashings_amounts.take_balances.Goals as goal
 
 pub loop-i-init : goal.loop-i-init
-loop-i-init c = putting-none (omega (arith, c.requires.1)) (omega (arith, c.requires.0, c.well_formed.0))
+loop-i-init c =
+    putting-none (omega (arith, c.requires.1)) (omega (arith, c.requires.0, c.well_formed.0))
 
 pub put_ninth-requires : goal.put_ninth-requires
-put_ninth-requires c = putting-nine c.loop-i.invariant c.loop-i-test.true
+put_ninth-requires c =
+    putting-nine c.loop-i.invariant c.loop-i-test.true
 
 pub loop-i-preserved : goal.loop-i-preserved
 loop-i-preserved c =
@@ -21,7 +23,8 @@ loop-i-preserved c =
     putting-more g l (e.auto.1.0 ∙ putting-nine g l) e.ensures (c.lowered_by-taken.ensures ∙ lowered_is _ _ ∙ ap₂ ◌-◌ (putting-ninth g l) (balance-is _ _ _ c.requires.0 l))
 
 pub returns : goal.returns
-returns c = taken-all c.loop-i.invariant c.loop-i-test.false refl
+returns c =
+    taken-all c.loop-i.invariant c.loop-i-test.false refl
 
 pub bounds-registry-i : goal.bounds-registry-i
 bounds-registry-i c = omega (arith, c.loop-i-test.true, c.requires.0)

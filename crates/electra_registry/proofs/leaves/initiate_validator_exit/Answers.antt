@@ -11,11 +11,11 @@ use Rattle.electra_registry.proofs.Closes.{churn-refused, churn-closes}
 use Rattle.electra_registry.proofs.leaves.initiate_validator_exit.Goals.{Else-refusal-ne0}
 use Rattle.electra_registry.proofs.leaves.initiate_validator_exit.Goals as goal
 
-passed : (c : Else-refusal-ne0) → ExitPassed (start c).args.rules (start c).args.state-slot (start c).args.index (start c).args.registry.now
+passed : (c : Else-refusal-ne0) → ExitPassed c.args.rules c.args.state_slot c.args.index c.args.registry.now
 passed c = exit-passed _ _ _ _ c.exit_tests-refusal.ensures c.if-refusal-ne0.false
 
 -- the ten numbers are inside
-few : (c : Else-refusal-ne0) → (start c).args.index < 2 ^ 24
+few : (c : Else-refusal-ne0) → c.args.index < 2 ^ 24
 few c = omega (arith, (passed c).inside, (passed c).shape.few)
 
 pub returns-then-refusal-ne0 : goal.returns-then-refusal-ne0

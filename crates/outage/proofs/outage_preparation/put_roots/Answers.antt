@@ -7,14 +7,16 @@ use Rattle.outage.proofs.outage_preparation.put_roots.Goals.{At-loop-i}
 use Rattle.outage.proofs.outage_preparation.put_roots.Goals as goal
 
 -- the slot's root has a place
-placed : (c : At-loop-i) → let a = (start c).args in (a.slot + c.loop-i.i) % a.places < a.places
+placed : (c : At-loop-i → let a = (start c).args in (a.slot + c.loop-i.i) % a.places < a.places
 placed c = mod-lt (c.args.slot + c.loop-i.i) {m = c.args.places} c.requires.places_nonzero.0
 
 pub loop-i-preserved : goal.loop-i-preserved
-loop-i-preserved c = rooting_more c.loop-i.invariant c.loop-i-test.true c.put_bytes.ensures
+loop-i-preserved c =
+    rooting_more c.loop-i.invariant c.loop-i-test.true c.put_bytes.ensures
 
 pub returns : goal.returns
-returns c = rooting_all c.loop-i.invariant _ c.requires.roots_len.1 c.requires.places_nonzero.0 c.min-n.ensures c.loop-i-test.false
+returns c =
+    rooting_all c.loop-i.invariant _ c.requires.roots_len.1 c.requires.places_nonzero.0 c.min-n.ensures c.loop-i-test.false
 
 pub loop-i-init : goal.loop-i-init
 loop-i-init c = rooting_none _ _ _ _ _

@@ -9,31 +9,38 @@ use Rattle.refusals.proofs.Laws.{registry-shaped}
 use Rattle.listing.proofs.listing_close.Accepted.{accepted}
 use Rattle.definitions_file.specs.OutageRun.{head_of}
 use Rattle.outage.proofs.outage_run.Once.{once-refused, once_closed}
-use Rattle.outage.proofs.outage_run.close_once.Goals.{Start}
+use Rattle.definitions.specs.declared.Finality.{Finality}
+use Rattle.definitions.specs.declared.Settings.{Settings}
+use Prim.Native.Nat.{ℕ}
+use mathlib.Core.List.{List}
 use Rattle.outage.proofs.outage_run.close_once.Goals as goal
 
-abbrev handed : Start → Contents
-handed s = contents_with s.args.s s.args.finality s.args.registry.now s.args.roots.now s.args.slashings.now
+abbrev handed : Settings → Finality → List ℕ → List ℕ → List ℕ → Contents
+handed s' finality registry roots slashings = contents_with s' finality registry roots slashings
 
-abbrev called_with : Start → Call
-called_with s = called (altair_rules s.args.s) s.args.finality s.args.registry.now s.args.slashings.now s.args.roots.now s.args.closing_registry.now s.args.closing_slashings.now
+abbrev called_with : Settings → Finality → List ℕ → List ℕ → List ℕ → List ℕ → List ℕ → Call
+called_with s' finality registry slashings roots closing_registry closing_slashings = called (altair_rules s') finality registry slashings roots closing_registry closing_slashings
 
 pub returns-then-closed-ne0 : goal.returns-then-closed-ne0
-returns-then-closed-ne0 c = once-refused (handed c) c.args.closing_registry.now c.args.closing_slashings.now c.requires.entries c.requires.sums c.close_as_altair-closed.ensures c.if-closed-ne0.true
+returns-then-closed-ne0 c =
+    once-refused (handed c.args.s c.args.finality c.args.registry.now c.args.roots.now c.args.slashings.now) c.args.closing_registry.now c.args.closing_slashings.now c.requires.entries c.requires.sums c.close_as_altair-closed.ensures c.if-closed-ne0.true
 
 pub head_core-h-requires : goal.head_core-h-requires
 head_core-h-requires c =
-    let h = accepted (called_with (c)) (sym (ap (λ (o : Outcome). o.refusal) c.close_as_altair-closed.ensures) ∙ c.if-closed-ne0.false) in
+    let h = accepted (called_with c.args.s c.args.finality c.args.registry.now c.args.slashings.now c.args.roots.now c.args.closing_registry.now c.args.closing_slashings.now) (sym (ap (λ (o : Outcome). o.refusal) c.close_as_altair-closed.ensures) ∙ c.if-closed-ne0.false) in
     record { slots_per_epoch_nonzero = h.epochs; opening_len = (registry-shaped _ h.shaped).long }
 
 pub put_head-last-requires : goal.put_head-last-requires
-put_head-last-requires c = omega (arith, c.requires.heads)
+put_head-last-requires c =
+    omega (arith, c.requires.heads)
 
 pub copy-requires : goal.copy-requires
-copy-requires c = omega (arith, c.closing_registry-1.given, c.requires.entries)
+copy-requires c =
+    omega (arith, c.closing_registry-1.given, c.requires.entries)
 
 pub copy-requires-2 : goal.copy-requires-2
-copy-requires-2 c = omega (arith, c.closing_slashings-1.given, c.requires.sums)
+copy-requires-2 c =
+    omega (arith, c.closing_slashings-1.given, c.requires.sums)
 
 pub returns : goal.returns
 unfolding head_of
@@ -41,6 +48,6 @@ returns c =
     let p = c.put_head-last.ensures in
     let e = c.close_as_altair-closed.ensures in
     let z = c.if-closed-ne0.false in
-    let flags = ap (λ (o : Outcome). o.raised) e ∙ (accepted (called_with c) (sym (ap (λ (o : Outcome). o.refusal) e) ∙ z)).raised in
+    let flags = ap (λ (o : Outcome). o.raised) e ∙ (accepted (called_with c.args.s c.args.finality c.args.registry.now c.args.slashings.now c.args.roots.now c.args.closing_registry.now c.args.closing_slashings.now) (sym (ap (λ (o : Outcome). o.refusal) e) ∙ z)).raised in
     rw (c.copy.ensures, c.copy-2.ensures)
-    (once_closed (handed c) c.args.closing_registry.now c.args.closing_slashings.now c.requires.entries c.requires.sums e z (rw (c.head_core-h.ensures, ← flags) at p.put) (omega (arith, p.upper_bound)))
+    (once_closed (handed c.args.s c.args.finality c.args.registry.now c.args.roots.now c.args.slashings.now) c.args.closing_registry.now c.args.closing_slashings.now c.requires.entries c.requires.sums e z (rw (c.head_core-h.ensures, ← flags) at p.put) (omega (arith, p.upper_bound)))

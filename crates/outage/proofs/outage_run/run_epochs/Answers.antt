@@ -10,7 +10,7 @@ use Rattle.outage.proofs.outage_run.Running.{Running, running_none, running_more
 use Rattle.outage.proofs.outage_run.run_epochs.Goals.{After-try_epoch-closed}
 use Rattle.outage.proofs.outage_run.run_epochs.Goals as goal
 
-lasting : (c : After-try_epoch-closed) → let a = (start (turn c).before).args in let left = c.try_epoch-closed.new.1.1.1.1 in Lasting a.registry.now a.slashings.now a.roots.now a.closing-registry.now a.closing-slashings.now a.text.now left.0 left.1.0 left.1.1.0 left.1.1.1.0 left.1.1.1.1.0 left.1.1.1.1.1.0
+lasting : (c : After-try_epoch-closed → let a = (start (turn c).before).args in let left = c.try_epoch-closed.new.1.1.1.1 in Lasting a.registry.now a.slashings.now a.roots.now a.closing_registry.now a.closing_slashings.now a.text.now left.0 left.1.0 left.1.1.0 left.1.1.1.0 left.1.1.1.1.0 left.1.1.1.1.1.0
 lasting c =
     let k = c.loop-i.invariant.2 in
     let kept = c.try_epoch-closed.auto.1.1.1.1 in
@@ -24,7 +24,8 @@ lasting c =
     }
 
 pub loop-i-init : goal.loop-i-init
-loop-i-init c = (running_none _ _ _ _, c.requires.ready, record { entries = refl; sums = refl; places = refl; closing-entries = refl; closing-sums = refl; bytes = refl })
+loop-i-init c =
+    (running_none _ _ _ _, c.requires.ready, record { entries = refl; sums = refl; places = refl; closing-entries = refl; closing-sums = refl; bytes = refl })
 
 pub try_epoch-closed-requires : goal.try_epoch-closed-requires
 try_epoch-closed-requires c =
@@ -34,7 +35,8 @@ try_epoch-closed-requires c =
     record { ready = g.1; room = record { entries = omega (arith, k.closing-entries, r.entries, k.entries); sums = omega (arith, k.closing-sums, r.sums, k.sums); few = omega arith; heads = omega (arith, g.0.inside, c.loop-i-test.true, r.heads, k.bytes) } }
 
 pub returns-then-closed-ne0 : goal.returns-then-closed-ne0
-returns-then-closed-ne0 c = running-stop c.loop-i.invariant.0 c.loop-i-test.true c.try_epoch-closed.ensures c.if-closed-ne0.true
+returns-then-closed-ne0 c =
+    running-stop c.loop-i.invariant.0 c.loop-i-test.true c.try_epoch-closed.ensures c.if-closed-ne0.true
 
 pub loop-i-preserved : goal.loop-i-preserved
 loop-i-preserved c =
@@ -63,10 +65,10 @@ pub shape_of-text-then-closed-ne0 : goal.shape_of-text-then-closed-ne0
 shape_of-text-then-closed-ne0 c = (lasting (goal.at.shape_of-text-then-closed-ne0 c).After-try_epoch-closed).bytes
 
 pub overflow_step-i : goal.overflow_step-i
-overflow_step-i c = let at-in-loop = turn (goal.at.overflow_step-i c).After-try_epoch-closed in omega (arith, at-in-loop.loop-test.taken, at-in-loop.before.before.before.before.before.before.before.before.before.before.pre.1.few)
+overflow_step-i c = omega (arith, c.loop-i-test.true, c.requires.room.few)
 
 pub loop-i-smaller : goal.loop-i-smaller
-loop-i-smaller c = omega (arith, (turn (goal.at.loop-i-smaller c).After-try_epoch-closed).loop-test.taken)
+loop-i-smaller c = omega (arith, c.loop-i-test.true)
 
 pub shape_of-registry : goal.shape_of-registry
 shape_of-registry c = c.loop-i.invariant.2.entries

@@ -1,4 +1,3 @@
-use borrow.Author.Rules.{rules}
 use Rattle.rates.proofs.reward_balances.entry_reward.Goals as goal
 
 pub returns : goal.returns

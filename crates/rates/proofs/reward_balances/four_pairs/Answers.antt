@@ -1,5 +1,4 @@
 use Rattle.rates.proofs.reward_balances.Paired.{four-told}
-use borrow.Author.Rules.{rules}
 use Rattle.rates.proofs.reward_balances.four_pairs.Goals as goal
 
 pub returns : goal.returns

@@ -4,7 +4,6 @@ use Rattle.laws.proofs.Loops.Checking.{settles-value, settles-refused}
 use Rattle.rates.proofs.reward_balances.Only.{only-all_applied}
 use Rattle.rates.proofs.reward_balances.Paired.{tells_pairs, only-four, pairs-refused, not_paid, paid}
 use Rattle.rates.proofs.reward_balances.Rewarded.{put-balance}
-use borrow.Author.Rules.{rules}
 use Rattle.rates.proofs.reward_balances.pay.Goals as goal
 
 pub returns-in_default : goal.returns-in_default

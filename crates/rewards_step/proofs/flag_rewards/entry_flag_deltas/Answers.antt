@@ -1,5 +1,4 @@
 use mathlib.Core.Path.{ap}
-use borrow.Author.Rules.{rules}
 use Rattle.rewards.specs.declared.Shared.{Shared}
 use Rattle.rewards_step.proofs.flag_rewards.entry_flag_deltas.Goals as goal
 

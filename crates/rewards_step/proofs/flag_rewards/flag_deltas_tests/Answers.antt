@@ -1,4 +1,3 @@
-use borrow.Author.Rules.{rules}
 use Rattle.definitions.specs.LeafRefusals.{flag_deltas_tests}
 use Rattle.rewards_step.proofs.flag_rewards.flag_deltas_tests.Goals as goal
 

@@ -1,7 +1,6 @@
 use Rattle.arithmetic.proofs.Answers.{tells_deltas}
 use Rattle.rewards.proofs.base_rewards.After.{tests-refused, tests-passed}
 use Rattle.rewards_step.proofs.flag_rewards.Tests.{flag-passed}
-use borrow.Author.Rules.{rules}
 use Rattle.rewards_step.proofs.flag_rewards.get_flag_index_deltas.Goals as goal
 
 pub returns-then-refusal-ne0 : goal.returns-then-refusal-ne0

@@ -6,7 +6,7 @@ use Rattle.definitions_close.specs.StoreClose.{StoreCall, rules_for}
 use Rattle.definitions_close.specs.Calls.{lent, store_called}
 use Rattle.store.proofs.store_rules.Given.{rules-with}
 use Rattle.store_steps.proofs.store_close.Closes.{turned-away, closed-by}
-use Rattle.store_steps.proofs.store_close.store_close.Goals.{After-rules_for-found, Else-refusal-ne0}
+use Rattle.store_steps.proofs.store_close.store_close.Goals.{After-rules_for-found}
 use Rattle.store_steps.proofs.store_close.store_close.Goals as goal
 
 abbrev call : After-rules_for-found → StoreCall
@@ -21,4 +21,5 @@ pub returns-then-refusal-ne0 : goal.returns-then-refusal-ne0
 returns-then-refusal-ne0 c = turned-away (call (goal.at.returns-then-refusal-ne0 c).After-rules_for-found) (asked (goal.at.returns-then-refusal-ne0 c).After-rules_for-found) c.none_raised.ensures c.if-refusal-ne0.true
 
 pub returns : goal.returns
-returns c = c.full_close.ensures ∙ closed-by (call ((goal.at.returns c).Else-refusal-ne0)) (asked ((goal.at.returns c).Else-refusal-ne0)) c.if-refusal-ne0.false
+returns c =
+    c.full_close.ensures ∙ closed-by (call (goal.at.returns c).After-rules_for-found) (asked (goal.at.returns c).After-rules_for-found) c.if-refusal-ne0.false
