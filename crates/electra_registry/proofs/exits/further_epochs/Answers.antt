@@ -1,5 +1,4 @@
 use Rattle.arithmetic.proofs.Laws.{chain}
-use Rattle.definitions_electra.specs.Evaluated.Electra.Helpers.{further_epochs}
 use borrow.Author.Rules.{rules}
 use Rattle.electra_registry.proofs.exits.further_epochs.Goals as goal
 
