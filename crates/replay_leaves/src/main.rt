@@ -74,15 +74,13 @@ fn replay_cases(
     room: &mut [u64],
     tally: &mut [u64],
 ) -> io::Result<bool> {
-    let mut left = word(words, 0, 0);
     let mut at = vectors::first_case(words);
-    while left > 0 {
+    for _ in 0..word(words, 0, 0) {
         let end = vectors::next_case(words, at);
         if !replay_case(rt, words, bytes, at, end, room, tally)? {
             return Ok(false);
         }
         at = end;
-        left -= 1;
     }
     Ok(true)
 }

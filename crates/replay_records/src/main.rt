@@ -100,15 +100,13 @@ fn replay_records(
     bytes: &[u8],
     tally: &mut [u64],
 ) -> io::Result<bool> {
-    let mut left = word(words, 0, 0);
     let mut at: usize = 1;
-    while left > 0 {
+    for _ in 0..word(words, 0, 0) {
         let end = vectors::records::next_record(words, at);
         if !replay_record(rt, words, bytes, at, end, tally)? {
             return Ok(false);
         }
         at = end;
-        left -= 1;
     }
     Ok(true)
 }
