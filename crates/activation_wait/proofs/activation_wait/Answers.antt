@@ -1,5 +1,4 @@
 use mathlib.Core.Path.{◌∙◌}
-use borrow.Author.Rules.{rules}
 use Rattle.activation_wait.proofs.Waits.{wait-refused, wait-lent, wait-passed}
 use Rattle.activation_wait.proofs.activation_wait.Goals as goal
 

@@ -1,11 +1,9 @@
 use mathlib.Core.Path.{refl, ◌∙◌}
-use Prim.Native.Nat.{◌-◌, ◌≤◌}
+use Prim.Native.Nat.{◌-◌}
 use native.Mathlib.Omega.{arith}
-use borrow.Author.Rules.{rules}
 use borrow.Author.Tests.{not-true, not-false}
-use Rattle.definitions.specs.Record.{decode}
 use Rattle.laws.proofs.Loops.Entry.{entry-ten}
-use Rattle.activation_wait.proofs.Counting.{CountedBelow, below_none, below_yes, below-no, is_ahead, entry-ahead, counted-ahead}
+use Rattle.activation_wait.proofs.Counting.{below_none, below_yes, below-no, entry-ahead, counted-ahead}
 use mathlib.Core.Path.{ap}
 use mathlib.Core.Bool.{not}
 use Rattle.activation_wait.proofs.count_ahead.Goals as goal

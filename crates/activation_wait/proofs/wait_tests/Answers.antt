@@ -1,4 +1,3 @@
-use borrow.Author.Rules.{rules}
 use Rattle.definitions_wait.specs.Wait.{wait_tests}
 use Rattle.activation_wait.proofs.wait_tests.Goals as goal
 

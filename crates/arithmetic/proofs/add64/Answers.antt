@@ -1,5 +1,4 @@
 use native.Mathlib.Omega.{arith}
-use borrow.Author.Rules.{rules}
 use Rattle.arithmetic.proofs.Laws.{said-value, said_overflow}
 use Rattle.laws.proofs.Fits.{add64-leaves, add64-fits}
 use Rattle.arithmetic.proofs.add64.Goals as goal

@@ -1,7 +1,7 @@
 use native.Mathlib.Omega.{arith}
 use lib.Count.{leading_le}
 use Rattle.definitions.specs.Document.Phase0.Helpers.{root_within, integer_squareroot}
-use Rattle.arithmetic.proofs.Newton.{Near, first, exponent, turn, falls, root}
+use Rattle.arithmetic.proofs.Newton.{first, exponent, turn, falls, root}
 use Rattle.laws.proofs.SquareRoot.{root-only}
 use Rattle.arithmetic.proofs.integer_sqrt.Goals as goal
 

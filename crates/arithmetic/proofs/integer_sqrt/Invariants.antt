@@ -1,9 +1,5 @@
 -- The loop keeps r at or above the root; r falls, and stops at the root.
-use native.Mathlib.Omega.{arith}
-use lib.Count.{leading_le}
-use Rattle.definitions.specs.Document.Phase0.Helpers.{root_within, integer_squareroot}
-use Rattle.arithmetic.proofs.Newton.{Near, first, exponent, turn, falls, root}
-use Rattle.laws.proofs.SquareRoot.{root-only}
+use Rattle.arithmetic.proofs.Newton.{Near}
 use Rattle.arithmetic.proofs.integer_sqrt.Given as goal
 
 abbrev pub invariant-loop-r : goal.invariant-loop-r

@@ -1,5 +1,4 @@
 use native.Mathlib.Nat.{zero-mul}
-use borrow.Author.Rules.{rules}
 use Rattle.arithmetic.proofs.Laws.{said-value, said_overflow}
 use Rattle.definitions.specs.Checked.{mul64}
 use Rattle.arithmetic.proofs.Operations.{mul64-refused, product-fits, product-over, small-fits}

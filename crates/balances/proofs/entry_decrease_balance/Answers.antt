@@ -1,4 +1,3 @@
-use borrow.Author.Rules.{rules}
 use borrow.Author.Tests.{lt-ltb, le-ltb}
 use Rattle.definitions.specs.Document.Phase0.Helpers.{decrease_balance}
 use Rattle.laws.proofs.Encode.{ten}

@@ -1,4 +1,3 @@
-use borrow.Author.Rules.{rules}
 use Rattle.definitions.specs.Record.{encode_one}
 use Rattle.leaf_refusals.proofs.Passed.{entry-passed}
 use Rattle.refusals.proofs.buffers.Closes.{closes-refused, entry_closes}

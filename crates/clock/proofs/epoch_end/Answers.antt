@@ -1,5 +1,4 @@
 use native.Mathlib.Omega.{arith}
-use borrow.Author.Rules.{rules}
 use Rattle.definitions_clock.specs.Clock.{last_slot_of}
 use Rattle.clock.proofs.Steps.{goes_on, stops, times}
 use Rattle.clock.proofs.epoch_end.Goals as goal

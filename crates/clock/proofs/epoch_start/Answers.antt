@@ -1,5 +1,4 @@
 use native.Mathlib.Omega.{arith}
-use borrow.Author.Rules.{rules}
 use Rattle.definitions_clock.specs.Clock.{first_slot_of}
 use Rattle.clock.proofs.Steps.{mul_fits, goes_on, stops, times}
 use Rattle.clock.proofs.epoch_start.Goals as goal

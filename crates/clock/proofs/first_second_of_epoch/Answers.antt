@@ -1,4 +1,3 @@
-use borrow.Author.Rules.{rules}
 use Rattle.epochs.proofs.Answers.{then-answers, refused_says}
 use Rattle.definitions_clock.specs.Calls.{first_second_of_epoch}
 use Rattle.clock.proofs.Passed.{clock-went}

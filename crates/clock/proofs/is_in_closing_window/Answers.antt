@@ -1,5 +1,4 @@
 -- the tests have passed
-use borrow.Author.Rules.{rules}
 use Rattle.refusals.proofs.Answers.{truth_refused, truth_passed}
 use Rattle.definitions_clock.specs.Calls.{is_in_closing_window}
 use Rattle.clock.proofs.Passed.{SecondPassed, second-went, last_by-rest}

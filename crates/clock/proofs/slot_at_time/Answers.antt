@@ -1,5 +1,4 @@
 -- the tests have passed
-use borrow.Author.Rules.{rules}
 use mathlib.Core.Path.{refl}
 use Rattle.epochs.proofs.Answers.{then-says, refused_says}
 use Rattle.definitions_clock.specs.Calls.{slot_at_time}

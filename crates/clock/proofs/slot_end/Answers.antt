@@ -1,5 +1,4 @@
 use native.Mathlib.Omega.{arith}
-use borrow.Author.Rules.{rules}
 use Rattle.clock.proofs.Steps.{add_fits, goes_on, stops}
 use Rattle.clock.proofs.slot_end.Goals as goal
 

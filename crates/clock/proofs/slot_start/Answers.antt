@@ -1,5 +1,4 @@
 use native.Mathlib.Omega.{arith}
-use borrow.Author.Rules.{rules}
 use Rattle.clock.proofs.Steps.{mul_fits, add_fits, goes_on, stops}
 use Rattle.clock.proofs.slot_start.Goals as goal
 

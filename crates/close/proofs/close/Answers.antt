@@ -1,6 +1,5 @@
 use mathlib.Core.Path.{sym, ◌∙◌}
 use native.Mathlib.Omega.{arith}
-use borrow.Author.Rules.{rules}
 use Rattle.definitions.specs.declared.ActivationLimit.TheVariants.{Churn}
 use Rattle.selection.proofs.Picking.{blank-length, blank_part}
 use Rattle.close.proofs.Lent.{lent, record_refused}

@@ -1,4 +1,3 @@
-use borrow.Author.Rules.{rules}
 use Rattle.close.proofs.close_as_altair.Goals as goal
 
 pub returns : goal.returns

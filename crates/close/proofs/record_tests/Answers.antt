@@ -1,4 +1,3 @@
-use borrow.Author.Rules.{rules}
 use Rattle.refusals.proofs.rules.Tests.{rules-tested}
 use Rattle.close.specs.Worked.{limited_record_tests}
 use Rattle.close.proofs.record_tests.Goals as goal

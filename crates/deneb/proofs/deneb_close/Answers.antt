@@ -1,4 +1,3 @@
-use borrow.Author.Rules.{rules}
 use Rattle.definitions_deneb.specs.Calls.{deneb_close}
 use Rattle.deneb.proofs.deneb_close.Goals as goal
 

@@ -1,8 +1,7 @@
 use mathlib.Core.Path.{refl}
 use Prim.Native.Nat.{◌-◌}
 use native.Mathlib.Omega.{arith}
-use borrow.Author.Rules.{rules}
-use Rattle.electra_amounts.proofs.Booking.{Booking, booking_more, booking_all}
+use Rattle.electra_amounts.proofs.Booking.{booking_more, booking_all}
 use Rattle.electra_amounts.proofs.book.Goals as goal
 
 pub loop-i-init : goal.loop-i-init

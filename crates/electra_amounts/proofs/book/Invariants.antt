@@ -1,8 +1,5 @@
-use mathlib.Core.Path.{refl}
 use Prim.Native.Nat.{◌-◌}
-use native.Mathlib.Omega.{arith}
-use borrow.Author.Rules.{rules}
-use Rattle.electra_amounts.proofs.Booking.{Booking, booking_more, booking_all}
+use Rattle.electra_amounts.proofs.Booking.{Booking}
 use Rattle.electra_amounts.proofs.book.Given as goal
 
 abbrev pub invariant-loop-i : goal.invariant-loop-i

@@ -1,4 +1,3 @@
-use borrow.Author.Rules.{rules}
 use borrow.Author.Tests.{eq-eqb, ne_eqb}
 use Rattle.electra_amounts.specs.Columns.{booked_by}
 use Rattle.electra_amounts.proofs.booked.Goals as goal

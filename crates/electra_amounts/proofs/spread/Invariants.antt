@@ -1,7 +1,5 @@
 use Prim.Native.Nat.{◌-◌}
-use native.Mathlib.Omega.{arith}
-use borrow.Author.Rules.{rules}
-use Rattle.electra_amounts.proofs.Spreading.{Spreading, spreading_none, spreading_more, spreading_all}
+use Rattle.electra_amounts.proofs.Spreading.{Spreading}
 use Rattle.electra_amounts.proofs.spread.Given as goal
 
 abbrev pub invariant-loop-k : goal.invariant-loop-k

@@ -1,4 +1,3 @@
-use borrow.Author.Rules.{rules}
 use borrow.Author.Tests.{eq-eqb, ne_eqb}
 use Rattle.definitions_electra.specs.Document.Electra.Helpers.{get_max_effective_balance}
 use Rattle.electra_balances.proofs.own_settings.Goals as goal

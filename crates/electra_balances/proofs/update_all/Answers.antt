@@ -1,7 +1,5 @@
 use Prim.Native.Nat.{◌-◌}
-use native.Mathlib.Omega.{arith}
-use borrow.Author.Rules.{rules}
-use Rattle.electra_balances.proofs.Turns.{Updating, none_yet, next-ten, all-updated, one-updated, one-refused}
+use Rattle.electra_balances.proofs.Turns.{none_yet, next-ten, all-updated, one-updated, one-refused}
 use Rattle.electra_balances.proofs.update_all.Goals as goal
 
 pub loop-i-init : goal.loop-i-init

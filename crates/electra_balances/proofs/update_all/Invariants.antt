@@ -1,7 +1,6 @@
 use Prim.Native.Nat.{◌-◌}
-use native.Mathlib.Omega.{arith}
 use borrow.Author.Rules.{rules}
-use Rattle.electra_balances.proofs.Turns.{Updating, none_yet, next-ten, all-updated, one-updated, one-refused}
+use Rattle.electra_balances.proofs.Turns.{Updating}
 use Rattle.electra_balances.proofs.update_all.Given as goal
 
 abbrev pub invariant-loop-i : goal.invariant-loop-i

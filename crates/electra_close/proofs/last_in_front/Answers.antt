@@ -1,11 +1,7 @@
-use mathlib.Core.Path.{◌≡◌, sym, ap, ◌∙◌}
-use mathlib.Core.List.{List, ◌++◌}
-use Prim.Native.Nat.{ℕ, ◌-◌, ◌*◌}
+use mathlib.Core.Path.{◌≡◌}
+use Prim.Native.Nat.{◌-◌, ◌*◌}
 use native.Mathlib.Omega.{arith}
-use borrow.Author.Rules.{rules}
-use lib.ListN.{length, take, drop}
 use lib.Seq.{length-take-le}
-use Rattle.electra_close.specs.Finish.{rotated_to}
 use Rattle.electra_close.proofs.Ending.{front-rotated}
 use Rattle.electra_close.proofs.last_in_front.Goals as goal
 

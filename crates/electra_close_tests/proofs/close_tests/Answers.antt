@@ -1,5 +1,4 @@
 use mathlib.Core.Path.{ap, ◌∙◌}
-use borrow.Author.Rules.{rules}
 use Rattle.definitions.specs.Checked.{code_of}
 use Rattle.definitions_electra_close.specs.Close.{electra_tests}
 use Rattle.electra_close_tests.proofs.Halves.{in_halves}

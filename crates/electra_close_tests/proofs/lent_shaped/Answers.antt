@@ -1,4 +1,3 @@
-use borrow.Author.Rules.{rules}
 use Rattle.electra_close_tests.proofs.lent_shaped.Goals as goal
 
 pub returns : goal.returns

@@ -1,6 +1,5 @@
 use mathlib.Core.Path.{ap}
 use native.Mathlib.Omega.{arith}
-use borrow.Author.Rules.{rules}
 use Rattle.definitions.specs.Checked.{code_of}
 use Rattle.justification.proofs.Passed.{justification-passed}
 use Rattle.selection.proofs.Picking.{blank-length, blank_part}

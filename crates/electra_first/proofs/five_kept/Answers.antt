@@ -1,5 +1,4 @@
 use native.Mathlib.Omega.{arith}
-use borrow.Author.Rules.{rules}
 use Rattle.refusals.proofs.Laws.{good-settings, good-finality}
 use Rattle.registry.proofs.Epochs.{Epochs, epochs}
 use Rattle.electra_first.proofs.five_kept.Goals.{Start}

@@ -4,7 +4,6 @@ use Prim.Native.Nat.{◌-◌, ◌*◌, ◌/◌, ◌<◌, ◌^◌}
 use lib.ListN.{length, take, length-take}
 use native.Mathlib.Omega.{arith}
 use borrow.Author.Rules.{rules}
-use Rattle.definitions.specs.Rust.Phase0.Helpers.{get_current_epoch}
 use Rattle.definitions.specs.Record.{decode}
 use Rattle.refusals.proofs.Laws.{good-settings}
 use Rattle.electra_refusals.proofs.Passed.{good-electra}

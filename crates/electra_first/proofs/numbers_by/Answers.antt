@@ -1,5 +1,4 @@
 use native.Mathlib.Omega.{arith}
-use borrow.Author.Rules.{rules}
 use Rattle.refusals.proofs.Laws.{good-settings}
 use Rattle.electra_refusals.proofs.Passed.{good-electra}
 use Rattle.electra_first.proofs.numbers_by.Goals as goal

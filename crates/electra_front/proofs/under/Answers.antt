@@ -1,4 +1,3 @@
-use borrow.Author.Rules.{rules}
 use Rattle.definitions.specs.Rules.{settings_under}
 use Rattle.electra_front.proofs.under.Goals as goal
 

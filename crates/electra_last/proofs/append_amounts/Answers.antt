@@ -1,8 +1,7 @@
 use mathlib.Core.Path.{refl}
 use Prim.Native.Nat.{◌-◌}
 use native.Mathlib.Omega.{arith}
-use borrow.Author.Rules.{rules}
-use Rattle.electra_last.proofs.Appending.{Appending, appending_more, appending_all}
+use Rattle.electra_last.proofs.Appending.{appending_more, appending_all}
 use Rattle.electra_last.proofs.append_amounts.Goals as goal
 
 pub loop-k-init : goal.loop-k-init

@@ -1,8 +1,5 @@
-use mathlib.Core.Path.{refl}
 use Prim.Native.Nat.{◌-◌}
-use native.Mathlib.Omega.{arith}
-use borrow.Author.Rules.{rules}
-use Rattle.electra_last.proofs.Appending.{Appending, appending_more, appending_all}
+use Rattle.electra_last.proofs.Appending.{Appending}
 use Rattle.electra_last.proofs.append_amounts.Given as goal
 
 abbrev pub invariant-loop-k : goal.invariant-loop-k

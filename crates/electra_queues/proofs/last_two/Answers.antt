@@ -1,5 +1,4 @@
 use mathlib.Core.Path.{ap, ◌∙◌}
-use borrow.Author.Rules.{rules}
 use Rattle.definitions.specs.Rust.Phase0.EpochProcessing.{reset_slashings}
 use Rattle.electra_queues.proofs.last_two.Goals as goal
 

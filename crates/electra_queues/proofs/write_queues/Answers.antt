@@ -1,4 +1,3 @@
-use borrow.Author.Rules.{rules}
 use Rattle.electra_queues.proofs.Written.{written}
 use Rattle.electra_queues.proofs.write_queues.Goals as goal
 

@@ -1,4 +1,3 @@
-use borrow.Author.Rules.{rules}
 use Rattle.definitions_electra.specs.Refusals.{good_electra}
 use Rattle.electra_refusals.proofs.good_electra.Goals as goal
 

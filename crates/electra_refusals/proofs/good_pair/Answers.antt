@@ -1,4 +1,3 @@
-use borrow.Author.Rules.{rules}
 use Rattle.electra_refusals.proofs.Lent.{good-pair}
 use Rattle.electra_refusals.proofs.good_pair.Goals as goal
 

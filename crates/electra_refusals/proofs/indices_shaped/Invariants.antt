@@ -1,14 +1,7 @@
-use mathlib.Core.Path.{sym}
 use Prim.Native.Nat.{◌-◌}
-use native.Mathlib.Omega.{arith}
-use borrow.Author.Rules.{rules}
-use borrow.Author.Tests.{lt-ltb, le-ltb}
 use Rattle.definitions_electra.specs.Record.{decode_consolidations}
-use Rattle.definitions_electra.specs.Refusals.{indices_shaped}
-use Rattle.laws.proofs.Tests.{and_both}
 use Rattle.laws_electra.specs.Consolidations.{within}
-use Rattle.laws_electra.proofs.Consolidations.{none, length_pairs, pair-tested}
-use Rattle.refusals.proofs.All.{Passed, passed_none, passed-more, passed-stop, passed-all}
+use Rattle.refusals.proofs.All.{Passed}
 use Rattle.electra_refusals.proofs.indices_shaped.Given as goal
 
 abbrev pub invariant-loop-i : goal.invariant-loop-i

@@ -1,13 +1,11 @@
 use mathlib.Core.Path.{sym}
 use Prim.Native.Nat.{◌+◌, ◌-◌}
 use native.Mathlib.Omega.{arith}
-use borrow.Author.Rules.{rules}
 use borrow.Author.Tests.{lt-ltb, le-ltb}
 use lib.Dec.{ltb}
-use Rattle.definitions_electra.specs.Record.{decode_deposits}
 use Rattle.definitions_electra.specs.Refusals.{count_of, deposits_of, keys_shaped}
 use Rattle.laws_electra.proofs.Deposits.{none, length-deposits, deposit-tested}
-use Rattle.refusals.proofs.All.{Passed, passed_none, passed-more, passed-stop, passed-all}
+use Rattle.refusals.proofs.All.{passed_none, passed-more, passed-stop, passed-all}
 use Rattle.electra_refusals.proofs.keys_shaped.Goals as goal
 
 pub loop-i-init : goal.loop-i-init

@@ -1,4 +1,3 @@
-use borrow.Author.Rules.{rules}
 use Rattle.electra_refused.proofs.Refused.{front-cleared}
 use Rattle.electra_refused.proofs.clear_front.Goals as goal
 

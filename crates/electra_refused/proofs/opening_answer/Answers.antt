@@ -1,4 +1,3 @@
-use borrow.Author.Rules.{rules}
 use Rattle.electra_refused.proofs.opening_answer.Goals as goal
 
 pub returns : goal.returns

@@ -1,4 +1,3 @@
-use borrow.Author.Rules.{rules}
 use Rattle.refusals.proofs.Laws.{good-settings}
 use Rattle.definitions_electra.specs.Evaluated.Electra.Helpers.{get_balance_churn_limit}
 use Rattle.electra_registry.proofs.Limits.{limit-told, limit-over}

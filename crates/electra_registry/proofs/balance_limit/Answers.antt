@@ -1,6 +1,5 @@
 use native.Mathlib.Omega.{arith}
 use native.Mathlib.Nat.{mod-le}
-use borrow.Author.Rules.{rules}
 use Rattle.definitions_electra.specs.Document.Electra.Helpers.{balance_churn_limit}
 use Rattle.electra_registry.proofs.balance_limit.Goals as goal
 

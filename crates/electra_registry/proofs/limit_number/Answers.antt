@@ -1,4 +1,3 @@
-use borrow.Author.Rules.{rules}
 use Rattle.arithmetic.proofs.Laws.{says-value, says_overflow}
 use Rattle.electra_registry.proofs.Limits.{only-limit}
 use Rattle.electra_registry.proofs.limit_number.Goals as goal

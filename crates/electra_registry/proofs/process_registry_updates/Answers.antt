@@ -1,5 +1,4 @@
 use native.Mathlib.Omega.{arith}
-use borrow.Author.Rules.{rules}
 use Rattle.refusals.proofs.Laws.{small}
 use Rattle.electra_refusals.proofs.Passed.{registry-passed}
 use Rattle.electra_registry.proofs.Closes.{churn-refused, churn-closes}

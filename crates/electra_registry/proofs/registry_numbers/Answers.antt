@@ -1,5 +1,4 @@
 use native.Mathlib.Omega.{arith}
-use borrow.Author.Rules.{rules}
 use Rattle.electra_refusals.proofs.Passed.{good-electra}
 use Rattle.registry.proofs.Epochs.{epochs}
 use Rattle.electra_registry.proofs.registry_numbers.Goals as goal

@@ -1,8 +1,6 @@
-use mathlib.Core.Path.{◌≡◌, refl, subst, ◌∙◌}
-use Prim.Native.Nat.{ℕ, ◌-◌, ◌/◌, ◌≤◌}
+use mathlib.Core.Path.{refl, subst, ◌∙◌}
+use Prim.Native.Nat.{ℕ, ◌-◌}
 use native.Mathlib.Omega.{arith}
-use borrow.Author.Rules.{rules}
-use lib.ListN.{length}
 use Rattle.electra_sixth.specs.Named.{Naming}
 use Rattle.electra_sixth.proofs.Named.{naming_none, naming_more}
 use Rattle.electra_sixth.proofs.book_named.Goals as goal

@@ -1,10 +1,7 @@
-use mathlib.Core.Path.{◌≡◌, refl, subst, ◌∙◌}
-use Prim.Native.Nat.{ℕ, ◌-◌, ◌/◌, ◌≤◌}
-use native.Mathlib.Omega.{arith}
-use borrow.Author.Rules.{rules}
+use mathlib.Core.Path.{◌≡◌}
+use Prim.Native.Nat.{◌-◌, ◌/◌, ◌≤◌}
 use lib.ListN.{length}
 use Rattle.electra_sixth.specs.Named.{Naming}
-use Rattle.electra_sixth.proofs.Named.{naming_none, naming_more}
 use Rattle.electra_sixth.proofs.book_named.Given as goal
 
 abbrev pub invariant-loop-k : goal.invariant-loop-k

@@ -1,5 +1,4 @@
 use borrow.Author.Tests.{eq-eqb, ne_eqb}
-use borrow.Author.Rules.{rules}
 use Rattle.electra_sixth.proofs.place_of.Goals as goal
 
 pub returns-then-op-eq1 : goal.returns-then-op-eq1

@@ -1,4 +1,3 @@
-use borrow.Author.Rules.{rules}
 use Rattle.laws.proofs.Encode.{ten}
 use Rattle.arithmetic.proofs.Operations.{only-add64, only-mul64}
 use Rattle.arithmetic.proofs.Laws.{says-value, says_overflow}

@@ -1,7 +1,5 @@
 use Prim.Native.Nat.{◌-◌}
-use native.Mathlib.Omega.{arith}
-use Rattle.laws.proofs.Loops.Checking.{Checking, checking-none, checking-ten, checking-more, checking-stop, checking-all}
-use Rattle.definitions_electra.specs.Evaluated.Electra.EpochProcessing.{slash}
+use Rattle.laws.proofs.Loops.Checking.{checking-none, checking-ten, checking-more, checking-stop, checking-all}
 use Rattle.electra_slashings.proofs.slash_all.Goals as goal
 
 pub loop-i-init : goal.loop-i-init

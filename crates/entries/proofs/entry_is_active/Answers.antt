@@ -1,4 +1,3 @@
-use borrow.Author.Rules.{rules}
 use Rattle.definitions.specs.Document.Phase0.Helpers.{is_active_validator}
 use Rattle.entries.proofs.entry_is_active.Goals as goal
 

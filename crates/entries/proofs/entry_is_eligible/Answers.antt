@@ -1,5 +1,4 @@
 use mathlib.Core.Path.{sym, ◌∙◌}
-use borrow.Author.Rules.{rules}
 use borrow.Author.Tests.{eq-eqb, ne_eqb}
 use Rattle.definitions.specs.Document.Phase0.EpochProcessing.{is_eligible}
 use Rattle.entries.proofs.Numbers.{none_before, before_last}

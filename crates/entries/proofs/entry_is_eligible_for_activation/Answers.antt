@@ -1,4 +1,3 @@
-use borrow.Author.Rules.{rules}
 use borrow.Author.Tests.{le-leb, lt-leb}
 use Rattle.definitions.specs.Document.Phase0.Helpers.{is_eligible_for_activation}
 use Rattle.entries.proofs.entry_is_eligible_for_activation.Goals as goal

@@ -1,4 +1,3 @@
-use borrow.Author.Rules.{rules}
 use Rattle.definitions.specs.Document.Phase0.Helpers.{is_eligible_for_activation_queue}
 use Rattle.entries.proofs.entry_is_eligible_for_activation_queue.Goals as goal
 

@@ -1,5 +1,4 @@
 use Rattle.definitions.specs.Document.Altair.Helpers.{is_unslashed_participating}
-use borrow.Author.Rules.{rules}
 use Rattle.entries.proofs.entry_is_participating.Goals as goal
 
 pub returns : goal.returns

@@ -1,4 +1,3 @@
-use borrow.Author.Rules.{rules}
 use Rattle.refusals.proofs.Answers.{truth_refused, truth_passed}
 use Rattle.leaf_refusals.proofs.Passed.{entry-passed}
 use Rattle.entries.proofs.is_active_validator.Goals as goal

@@ -1,4 +1,3 @@
-use borrow.Author.Rules.{rules}
 use Rattle.refusals.proofs.Answers.{truth_refused, truth_passed}
 use Rattle.leaf_refusals.proofs.Passed.{slot_entry_passed}
 use Rattle.entries.proofs.is_eligible.Goals as goal

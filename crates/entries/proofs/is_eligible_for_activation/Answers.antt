@@ -1,4 +1,3 @@
-use borrow.Author.Rules.{rules}
 use Rattle.refusals.proofs.Answers.{truth_refused, truth_passed}
 use Rattle.leaf_refusals.proofs.Passed.{finalized_entry_passed}
 use Rattle.entries.proofs.is_eligible_for_activation.Goals as goal

@@ -1,5 +1,4 @@
 use native.Mathlib.Omega.{arith}
-use borrow.Author.Rules.{rules}
 use Rattle.refusals.proofs.Answers.{truth_refused, truth_passed}
 use Rattle.leaf_refusals.proofs.Passed.{participation_entry_passed}
 use Rattle.entries.proofs.is_unslashed_participating.Goals as goal

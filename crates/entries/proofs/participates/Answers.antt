@@ -1,4 +1,3 @@
-use borrow.Author.Rules.{rules}
 use borrow.Author.Tests.{eq-eqb, ne_eqb, not-true, not-false}
 use Rattle.definitions.specs.Document.Altair.Helpers.{has_flag}
 use Rattle.entries.proofs.Flags.{slashed-never, unslashed-by_flag}

@@ -1,5 +1,4 @@
 use Rattle.epochs.proofs.Answers.{then-answers, refused_says}
-use borrow.Author.Rules.{rules}
 use Rattle.epochs.proofs.compute_activation_exit_epoch.Goals as goal
 
 pub returns-then-refusal-ne0 : goal.returns-then-refusal-ne0

@@ -1,7 +1,6 @@
 use Rattle.epochs.proofs.Answers.{then-says, refused_says}
 use Rattle.epochs.proofs.Passed.{settings-passed}
 use Rattle.definitions.specs.Rust.Phase0.Helpers.{get_current_epoch}
-use borrow.Author.Rules.{rules}
 use Rattle.epochs.proofs.compute_epoch_at_slot.Goals as goal
 
 pub returns-then-refusal-ne0 : goal.returns-then-refusal-ne0

@@ -1,6 +1,5 @@
 use Rattle.epochs.proofs.Answers.{then-answers, refused_says}
 use Rattle.definitions.specs.Rust.Phase0.Helpers.{compute_start_slot_at_epoch}
-use borrow.Author.Rules.{rules}
 use Rattle.epochs.proofs.compute_start_slot_at_epoch.Goals as goal
 
 pub returns-then-refusal-ne0 : goal.returns-then-refusal-ne0

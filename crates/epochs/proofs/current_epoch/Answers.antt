@@ -1,5 +1,4 @@
 use mathlib.Core.Path.{refl}
-use borrow.Author.Rules.{rules}
 use Rattle.definitions.specs.Document.Phase0.Helpers.{get_current_epoch, compute_epoch_at_slot}
 use Rattle.epochs.proofs.current_epoch.Goals as goal
 

@@ -1,6 +1,5 @@
 use Rattle.epochs.proofs.Answers.{then-says, refused_says}
 use Rattle.epochs.proofs.Passed.{slot-passed}
-use borrow.Author.Rules.{rules}
 use Rattle.epochs.proofs.get_previous_epoch.Goals as goal
 
 pub returns-then-refusal-ne0 : goal.returns-then-refusal-ne0

@@ -1,4 +1,3 @@
-use borrow.Author.Rules.{rules}
 use borrow.Author.Tests.{ne_eqb}
 use Rattle.definitions.specs.Document.Phase0.Helpers.{get_previous_epoch}
 use Rattle.epochs.proofs.previous_epoch.Goals as goal

@@ -1,5 +1,4 @@
 use Rattle.definitions.specs.LeafRefusals.{slot_tests}
-use borrow.Author.Rules.{rules}
 use Rattle.epochs.proofs.slot_refusal.Goals as goal
 
 pub returns : goal.returns

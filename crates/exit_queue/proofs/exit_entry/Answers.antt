@@ -1,4 +1,3 @@
-use borrow.Author.Rules.{rules}
 use Rattle.arithmetic.proofs.Operations.{only-add64}
 use Rattle.arithmetic.proofs.Laws.{says-value, says_overflow}
 use Rattle.exit_queue.proofs.Exiting.{only-next_epoch}

@@ -1,4 +1,3 @@
-use borrow.Author.Rules.{rules}
 use borrow.Author.Tests.{le-leb, lt-leb}
 use Rattle.arithmetic.proofs.Laws.{said-value}
 use Rattle.exit_queue.specs.Queue.{next_epoch}

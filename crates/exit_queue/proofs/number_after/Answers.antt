@@ -1,4 +1,3 @@
-use borrow.Author.Rules.{rules}
 use borrow.Author.Tests.{eq-eqb, ne_eqb, lt-ltb, le-ltb}
 use Rattle.exit_queue.specs.Queue.{number_after}
 use Rattle.exit_queue.proofs.number_after.Goals as goal

@@ -1,6 +1,6 @@
 use Prim.Native.Nat.{◌-◌}
 use native.Mathlib.Omega.{arith}
-use Rattle.exit_queue.proofs.QueueOf.{Tracking, tracking_none, tracking_few, tracking_more, tracking_all}
+use Rattle.exit_queue.proofs.QueueOf.{tracking_none, tracking_few, tracking_more, tracking_all}
 use Rattle.exit_queue.proofs.queue_of.Goals as goal
 
 pub loop-i-init : goal.loop-i-init

@@ -1,9 +1,9 @@
-use Prim.Native.Nat.{◌≤◌, ◌+◌, ◌-◌}
+use Prim.Native.Nat.{◌+◌, ◌-◌}
 use native.Mathlib.Omega.{arith}
 use native.Mathlib.Numerals.{add-one}
-use lib.ListN.{length, get_or, drop, drop_of_length-le}
+use lib.ListN.{get_or, drop, drop_of_length-le}
 use lib.Seq.{drop-cons}
-use Rattle.fields.proofs.Stores.{Storing, storing-none, storing-one, storing-all}
+use Rattle.fields.proofs.Stores.{storing-none, storing-one, storing-all}
 use Rattle.fields.proofs.put_bytes.Goals as goal
 
 pub loop-i-init : goal.loop-i-init

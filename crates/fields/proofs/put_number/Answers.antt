@@ -1,8 +1,7 @@
-use Prim.Native.Nat.{◌≤◌, ◌+◌, ◌-◌, ◌%◌}
+use Prim.Native.Nat.{◌-◌, ◌%◌}
 use native.Mathlib.Omega.{arith}
-use Rattle.definitions_file.specs.File.{little_endian}
 use Rattle.fields.proofs.Bytes.{little_none, little_more}
-use Rattle.fields.proofs.Stores.{Storing, storing-none, storing-one, storing-all}
+use Rattle.fields.proofs.Stores.{storing-none, storing-one, storing-all}
 use Rattle.fields.proofs.put_number.Goals as goal
 
 pub loop-k-init : goal.loop-k-init

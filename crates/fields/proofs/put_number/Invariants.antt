@@ -1,8 +1,6 @@
-use Prim.Native.Nat.{◌≤◌, ◌+◌, ◌-◌, ◌%◌}
-use native.Mathlib.Omega.{arith}
+use Prim.Native.Nat.{◌≤◌, ◌+◌, ◌-◌}
 use Rattle.definitions_file.specs.File.{little_endian}
-use Rattle.fields.proofs.Bytes.{little_none, little_more}
-use Rattle.fields.proofs.Stores.{Storing, storing-none, storing-one, storing-all}
+use Rattle.fields.proofs.Stores.{Storing}
 use Rattle.fields.proofs.put_number.Given as goal
 
 abbrev pub invariant-loop-k : goal.invariant-loop-k

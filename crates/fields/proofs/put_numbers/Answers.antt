@@ -1,10 +1,10 @@
-use Prim.Native.Nat.{◌≤◌, ◌+◌, ◌*◌, ◌-◌}
+use Prim.Native.Nat.{◌+◌, ◌-◌}
 use native.Mathlib.Omega.{arith}
-use lib.ListN.{length, get_or, drop}
+use lib.ListN.{get_or, drop}
 use Rattle.definitions_file.specs.File.{little_endian, numbers_to_bytes}
 use Rattle.laws_file.proofs.Numbers.{length_little}
 use Rattle.fields.proofs.Bytes.{to_bytes_more, to_bytes_none}
-use Rattle.fields.proofs.Stores.{Storing, storing-none, storing-part, storing-all}
+use Rattle.fields.proofs.Stores.{storing-none, storing-part, storing-all}
 use Rattle.fields.proofs.put_numbers.Goals as goal
 
 pub loop-i-init : goal.loop-i-init

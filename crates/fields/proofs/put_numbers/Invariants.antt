@@ -1,10 +1,7 @@
 use Prim.Native.Nat.{◌≤◌, ◌+◌, ◌*◌, ◌-◌}
-use native.Mathlib.Omega.{arith}
-use lib.ListN.{length, get_or, drop}
-use Rattle.definitions_file.specs.File.{little_endian, numbers_to_bytes}
-use Rattle.laws_file.proofs.Numbers.{length_little}
-use Rattle.fields.proofs.Bytes.{to_bytes_more, to_bytes_none}
-use Rattle.fields.proofs.Stores.{Storing, storing-none, storing-part, storing-all}
+use lib.ListN.{length, drop}
+use Rattle.definitions_file.specs.File.{numbers_to_bytes}
+use Rattle.fields.proofs.Stores.{Storing}
 use Rattle.fields.proofs.put_numbers.Given as goal
 
 abbrev pub invariant-loop-i : goal.invariant-loop-i

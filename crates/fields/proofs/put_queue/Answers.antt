@@ -1,5 +1,4 @@
 use mathlib.Core.Path.{refl}
-use borrow.Author.Rules.{rules}
 use Rattle.definitions_file.specs.File.{little_endian}
 use Rattle.laws_file.proofs.Numbers.{length_little}
 use Rattle.fields.proofs.Stores.{stored-first, stored_more}

@@ -1,11 +1,10 @@
 use mathlib.Core.Path.{◌≡◌, refl, ◌∙◌}
-use Prim.Native.Nat.{◌≤◌, ◌+◌, ◌*◌, ◌-◌}
+use Prim.Native.Nat.{◌+◌, ◌-◌}
 use native.Mathlib.Omega.{arith}
 use lib.ListN.{length, drop}
-use Rattle.definitions_file.specs.File.{numbers_from_bytes}
 use Rattle.laws_file.proofs.Numbers.{length_from_bytes}
 use Rattle.fields.proofs.Bytes.{from_bytes_more, from_bytes_none}
-use Rattle.fields.proofs.Stores.{Storing, storing-none, storing-one, storing-all, sets-whole}
+use Rattle.fields.proofs.Stores.{storing-none, storing-one, storing-all, sets-whole}
 use Rattle.fields.proofs.read_numbers.Goals as goal
 
 pub loop-i-init : goal.loop-i-init

@@ -1,6 +1,5 @@
 use mathlib.Core.Path.{ap, ◌∙◌}
 use Rattle.definitions.specs.Refusals.{settings_from}
-use borrow.Author.Rules.{rules}
 use Rattle.fields.proofs.read_settings.Goals as goal
 
 pub returns : goal.returns

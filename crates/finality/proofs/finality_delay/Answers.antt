@@ -1,5 +1,4 @@
 use Rattle.definitions.specs.Rust.Phase0.EpochProcessing.{get_finality_delay}
-use borrow.Author.Rules.{rules}
 use Rattle.finality.proofs.finality_delay.Goals as goal
 
 pub returns : goal.returns

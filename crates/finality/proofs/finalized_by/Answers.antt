@@ -1,6 +1,5 @@
 use mathlib.Core.Path.{sym, ◌∙◌}
 use Rattle.finality.proofs.Runs.{finalized_by-runs}
-use borrow.Author.Rules.{rules}
 use Rattle.finality.proofs.finalized_by.Goals as goal
 
 pub returns-then-is_linked : goal.returns-then-is_linked

@@ -1,4 +1,3 @@
-use borrow.Author.Rules.{rules}
 use Rattle.definitions.specs.LeafRefusals.{finalized_tests}
 use Rattle.finality.proofs.finalized_refusal.Goals as goal
 

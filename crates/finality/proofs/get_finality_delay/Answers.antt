@@ -1,6 +1,5 @@
 use Rattle.epochs.proofs.Answers.{then-answers, refused_says}
 use Rattle.finality.proofs.Passed.{finalized-passed}
-use borrow.Author.Rules.{rules}
 use Rattle.finality.proofs.get_finality_delay.Goals as goal
 
 pub returns-then-refusal-ne0 : goal.returns-then-refusal-ne0

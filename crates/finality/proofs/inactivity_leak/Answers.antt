@@ -2,7 +2,6 @@ use mathlib.Core.Path.{refl}
 use Rattle.arithmetic.proofs.Laws.{next, stop}
 use Rattle.definitions.specs.Rust.Phase0.EpochProcessing.{is_in_inactivity_leak}
 use Rattle.finality.proofs.Passed.{only-delay}
-use borrow.Author.Rules.{rules}
 use Rattle.finality.proofs.inactivity_leak.Goals as goal
 
 pub returns-in_default : goal.returns-in_default

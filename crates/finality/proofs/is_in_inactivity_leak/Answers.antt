@@ -1,7 +1,6 @@
 use Rattle.refusals.proofs.Answers.{truth_refused}
 use Rattle.epochs.proofs.Answers.{then-answers}
 use Rattle.finality.proofs.Passed.{finalized-passed}
-use borrow.Author.Rules.{rules}
 use Rattle.finality.proofs.is_in_inactivity_leak.Goals as goal
 
 pub returns-then-refusal-ne0 : goal.returns-then-refusal-ne0

@@ -1,4 +1,3 @@
-use borrow.Author.Rules.{rules}
 use Rattle.finality.proofs.is_linked.Goals as goal
 
 pub returns-then-shown : goal.returns-then-shown

@@ -1,6 +1,5 @@
 use mathlib.Core.Path.{◌∙◌}
 use Rattle.definitions.specs.Document.Phase0.EpochProcessing.{justified_bits}
-use borrow.Author.Rules.{rules}
 use Rattle.finality.proofs.justified_bits.Goals as goal
 
 pub returns : goal.returns

@@ -1,5 +1,4 @@
 use Rattle.definitions.specs.Document.Phase0.EpochProcessing.{weighed}
-use borrow.Author.Rules.{rules}
 use Rattle.finality.proofs.weighed.Goals as goal
 
 pub returns-then-current_passed : goal.returns-then-current_passed

@@ -1,6 +1,5 @@
 use native.Mathlib.Omega.{arith}
 use borrow.Author.Tests.{eq-eqb, ne_eqb}
-use borrow.Author.Rules.{rules}
 use Rattle.finality.proofs.with_bit.Goals as goal
 
 pub returns-then-bits-weight-eq1 : goal.returns-then-bits-weight-eq1

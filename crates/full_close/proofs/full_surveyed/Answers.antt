@@ -2,7 +2,6 @@ use mathlib.Core.Path.{◌≡◌, refl, ap, ◌∙◌}
 use Prim.Native.Nat.{ℕ}
 use lib.ListN.{replicate}
 use native.Mathlib.Omega.{arith}
-use borrow.Author.Rules.{rules}
 use Rattle.refusals.proofs.Laws.{small, good-settings}
 use Rattle.registry.proofs.Epochs.{Epochs, epochs}
 use Rattle.full_close.proofs.Worked.{full-refused, booked-gave, full-accepted}

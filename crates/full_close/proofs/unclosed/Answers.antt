@@ -1,4 +1,3 @@
-use borrow.Author.Rules.{rules}
 use Rattle.full_close.proofs.unclosed.Goals as goal
 
 pub returns : goal.returns

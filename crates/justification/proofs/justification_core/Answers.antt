@@ -1,7 +1,6 @@
 use mathlib.Core.Path.{ap, ◌∙◌}
 use Prim.Native.Nat.{◌^◌, ◌<◌}
 use native.Mathlib.Omega.{arith}
-use borrow.Author.Rules.{rules}
 use Rattle.weighing.proofs.Passed.{weigh-passed}
 use Rattle.totals.specs.Flags.{answer_with}
 use Rattle.totals.proofs.raising.Three.{three-raised}

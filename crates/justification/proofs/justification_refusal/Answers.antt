@@ -1,4 +1,3 @@
-use borrow.Author.Rules.{rules}
 use Rattle.definitions.specs.Refusals.{justification_tests}
 use Rattle.justification.proofs.justification_refusal.Goals as goal
 

@@ -1,7 +1,6 @@
 -- what the tests gave
 use mathlib.Core.Path.{sym, ◌∙◌}
 use native.Mathlib.Omega.{arith}
-use borrow.Author.Rules.{rules}
 use Rattle.definitions.specs.Record.{decode}
 use Rattle.totals.proofs.raising.Three.{three-totals}
 use Rattle.totals.proofs.raising.Answered.{close_refused_first, close_then_works}

@@ -1,7 +1,6 @@
 use native.Mathlib.Omega.{arith}
 use mathlib.Core.Path.{refl}
 use Prim.Native.Nat.{◌<◌}
-use borrow.Author.Rules.{rules}
 use Rattle.definitions.specs.Rust.Phase0.Helpers.{get_current_epoch}
 use Rattle.arithmetic.proofs.Laws.{next, stop}
 use Rattle.weighing.proofs.Answers.{hands_on}

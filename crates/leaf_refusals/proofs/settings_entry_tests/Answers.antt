@@ -1,4 +1,3 @@
-use borrow.Author.Rules.{rules}
 use borrow.Author.Tests.{eq-eqb, ne_eqb}
 use Rattle.definitions.specs.Lists.{every}
 use Rattle.definitions.specs.LeafRefusals.{settings_entry_tests}

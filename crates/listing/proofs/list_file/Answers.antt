@@ -1,6 +1,5 @@
 use mathlib.Core.Path.{sym}
 use native.Mathlib.Omega.{arith}
-use borrow.Author.Rules.{rules}
 use lib.Seq.{length-take-le}
 use Rattle.listing.proofs.Printed.{long-listed}
 use Rattle.listing.proofs.Enough.{Few, few, exact, too_short, long-enough}

@@ -1,6 +1,5 @@
 use mathlib.Core.Path.{sym, ◌∙◌}
 use native.Mathlib.Omega.{arith}
-use borrow.Author.Rules.{rules}
 use Rattle.listing.proofs.Opened.{read-lengths}
 use Rattle.listing.proofs.Printed.{refused-listed, closed-listed}
 use Rattle.listing.proofs.list_record.Goals as goal

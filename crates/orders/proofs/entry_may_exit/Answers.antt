@@ -1,4 +1,3 @@
-use borrow.Author.Rules.{rules}
 use Rattle.orders.proofs.entry_may_exit.Goals as goal
 
 pub returns : goal.returns

@@ -1,6 +1,5 @@
 use borrow.Author.Tests.{le-leb, lt-leb}
 use Rattle.orders.proofs.Tried.{due}
-use borrow.Author.Rules.{rules}
 use Rattle.orders.proofs.is_due.Goals as goal
 
 pub returns-then-epoch-start : goal.returns-then-epoch-start

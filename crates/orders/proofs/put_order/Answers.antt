@@ -1,6 +1,5 @@
 use lib.ListN.{length-set}
 use native.Mathlib.Omega.{arith}
-use borrow.Author.Rules.{rules}
 use Rattle.orders.proofs.put_order.Goals as goal
 
 pub bounds-orders-at-2 : goal.bounds-orders-at-2

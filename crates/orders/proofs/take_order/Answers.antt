@@ -1,7 +1,6 @@
 use borrow.Author.Tests.{eq-eqb, ne_eqb, le-ltb, lt-ltb}
 use Rattle.definitions_close.specs.Orders.{appended, take_order}
 use Rattle.refusals.proofs.All.{fails, passes}
-use borrow.Author.Rules.{rules}
 use mathlib.Core.Path.{ap}
 use mathlib.Core.Bool.{not}
 use Rattle.orders.proofs.take_order.Goals as goal

@@ -1,6 +1,5 @@
 use Prim.Native.Nat.{◌-◌}
-use Rattle.orders.specs.Tried.{order_by}
-use Rattle.orders.proofs.Tried.{Trying, trying_none, trying_more, trying_all}
+use Rattle.orders.proofs.Tried.{trying_none, trying_more, trying_all}
 use native.Mathlib.Omega.{arith}
 use Rattle.orders.proofs.try_all.Goals as goal
 

@@ -1,7 +1,6 @@
 use Prim.Native.Nat.{◌-◌}
 use Rattle.orders.specs.Tried.{order_by}
-use Rattle.orders.proofs.Tried.{Trying, trying_none, trying_more, trying_all}
-use native.Mathlib.Omega.{arith}
+use Rattle.orders.proofs.Tried.{Trying}
 use Rattle.orders.proofs.try_all.Given as goal
 
 abbrev pub invariant-loop-i : goal.invariant-loop-i

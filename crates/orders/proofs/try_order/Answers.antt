@@ -3,7 +3,6 @@ use Rattle.refusals.proofs.All.{fails, passes}
 use Rattle.laws.proofs.Loops.Entry.{entry-is}
 use Rattle.orders.specs.Tried.{entry_may_exit}
 use Rattle.orders.proofs.Tried.{unknown, cannot, early, exits, may_part, since-part, due-part}
-use borrow.Author.Rules.{rules}
 use mathlib.Core.Bool.{not}
 use Rattle.orders.proofs.try_order.Goals as goal
 

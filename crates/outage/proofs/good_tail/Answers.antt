@@ -1,10 +1,8 @@
 use mathlib.Core.Path.{ap}
 use Prim.Native.Nat.{ℕ}
-use native.Mathlib.Omega.{arith}
 use borrow.Author.Tests.{eq-eqb, ne_eqb}
 use lib.Dec.{leb}
 use Rattle.definitions_file.specs.OutageInput.{good_tail}
-use borrow.Author.Rules.{rules}
 use Rattle.outage.proofs.good_tail.Goals as goal
 
 pub returns-then-tail-validators : goal.returns-then-tail-validators

@@ -2,7 +2,6 @@
 use mathlib.Core.Path.{◌≡◌, ap, ◌∙◌}
 use Prim.Native.Nat.{ℕ}
 use native.Mathlib.Omega.{arith}
-use borrow.Author.Rules.{rules}
 use Rattle.definitions_file.specs.File.{count_of}
 use Rattle.definitions_file.specs.OutageInput.{good_tail}
 use Rattle.refusals.proofs.All.{fails, passes}

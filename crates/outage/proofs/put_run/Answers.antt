@@ -3,7 +3,6 @@ use native.Mathlib.Omega.{arith}
 use lib.ListN.{length}
 use Rattle.definitions_file.specs.File.{contents_with}
 use Rattle.outage.proofs.Ended.{run-refused, run-lines}
-use borrow.Author.Rules.{rules}
 use Rattle.outage.proofs.put_run.Goals as goal
 
 pub run_epochs-ran-requires : goal.run_epochs-ran-requires

@@ -3,7 +3,6 @@ use native.Mathlib.Omega.{arith}
 use lib.Seq.{length-take-le}
 use Rattle.outage.proofs.Text.{text-headless}
 use Rattle.outage.proofs.Fronts.{Few, Counted, counted, headless, Fit, held, fit, exact}
-use borrow.Author.Rules.{rules}
 use Rattle.outage.proofs.put_text.Goals.{Else-h-ne0}
 use Rattle.outage.proofs.put_text.Goals as goal
 

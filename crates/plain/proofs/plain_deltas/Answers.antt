@@ -1,5 +1,4 @@
 use Rattle.definitions.specs.Plain.{plain_deltas}
-use borrow.Author.Rules.{rules}
 use Rattle.plain.proofs.plain_deltas.Goals as goal
 
 pub returns-in-Value : goal.returns-in-Value

@@ -1,4 +1,3 @@
-use borrow.Author.Rules.{rules}
 use borrow.Author.Tests.{eq-eqb, ne_eqb}
 use Rattle.plain.specs.Root.{root_given}
 use Rattle.plain.proofs.plain_root.Goals as goal

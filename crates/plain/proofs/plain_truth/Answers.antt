@@ -2,7 +2,6 @@ use mathlib.Core.Path.{◌≡◌, refl}
 use mathlib.Core.Bool.{Bool, true, false, cond}
 use mir.Val.{bool_byte}
 use Rattle.definitions.specs.Plain.{plain_truth}
-use borrow.Author.Rules.{rules}
 use Rattle.plain.proofs.plain_truth.Goals as goal
 
 as_number : (b : Bool) → bool_byte b ≡ cond b 1 0

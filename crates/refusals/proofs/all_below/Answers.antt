@@ -1,9 +1,7 @@
 use mathlib.Core.Path.{sym}
 use Prim.Native.Nat.{◌-◌}
-use native.Mathlib.Omega.{arith}
 use borrow.Author.Tests.{lt-ltb, le-ltb}
-use lib.Dec.{ltb}
-use Rattle.refusals.proofs.All.{Passed, passed_none, passed-more, passed-stop, passed-all}
+use Rattle.refusals.proofs.All.{passed_none, passed-more, passed-stop, passed-all}
 use Rattle.refusals.proofs.all_below.Goals as goal
 
 pub loop-i-init : goal.loop-i-init

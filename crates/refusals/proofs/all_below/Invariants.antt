@@ -1,9 +1,6 @@
-use mathlib.Core.Path.{sym}
 use Prim.Native.Nat.{◌-◌}
-use native.Mathlib.Omega.{arith}
-use borrow.Author.Tests.{lt-ltb, le-ltb}
 use lib.Dec.{ltb}
-use Rattle.refusals.proofs.All.{Passed, passed_none, passed-more, passed-stop, passed-all}
+use Rattle.refusals.proofs.All.{Passed}
 use Rattle.refusals.proofs.all_below.Given as goal
 
 abbrev pub invariant-loop-i : goal.invariant-loop-i

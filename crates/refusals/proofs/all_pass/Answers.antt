@@ -1,10 +1,9 @@
-use mathlib.Core.Bool.{Bool, false}
+use mathlib.Core.Bool.{false}
 use mathlib.Core.Path.{sym, ◌∙◌}
 use Prim.Native.Nat.{◌-◌}
-use native.Mathlib.Omega.{arith}
 use borrow.Author.Tests.{not-true, not-false}
 use Rattle.laws.proofs.Tests.{every-all}
-use Rattle.refusals.proofs.All.{Passed, passed_none, passed-more, passed-stop, passed-all}
+use Rattle.refusals.proofs.All.{passed_none, passed-more, passed-stop, passed-all}
 use mathlib.Core.Path.{ap}
 use mathlib.Core.Bool.{not}
 use Rattle.refusals.proofs.all_pass.Goals as goal

@@ -1,4 +1,3 @@
-use borrow.Author.Rules.{rules}
 use Rattle.definitions.specs.Refusals.{good_finality}
 use Rattle.refusals.proofs.good_finality.Goals as goal
 

@@ -1,9 +1,9 @@
 use mathlib.Core.Path.{sym}
 use Prim.Native.Nat.{◌-◌}
 use native.Mathlib.Omega.{arith}
-use Rattle.definitions.specs.Record.{decode, nobody}
+use Rattle.definitions.specs.Record.{nobody}
 use Rattle.definitions.specs.Refusals.{good_validator, good_registry}
-use Rattle.refusals.proofs.All.{Passed, passed_none, passed-more, passed-stop, passed-all, fails, passes}
+use Rattle.refusals.proofs.All.{passed_none, passed-more, passed-stop, passed-all, fails, passes}
 use Rattle.refusals.proofs.Part.{length-decoded, part_length, part-tested}
 use mathlib.Core.Path.{ap}
 use mathlib.Core.Bool.{not}

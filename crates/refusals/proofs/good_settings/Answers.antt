@@ -1,5 +1,4 @@
 use mathlib.Core.Path.{ap, ◌∙◌}
-use borrow.Author.Rules.{rules}
 use Rattle.definitions.specs.Lists.{all}
 use Rattle.definitions.specs.Refusals.{is_small, good_settings}
 use Rattle.refusals.proofs.All.{fails, passes}

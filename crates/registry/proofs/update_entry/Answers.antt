@@ -1,4 +1,3 @@
-use borrow.Author.Rules.{rules}
 use borrow.Author.Tests.{not-true, not-false}
 use Rattle.registry.proofs.Turns.{turn-stays, turn-exits}
 use mathlib.Core.Path.{ap}

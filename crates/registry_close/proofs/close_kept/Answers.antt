@@ -1,5 +1,4 @@
 use native.Mathlib.Omega.{arith}
-use borrow.Author.Rules.{rules}
 use Rattle.refusals.proofs.Laws.{small, good-settings}
 use Rattle.registry.proofs.Epochs.{Epochs, epochs}
 use Rattle.registry_close.proofs.close_kept.Goals.{Start}

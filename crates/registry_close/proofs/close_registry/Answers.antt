@@ -1,5 +1,4 @@
 use native.Mathlib.Omega.{arith}
-use borrow.Author.Rules.{rules}
 use Rattle.selection.proofs.Picking.{blank-length, blank_part}
 use Rattle.registry_close.proofs.close_registry.Goals as goal
 

@@ -2,7 +2,6 @@
 use mathlib.Core.Path.{◌≡◌, refl, sym, ap}
 use Prim.Native.Nat.{ℕ}
 use native.Mathlib.Omega.{arith}
-use borrow.Author.Rules.{rules}
 use Rattle.definitions.specs.Record.{decode}
 use Rattle.definitions.specs.Raised.{raised_totals, close_answer_for}
 use Rattle.definitions.specs.Rust.Phase0.EpochProcessing.{reset_slashings}

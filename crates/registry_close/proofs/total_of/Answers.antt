@@ -1,5 +1,4 @@
 use borrow.Author.Tests.{eq-eqb, ne_eqb}
-use borrow.Author.Rules.{rules}
 use Rattle.registry_close.specs.Worked.{total_of}
 use Rattle.registry_close.proofs.total_of.Goals as goal
 

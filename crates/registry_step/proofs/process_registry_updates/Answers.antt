@@ -1,4 +1,3 @@
-use borrow.Author.Rules.{rules}
 use Rattle.registry_step.proofs.Stops.{closes-whole}
 use Rattle.registry_step.proofs.process_registry_updates.Goals as goal
 

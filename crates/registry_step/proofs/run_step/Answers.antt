@@ -1,5 +1,4 @@
 use native.Mathlib.Omega.{arith}
-use borrow.Author.Rules.{rules}
 use Rattle.definitions.specs.RegisterOrder.{limited_updates_to}
 use Rattle.registry_step.proofs.Run.{run-restored, run-done}
 use Rattle.registry_step.proofs.run_step.Goals as goal

@@ -1,7 +1,6 @@
 -- the first tests had passed
 use mathlib.Core.Path.{refl, sym}
 use native.Mathlib.Omega.{arith}
-use borrow.Author.Rules.{rules}
 use Rattle.registry.proofs.Epochs.{epochs}
 use Rattle.registry_step.proofs.Tests.{StepPassed, turned-away, step-passed, found-tests, true_pair, step-ran}
 use Rattle.registry_step.proofs.step_surveyed.Goals.{Start}

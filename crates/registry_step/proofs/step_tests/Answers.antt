@@ -1,4 +1,3 @@
-use borrow.Author.Rules.{rules}
 use Rattle.registry_step.proofs.step_tests.Goals as goal
 
 pub returns : goal.returns

@@ -1,7 +1,6 @@
 use Prim.Native.Nat.{◌-◌}
-use native.Mathlib.Omega.{arith}
 use Rattle.registry.specs.Updates.{least_exit}
-use Rattle.registry.proofs.Turns.{Updating, updating_none, updating_few, updating_ten, updating_more, updating_stop, updating_all}
+use Rattle.registry.proofs.Turns.{Updating}
 use Rattle.registry_step.proofs.update_all.Given as goal
 
 abbrev pub invariant-loop-i : goal.invariant-loop-i

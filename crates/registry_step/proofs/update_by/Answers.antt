@@ -1,5 +1,4 @@
 use Rattle.registry.proofs.Seen.{updates-stop, updates-end}
-use borrow.Author.Rules.{rules}
 use Rattle.registry_step.proofs.update_by.Goals as goal
 
 pub returns-then-refusal-ne0 : goal.returns-then-refusal-ne0

@@ -1,6 +1,4 @@
-use borrow.Author.Rules.{rules}
 use Prim.Native.Nat.{◌≤◌, ◌-◌}
-use native.Mathlib.Omega.{arith}
 use Rattle.replay_leaves.proofs.print_tally.Given as goal
 
 abbrev pub invariant-loop-leaf : goal.invariant-loop-leaf

@@ -1,7 +1,5 @@
-use borrow.Author.Rules.{rules}
 use mathlib.Core.Path.{◌≡◌}
 use lib.ListN.{length}
-use native.Mathlib.Omega.{arith}
 use Rattle.replay_records.proofs.replay.Given as goal
 
 abbrev pub invariant-loop-turns : goal.invariant-loop-turns

@@ -1,7 +1,5 @@
-use borrow.Author.Rules.{rules}
 use mathlib.Core.Path.{◌≡◌}
 use lib.ListN.{length}
-use native.Mathlib.Omega.{arith}
 use Rattle.replay_records.proofs.replay_records.Given as goal
 
 abbrev pub invariant-loop-left : goal.invariant-loop-left

@@ -1,5 +1,4 @@
 use Rattle.rewards.proofs.Flags.{weight-other}
-use borrow.Author.Rules.{rules}
 use Rattle.rewards.proofs.flag_weight.Goals as goal
 
 pub returns : goal.returns

@@ -2,7 +2,6 @@ use Rattle.definitions.specs.Rust.Altair.Helpers.{get_inactivity_penalty_deltas}
 use Rattle.rewards.proofs.Penalty.{penalty-passed}
 use Rattle.arithmetic.proofs.Answers.{tells_deltas}
 use Rattle.rewards.proofs.base_rewards.After.{tests-refused, tests-passed}
-use borrow.Author.Rules.{rules}
 use Rattle.rewards.proofs.get_inactivity_penalty_deltas.Goals as goal
 
 pub returns-then-refusal-ne0 : goal.returns-then-refusal-ne0

@@ -1,4 +1,3 @@
-use borrow.Author.Rules.{rules}
 use Rattle.definitions.specs.LeafRefusals.{slot_entry_tests}
 use Rattle.definitions.specs.Rules.{inactivity_penalty_tests}
 use Rattle.refusals.proofs.rules.Tests.{rules-tested}

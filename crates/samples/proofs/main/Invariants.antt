@@ -1,6 +1,4 @@
-use borrow.Author.Rules.{rules}
 use Prim.Native.Nat.{◌-◌}
-use native.Mathlib.Omega.{arith}
 use Rattle.samples.proofs.main.Given as goal
 
 abbrev pub invariant-loop-i : goal.invariant-loop-i

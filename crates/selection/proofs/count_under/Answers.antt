@@ -1,7 +1,5 @@
 use Prim.Native.Nat.{◌-◌}
-use lib.ListN.{length}
-use Rattle.selection.proofs.Kept.{Counting, counting_none, counting_yes, counting_no, counting_all}
-use native.Mathlib.Omega.{arith}
+use Rattle.selection.proofs.Kept.{counting_none, counting_yes, counting_no, counting_all}
 use Rattle.selection.proofs.count_under.Goals as goal
 
 pub loop-j-init : goal.loop-j-init

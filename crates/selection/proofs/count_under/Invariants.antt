@@ -1,7 +1,6 @@
 use Prim.Native.Nat.{◌-◌}
 use lib.ListN.{length}
-use Rattle.selection.proofs.Kept.{Counting, counting_none, counting_yes, counting_no, counting_all}
-use native.Mathlib.Omega.{arith}
+use Rattle.selection.proofs.Kept.{Counting}
 use Rattle.selection.proofs.count_under.Given as goal
 
 abbrev pub invariant-loop-j : goal.invariant-loop-j

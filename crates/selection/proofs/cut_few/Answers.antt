@@ -1,5 +1,4 @@
 use Rattle.selection.proofs.Picking.{blank-length, blank_part}
-use borrow.Author.Rules.{rules}
 use Rattle.selection.proofs.cut_few.Goals as goal
 
 pub pick-requires : goal.pick-requires

@@ -1,7 +1,5 @@
 use Prim.Native.Nat.{◌-◌}
-use lib.ListN.{length}
-use Rattle.selection.proofs.Kept.{Seeking, seeking_none, seeking_new, seeking_old, seeking_all}
-use native.Mathlib.Omega.{arith}
+use Rattle.selection.proofs.Kept.{seeking_none, seeking_new, seeking_old, seeking_all}
 use Rattle.selection.proofs.highest.Goals as goal
 
 pub loop-j-init : goal.loop-j-init

@@ -1,7 +1,6 @@
 use Prim.Native.Nat.{◌-◌}
 use lib.ListN.{length}
-use Rattle.selection.proofs.Kept.{Seeking, seeking_none, seeking_new, seeking_old, seeking_all}
-use native.Mathlib.Omega.{arith}
+use Rattle.selection.proofs.Kept.{Seeking}
 use Rattle.selection.proofs.highest.Given as goal
 
 abbrev pub invariant-loop-j : goal.invariant-loop-j

@@ -1,8 +1,6 @@
 use native.Mathlib.Omega.{arith}
 use lib.ListN.{length-set}
 use Rattle.selection.proofs.Kept.{kept_same, kept_set}
-use borrow.Author.Rules.{rules}
-use Rattle.selection.proofs.highest.Reads as highest-reads
 use Rattle.selection.proofs.keep.Goals as goal
 
 pub returns-then-kept-p : goal.returns-then-kept-p

@@ -1,11 +1,6 @@
-use Rattle.laws.proofs.Loops.Filtered.{filter_le}
-use Rattle.selection.specs.Keep.{under}
-use mathlib.Core.Path.{refl}
-use borrow.Author.Rules.{rules}
 use Prim.Native.Nat.{◌-◌}
 use lib.ListN.{length}
-use Rattle.selection.proofs.Picking.{Picking, picking_none, picking_more, picking_cut}
-use native.Mathlib.Omega.{arith}
+use Rattle.selection.proofs.Picking.{Picking}
 use Rattle.selection.proofs.pick.Given as goal
 
 abbrev pub invariant-loop-j : goal.invariant-loop-j

@@ -2,7 +2,6 @@ use mathlib.Core.Path.{sym, ◌∙◌}
 use native.Mathlib.Omega.{arith}
 use borrow.Author.Tests.{eq-eqb, ne_eqb}
 use Rattle.selection.specs.Keep.{waiting_since}
-use borrow.Author.Rules.{rules}
 use Rattle.selection.proofs.waiting_since.Goals as goal
 
 pub returns-then-entry : goal.returns-then-entry

@@ -1,11 +1,10 @@
-use mathlib.Core.Path.{◌≡◌, refl, sym, ◌∙◌}
+use mathlib.Core.Path.{refl, sym, ◌∙◌}
 use Prim.Native.Nat.{◌+◌, ◌-◌, ◌≤◌, ◌<◌}
 use native.Mathlib.Omega.{arith}
 use borrow.Author.Tests.{ltb-true, ltb-false}
-use lib.Dec.{ltb}
 use lib.ListN.{length, get_or}
 use Rattle.shelf.proofs.Lengths.{each-longest, longest-drop}
-use Rattle.shelf.proofs.Shelving.{Shelving, shelving-none, shelving-more, shelving-all, inside, file-long, part-long, shaped}
+use Rattle.shelf.proofs.Shelving.{shelving-none, shelving-more, shelving-all, inside, file-long, part-long, shaped}
 use Rattle.shelf.proofs.close_files.Goals.{In-loop-more}
 use Rattle.shelf.proofs.close_files.Goals as goal
 

@@ -1,11 +1,8 @@
-use mathlib.Core.Path.{◌≡◌, refl, sym, ◌∙◌}
-use Prim.Native.Nat.{◌+◌, ◌-◌, ◌≤◌, ◌<◌}
-use native.Mathlib.Omega.{arith}
-use borrow.Author.Tests.{ltb-true, ltb-false}
+use mathlib.Core.Path.{◌≡◌}
+use Prim.Native.Nat.{◌-◌}
 use lib.Dec.{ltb}
-use lib.ListN.{length, get_or}
-use Rattle.shelf.proofs.Lengths.{each-longest, longest-drop}
-use Rattle.shelf.proofs.Shelving.{Shelving, shelving-none, shelving-more, shelving-all, inside, file-long, part-long, shaped}
+use lib.ListN.{length}
+use Rattle.shelf.proofs.Shelving.{Shelving}
 use Rattle.shelf.proofs.close_files.Given as goal
 
 abbrev pub invariant-loop-more : goal.invariant-loop-more

@@ -1,5 +1,4 @@
 use mathlib.Core.Path.{refl}
-use borrow.Author.Rules.{rules}
 use Rattle.definitions_file.specs.Shelf.{shelf_refusal, answers_after, closing_after}
 use Rattle.refusals.proofs.All.{fails, passes}
 use mathlib.Core.Path.{ap}

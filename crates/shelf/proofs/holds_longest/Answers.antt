@@ -1,11 +1,8 @@
-use mathlib.Core.Path.{◌≡◌, refl, sym, ◌∙◌}
-use Prim.Native.Nat.{◌*◌, ◌-◌, ◌≤◌}
+use mathlib.Core.Path.{refl, sym, ◌∙◌}
+use Prim.Native.Nat.{◌*◌, ◌-◌}
 use native.Mathlib.Omega.{arith}
 use borrow.Author.Tests.{le-leb}
-use lib.Dec.{leb}
-use lib.ListN.{length, drop}
-use Rattle.definitions.specs.Lists.{maximum}
-use Rattle.definitions_file.specs.Shelf.{holds_longest}
+use lib.ListN.{length}
 use Rattle.shelf.proofs.Lengths.{within_more, beyond, longest-none}
 use Rattle.shelf.proofs.holds_longest.Goals as goal
 

@@ -1,12 +1,9 @@
-use mathlib.Core.Path.{◌≡◌, refl, sym, ◌∙◌}
+use mathlib.Core.Path.{◌≡◌}
 use Prim.Native.Nat.{◌*◌, ◌-◌, ◌≤◌}
-use native.Mathlib.Omega.{arith}
-use borrow.Author.Tests.{le-leb}
 use lib.Dec.{leb}
 use lib.ListN.{length, drop}
 use Rattle.definitions.specs.Lists.{maximum}
 use Rattle.definitions_file.specs.Shelf.{holds_longest}
-use Rattle.shelf.proofs.Lengths.{within_more, beyond, longest-none}
 use Rattle.shelf.proofs.holds_longest.Given as goal
 
 abbrev pub invariant-loop-i : goal.invariant-loop-i

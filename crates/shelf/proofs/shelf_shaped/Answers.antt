@@ -1,4 +1,3 @@
-use borrow.Author.Rules.{rules}
 use Rattle.definitions_file.specs.Shelf.{shelf_shaped}
 use Rattle.shelf.proofs.shelf_shaped.Goals as goal
 

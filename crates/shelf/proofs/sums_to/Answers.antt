@@ -1,8 +1,7 @@
-use mathlib.Core.Path.{◌≡◌, sym}
-use Prim.Native.Nat.{◌+◌, ◌-◌, ◌≤◌}
+use mathlib.Core.Path.{sym}
+use Prim.Native.Nat.{◌-◌}
 use native.Mathlib.Omega.{arith}
 use borrow.Author.Tests.{ne_eqb}
-use lib.ListN.{length, drop}
 use Rattle.definitions.specs.Lists.{sum}
 use Rattle.shelf.proofs.Lengths.{sum_more, sum-none, left-none}
 use Rattle.shelf.proofs.sums_to.Goals as goal

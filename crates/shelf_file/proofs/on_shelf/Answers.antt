@@ -1,7 +1,6 @@
 use mathlib.Core.Path.{◌≡◌, refl, sym}
 use Prim.Native.Nat.{ℕ, zero, suc, ◌≤◌}
 use native.Mathlib.Omega.{arith}
-use borrow.Author.Rules.{rules}
 use Rattle.refusals.proofs.All.{fails, passes}
 use Rattle.laws_file.proofs.Passed.{good-header}
 use mathlib.Core.Path.{ap}

@@ -1,4 +1,3 @@
-use borrow.Author.Rules.{rules}
 use Rattle.shelf_file.proofs.put_closed.Goals as goal
 
 pub returns : goal.returns

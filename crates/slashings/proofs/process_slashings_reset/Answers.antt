@@ -1,4 +1,3 @@
-use borrow.Author.Rules.{rules}
 use Rattle.refusals.proofs.buffers.Closes.{closes-refused, closes-plain}
 use Rattle.slashings.proofs.Passed.{reset-passed}
 use Rattle.slashings.proofs.process_slashings_reset.Goals as goal

@@ -1,7 +1,6 @@
 use Prim.Native.Nat.{◌-◌}
-use native.Mathlib.Omega.{arith}
 use Rattle.definitions.specs.Rust.Altair.EpochProcessing.{slash}
-use Rattle.laws.proofs.Loops.Checking.{Checking, checking-none, checking-ten, checking-more, checking-stop, checking-all}
+use Rattle.laws.proofs.Loops.Checking.{Checking}
 use Rattle.slashings.proofs.slash_all.Given as goal
 
 abbrev pub invariant-loop-i : goal.invariant-loop-i

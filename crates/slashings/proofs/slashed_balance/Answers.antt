@@ -2,7 +2,7 @@ use mathlib.Core.Path.{refl, sym, ap}
 use Prim.Native.Nat.{◌-◌}
 use native.Mathlib.Omega.{arith}
 use Rattle.definitions.specs.Answers.{number_for}
-use Rattle.laws.proofs.Loops.Summed.{Added, added_none, added_more, added-over, added-all}
+use Rattle.laws.proofs.Loops.Summed.{added_none, added_more, added-over, added-all}
 use Rattle.slashings.proofs.slashed_balance.Goals as goal
 
 pub loop-i-init : goal.loop-i-init

@@ -1,8 +1,5 @@
-use mathlib.Core.Path.{refl, sym, ap}
 use Prim.Native.Nat.{◌-◌}
-use native.Mathlib.Omega.{arith}
-use Rattle.definitions.specs.Answers.{number_for}
-use Rattle.laws.proofs.Loops.Summed.{Added, added_none, added_more, added-over, added-all}
+use Rattle.laws.proofs.Loops.Summed.{Added}
 use Rattle.slashings.proofs.slashed_balance.Given as goal
 
 abbrev pub invariant-loop-i : goal.invariant-loop-i

@@ -1,4 +1,3 @@
-use borrow.Author.Rules.{rules}
 use Rattle.definitions.specs.Rust.Phase0.Helpers.{get_total_active_balance}
 use Rattle.refusals.proofs.Laws.{good-settings}
 use Rattle.arithmetic.proofs.Laws.{says-value}

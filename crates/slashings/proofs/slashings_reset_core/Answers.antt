@@ -1,6 +1,6 @@
 use native.Mathlib.Omega.{arith}
 use native.Mathlib.Nat.{mod-lt}
-use borrow.Author.Rules.{rules, scaled_Fits}
+use borrow.Author.Rules.{scaled_Fits}
 use Rattle.definitions.specs.Document.Phase0.EpochProcessing.{reset_slashings}
 use Rattle.laws.proofs.Bounds.{bounds}
 use Rattle.refusals.proofs.Laws.{settings-shaped, good-settings}

@@ -1,4 +1,3 @@
-use borrow.Author.Rules.{rules}
 use Rattle.definitions.specs.Refusals.{slashings_reset_tests}
 use Rattle.slashings.proofs.slashings_reset_tests.Goals as goal
 

@@ -1,4 +1,3 @@
-use borrow.Author.Rules.{rules}
 use Rattle.definitions.specs.Rules.{slashings_tests}
 use Rattle.refusals.proofs.rules.Tests.{rules-tested}
 use Rattle.slashings.proofs.slashings_tests.Goals as goal

@@ -6,7 +6,6 @@ use Rattle.definitions_close.specs.StoreSteps.{StoreStepCall}
 use Rattle.definitions_close.specs.Calls.{lent, store_called, store_step_called}
 use Rattle.store.proofs.store_rules.Given.{rules-with}
 use Rattle.store_steps.proofs.Steps.{first_by, first-turned}
-use borrow.Author.Rules.{rules}
 use Rattle.store_steps.proofs.first_step.Goals.{After-rules_for-found}
 use Rattle.store_steps.proofs.first_step.Goals as goal
 

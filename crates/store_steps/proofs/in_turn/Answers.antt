@@ -1,6 +1,5 @@
 use mathlib.Core.Path.{sym}
 use Rattle.store_steps.proofs.Steps.{late, timely}
-use borrow.Author.Rules.{rules}
 use Rattle.store_steps.proofs.in_turn.Goals as goal
 
 pub returns-then-done-gt7 : goal.returns-then-done-gt7

@@ -6,7 +6,6 @@ use Rattle.definitions_close.specs.StoreSteps.{StoreStepCall, store_so_far}
 use Rattle.definitions_close.specs.Calls.{lent, store_called, store_step_called}
 use Rattle.store.proofs.store_rules.Given.{rules-with}
 use Rattle.store_steps.proofs.Steps.{later-by, later-turned}
-use borrow.Author.Rules.{rules}
 use Rattle.store_steps.proofs.later_step.Goals.{After-rules_for-found}
 use Rattle.store_steps.proofs.later_step.Goals as goal
 

@@ -1,4 +1,3 @@
-use borrow.Author.Rules.{rules}
 use Rattle.laws.proofs.Tests.{shape-failed}
 use Rattle.store.proofs.Passed.{no_room}
 use Rattle.store_steps.specs.Called.{ninth_tests_with}

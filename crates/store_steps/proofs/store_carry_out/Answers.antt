@@ -4,7 +4,6 @@ use Rattle.definitions_close.specs.Store.{rules_answer_for}
 use Rattle.definitions_close.specs.StoreSteps.{StoreNinthCall, ninth_rules, store_carry_out}
 use Rattle.definitions_close.specs.Calls.{lent, store_ninth_called}
 use Rattle.store_steps.proofs.Steps.{ninth-with, ninth-turned, ninth-by}
-use borrow.Author.Rules.{rules}
 use Rattle.store_steps.proofs.store_carry_out.Goals.{After-ninth_rules-found}
 use Rattle.store_steps.proofs.store_carry_out.Goals as goal
 

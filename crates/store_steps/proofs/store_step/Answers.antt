@@ -5,7 +5,6 @@ use Rattle.definitions_close.specs.StoreSteps.{StoreStepCall, store_step}
 use Rattle.refusals.proofs.All.{fails, passes}
 use Rattle.definitions_close.specs.Calls.{lent, store_called, store_step_called}
 use Rattle.store_steps.proofs.Steps.{out_of_turn, first, later}
-use borrow.Author.Rules.{rules}
 use mathlib.Core.Path.{ap}
 use mathlib.Core.Bool.{not}
 use Rattle.store_steps.proofs.store_step.Goals.{Start}

@@ -1,4 +1,3 @@
-use Rattle.std.proofs.Common.{rules}
 use Rattle.survey.specs.Found.{all_fit}
 use Rattle.survey.proofs.all_fit.Goals as goal
 

@@ -1,4 +1,4 @@
-use Rattle.std.proofs.Common.{refl, rules, eq-eqb}
+use Rattle.std.proofs.Common.{refl, eq-eqb}
 use Rattle.definitions.specs.Document.Phase0.Helpers.{is_active_validator}
 use Rattle.definitions.specs.Document.Altair.Helpers.{is_unslashed_participating}
 use Rattle.survey.proofs.entry_sums.Goals as goal

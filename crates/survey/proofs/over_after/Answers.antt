@@ -1,4 +1,4 @@
-use Rattle.std.proofs.Common.{◌+◌, ◌^◌, arith, rules, le-ltb, lt-ltb}
+use Rattle.std.proofs.Common.{◌+◌, ◌^◌, arith, le-ltb, lt-ltb}
 use Rattle.survey.specs.Found.{over_after}
 use Rattle.survey.proofs.over_after.Goals as goal
 

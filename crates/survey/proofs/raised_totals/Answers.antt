@@ -1,4 +1,3 @@
-use Rattle.std.proofs.Common.{rules}
 use Rattle.survey.proofs.raised_totals.Goals as goal
 
 pub returns : goal.returns

@@ -1,7 +1,6 @@
 use Rattle.definitions.specs.Refusals.{good_validator}
 use Rattle.definitions.specs.Document.Phase0.Helpers.{is_active_validator}
 use Rattle.survey.specs.Found.{found_after}
-use Rattle.std.proofs.Common.{rules}
 use Rattle.survey.proofs.survey_entry.Goals as goal
 
 pub returns : goal.returns

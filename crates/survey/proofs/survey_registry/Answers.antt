@@ -1,7 +1,7 @@
-use Rattle.std.proofs.Common.{◌+◌, ◌-◌, ◌*◌, ◌<◌, arith, rules}
+use Rattle.std.proofs.Common.{◌+◌, ◌-◌, ◌*◌, ◌<◌, arith}
 use Rattle.laws.proofs.Loops.Reading.{reading_ten}
 use Rattle.selection.proofs.Kept.{kept_same}
-use Rattle.survey.proofs.Found.{Seeing, seeing_none, room-active, room-queue, seeing_more, seeing_all}
+use Rattle.survey.proofs.Found.{seeing_none, room-active, room-queue, seeing_more, seeing_all}
 use Rattle.survey.proofs.survey_registry.Goals.{In-loop-i}
 use Rattle.survey.proofs.survey_registry.Goals as goal
 

@@ -1,7 +1,5 @@
-use Rattle.std.proofs.Common.{◌+◌, ◌-◌, ◌*◌, ◌<◌, arith, rules}
-use Rattle.laws.proofs.Loops.Reading.{reading_ten}
-use Rattle.selection.proofs.Kept.{kept_same}
-use Rattle.survey.proofs.Found.{Seeing, seeing_none, room-active, room-queue, seeing_more, seeing_all}
+use Rattle.std.proofs.Common.{◌-◌}
+use Rattle.survey.proofs.Found.{Seeing}
 use Rattle.survey.proofs.survey_registry.Given as goal
 
 abbrev pub invariant-loop-i : goal.invariant-loop-i

@@ -1,5 +1,4 @@
 use native.Mathlib.Omega.{arith}
-use borrow.Author.Rules.{rules}
 use Rattle.totals.proofs.activation_limit.Goals as goal
 
 pub returns-in-AtMost : goal.returns-in-AtMost

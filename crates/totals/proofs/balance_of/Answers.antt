@@ -1,4 +1,3 @@
-use borrow.Author.Rules.{rules}
 use Rattle.totals.specs.Totals.{balance_for}
 use Rattle.totals.proofs.balance_of.Goals as goal
 

@@ -1,4 +1,3 @@
-use borrow.Author.Rules.{rules}
 use Rattle.leaf_refusals.proofs.registry_refusals.Passed.{slot_registry_passed}
 use Rattle.totals.proofs.Tested.{says-refused, says_plain}
 use Rattle.totals.proofs.charged.Goals as goal

@@ -1,4 +1,3 @@
-use borrow.Author.Rules.{rules}
 use native.Mathlib.Omega.{arith}
 use Rattle.totals.proofs.Genesis.{charged-none, charged-some}
 use Rattle.totals.proofs.charged_count.Goals as goal

@@ -1,5 +1,4 @@
 use Rattle.definitions.specs.Document.Phase0.Helpers.{get_validator_churn_limit, get_active_validator_indices}
-use borrow.Author.Rules.{rules}
 use Rattle.totals.proofs.churn_limit.Goals as goal
 
 pub returns : goal.returns

@@ -1,5 +1,4 @@
 use native.Mathlib.Omega.{arith}
-use borrow.Author.Rules.{rules}
 use Rattle.definitions.specs.Rust.Altair.Helpers.{get_unslashed_participating_indices}
 use Rattle.leaf_refusals.proofs.registry_refusals.Passed.{participation_passed}
 use Rattle.totals.proofs.WithRaised.{total-refused, total-after}

@@ -1,4 +1,3 @@
-use borrow.Author.Rules.{rules}
 use Rattle.leaf_refusals.proofs.registry_refusals.Passed.{slot_registry_passed}
 use Rattle.totals.proofs.WithRaised.{total-refused, total-after}
 use Rattle.totals.proofs.get_total_active_balance.Goals as goal

@@ -1,4 +1,3 @@
-use borrow.Author.Rules.{rules}
 use Rattle.totals.proofs.is_member.Goals as goal
 
 pub entry_is_participating-requires : goal.entry_is_participating-requires

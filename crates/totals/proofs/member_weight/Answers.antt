@@ -1,5 +1,4 @@
 use mathlib.Core.Path.{sym, ◌∙◌}
-use borrow.Author.Rules.{rules}
 use Rattle.totals.proofs.member_weight.Goals as goal
 
 pub returns-then-is_member : goal.returns-then-is_member

@@ -1,9 +1,8 @@
 use Prim.Native.Nat.{◌-◌}
 use native.Mathlib.Omega.{arith}
-use Rattle.totals.specs.Members.{is_member}
 use Rattle.laws.proofs.Loops.Reading.{reading_ten}
-use Rattle.laws.proofs.Loops.Summed.{Summed, summed-none, summed-more}
-use Rattle.totals.proofs.Sums.{weight, balance-summed, balance-over}
+use Rattle.laws.proofs.Loops.Summed.{summed-none, summed-more}
+use Rattle.totals.proofs.Sums.{balance-summed, balance-over}
 use Rattle.totals.proofs.members_balance.Goals as goal
 
 pub loop-i-init : goal.loop-i-init

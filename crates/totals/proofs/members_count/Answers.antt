@@ -1,8 +1,7 @@
 use Prim.Native.Nat.{◌-◌}
-use native.Mathlib.Omega.{arith}
 use borrow.Author.Tests.{not-true, not-false}
 use Rattle.totals.specs.Members.{is_member}
-use Rattle.laws.proofs.Loops.Counted.{Counted, counted_none, counted_yes, counted-no, counted-all}
+use Rattle.laws.proofs.Loops.Counted.{counted_none, counted_yes, counted-no, counted-all}
 use Rattle.laws.proofs.Loops.Reading.{reading_ten}
 use mathlib.Core.Path.{ap}
 use mathlib.Core.Bool.{not}

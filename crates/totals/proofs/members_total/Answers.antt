@@ -1,4 +1,3 @@
-use borrow.Author.Rules.{rules}
 use Rattle.arithmetic.proofs.Laws.{says-value, says_overflow}
 use Rattle.arithmetic.proofs.Operations.{only-sum64}
 use Rattle.totals.proofs.WithRaised.{total_of-sum, total-over}

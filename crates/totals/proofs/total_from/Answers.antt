@@ -1,4 +1,3 @@
-use borrow.Author.Rules.{rules}
 use Rattle.totals.specs.Totals.{total_from}
 use Rattle.totals.proofs.total_from.Goals as goal
 

@@ -1,4 +1,3 @@
-use borrow.Author.Rules.{rules}
 use Rattle.totals.proofs.WithRaised.{says-balance}
 use Rattle.totals.proofs.total_participating.Goals as goal
 

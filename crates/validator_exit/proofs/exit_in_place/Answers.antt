@@ -1,5 +1,4 @@
 use native.Mathlib.Omega.{arith}
-use borrow.Author.Rules.{rules}
 use Rattle.laws.proofs.Loops.Entry.{entry-ten}
 use Rattle.validator_exit.proofs.InPlace.{starts-few, pair-few, leaves-known, leaves-refused, leaves-written}
 use Rattle.validator_exit.proofs.exit_in_place.Goals as goal

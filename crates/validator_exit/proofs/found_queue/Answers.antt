@@ -1,4 +1,3 @@
-use borrow.Author.Rules.{rules}
 use Rattle.refusals.proofs.All.{fails, passes}
 use Rattle.refusals.proofs.Laws.{registry-shaped}
 use Rattle.validator_exit.proofs.Found.{found-shape, found_record, found-pair}

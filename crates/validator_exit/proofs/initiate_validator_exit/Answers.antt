@@ -1,5 +1,4 @@
 use native.Mathlib.Omega.{arith}
-use borrow.Author.Rules.{rules}
 use Rattle.validator_exit.proofs.queue_tests.Found.{found_passed}
 use Rattle.validator_exit.proofs.Tests.{turned-away, shape-refused, positive, long, seen-code, both-passed, all-passed, least-real, exit-done}
 use Rattle.validator_exit.proofs.initiate_validator_exit.Goals as goal

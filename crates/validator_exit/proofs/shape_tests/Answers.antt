@@ -1,4 +1,3 @@
-use borrow.Author.Rules.{rules}
 use Rattle.validator_exit.proofs.shape_tests.Goals as goal
 
 pub returns : goal.returns

@@ -6,7 +6,6 @@ use Rattle.arithmetic.proofs.Answers.{tells_truth, answers-value, answers_overfl
 use Rattle.epochs.proofs.roots.Codes.{given}
 use Rattle.epochs.proofs.roots.Lookups.{epoch-value}
 use Rattle.weighing.proofs.Tests.{only-justified, root-long, test-over, test-failed, test-refused, test-passed}
-use borrow.Author.Rules.{rules}
 use mathlib.Core.Bool.{not}
 use Rattle.weighing.proofs.test_epoch.Goals as goal
 

@@ -1,4 +1,3 @@
-use borrow.Author.Rules.{rules}
 use Rattle.weighing.proofs.Passed.{weigh-passed}
 use Rattle.weighing.proofs.Weighed.{previous-refused, current-refused, both-tested}
 use Rattle.weighing.proofs.weigh.Goals as goal

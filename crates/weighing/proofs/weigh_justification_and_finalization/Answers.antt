@@ -1,5 +1,4 @@
 use Rattle.weighing.proofs.Answers.{refused-first, then_works}
-use borrow.Author.Rules.{rules}
 use Rattle.weighing.proofs.weigh_justification_and_finalization.Goals as goal
 
 pub returns-then-refusal-ne0 : goal.returns-then-refusal-ne0

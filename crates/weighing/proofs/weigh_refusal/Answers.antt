@@ -1,4 +1,3 @@
-use borrow.Author.Rules.{rules}
 use Rattle.definitions.specs.LeafRefusals.{weigh_tests}
 use Rattle.weighing.proofs.weigh_refusal.Goals as goal
 

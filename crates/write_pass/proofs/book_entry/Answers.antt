@@ -1,6 +1,5 @@
 use native.Mathlib.Omega.{arith}
 use Rattle.write_pass.proofs.Nine.{nine-part, put-part}
-use borrow.Author.Rules.{rules}
 use Rattle.write_pass.proofs.book_entry.Goals as goal
 
 pub returns-then-amounts-b : goal.returns-then-amounts-b

@@ -1,7 +1,6 @@
 use mathlib.Core.Path.{◌∙◌}
 use Rattle.write_pass.proofs.Booked.{genesis-less, genesis-nine, paid-fits, paid-left, paid-nine}
 use native.Mathlib.Omega.{arith}
-use borrow.Author.Rules.{rules}
 use Rattle.write_pass.proofs.fill_entry.Goals as goal
 
 pub overflow_sub-from : goal.overflow_sub-from

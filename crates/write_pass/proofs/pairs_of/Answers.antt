@@ -1,6 +1,5 @@
 use mathlib.Core.Path.{sym, ◌∙◌}
 use Rattle.rates.proofs.reward_balances.Paired.{tells_pairs}
-use borrow.Author.Rules.{rules}
 use Rattle.write_pass.proofs.pairs_of.Goals as goal
 
 pub returns-in_default : goal.returns-in_default

@@ -1,7 +1,6 @@
 use mathlib.Core.Path.{◌∙◌}
 use Rattle.write_pass.specs.Filled.{left, Fits}
 use Rattle.write_pass.proofs.Booked.{nine-booked}
-use borrow.Author.Rules.{rules}
 use Rattle.write_pass.proofs.put_amounts.Goals as goal
 
 pub book-first-requires : goal.book-first-requires

@@ -1,7 +1,6 @@
 use lib.ListN.{length-set}
 use Rattle.write_pass.proofs.Nine.{nine-put}
 use native.Mathlib.Omega.{arith}
-use borrow.Author.Rules.{rules}
 use Rattle.write_pass.proofs.put_nine.Goals as goal
 
 pub bounds-nine-4 : goal.bounds-nine-4

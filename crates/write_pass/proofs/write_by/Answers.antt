@@ -2,7 +2,7 @@ use mathlib.Core.Path.{◌≡◌, sym, ◌∙◌}
 use Prim.Native.Nat.{◌+◌, ◌-◌, ◌*◌, ◌≤◌, ◌<◌}
 use lib.ListN.{length}
 use native.Mathlib.Omega.{arith}
-use Rattle.write_pass.proofs.Loop.{Passing, passing_none, passing_few, passing_balance, passing_from, passing_to, passing_inside, passing_ten, passing_between, passing_more, passing_stop, passing_all, passing_filled, passing_pair, passing_pair_few, passing_room, passing_exit}
+use Rattle.write_pass.proofs.Loop.{passing_none, passing_few, passing_balance, passing_from, passing_to, passing_inside, passing_ten, passing_between, passing_more, passing_stop, passing_all, passing_filled, passing_pair, passing_pair_few, passing_room, passing_exit}
 use Rattle.laws.proofs.Loops.Entry.{put_at}
 use Rattle.write_pass.proofs.write_by.Goals.{After-carry-1, After-write_entry-written, In-loop-i}
 use Rattle.write_pass.proofs.write_by.Goals as goal

@@ -1,9 +1,5 @@
-use mathlib.Core.Path.{◌≡◌, sym, ◌∙◌}
-use Prim.Native.Nat.{◌+◌, ◌-◌, ◌*◌, ◌≤◌, ◌<◌}
-use lib.ListN.{length}
-use native.Mathlib.Omega.{arith}
-use Rattle.write_pass.proofs.Loop.{Passing, passing_none, passing_few, passing_balance, passing_from, passing_to, passing_inside, passing_ten, passing_between, passing_more, passing_stop, passing_all, passing_filled, passing_pair, passing_pair_few, passing_room, passing_exit}
-use Rattle.laws.proofs.Loops.Entry.{put_at}
+use Prim.Native.Nat.{◌-◌}
+use Rattle.write_pass.proofs.Loop.{Passing}
 use Rattle.write_pass.proofs.write_by.Given as goal
 
 abbrev pub invariant-loop-i : goal.invariant-loop-i

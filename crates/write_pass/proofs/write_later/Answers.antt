@@ -1,5 +1,4 @@
 use native.Mathlib.Omega.{arith}
-use borrow.Author.Rules.{rules}
 use Rattle.definitions.specs.Record.{decode}
 use Rattle.rates.proofs.Table.{table_none}
 use Rattle.write_pass.proofs.Forks.{later_swept}

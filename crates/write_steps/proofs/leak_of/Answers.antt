@@ -1,5 +1,4 @@
 use mathlib.Core.Path.{sym, ◌∙◌}
-use borrow.Author.Rules.{rules}
 use Rattle.write_steps.proofs.Leak.{leak-none, leak-some}
 use Rattle.write_steps.proofs.leak_of.Goals as goal
 

@@ -1,5 +1,4 @@
 use native.Mathlib.Omega.{arith}
-use borrow.Author.Rules.{rules}
 use Rattle.write_steps.proofs.make_plan.Goals as goal
 
 pub returns : goal.returns

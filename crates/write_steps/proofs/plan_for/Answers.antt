@@ -1,4 +1,3 @@
-use borrow.Author.Rules.{rules}
 use Rattle.refusals.proofs.Laws.{good-settings}
 use Rattle.arithmetic.proofs.Laws.{says-value, says_overflow}
 use Rattle.arithmetic.proofs.Answers.{tells_truth, answers-value, answers_overflow}

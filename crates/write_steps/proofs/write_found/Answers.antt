@@ -2,7 +2,6 @@
 use mathlib.Core.Path.{refl}
 use Prim.Native.Nat.{◌<◌, ◌^◌}
 use native.Mathlib.Omega.{arith}
-use borrow.Author.Rules.{rules}
 use Rattle.definitions.specs.Record.{decode}
 use Rattle.refusals.proofs.Laws.{good-settings}
 use Rattle.refusals.proofs.buffers.Chained.{ran_overflow}

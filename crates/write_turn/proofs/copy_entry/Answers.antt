@@ -1,7 +1,6 @@
 use lib.ListN.{length-set}
 use Rattle.write_turn.proofs.Copied.{ten_copied}
 use native.Mathlib.Omega.{arith}
-use borrow.Author.Rules.{rules}
 use Rattle.write_turn.proofs.copy_entry.Goals as goal
 
 pub bounds-to-4 : goal.bounds-to-4

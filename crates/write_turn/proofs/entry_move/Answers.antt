@@ -1,7 +1,6 @@
 use Rattle.write_turn.proofs.Entry.{turn-steps, turn-few, admit_steps}
 use Rattle.write_turn.proofs.Sweeps.Steps.{after_then, after_stop}
 use native.Mathlib.Omega.{arith}
-use borrow.Author.Rules.{rules}
 use Rattle.write_turn.proofs.entry_move.Goals as goal
 
 pub returns-then-refusal-ne0 : goal.returns-then-refusal-ne0

@@ -2,7 +2,6 @@ use mathlib.Core.Path.{sym, ◌∙◌}
 use native.Mathlib.Omega.{arith}
 use Rattle.write_turn.proofs.Entry.{pays-none, pays-some, answer-scored, balance-scored}
 use Rattle.write_turn.proofs.Sweeps.Runs.{settles-runs, runs_then, runs-stop}
-use borrow.Author.Rules.{rules}
 use Rattle.write_turn.proofs.entry_pay.Goals as goal
 
 pub returns-then-h-eq0 : goal.returns-then-h-eq0

@@ -1,5 +1,4 @@
 use mathlib.Core.Path.{◌∙◌}
-use borrow.Author.Rules.{rules}
 use Rattle.write_turn.proofs.Entry.{churn-steps}
 use Rattle.write_turn.proofs.Sweeps.Runs.{settles-runs}
 use Rattle.write_turn.proofs.Sweeps.Steps.{last_then, last-stop}

@@ -1,4 +1,3 @@
-use borrow.Author.Rules.{rules}
 use Rattle.definitions.specs.Refusals.{effective_balance_tests}
 use Rattle.balances.proofs.effective_balances.effective_balance_tests.Goals as goal
 

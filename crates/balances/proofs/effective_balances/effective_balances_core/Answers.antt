@@ -1,4 +1,3 @@
-use borrow.Author.Rules.{rules}
 use Rattle.refusals.proofs.Laws.{good-settings}
 use Rattle.balances.proofs.effective_balances.Step.{updated-by, not_updated}
 use Rattle.balances.proofs.effective_balances.effective_balances_core.Goals as goal

@@ -1,4 +1,3 @@
-use borrow.Author.Rules.{rules}
 use Rattle.definitions.specs.Document.Phase0.EpochProcessing.{rounded_balance}
 use Rattle.laws.proofs.Encode.{ten}
 use Rattle.arithmetic.proofs.Operations.{only-add64}

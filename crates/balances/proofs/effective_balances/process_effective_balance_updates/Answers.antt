@@ -1,5 +1,4 @@
 use native.Mathlib.Omega.{arith}
-use borrow.Author.Rules.{rules}
 use Rattle.definitions.specs.Record.{encode}
 use Rattle.definitions.specs.Rust.Phase0.EpochProcessing.{process_effective_balance_updates}
 use Rattle.refusals.proofs.buffers.Closes.{closes-refused, step-put_back}

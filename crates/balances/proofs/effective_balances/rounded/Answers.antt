@@ -1,5 +1,4 @@
 use native.Mathlib.Nat.{mod-le}
-use borrow.Author.Rules.{rules}
 use Rattle.balances.proofs.effective_balances.rounded.Goals as goal
 
 pub overflow_sub-balance : goal.overflow_sub-balance

@@ -1,7 +1,5 @@
 use Prim.Native.Nat.{◌-◌}
-use native.Mathlib.Omega.{arith}
-use Rattle.definitions.specs.Rust.Phase0.EpochProcessing.{update_effective_balance}
-use Rattle.laws.proofs.Loops.Checking.{Checking, checking-none, checking-ten, checking-more, checking-stop, checking-all}
+use Rattle.laws.proofs.Loops.Checking.{checking-none, checking-ten, checking-more, checking-stop, checking-all}
 use Rattle.balances.proofs.effective_balances.update_all.Goals as goal
 
 pub loop-i-init : goal.loop-i-init

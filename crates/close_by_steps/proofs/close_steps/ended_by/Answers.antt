@@ -1,4 +1,3 @@
-use borrow.Author.Rules.{rules}
 use Rattle.close_by_steps.proofs.close_steps.ended_by.Goals as goal
 
 pub returns : goal.returns

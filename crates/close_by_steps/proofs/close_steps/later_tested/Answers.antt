@@ -3,7 +3,6 @@ use lib.ListN.{length}
 use Rattle.refusals.proofs.Laws.{good-finality}
 use Rattle.close_by_steps.proofs.close_steps.Done.{later-refused, later-goes}
 use native.Mathlib.Omega.{arith}
-use borrow.Author.Rules.{rules}
 use Rattle.close_by_steps.proofs.close_steps.later_tested.Goals as goal
 
 pub later_step-refusal-requires : goal.later_step-refusal-requires

@@ -1,6 +1,5 @@
 use Rattle.refusals.proofs.Laws.{good-settings}
 use Rattle.close_by_steps.proofs.later_steps.Later.{by-rewards, by-slashings, by-reset, by-plain}
-use borrow.Author.Rules.{rules}
 use Rattle.close_by_steps.proofs.later_steps.later_step.Goals as goal
 
 pub rewards_booked-requires : goal.rewards_booked-requires

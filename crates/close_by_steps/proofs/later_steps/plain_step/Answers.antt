@@ -1,7 +1,6 @@
 use borrow.Author.Tests.{eq-eqb, ne_eqb}
 use Rattle.laws.proofs.Loops.Ran.{ran-value}
 use Rattle.close_by_steps.specs.Later.{plain_by}
-use borrow.Author.Rules.{rules}
 use Rattle.close_by_steps.proofs.later_steps.plain_step.Goals as goal
 
 pub returns-then-done-eq1 : goal.returns-then-done-eq1

@@ -6,7 +6,6 @@ use Rattle.registry.proofs.Epochs.{epochs}
 use Rattle.registry.proofs.Step.{counted-limit, step_by_lem}
 use Rattle.close_by_steps.proofs.later_steps.Later.{ran-whole}
 use native.Mathlib.Omega.{arith}
-use borrow.Author.Rules.{rules}
 use Rattle.close_by_steps.proofs.later_steps.registry_core.Goals as goal
 
 pub current_epoch-epoch-requires : goal.current_epoch-epoch-requires

@@ -1,6 +1,5 @@
 use native.Mathlib.Omega.{arith}
 use Rattle.selection.proofs.Picking.{blank-length, blank_part}
-use borrow.Author.Rules.{rules}
 use Rattle.close_by_steps.proofs.later_steps.registry_in_place.Goals as goal
 
 pub registry_core-requires : goal.registry_core-requires

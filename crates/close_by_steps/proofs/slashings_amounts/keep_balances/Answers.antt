@@ -1,7 +1,6 @@
 use Prim.Native.Nat.{◌-◌}
 use mathlib.Core.Path.{refl, ◌∙◌}
-use Rattle.close_by_steps.specs.Taken.{balance_in}
-use Rattle.close_by_steps.proofs.slashings_amounts.Taken.{Putting, putting-none, putting-nine, putting-more, put_all, balance-is}
+use Rattle.close_by_steps.proofs.slashings_amounts.Taken.{putting-none, putting-nine, putting-more, put_all, balance-is}
 use native.Mathlib.Omega.{arith}
 use Rattle.close_by_steps.proofs.slashings_amounts.keep_balances.Goals as goal
 

@@ -1,5 +1,4 @@
 use Rattle.close_by_steps.proofs.slashings_amounts.Taken.{ninth-put}
-use borrow.Author.Rules.{rules}
 use Rattle.close_by_steps.proofs.slashings_amounts.put_ninth.Goals as goal
 
 pub returns : goal.returns

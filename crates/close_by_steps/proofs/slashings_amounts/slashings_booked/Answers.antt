@@ -1,5 +1,4 @@
 use Rattle.close_by_steps.proofs.slashings_amounts.Taken.{slashings-refused, slashings-taken}
-use borrow.Author.Rules.{rules}
 use Rattle.close_by_steps.proofs.slashings_amounts.slashings_booked.Goals as goal
 
 pub returns-then-refusal-ne0 : goal.returns-then-refusal-ne0

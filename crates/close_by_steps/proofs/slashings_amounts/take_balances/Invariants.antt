@@ -1,10 +1,8 @@
 use Prim.Native.Nat.{◌-◌}
-use mathlib.Core.Path.{refl, ◌∙◌, ap₂}
 use lib.ListN.{get_or}
 use Rattle.write_pass.specs.Filled.{nine_at}
 use Rattle.close_by_steps.specs.Taken.{balance_in}
-use Rattle.close_by_steps.proofs.slashings_amounts.Taken.{Putting, putting-none, putting-nine, putting-ninth, putting-more, taken-all, balance-is, lowered_is}
-use native.Mathlib.Omega.{arith}
+use Rattle.close_by_steps.proofs.slashings_amounts.Taken.{Putting}
 use Rattle.close_by_steps.proofs.slashings_amounts.take_balances.Given as goal
 
 abbrev pub invariant-loop-i : goal.invariant-loop-i

@@ -4,7 +4,6 @@ use Rattle.rates.proofs.reward_balances.Only.{only-all_applied}
 use Rattle.rates.proofs.reward_balances.Paired.{tells_pairs, only-four}
 use Rattle.close_by_steps.proofs.step_amounts.Rewards.{four-refused, balance-refused, entry-booked, fits-left}
 use native.Mathlib.Omega.{arith}
-use borrow.Author.Rules.{rules}
 use Rattle.close_by_steps.proofs.step_amounts.entry_reward_booked.Goals as goal
 
 pub returns-in_default : goal.returns-in_default

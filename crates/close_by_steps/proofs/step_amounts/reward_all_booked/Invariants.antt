@@ -1,10 +1,8 @@
 use Prim.Native.Nat.{◌-◌}
-use mathlib.Core.Path.{◌∙◌}
 use Rattle.definitions.specs.Rust.Altair.EpochProcessing.{reward_and_penalize}
 use Rattle.rewards.specs.Shared.{totals_of}
 use Rattle.close_by_steps.specs.Booked.{eight_of}
-use Rattle.close_by_steps.proofs.step_amounts.Rewards.{Booking, booking_none, booking_ten, booking_nine, booking_stop, booking_more, booking_all}
-use native.Mathlib.Omega.{arith}
+use Rattle.close_by_steps.proofs.step_amounts.Rewards.{Booking}
 use Rattle.close_by_steps.proofs.step_amounts.reward_all_booked.Given as goal
 
 abbrev pub invariant-loop-i : goal.invariant-loop-i

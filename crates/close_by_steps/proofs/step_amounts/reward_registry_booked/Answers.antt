@@ -1,4 +1,3 @@
-use borrow.Author.Rules.{rules}
 use Rattle.close_by_steps.proofs.step_amounts.reward_registry_booked.Goals as goal
 
 pub reward_all_booked-requires : goal.reward_all_booked-requires

@@ -2,7 +2,6 @@ use Rattle.refusals.proofs.Laws.{good-settings}
 use Rattle.arithmetic.proofs.Answers.{answers-value, answers_overflow}
 use Rattle.rewards_step.proofs.Step.{tells_totals, only-totals, totals-least}
 use Rattle.close_by_steps.proofs.step_amounts.Rewards.{refused-booked, genesis-booked, step-booked}
-use borrow.Author.Rules.{rules}
 use Rattle.close_by_steps.proofs.step_amounts.rewards_booked.Goals as goal
 
 pub current_epoch-current-requires : goal.current_epoch-current-requires

@@ -1,4 +1,3 @@
-use borrow.Author.Rules.{rules}
 use Rattle.definitions_electra.specs.Refusals.{credential_tests}
 use Rattle.electra_refusals.proofs.leaf_tests.credential_tests.Goals as goal
 

@@ -1,4 +1,3 @@
-use borrow.Author.Rules.{rules}
 use Rattle.definitions_electra.specs.Refusals.{exit_tests}
 use Rattle.electra_refusals.proofs.leaf_tests.exit_tests.Goals as goal
 

@@ -1,4 +1,3 @@
-use borrow.Author.Rules.{rules}
 use Rattle.definitions_electra.specs.Refusals.{slot_registry_tests}
 use Rattle.electra_refusals.proofs.leaf_tests.slot_registry_tests.Goals as goal
 

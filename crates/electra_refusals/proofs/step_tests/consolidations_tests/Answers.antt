@@ -1,4 +1,3 @@
-use borrow.Author.Rules.{rules}
 use Rattle.definitions_electra.specs.Refusals.{consolidations_tests}
 use Rattle.electra_refusals.proofs.step_tests.consolidations_tests.Goals as goal
 

@@ -1,4 +1,3 @@
-use borrow.Author.Rules.{rules}
 use Rattle.definitions_electra.specs.Refusals.{registry_tests}
 use Rattle.electra_refusals.proofs.step_tests.registry_tests.Goals as goal
 

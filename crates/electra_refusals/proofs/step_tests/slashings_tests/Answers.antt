@@ -1,4 +1,3 @@
-use borrow.Author.Rules.{rules}
 use Rattle.definitions_electra.specs.Refusals.{slashings_tests}
 use Rattle.electra_refusals.proofs.step_tests.slashings_tests.Goals as goal
 

@@ -2,7 +2,6 @@ use Rattle.arithmetic.proofs.Answers.{answers-value, answers_overflow}
 use Rattle.arithmetic.proofs.Operations.{only-add64}
 use Rattle.arithmetic.proofs.Laws.{says-value, says_overflow}
 use Rattle.electra_registry.proofs.Turns.{tells_churn, only-churn, exit-known, exit-full, exit-over, exit-written}
-use borrow.Author.Rules.{rules}
 use Rattle.electra_registry.proofs.exits.exit_by_balance.Goals as goal
 
 pub returns-then-entry : goal.returns-then-entry

@@ -1,6 +1,4 @@
-use native.Mathlib.Omega.{arith}
 use Rattle.electra_registry.proofs.Turns.{churn-none, churn-further, churn-fits}
-use borrow.Author.Rules.{rules}
 use Rattle.electra_registry.proofs.exits.exit_churn.Goals as goal
 
 pub returns-then-limit-eq0 : goal.returns-then-limit-eq0

@@ -1,5 +1,4 @@
 use mathlib.Core.Path.{◌∙◌}
-use borrow.Author.Rules.{rules}
 use Rattle.refusals.proofs.Laws.{small}
 use Rattle.arithmetic.proofs.Answers.{answers-value, answers_overflow}
 use Rattle.registry.proofs.Epochs.{epochs}

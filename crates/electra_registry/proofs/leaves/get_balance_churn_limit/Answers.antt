@@ -1,4 +1,3 @@
-use borrow.Author.Rules.{rules}
 use Rattle.epochs.proofs.Answers.{then-answers, refused_says}
 use Rattle.electra_refusals.proofs.Passed.{good-electra, slot_registry_passed}
 use Rattle.electra_registry.proofs.leaves.get_balance_churn_limit.Goals as goal

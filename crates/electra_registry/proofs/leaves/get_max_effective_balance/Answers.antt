@@ -1,4 +1,3 @@
-use borrow.Author.Rules.{rules}
 use borrow.Author.Tests.{eq-eqb, ne_eqb}
 use Rattle.epochs.proofs.Answers.{then-says, refused_says}
 use Rattle.definitions_electra.specs.Document.Electra.Helpers.{get_max_effective_balance}

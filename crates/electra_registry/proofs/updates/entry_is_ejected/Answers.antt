@@ -1,5 +1,4 @@
 use Rattle.refusals.proofs.All.{fails, passes}
-use borrow.Author.Rules.{rules}
 use mathlib.Core.Path.{ap}
 use mathlib.Core.Bool.{not}
 use Rattle.electra_registry.proofs.updates.entry_is_ejected.Goals as goal

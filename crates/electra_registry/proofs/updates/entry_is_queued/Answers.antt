@@ -1,5 +1,4 @@
 use borrow.Author.Tests.{eq-eqb, ne_eqb}
-use borrow.Author.Rules.{rules}
 use Rattle.electra_registry.proofs.updates.entry_is_queued.Goals as goal
 
 pub returns-then-entry : goal.returns-then-entry

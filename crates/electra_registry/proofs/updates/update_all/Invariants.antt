@@ -1,6 +1,5 @@
 use Prim.Native.Nat.{◌-◌}
-use native.Mathlib.Omega.{arith}
-use Rattle.electra_registry.proofs.Moves.{Updating, updating_none, updating_ten, updating_more, updating_stop, updating_all}
+use Rattle.electra_registry.proofs.Moves.{Updating}
 use Rattle.electra_registry.proofs.updates.update_all.Given as goal
 
 abbrev pub invariant-loop-i : goal.invariant-loop-i

@@ -1,6 +1,5 @@
 use Rattle.electra_registry.proofs.Turns.{turn-queued, turn-ejected, turn-activated, turn-stays}
 use mathlib.Core.Path.{sym, ◌∙◌}
-use borrow.Author.Rules.{rules}
 use Rattle.electra_registry.proofs.updates.update_entry.Goals as goal
 
 pub returns-then-entry_is_queued : goal.returns-then-entry_is_queued

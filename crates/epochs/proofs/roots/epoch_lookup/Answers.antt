@@ -3,7 +3,6 @@ use Rattle.definitions.specs.Checked.{code_of}
 use Rattle.definitions.specs.Rust.Phase0.Helpers.{compute_start_slot_at_epoch, get_block_root}
 use Rattle.arithmetic.proofs.Laws.{says-value, says_overflow, bind-value, bind-refused}
 use Rattle.arithmetic.proofs.Operations.{only-mul64}
-use borrow.Author.Rules.{rules}
 use Rattle.epochs.proofs.roots.epoch_lookup.Goals as goal
 
 pub returns-in_default : goal.returns-in_default

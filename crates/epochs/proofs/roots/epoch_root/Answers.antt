@@ -1,5 +1,4 @@
 use Rattle.definitions.specs.Document.Phase0.Helpers.{compute_start_slot_at_epoch, get_block_root}
-use borrow.Author.Rules.{rules}
 use Rattle.epochs.proofs.roots.epoch_root.Goals as goal
 
 pub returns : goal.returns

@@ -2,7 +2,6 @@ use mathlib.Core.Path.{sym, ap, ◌∙◌}
 use Rattle.epochs.specs.Bytes.{bytes_of}
 use Rattle.epochs.proofs.roots.Codes.{no_bytes}
 use Rattle.epochs.proofs.roots.Lookups.{found_after, epoch-value}
-use borrow.Author.Rules.{rules}
 use Rattle.epochs.proofs.roots.get_block_root.Goals as goal
 
 pub returns-then-get_block_root_refusal-ne0 : goal.returns-then-get_block_root_refusal-ne0

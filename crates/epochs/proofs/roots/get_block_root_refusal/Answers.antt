@@ -1,5 +1,4 @@
 use Rattle.epochs.proofs.roots.Codes.{code-refused, code-passed}
-use borrow.Author.Rules.{rules}
 use Rattle.epochs.proofs.roots.get_block_root_refusal.Goals as goal
 
 pub returns-then-refusal-ne0 : goal.returns-then-refusal-ne0

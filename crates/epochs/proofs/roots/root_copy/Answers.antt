@@ -1,5 +1,5 @@
 use mathlib.Core.Path.{sym}
-use Rattle.laws.proofs.Loops.Copied.{Copied, copied_none, copied_more, copied_all}
+use Rattle.laws.proofs.Loops.Copied.{copied_none, copied_more, copied_all}
 use Prim.Native.Nat.{◌-◌}
 use native.Mathlib.Omega.{arith}
 use Rattle.epochs.proofs.roots.root_copy.Goals as goal

@@ -1,5 +1,4 @@
 use Rattle.definitions.specs.LeafRefusals.{root_tests}
-use borrow.Author.Rules.{rules}
 use Rattle.epochs.proofs.roots.root_refusal.Goals as goal
 
 pub returns : goal.returns

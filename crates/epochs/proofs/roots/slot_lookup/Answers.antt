@@ -3,7 +3,6 @@ use Rattle.definitions.specs.Checked.{code_of}
 use Rattle.arithmetic.proofs.Laws.{says-value, says_overflow}
 use Rattle.arithmetic.proofs.Operations.{only-add64}
 use Rattle.epochs.proofs.roots.Lookups.{late, over, old, found}
-use borrow.Author.Rules.{rules}
 use Rattle.epochs.proofs.roots.slot_lookup.Goals as goal
 
 pub returns-then-state_slot-slot : goal.returns-then-state_slot-slot

@@ -3,7 +3,6 @@ use Prim.Native.Nat.{◌+◌, ◌-◌, ◌*◌, ◌%◌}
 use native.Mathlib.Nat.{mod-lt}
 use Rattle.definitions.specs.Document.Phase0.Helpers.{get_block_root_at_slot}
 use native.Mathlib.Omega.{arith}
-use borrow.Author.Rules.{rules}
 use Rattle.epochs.proofs.roots.slot_root.Goals as goal
 
 pub returns : goal.returns

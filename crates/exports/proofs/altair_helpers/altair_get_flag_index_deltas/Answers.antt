@@ -1,6 +1,5 @@
 use mathlib.Core.Path.{ap, ◌∙◌}
 use Rattle.definitions.specs.Plain.{plain_deltas}
-use borrow.Author.Rules.{rules}
 use Rattle.exports.proofs.altair_helpers.altair_get_flag_index_deltas.Goals as goal
 
 pub returns : goal.returns

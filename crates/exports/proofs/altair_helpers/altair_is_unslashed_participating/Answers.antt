@@ -1,6 +1,5 @@
 use mathlib.Core.Path.{ap, ◌∙◌}
 use Rattle.definitions.specs.Plain.{plain_truth}
-use borrow.Author.Rules.{rules}
 use Rattle.exports.proofs.altair_helpers.altair_is_unslashed_participating.Statement.{
   statement,
 }

@@ -1,6 +1,5 @@
 use mathlib.Core.Path.{ap, ◌∙◌}
 use Rattle.definitions.specs.Plain.{plain_number}
-use borrow.Author.Rules.{rules}
 use Rattle.exports.proofs.electra.electra_get_max_effective_balance.Goals as goal
 
 pub returns : goal.returns

@@ -1,6 +1,5 @@
 use mathlib.Core.Path.{ap, ◌∙◌}
 use Rattle.definitions.specs.Plain.{plain_number}
-use borrow.Author.Rules.{rules}
 use Rattle.exports.proofs.epoch_processing.altair_get_finality_delay.Goals as goal
 
 pub returns : goal.returns

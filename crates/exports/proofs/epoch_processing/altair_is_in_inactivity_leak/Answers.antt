@@ -1,6 +1,5 @@
 use mathlib.Core.Path.{ap, ◌∙◌}
 use Rattle.definitions.specs.Plain.{plain_truth}
-use borrow.Author.Rules.{rules}
 use Rattle.exports.proofs.epoch_processing.altair_is_in_inactivity_leak.Statement.{
   statement,
 }

@@ -4,7 +4,6 @@ use Prim.Native.Nat.{ℕ}
 use lib.IntN.{ℤ}
 use mir.Syntax.{w64}
 use mir.Val.{to_z, of_z}
-use borrow.Author.Rules.{rules}
 use Rattle.definitions.specs.Checked.{value}
 use Rattle.definitions.specs.NetChange.{net_change, change_for, plain_change}
 use Rattle.arithmetic.proofs.signed.Change.{given, signed}

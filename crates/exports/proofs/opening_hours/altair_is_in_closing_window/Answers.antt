@@ -1,6 +1,5 @@
 use mathlib.Core.Path.{ap, ◌∙◌}
 use Rattle.definitions.specs.Plain.{plain_truth}
-use borrow.Author.Rules.{rules}
 use Rattle.exports.proofs.opening_hours.altair_is_in_closing_window.Goals as goal
 
 pub returns : goal.returns

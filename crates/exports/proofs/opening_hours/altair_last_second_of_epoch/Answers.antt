@@ -1,6 +1,5 @@
 use mathlib.Core.Path.{ap, ◌∙◌}
 use Rattle.definitions.specs.Plain.{plain_number}
-use borrow.Author.Rules.{rules}
 use Rattle.exports.proofs.opening_hours.altair_last_second_of_epoch.Goals as goal
 
 pub returns : goal.returns

@@ -1,6 +1,5 @@
 use mathlib.Core.Path.{ap, ◌∙◌}
 use Rattle.definitions.specs.Plain.{plain_number}
-use borrow.Author.Rules.{rules}
 use Rattle.exports.proofs.opening_hours.altair_slot_at_time.Goals as goal
 
 pub returns : goal.returns

@@ -1,4 +1,3 @@
-use borrow.Author.Rules.{rules}
 use Rattle.exports.proofs.Roots.{answered-at_slot}
 use Rattle.exports.proofs.phase0_helpers.altair_get_block_root_at_slot.Statement.{
   statement,

@@ -1,6 +1,5 @@
 use mathlib.Core.Path.{ap, ◌∙◌}
 use Rattle.definitions.specs.Plain.{plain_number}
-use borrow.Author.Rules.{rules}
 use Rattle.exports.proofs.phase0_helpers.altair_get_validator_churn_limit.Statement.{
   statement,
 }

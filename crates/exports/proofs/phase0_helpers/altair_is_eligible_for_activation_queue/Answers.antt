@@ -1,6 +1,5 @@
 use mathlib.Core.Path.{ap, ◌∙◌}
 use Rattle.definitions.specs.Plain.{plain_truth}
-use borrow.Author.Rules.{rules}
 use Rattle.exports.proofs.phase0_helpers.altair_is_eligible_for_activation_queue.Statement.{
   statement,
 }

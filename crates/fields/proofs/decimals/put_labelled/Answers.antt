@@ -1,5 +1,4 @@
 use native.Mathlib.Omega.{arith}
-use borrow.Author.Rules.{rules}
 use Rattle.fields.proofs.decimals.Decimal.{twenty}
 use Rattle.fields.proofs.decimals.Put.{put, put-more}
 use Rattle.fields.proofs.decimals.put_labelled.Goals as goal

@@ -1,9 +1,7 @@
-use mathlib.Core.Path.{◌≡◌, refl, ◌∙◌}
-use Prim.Native.Nat.{◌≤◌, ◌<◌, ◌+◌, ◌-◌, ◌^◌}
-use native.Mathlib.Omega.{arith}
+use mathlib.Core.Path.{◌≡◌}
+use Prim.Native.Nat.{◌≤◌, ◌+◌, ◌-◌}
 use lib.ListN.{take, drop}
 use Rattle.definitions_file.specs.File.{from_little_endian}
-use Rattle.fields.proofs.reader.Bytes.{field_back, field_whole, field_small}
 use Rattle.fields.proofs.reader.number_at.Given as goal
 
 abbrev pub invariant-loop-k : goal.invariant-loop-k

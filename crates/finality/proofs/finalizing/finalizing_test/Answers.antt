@@ -1,4 +1,3 @@
-use borrow.Author.Rules.{rules}
 use borrow.Author.Tests.{le-leb, lt-leb}
 use Rattle.definitions_close.specs.FinalizingTest.{finalizing_test}
 use Rattle.refusals.proofs.Laws.{good-finality}

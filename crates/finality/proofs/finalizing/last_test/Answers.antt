@@ -1,6 +1,5 @@
 use mathlib.Core.Path.{sym, ◌∙◌}
 use Rattle.finality.proofs.finalizing.Runs.{last_test_by_runs_lem}
-use borrow.Author.Rules.{rules}
 use Rattle.finality.proofs.finalizing.last_test.Goals as goal
 
 pub returns-then-is_linked : goal.returns-then-is_linked

@@ -1,6 +1,5 @@
 use mathlib.Core.Path.{refl, ap}
 use native.Mathlib.Omega.{arith}
-use borrow.Author.Rules.{rules}
 use Rattle.definitions.specs.declared.CloseAnswer.{CloseAnswer}
 use Rattle.justification.proofs.justification_step.Answered.{answer-refused, answer-given, tests-passed}
 use Rattle.justification.proofs.justification_step.process_justification_and_finalization.Goals as goal

@@ -1,4 +1,3 @@
-use borrow.Author.Rules.{rules}
 use Rattle.definitions.specs.LeafRefusals.{participation_tests}
 use Rattle.leaf_refusals.proofs.registry_refusals.participation_tests.Goals as goal
 

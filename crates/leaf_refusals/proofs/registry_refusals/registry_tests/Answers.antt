@@ -1,4 +1,3 @@
-use borrow.Author.Rules.{rules}
 use Rattle.definitions.specs.Refusals.{registry_tests}
 use Rattle.leaf_refusals.proofs.registry_refusals.registry_tests.Goals as goal
 

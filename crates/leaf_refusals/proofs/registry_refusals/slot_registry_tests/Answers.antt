@@ -1,4 +1,3 @@
-use borrow.Author.Rules.{rules}
 use Rattle.definitions.specs.LeafRefusals.{slot_registry_tests}
 use Rattle.leaf_refusals.proofs.registry_refusals.slot_registry_tests.Goals as goal
 

@@ -5,7 +5,6 @@ use Rattle.definitions_close.specs.Orders.{carry_out}
 use Rattle.definitions_close.specs.Calls.{ninth_called}
 use Rattle.orders.proofs.ninth_call.Tests.{ready}
 use Rattle.orders.proofs.ninth_call.Carried.{turned-away, carries-out}
-use borrow.Author.Rules.{rules}
 use Rattle.orders.proofs.ninth_call.carry_out.Goals as goal
 
 pub returns-then-done-eq9 : goal.returns-then-done-eq9

@@ -2,7 +2,6 @@ use Rattle.refusals.proofs.Laws.{good-settings}
 use Rattle.laws.proofs.Bounds.{bounds}
 use Rattle.orders.proofs.ninth_call.Carried.{carried, real}
 use native.Mathlib.Omega.{arith}
-use borrow.Author.Rules.{rules}
 use Rattle.orders.proofs.ninth_call.carry_tested.Goals as goal
 
 pub current_epoch-epoch-requires : goal.current_epoch-epoch-requires

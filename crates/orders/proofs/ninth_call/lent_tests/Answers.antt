@@ -1,4 +1,3 @@
-use borrow.Author.Rules.{rules}
 use Rattle.refusals.proofs.rules.Tests.{rules-tested}
 use Rattle.orders.specs.Ninth.{lent_tests}
 use Rattle.orders.proofs.ninth_call.lent_tests.Goals as goal

@@ -1,6 +1,5 @@
 use native.Mathlib.Omega.{arith}
 use Rattle.outage.proofs.file_outage.Ends.{ends-early, ends_there}
-use borrow.Author.Rules.{rules}
 use Rattle.outage.proofs.file_outage.file_end.Goals as goal
 
 pub returns-then-input-next : goal.returns-then-input-next

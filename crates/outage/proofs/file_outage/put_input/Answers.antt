@@ -3,7 +3,6 @@ use native.Mathlib.Omega.{arith}
 use lib.Seq.{length-take-le}
 use Rattle.outage.proofs.Ended.{printed-same}
 use Rattle.outage.proofs.file_outage.Ends.{outage-long, outage-short, parted}
-use borrow.Author.Rules.{rules}
 use Rattle.outage.proofs.file_outage.put_input.Goals as goal
 
 pub returns-then-input-gt-MOST_INPUT : goal.returns-then-input-gt-MOST_INPUT

@@ -1,5 +1,4 @@
 use Rattle.outage.proofs.file_outage.Front.{too_short, long-enough}
-use borrow.Author.Rules.{rules}
 use Rattle.outage.proofs.file_outage.try_outage.Goals as goal
 
 pub returns-then-text-lt-LONGEST_OUTAGE : goal.returns-then-text-lt-LONGEST_OUTAGE

@@ -1,4 +1,3 @@
-use borrow.Author.Rules.{rules}
 use Rattle.laws.proofs.Encode.{ten}
 use Rattle.outage.proofs.outage_preparation.entry_flags.Goals as goal
 

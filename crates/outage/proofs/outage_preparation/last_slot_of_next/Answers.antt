@@ -1,6 +1,5 @@
 use native.Mathlib.Nat.{div-le_self}
 use native.Mathlib.Omega.{arith}
-use borrow.Author.Rules.{rules}
 use Rattle.definitions.specs.Document.Phase0.Helpers.{compute_epoch_at_slot, compute_start_slot_at_epoch, get_current_epoch}
 use Rattle.definitions_file.specs.OutagePreparation.{last_slot_of_next}
 use Rattle.outage.proofs.outage_preparation.Slots.{next}

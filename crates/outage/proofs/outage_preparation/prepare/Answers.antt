@@ -1,5 +1,4 @@
 use native.Mathlib.Omega.{arith}
-use borrow.Author.Rules.{rules}
 use Rattle.definitions_file.specs.OutageInput.{plan_of}
 use Rattle.outage.proofs.outage_preparation.Prepared.{prepares}
 use Rattle.outage.proofs.outage_preparation.prepare.Goals as goal

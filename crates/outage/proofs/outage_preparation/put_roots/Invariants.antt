@@ -1,8 +1,5 @@
-use Prim.Native.Nat.{◌+◌, ◌-◌, ◌%◌, ◌<◌}
-use native.Mathlib.Nat.{mod-lt}
-use native.Mathlib.Omega.{arith}
-use borrow.Author.Rules.{rules}
-use Rattle.outage.proofs.outage_preparation.Roots.{Rooting, rooting_none, rooting_more, rooting_all}
+use Prim.Native.Nat.{◌-◌}
+use Rattle.outage.proofs.outage_preparation.Roots.{Rooting}
 use Rattle.outage.proofs.outage_preparation.put_roots.Given as goal
 
 abbrev pub invariant-loop-i : goal.invariant-loop-i

@@ -1,10 +1,6 @@
 use Prim.Native.Nat.{◌-◌, ◌≤◌}
-use native.Mathlib.Omega.{arith}
-use borrow.Author.Rules.{rules}
 use Rattle.definitions_file.specs.OutagePreparation.{with_flags_at}
-use Rattle.laws.proofs.Loops.Entry.{entry-ten}
-use Rattle.registry.proofs.activation.Places.{Placed, placed-none, placed-more}
-use Rattle.outage.proofs.outage_preparation.Prepared.{flags-all}
+use Rattle.registry.proofs.activation.Places.{Placed}
 use Rattle.outage.proofs.outage_preparation.set_flags.Given as goal
 
 abbrev pub invariant-loop-i : goal.invariant-loop-i

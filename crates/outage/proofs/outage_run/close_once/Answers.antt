@@ -1,6 +1,5 @@
 use mathlib.Core.Path.{sym, ap, ◌∙◌}
 use native.Mathlib.Omega.{arith}
-use borrow.Author.Rules.{rules}
 use Rattle.definitions.specs.Rules.{altair_rules}
 use Rattle.definitions_file.specs.File.{Contents, contents_with}
 use Rattle.definitions.specs.Close.{Call, Outcome}

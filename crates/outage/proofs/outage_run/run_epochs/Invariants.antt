@@ -1,12 +1,9 @@
-use mathlib.Core.Path.{refl, ◌∙◌}
 use Prim.Native.Nat.{◌-◌, ◌/◌}
-use native.Mathlib.Omega.{arith}
 use lib.ListN.{length}
 use Rattle.definitions_file.specs.File.{contents_with}
 use Rattle.definitions_file.specs.OutageInput.{plan_of}
 use Rattle.outage.specs.Ready.{Ready}
-use Rattle.outage.proofs.outage_run.Slot.{went-small}
-use Rattle.outage.proofs.outage_run.Running.{Running, running_none, running_more, running-stop, running-all, ready-more, Lasting}
+use Rattle.outage.proofs.outage_run.Running.{Running, Lasting}
 use Rattle.outage.proofs.outage_run.run_epochs.Given as goal
 
 abbrev pub invariant-loop-i : goal.invariant-loop-i

@@ -1,6 +1,5 @@
 use native.Mathlib.Omega.{arith}
 use Rattle.outage.proofs.outage_run.Once.{went-same}
-use borrow.Author.Rules.{rules}
 use Rattle.outage.proofs.outage_run.try_epoch.Goals as goal
 
 pub prepare-moved-requires : goal.prepare-moved-requires

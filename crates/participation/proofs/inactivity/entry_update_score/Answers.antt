@@ -3,7 +3,6 @@ use Rattle.refusals.proofs.All.{fails, passes}
 use Rattle.laws.proofs.Loops.Checking.{settles-value, settles-refused}
 use Rattle.arithmetic.proofs.Laws.{says-value, says_overflow}
 use Rattle.participation.proofs.inactivity.Scores.{only-new, not_eligible, updated, not_updated, put-score}
-use borrow.Author.Rules.{rules}
 use mathlib.Core.Path.{ap}
 use mathlib.Core.Bool.{not}
 use Rattle.participation.proofs.inactivity.entry_update_score.Goals as goal

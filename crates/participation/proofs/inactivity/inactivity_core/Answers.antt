@@ -1,5 +1,4 @@
 use mathlib.Core.Path.{sym, refl}
-use borrow.Author.Rules.{rules}
 use borrow.Author.Tests.{ne_eqb}
 use Rattle.definitions.specs.Checked.{bind}
 use Rattle.definitions.specs.Rust.Altair.EpochProcessing.{process_inactivity_updates}

@@ -1,5 +1,4 @@
 use Rattle.definitions.specs.Rust.Altair.EpochProcessing.{moved_score}
-use borrow.Author.Rules.{rules}
 use Rattle.participation.proofs.inactivity.moved_score.Goals as goal
 
 pub returns-then-participating : goal.returns-then-participating

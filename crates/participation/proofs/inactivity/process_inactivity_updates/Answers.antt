@@ -5,7 +5,6 @@ use Rattle.definitions.specs.Record.{encode}
 use Rattle.definitions.specs.Rust.Altair.EpochProcessing.{process_inactivity_updates}
 use Rattle.refusals.proofs.buffers.Closes.{closes-refused, step-put_back}
 use Rattle.leaf_refusals.proofs.registry_refusals.Passed.{registry-passed}
-use borrow.Author.Rules.{rules}
 use Rattle.participation.proofs.inactivity.process_inactivity_updates.Goals as goal
 
 pub returns-then-refusal-ne0 : goal.returns-then-refusal-ne0

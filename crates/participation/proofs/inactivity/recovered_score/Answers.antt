@@ -1,5 +1,4 @@
 use Rattle.definitions.specs.Rust.Altair.EpochProcessing.{recovered_score}
-use borrow.Author.Rules.{rules}
 use Rattle.participation.proofs.inactivity.recovered_score.Goals as goal
 
 pub returns-then-leaking : goal.returns-then-leaking

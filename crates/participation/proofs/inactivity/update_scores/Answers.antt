@@ -1,6 +1,5 @@
 use Prim.Native.Nat.{◌-◌}
-use Rattle.definitions.specs.Rust.Altair.EpochProcessing.{update_inactivity_score}
-use Rattle.laws.proofs.Loops.Checking.{Checking, checking-none, checking-ten, checking-more, checking-stop, checking-all}
+use Rattle.laws.proofs.Loops.Checking.{checking-none, checking-ten, checking-more, checking-stop, checking-all}
 use native.Mathlib.Omega.{arith}
 use Rattle.participation.proofs.inactivity.update_scores.Goals as goal
 

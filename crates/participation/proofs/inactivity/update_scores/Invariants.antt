@@ -1,7 +1,6 @@
 use Prim.Native.Nat.{◌-◌}
 use Rattle.definitions.specs.Rust.Altair.EpochProcessing.{update_inactivity_score}
-use Rattle.laws.proofs.Loops.Checking.{Checking, checking-none, checking-ten, checking-more, checking-stop, checking-all}
-use native.Mathlib.Omega.{arith}
+use Rattle.laws.proofs.Loops.Checking.{Checking}
 use Rattle.participation.proofs.inactivity.update_scores.Given as goal
 
 abbrev pub invariant-loop-i : goal.invariant-loop-i

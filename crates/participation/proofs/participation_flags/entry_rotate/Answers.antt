@@ -1,4 +1,3 @@
-use borrow.Author.Rules.{rules}
 use Rattle.definitions.specs.Document.Altair.EpochProcessing.{rotate_participation}
 use Rattle.laws.proofs.Encode.{ten}
 use Rattle.participation.proofs.participation_flags.entry_rotate.Goals as goal

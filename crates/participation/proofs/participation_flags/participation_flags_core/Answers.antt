@@ -1,8 +1,7 @@
 use Prim.Native.Nat.{◌-◌}
-use native.Mathlib.Omega.{arith}
 use Rattle.definitions.specs.Document.Altair.EpochProcessing.{rotate_participation}
 use Rattle.definitions.specs.Rust.Altair.EpochProcessing.{process_participation_flag_updates}
-use Rattle.laws.proofs.Loops.Mapped.{Mapped, mapped-none, mapped-ten, mapped-more, mapped-all}
+use Rattle.laws.proofs.Loops.Mapped.{mapped-none, mapped-ten, mapped-more, mapped-all}
 use Rattle.participation.proofs.participation_flags.participation_flags_core.Goals as goal
 
 pub loop-i-init : goal.loop-i-init

@@ -1,8 +1,6 @@
 use Prim.Native.Nat.{◌-◌}
-use native.Mathlib.Omega.{arith}
 use Rattle.definitions.specs.Document.Altair.EpochProcessing.{rotate_participation}
-use Rattle.definitions.specs.Rust.Altair.EpochProcessing.{process_participation_flag_updates}
-use Rattle.laws.proofs.Loops.Mapped.{Mapped, mapped-none, mapped-ten, mapped-more, mapped-all}
+use Rattle.laws.proofs.Loops.Mapped.{Mapped}
 use Rattle.participation.proofs.participation_flags.participation_flags_core.Given as goal
 
 abbrev pub invariant-loop-i : goal.invariant-loop-i

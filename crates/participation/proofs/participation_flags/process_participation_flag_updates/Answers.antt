@@ -1,4 +1,3 @@
-use borrow.Author.Rules.{rules}
 use Rattle.definitions.specs.Record.{encode}
 use Rattle.refusals.proofs.buffers.Closes.{closes-refused, closes-plain}
 use Rattle.participation.proofs.participation_flags.Passed.{rotation_passed}

@@ -1,4 +1,3 @@
-use borrow.Author.Rules.{rules}
 use Rattle.definitions.specs.Refusals.{rotation_tests}
 use Rattle.participation.proofs.participation_flags.rotation_tests.Goals as goal
 

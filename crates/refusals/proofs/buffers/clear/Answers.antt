@@ -1,6 +1,6 @@
 use mathlib.Core.Path.{refl}
 use Prim.Native.Nat.{◌-◌}
-use Rattle.refusals.proofs.buffers.Clearing.{Clearing, clearing_more, clearing_all}
+use Rattle.refusals.proofs.buffers.Clearing.{clearing_more, clearing_all}
 use native.Mathlib.Omega.{arith}
 use Rattle.refusals.proofs.buffers.clear.Goals as goal
 

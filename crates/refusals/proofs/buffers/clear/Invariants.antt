@@ -1,7 +1,5 @@
-use mathlib.Core.Path.{refl}
 use Prim.Native.Nat.{◌-◌}
-use Rattle.refusals.proofs.buffers.Clearing.{Clearing, clearing_more, clearing_all}
-use native.Mathlib.Omega.{arith}
+use Rattle.refusals.proofs.buffers.Clearing.{Clearing}
 use Rattle.refusals.proofs.buffers.clear.Given as goal
 
 abbrev pub invariant-loop-i : goal.invariant-loop-i

@@ -1,6 +1,5 @@
 use Prim.Native.Nat.{◌-◌}
-use native.Mathlib.Omega.{arith}
-use Rattle.laws.proofs.Loops.Copied.{Copied, copied_none, copied_more, copied_all}
+use Rattle.laws.proofs.Loops.Copied.{copied_none, copied_more, copied_all}
 use Rattle.refusals.proofs.buffers.copy.Goals as goal
 
 pub loop-i-init : goal.loop-i-init

@@ -1,4 +1,3 @@
-use borrow.Author.Rules.{rules}
 use Rattle.definitions.specs.Rules.{good_bellatrix}
 use Rattle.refusals.proofs.rules.good_bellatrix.Goals as goal
 

@@ -1,4 +1,3 @@
-use borrow.Author.Rules.{rules}
 use Rattle.definitions.specs.Lists.{every}
 use Rattle.laws.proofs.Tests.{and_true}
 use Rattle.refusals.proofs.rules.good_limit.Goals as goal

@@ -1,7 +1,5 @@
 use Prim.Native.Nat.{◌-◌}
-use Rattle.registry.proofs.activation.Admitting.{Admitting, admitting_none, admitting_ten, admitting_more, admitting_all}
-use native.Mathlib.Omega.{arith}
-use Rattle.registry.proofs.activation.admit_entry.Reads as admit-entry-reads
+use Rattle.registry.proofs.activation.Admitting.{Admitting}
 use Rattle.registry.proofs.activation.admit_below.Given as goal
 
 abbrev pub invariant-loop-i : goal.invariant-loop-i

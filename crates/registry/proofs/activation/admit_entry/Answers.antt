@@ -6,7 +6,6 @@ use Rattle.laws.specs.Cut.{admit_one, queued_before, queued_at}
 use Rattle.laws.proofs.Encode.{ten}
 use Rattle.refusals.proofs.All.{fails, passes}
 use Rattle.definitions.specs.Record.{decode_one}
-use borrow.Author.Rules.{rules}
 use mathlib.Core.Path.{ap}
 use mathlib.Core.Bool.{not}
 use Rattle.registry.proofs.activation.admit_entry.Goals as goal

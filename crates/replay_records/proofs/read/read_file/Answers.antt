@@ -1,5 +1,4 @@
 use mathlib.Core.Path.{◌∙◌}
-use borrow.Author.Rules.{rules}
 use Rattle.record_file.proofs.Reading.{read-code, read-lengths}
 use Rattle.replay_records.proofs.read.read_file.Goals as goal
 

@@ -1,7 +1,6 @@
 use Rattle.arithmetic.proofs.Answers.{tells_number}
 use Rattle.rewards.proofs.base_rewards.After.{tests-refused, tests-passed}
 use Rattle.rewards.proofs.base_rewards.Tests.{entry_total_not_zero, total_entry_passed}
-use borrow.Author.Rules.{rules}
 use Rattle.rewards.proofs.base_rewards.get_base_reward.Goals as goal
 
 pub returns-then-refusal-ne0 : goal.returns-then-refusal-ne0

@@ -1,4 +1,3 @@
-use borrow.Author.Rules.{rules}
 use Rattle.definitions.specs.LeafRefusals.{total_tests}
 use Rattle.rewards.proofs.base_rewards.total_tests.Goals as goal
 

@@ -1,5 +1,4 @@
 use mathlib.Core.Path.{◌≡◌, sym, ap, ◌∙◌}
-use borrow.Author.Rules.{rules}
 use Rattle.definitions.specs.Checked.{code_of}
 use Rattle.definitions_file.specs.File.{Contents, read, contents_with}
 use Rattle.round_trip.specs.RoundTrip.{Below}

@@ -1,6 +1,5 @@
 use mathlib.Core.Path.{ap, ◌∙◌}
 use native.Mathlib.Omega.{arith}
-use borrow.Author.Rules.{rules}
 use Rattle.definitions_file.specs.File.{Contents, ReadOutcome, contents_with}
 use Rattle.round_trip.specs.RoundTrip.{TypedQueue}
 use Rattle.round_trip.proofs.file_round_trips.Types.{typed}

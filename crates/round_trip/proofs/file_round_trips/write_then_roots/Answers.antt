@@ -1,7 +1,6 @@
 use mathlib.Core.Path.{◌≡◌, ap, ◌∙◌}
 use mathlib.Core.Bool.{true}
 use native.Mathlib.Omega.{arith}
-use borrow.Author.Rules.{rules}
 use Rattle.definitions.specs.Checked.{code_of}
 use Rattle.definitions_file.specs.File.{Contents, contents_of, contents_with, good_header}
 use Rattle.refusals.proofs.Answers.{passed}

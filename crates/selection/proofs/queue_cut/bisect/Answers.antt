@@ -1,9 +1,7 @@
 use mathlib.Core.Path.{◌∙◌}
 use Prim.Native.Nat.{◌-◌}
 use Rattle.definitions.specs.Record.{decode}
-use Rattle.laws.specs.Cut.{eligible_now}
 use Rattle.selection.proofs.Waiting.{count-waiting}
-use Rattle.selection.specs.Bracket.{Bracket}
 use Rattle.selection.proofs.queue_cut.Bracket.{bracket_hit, bracket_low, bracket_high, bracket_done}
 use native.Mathlib.Omega.{arith}
 use Rattle.selection.proofs.queue_cut.bisect.Goals as goal

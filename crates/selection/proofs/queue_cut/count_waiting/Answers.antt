@@ -4,8 +4,8 @@ use lib.Dec.{ltb}
 use Prim.Native.Nat.{◌-◌}
 use borrow.Author.Tests.{lt-ltb, le-ltb}
 use Rattle.laws.proofs.Loops.Reading.{reading_ten}
-use Rattle.laws.proofs.Loops.Counted.{Counted, counted_none, counted_yes, counted-no, counted-all}
-use Rattle.selection.specs.Keep.{under, waiting_since}
+use Rattle.laws.proofs.Loops.Counted.{counted_none, counted_yes, counted-no, counted-all}
+use Rattle.selection.specs.Keep.{waiting_since}
 use native.Mathlib.Omega.{arith}
 use Rattle.selection.proofs.queue_cut.count_waiting.Goals as goal
 

@@ -1,12 +1,6 @@
-use mathlib.Core.Path.{ap}
-use Prim.Native.Nat.{ℕ}
-use lib.Dec.{ltb}
 use Prim.Native.Nat.{◌-◌}
-use borrow.Author.Tests.{lt-ltb, le-ltb}
-use Rattle.laws.proofs.Loops.Reading.{reading_ten}
-use Rattle.laws.proofs.Loops.Counted.{Counted, counted_none, counted_yes, counted-no, counted-all}
+use Rattle.laws.proofs.Loops.Counted.{Counted}
 use Rattle.selection.specs.Keep.{under, waiting_since}
-use native.Mathlib.Omega.{arith}
 use Rattle.selection.proofs.queue_cut.count_waiting.Given as goal
 
 abbrev pub invariant-loop-i : goal.invariant-loop-i

@@ -4,7 +4,6 @@ use Rattle.definitions.specs.Record.{decode}
 use Rattle.selection.proofs.Waiting.{count-waiting}
 use Rattle.selection.proofs.queue_cut.Bracket.{cut_all, kept-count, kept-few, bracket_start}
 use native.Mathlib.Omega.{arith}
-use borrow.Author.Rules.{rules}
 use Rattle.selection.proofs.queue_cut.cut_many.Goals as goal
 
 pub overflow_sub-result : goal.overflow_sub-result

@@ -1,7 +1,6 @@
 use native.Mathlib.Omega.{arith}
 use Rattle.selection.proofs.Waiting.{cut-kept}
 use Rattle.selection.proofs.queue_cut.Bracket.{cut-none}
-use borrow.Author.Rules.{rules}
 use Rattle.selection.proofs.queue_cut.cut_queue.Goals as goal
 
 pub returns-then-limit-eq0 : goal.returns-then-limit-eq0

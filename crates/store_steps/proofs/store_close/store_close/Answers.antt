@@ -1,6 +1,5 @@
 -- the call, and that its rules were asked
 use mathlib.Core.Path.{◌≡◌, ap, ◌∙◌}
-use borrow.Author.Rules.{rules}
 use Rattle.definitions_close.specs.Store.{rules_answer_for}
 use Rattle.definitions_close.specs.StoreClose.{StoreCall, rules_for}
 use Rattle.definitions_close.specs.Calls.{lent, store_called}

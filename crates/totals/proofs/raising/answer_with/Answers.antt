@@ -1,5 +1,4 @@
 use native.Mathlib.Omega.{arith}
-use borrow.Author.Rules.{rules}
 use borrow.Author.Tests.{eq-eqb, ne_eqb}
 use Rattle.totals.specs.Flags.{answer_with}
 use Rattle.totals.proofs.raising.answer_with.Goals as goal

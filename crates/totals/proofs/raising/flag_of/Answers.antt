@@ -1,4 +1,3 @@
-use borrow.Author.Rules.{rules}
 use Rattle.totals.specs.Flags.{flag_for}
 use Rattle.totals.proofs.raising.flag_of.Goals as goal
 

@@ -1,5 +1,4 @@
 use native.Mathlib.Omega.{arith}
-use borrow.Author.Rules.{rules}
 use borrow.Author.Tests.{le-leb, lt-leb}
 use Rattle.totals.specs.Flags.{raised_of}
 use Rattle.totals.proofs.raising.raised_of.Goals as goal

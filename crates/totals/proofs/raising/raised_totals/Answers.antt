@@ -1,7 +1,6 @@
 use mathlib.Core.Path.{◌∙◌}
 use Prim.Native.Nat.{◌^◌, ◌<◌}
 use native.Mathlib.Omega.{arith}
-use borrow.Author.Rules.{rules}
 use Rattle.totals.proofs.raising.Three.{three-raised, three-totals}
 use Rattle.totals.proofs.raising.raised_totals.Goals.{Start}
 use Rattle.totals.proofs.raising.raised_totals.Goals as goal

@@ -1,4 +1,3 @@
-use borrow.Author.Rules.{rules}
 use borrow.Author.Tests.{eq-eqb, ne_eqb}
 use Rattle.validator_exit.specs.Found.{found_tests}
 use Rattle.validator_exit.proofs.queue_tests.found_refusal.Goals as goal

@@ -1,4 +1,3 @@
-use borrow.Author.Rules.{rules}
 use Rattle.refusals.proofs.All.{fails, passes}
 use mathlib.Core.Path.{ap}
 use mathlib.Core.Bool.{not}
