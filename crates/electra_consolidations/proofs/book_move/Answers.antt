@@ -1,4 +1,3 @@
-use Rattle.std.proofs.Common.{rules}
 use Rattle.electra_consolidations.proofs.Moves.{booked-none, booked-both}
 use Rattle.electra_consolidations.proofs.book_move.Goals as goal
 

@@ -1,4 +1,3 @@
-use Rattle.std.proofs.Common.{rules}
 use Rattle.electra_consolidations.proofs.Consolidating.{moved-ran}
 use Rattle.electra_consolidations.proofs.consolidate.Goals as goal
 

@@ -1,7 +1,6 @@
-use Rattle.std.proofs.Common.{◌≡◌, ◌-◌, ◌/◌, true, length, refl, arith, rules}
-use Rattle.electra_consolidations.specs.Consolidations.{placed}
-use Rattle.electra_consolidations.proofs.Consolidating.{source-placed, target-placed, Going, going_none, going_left, going_stop, going_more, going_all}
-use Rattle.electra_consolidations.proofs.Moves.{Booking, booking_none, booking_left, booking_stop, booking_more, booking_all}
+use Rattle.std.proofs.Common.{refl, arith}
+use Rattle.electra_consolidations.proofs.Consolidating.{source-placed, target-placed, going_none, going_left, going_stop, going_more, going_all}
+use Rattle.electra_consolidations.proofs.Moves.{booking_none, booking_left, booking_stop, booking_more, booking_all}
 use Rattle.electra_consolidations.proofs.consolidate_all.Goals as goal
 
 pub loop-i-init : goal.loop-i-init
@@ -43,7 +42,7 @@ loop-i-preserved c =
     let p = c.loop-i.invariant.1 in
     let stopped = c.stops_at.ensures in
     let ran = c.consolidation_turn-refusal.ensures in
-    let more = going_more g (omega (arith, c.loop-i-test.true, c.loop-i.invariant.0)) refl refl stopped c.if-stops_at.false ran c.if-refusal-ne0.false c.consolidation_turn-refusal.auto.0 in
+    let more = going_more g (omega (arith, c.loop-i-test.true, c.loop-i.invariant.0)) refl refl stopped c.if-stops_at.false ran c.if-refusal-ne0.false c.consolidation_turn-refusal.auto.registry in
     let booked = booking_more g c.loop-i.invariant.3 (omega (arith, c.loop-i-test.true, c.loop-i.invariant.0)) refl refl stopped c.if-stops_at.false (source-placed _ _ _ (omega (arith, c.loop-i-test.true, c.loop-i.invariant.0)) p) (target-placed _ _ _ (omega (arith, c.loop-i-test.true, c.loop-i.invariant.0)) p) c.moved_from-moved.ensures c.book_move.ensures ran c.if-refusal-ne0.false in
     (c.loop-i.invariant.0, p, more, booked)
 

@@ -1,7 +1,7 @@
-use Rattle.std.proofs.Common.{◌≡◌, ◌-◌, ◌/◌, true, length, refl, arith, rules}
+use Rattle.std.proofs.Common.{◌≡◌, ◌-◌, ◌/◌, true, length}
 use Rattle.electra_consolidations.specs.Consolidations.{placed}
-use Rattle.electra_consolidations.proofs.Consolidating.{source-placed, target-placed, Going, going_none, going_left, going_stop, going_more, going_all}
-use Rattle.electra_consolidations.proofs.Moves.{Booking, booking_none, booking_left, booking_stop, booking_more, booking_all}
+use Rattle.electra_consolidations.proofs.Consolidating.{Going}
+use Rattle.electra_consolidations.proofs.Moves.{Booking}
 use Rattle.electra_consolidations.proofs.consolidate_all.Given as goal
 
 abbrev pub invariant-loop-i : goal.invariant-loop-i

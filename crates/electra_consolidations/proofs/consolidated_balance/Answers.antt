@@ -1,4 +1,3 @@
-use Rattle.std.proofs.Common.{rules}
 use Rattle.electra_consolidations.proofs.Consolidating.{balance-moved}
 use Rattle.electra_consolidations.proofs.consolidated_balance.Goals as goal
 

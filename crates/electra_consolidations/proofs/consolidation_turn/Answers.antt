@@ -1,4 +1,3 @@
-use Rattle.std.proofs.Common.{rules}
 use Rattle.electra_consolidations.proofs.Consolidating.{turn-slashed, turn_moved}
 use Rattle.electra_consolidations.proofs.consolidation_turn.Goals as goal
 

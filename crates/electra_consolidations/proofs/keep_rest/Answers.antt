@@ -1,4 +1,3 @@
-use Rattle.std.proofs.Common.{rules}
 use Rattle.electra_consolidations.proofs.Closing.{kept}
 use Rattle.electra_consolidations.proofs.keep_rest.Goals as goal
 

@@ -1,4 +1,3 @@
-use Rattle.std.proofs.Common.{rules}
 use Rattle.electra_consolidations.proofs.Consolidating.{moves-slashed, moves-balance}
 use Rattle.electra_consolidations.proofs.moved_from.Goals as goal
 

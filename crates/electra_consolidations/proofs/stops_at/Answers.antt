@@ -1,4 +1,3 @@
-use Rattle.std.proofs.Common.{rules}
 use Rattle.electra_consolidations.proofs.Consolidating.{stops-slashed, stops-later}
 use Rattle.electra_consolidations.proofs.stops_at.Goals as goal
 

@@ -1,4 +1,3 @@
-use borrow.Author.Rules.{rules}
 use Rattle.electra_refusals.proofs.Passed.{good-electra}
 use Rattle.registry.proofs.Epochs.{epochs}
 use Rattle.electra_registry.proofs.Loop.{registry-text}

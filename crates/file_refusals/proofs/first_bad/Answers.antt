@@ -1,11 +1,10 @@
 use mathlib.Core.Path.{◌≡◌, ◌∙◌}
-use Prim.Native.Nat.{◌+◌, ◌*◌, ◌-◌, ◌^◌, ◌≤◌, ◌<◌}
+use Prim.Native.Nat.{◌+◌, ◌*◌, ◌^◌, ◌≤◌, ◌<◌}
 use native.Mathlib.Omega.{arith}
 use borrow.Author.Count.{below_more}
-use borrow.Author.Rules.{rules}
 use Rattle.definitions_file.specs.File.{number_at}
 use Rattle.file_refusals.specs.Tests.{limit_at}
-use Rattle.file_refusals.proofs.Registry.{Allowed, Passing, passing_none, passing_more, passing_all, passing_stop}
+use Rattle.file_refusals.proofs.Registry.{passing_none, passing_more, passing_all, passing_stop}
 use Rattle.file_refusals.proofs.first_bad.Goals as goal
 
 pub validators-init : goal.validators-init

@@ -1,11 +1,6 @@
-use mathlib.Core.Path.{◌≡◌, ◌∙◌}
-use Prim.Native.Nat.{◌+◌, ◌*◌, ◌-◌, ◌^◌, ◌≤◌, ◌<◌}
-use native.Mathlib.Omega.{arith}
-use borrow.Author.Count.{below_more}
-use borrow.Author.Rules.{rules}
-use Rattle.definitions_file.specs.File.{number_at}
-use Rattle.file_refusals.specs.Tests.{limit_at}
-use Rattle.file_refusals.proofs.Registry.{Allowed, Passing, passing_none, passing_more, passing_all, passing_stop}
+use mathlib.Core.Path.{◌≡◌}
+use Prim.Native.Nat.{◌+◌, ◌*◌, ◌-◌, ◌≤◌}
+use Rattle.file_refusals.proofs.Registry.{Allowed, Passing}
 use Rattle.file_refusals.proofs.first_bad.Given as goal
 
 abbrev pub invariant-loop-k : goal.invariant-loop-k

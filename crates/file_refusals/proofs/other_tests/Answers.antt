@@ -1,6 +1,5 @@
 use mathlib.Core.Path.{ap, ◌∙◌}
 use native.Mathlib.Omega.{arith}
-use borrow.Author.Rules.{rules}
 use Rattle.definitions.specs.Checked.{code_of}
 use Rattle.definitions_file.specs.File.{contents_of}
 use Rattle.laws_file.proofs.Passed.{Header, good-header}

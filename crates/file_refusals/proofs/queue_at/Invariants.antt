@@ -1,10 +1,7 @@
-use mathlib.Core.Path.{◌≡◌}
-use Prim.Native.Nat.{◌+◌, ◌*◌, ◌-◌}
-use native.Mathlib.Omega.{arith}
+use Prim.Native.Nat.{◌*◌, ◌-◌}
 use lib.ListN.{drop}
 use Rattle.definitions_file.specs.File.{numbers_from_bytes}
-use Rattle.exit_queue.proofs.QueueOf.{Tracking, tracking_none, tracking_few, tracking_more, tracking_all}
-use Rattle.file_refusals.proofs.Registry.{numbers-long, exit-number}
+use Rattle.exit_queue.proofs.QueueOf.{Tracking}
 use Rattle.file_refusals.proofs.queue_at.Given as goal
 
 abbrev pub invariant-loop-i : goal.invariant-loop-i

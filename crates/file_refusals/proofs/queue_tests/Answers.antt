@@ -1,6 +1,5 @@
 use mathlib.Core.Path.{◌≡◌, ap, ◌∙◌}
 use native.Mathlib.Omega.{arith}
-use borrow.Author.Rules.{rules}
 use Rattle.definitions.specs.Record.{decode}
 use Rattle.definitions.specs.ExitQueue.{queue_of}
 use Rattle.definitions_file.specs.File.{version_of, validators_at, contents_of}

@@ -4,7 +4,6 @@ use mathlib.Core.Bool.{true}
 use mathlib.Core.List.{List}
 use Prim.Native.Nat.{ℕ}
 use native.Mathlib.Omega.{arith}
-use borrow.Author.Rules.{rules}
 use Rattle.definitions.specs.Refusals.{good_finality}
 use Rattle.definitions_file.specs.File.{version_of, validators_at, count_of, contents_of, good_header, stopped_at}
 use Rattle.refusals.proofs.All.{fails, passes}
@@ -32,15 +31,15 @@ from : (c : After-validators_at-from) → c.validators_at-from.result ≡ valida
 from c = c.validators_at-from.ensures ∙ ap validators_at c.read_counts-counts.ensures.3
 
 stopped : (c : After-first_bad-stopped) → let xs = bytes c.args.bytes.now in let at = validators_at (version_of xs) in c.first_bad-stopped.result ≡ stopped_at at (registry_in xs at (count_of xs))
-stopped c = rw (from c.After-validators_at-from, count c.After-read_counts-counts) at c.first_bad-stopped.ensures
+stopped c = rw (c.validators_at-from.ensures, c.read_counts-counts.ensures.3, c.read_counts-counts.ensures.0) at c.first_bad-stopped.ensures
 
 tested : (c : After-other_tests-others) → let a = c.args in Others a.bytes.now a.registry.now a.slashings.now c.other_tests-others.result
 unfolding contents_of
 tested c =
     let xs = bytes c.args.bytes.now in
     record {
-      header = header c.Else-not-good_header;
-      number = rw (stopped c.After-first_bad-stopped, from c.After-validators_at-from, count c.After-read_counts-counts, registry-tested xs (validators_at (version_of xs)) (count_of xs)) at c.other_tests-others.ensures;
+      header = passes c.good_header.ensures (ap not c.if-not-good_header.false);
+      number = rw (c.first_bad-stopped.ensures, c.validators_at-from.ensures, c.read_counts-counts.ensures.3, c.read_counts-counts.ensures.0, registry-tested xs (validators_at (version_of xs)) (count_of xs)) at c.other_tests-others.ensures;
     }
 
 -- the finality, where 3 was told

@@ -2,7 +2,7 @@
 -- than the limit, unless it was before. So do exits one after the other.
 use mathlib.Core.Path.{◌≡◌, ap}
 use mathlib.Core.Logic.{◌⊎◌, inl, inr, ⊎_elim}
-use mathlib.Core.List.{List, ◌∷◌}
+use mathlib.Core.List.{[], List, ◌∷◌}
 use Prim.Native.Nat.{ℕ, max, ◌≤◌, ◌<◌}
 use native.Mathlib.Omega.{arith}
 use lib.Dec.{T, leb, eqb, leb→le}
@@ -24,11 +24,13 @@ exit-fills s slot vs i {ws} p k x l =
 -- one of the limits is at most the largest, and at least 1 where all are
 at_most : (l : ℕ) (limits : List ℕ) → OneOf l limits → l ≤ maximum 0 limits
 unfolding maximum
+at_most l [] x = elim x [ ]
 at_most l (m ∷ ms) (inl e) = omega (arith, e)
 at_most l (m ∷ ms) (inr h) = omega (arith, at_most l ms h)
 
 at_least : (l : ℕ) (limits : List ℕ) → T (all (leb 1) limits) → OneOf l limits → 1 ≤ l
 unfolding all
+at_least l [] t x = elim x [ ]
 at_least l (m ∷ ms) t (inl e) = omega (arith, e, leb→le 1 m (T_left (leb 1 m) (all (leb 1) ms) t))
 at_least l (m ∷ ms) t (inr h) = at_least l ms (T_right (leb 1 m) (all (leb 1) ms) t) h
 

@@ -1,8 +1,5 @@
-use Prim.Native.Nat.{◌-◌}
-use native.Mathlib.Omega.{arith}
-use borrow.Author.Rules.{rules}
 use Rattle.arithmetic.proofs.signed.Change.{given, wide}
-use Rattle.listing_lines.proofs.Fitting.{Fitting, fitting_none, fitting_more, fitting_wide, fitting_all}
+use Rattle.listing_lines.proofs.Fitting.{fitting_none, fitting_more, fitting_wide, fitting_all}
 use Rattle.listing_lines.proofs.changes.Goals as goal
 
 pub loop-i-init : goal.loop-i-init

@@ -1,4 +1,3 @@
-use borrow.Author.Rules.{rules}
 use Rattle.listing_lines.proofs.head_core.Goals as goal
 
 pub returns : goal.returns

@@ -1,4 +1,3 @@
-use borrow.Author.Rules.{rules}
 use Rattle.definitions_file.specs.ListingAnswers.{head_tests}
 use Rattle.listing_lines.proofs.head_tests.Goals as goal
 

@@ -1,5 +1,4 @@
 use mathlib.Core.Path.{◌∙◌}
-use borrow.Author.Rules.{rules}
 use Rattle.arithmetic.proofs.signed.Change.{given, wide}
 use Rattle.listing_lines.proofs.LineNumbers.{line-wide, line_read}
 use Rattle.listing_lines.proofs.line_core.Goals as goal

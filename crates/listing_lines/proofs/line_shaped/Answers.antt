@@ -1,4 +1,3 @@
-use borrow.Author.Rules.{rules}
 use Rattle.listing_lines.specs.Told.{line_shaped}
 use Rattle.listing_lines.proofs.line_shaped.Goals as goal
 

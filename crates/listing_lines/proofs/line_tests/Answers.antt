@@ -1,7 +1,6 @@
 use mathlib.Core.Path.{◌≡◌, refl, sym, ◌∙◌}
 use mathlib.Core.Bool.{Bool}
 use native.Mathlib.Omega.{arith}
-use borrow.Author.Rules.{rules}
 use borrow.Author.Tests.{not-true, not-false}
 use lib.ListN.{get_or}
 use Rattle.laws.proofs.Loops.Entry.{entry-ten, entry-is}
@@ -18,10 +17,10 @@ shaped c = shape-passed _ _ _ c.line_shaped-shaped.ensures c.if-shaped-ne0.false
 
 -- what the test of either entry said
 opening-is : (c : After-good_entry) {b : Bool} → c.good_entry.result ≡ b → good_validator (get_or (decode c.args.opening.now) c.args.index nobody) ≡ b
-opening-is c e = let s = shaped c.Else-shaped-ne0 in rw (← entry-is _ _ _ s.long s.below) (sym c.good_entry.ensures ∙ e)
+opening-is c e = let s = shape-passed _ _ _ c.line_shaped-shaped.ensures c.if-shaped-ne0.false in rw (← entry-is _ _ _ s.long s.below) (sym c.good_entry.ensures ∙ e)
 
 closing-is : (c : After-good_entry-2) {b : Bool} → c.good_entry-2.result ≡ b → good_validator (get_or (decode c.args.closing.now) c.args.index nobody) ≡ b
-closing-is c e = let s = shaped c.Else-shaped-ne0 in rw (← entry-is _ _ _ (s.alike ∙ s.long) s.below) (sym c.good_entry-2.ensures ∙ e)
+closing-is c e = let s = shape-passed _ _ _ c.line_shaped-shaped.ensures c.if-shaped-ne0.false in rw (← entry-is _ _ _ (s.alike ∙ s.long) s.below) (sym c.good_entry-2.ensures ∙ e)
 
 pub returns-then-shaped-ne0 : goal.returns-then-shaped-ne0
 returns-then-shaped-ne0 c = shape-refused _ _ _ c.line_shaped-shaped.ensures c.if-shaped-ne0.true

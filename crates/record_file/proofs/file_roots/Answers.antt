@@ -3,7 +3,6 @@ use mathlib.Core.Bool.{true}
 use mathlib.Core.List.{List}
 use Prim.Native.Nat.{ℕ, ◌+◌, ◌-◌, ◌*◌, ◌≤◌}
 use native.Mathlib.Omega.{arith}
-use borrow.Author.Rules.{rules}
 use lib.ListN.{length, take, drop}
 use Rattle.definitions_file.specs.File.{version_of, validators_at, count_of, root_count_of, slashing_count_of, roots_at, contents_of, good_header}
 use Rattle.laws_file.proofs.Passed.{good-header}

@@ -1,6 +1,5 @@
 use mathlib.Core.Path.{sym, ap, ◌∙◌}
 use native.Mathlib.Omega.{arith}
-use borrow.Author.Rules.{rules}
 use Rattle.definitions_file.specs.File.{Contents, contents_of, read}
 use Rattle.record_file.proofs.Reading.{Lengths, read-refused, read-accepted, read-lengths, registry-part, slashings-part}
 use Prim.Native.Nat.{ℕ}

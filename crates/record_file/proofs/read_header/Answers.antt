@@ -1,6 +1,5 @@
 use mathlib.Core.Path.{◌≡◌, ◌∙◌}
 use mathlib.Core.Bool.{true}
-use borrow.Author.Rules.{rules}
 use Rattle.definitions_file.specs.File.{good_header}
 use Rattle.refusals.proofs.All.{fails, passes}
 use Rattle.laws_file.proofs.Passed.{good-header}

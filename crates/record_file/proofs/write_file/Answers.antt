@@ -1,5 +1,4 @@
 use mathlib.Core.Path.{sym, ◌∙◌}
-use borrow.Author.Rules.{rules}
 use Rattle.refusals.proofs.Answers.{passed}
 use Rattle.laws_file.proofs.Tests.{write_good}
 use Rattle.laws_file.proofs.Tests.{is-file}

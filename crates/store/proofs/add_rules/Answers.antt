@@ -1,6 +1,5 @@
 use Prim.Native.Nat.{◌+◌, ◌*◌, ◌≤◌}
 use native.Mathlib.Omega.{arith}
-use borrow.Author.Rules.{rules}
 use lib.ListN.{length}
 use Rattle.definitions_close.specs.Calls.{lent, new_entry}
 use Rattle.store.proofs.Added.{added-refused, added-accepted}

@@ -26,13 +26,13 @@ store store' count = lent store' count
 abbrev new : ℕ → Rules → Entry
 new start rules = new_entry start rules
 
+abbrev first : Store → Entry → Checked (Unit {0})
+first s new = in_order (addition_shaped s new ∷ []) (good_entries (entries s) ∷ good_rules new.rules ∷ []) []
+
 told : (c : After-in_order-refusal) → c.in_order-refusal.result ≡ code_of (first (store c.args.store.now c.args.count) (new c.args.start c.args.rules))
 unfolding addition_shaped
 told c =
     grouped _ _ _ (rw (c.store_shaped.ensures, c.rules_shaped.ensures, c.keeps_last.ensures, c.good_entries.ensures, c.good_rules.ensures) at c.in_order-refusal.ensures)
-
-abbrev first : Store → Entry → Checked (Unit {0})
-first s new = in_order (addition_shaped s new ∷ []) (good_entries (entries s) ∷ good_rules new.rules ∷ []) []
 
 -- x is the number of tests 1 and 2
 module _ (s : Store) (new : Entry) {x : ℕ} (e : x ≡ code_of (first s new)) where

@@ -1,8 +1,6 @@
-use Prim.Native.Nat.{◌-◌, ◌≤◌}
-use native.Mathlib.Omega.{arith}
+use Prim.Native.Nat.{◌≤◌}
 use Rattle.definitions_close.specs.Store.{entries_from}
-use Rattle.store.proofs.store_entries.Entries.{length-entries, start-at}
-use Rattle.store.proofs.Last.{Looking, looking_all, looking_found, looking_less, looking_none}
+use Rattle.store.proofs.Last.{Looking}
 use Rattle.store.proofs.find_entry.Given as goal
 
 abbrev pub invariant-loop-left : goal.invariant-loop-left

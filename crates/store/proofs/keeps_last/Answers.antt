@@ -1,7 +1,6 @@
 use mathlib.Core.Path.{ap, ◌∙◌}
 use Prim.Native.Nat.{◌-◌, ◌*◌, ◌<◌}
 use native.Mathlib.Omega.{arith}
-use borrow.Author.Rules.{rules}
 use Rattle.definitions.specs.declared.Rules.{Rules}
 use Rattle.definitions_close.specs.Store.{Entry, entries_from, keeps, last_of, of_last}
 use Rattle.store.proofs.store_entries.Entries.{part_length, part-is}

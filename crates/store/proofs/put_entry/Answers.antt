@@ -1,5 +1,4 @@
 use native.Mathlib.Omega.{arith}
-use borrow.Author.Rules.{rules}
 use lib.ListN.{length-append, length-take, length-drop, length-set}
 use Rattle.store.proofs.Put.{entry-put}
 use Rattle.store.proofs.put_entry.Goals as goal
@@ -8,7 +7,7 @@ pub slice_bounds-copy-end-2 : goal.slice_bounds-copy-end-2
 slice_bounds-copy-end-2 c = simp length-set (omega (arith, c.requires))
 
 pub shape_of-entry : goal.shape_of-entry
-shape_of-entry c = simp (length-append, length-take, length-drop, length-set) (omega (arith, c.requires, c.copy.auto.1.0))
+shape_of-entry c = simp (length-append, length-take, length-drop, length-set) (omega (arith, c.requires, c.copy.auto.to))
 
 pub returns : goal.returns
 returns c =

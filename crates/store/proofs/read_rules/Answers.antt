@@ -1,5 +1,4 @@
 use mathlib.Core.Path.{ap, ◌∙◌}
-use borrow.Author.Rules.{rules}
 use Rattle.definitions_close.specs.Store.{entries, store_tests, rules_at, read_rules}
 use Rattle.refusals.proofs.Answers.{after-passed, after-refused}
 use Rattle.definitions_close.specs.Calls.{lent}

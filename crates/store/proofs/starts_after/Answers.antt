@@ -1,6 +1,5 @@
 use Prim.Native.Nat.{◌<◌}
 use native.Mathlib.Omega.{arith}
-use borrow.Author.Rules.{rules}
 use Rattle.definitions_close.specs.Store.{entries_from, last_of, of_last}
 use Rattle.store.proofs.Last.{last_entry, last-start}
 use Rattle.store.proofs.starts_after.Goals as goal

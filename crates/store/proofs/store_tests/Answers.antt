@@ -1,4 +1,3 @@
-use borrow.Author.Rules.{rules}
 use Rattle.definitions_close.specs.Store.{store_tests}
 use Rattle.laws.proofs.Tests.{shape-failed}
 use Rattle.store.proofs.Passed.{no_room}

@@ -1,5 +1,4 @@
 use Rattle.votes.proofs.Answered.{ends-refused, ends-after}
-use borrow.Author.Rules.{rules}
 use Rattle.votes.proofs.unknown_votes.Goals as goal
 
 pub returns-then-refusal-ne0 : goal.returns-then-refusal-ne0

@@ -1,7 +1,5 @@
--- what is lent
 use mathlib.Core.Path.{◌≡◌}
 use Prim.Native.Nat.{◌<◌}
-use borrow.Author.Rules.{rules}
 use Rattle.definitions.specs.Checked.{code_of}
 use Rattle.definitions_votes.specs.Exact.{Ballot, current_of, previous_of}
 use Rattle.definitions_votes.specs.Votes.{ballot_of}
@@ -14,6 +12,7 @@ use mathlib.Core.List.{List}
 use Rattle.votes.proofs.votes_core.Goals.{After-epoch_lookup-before, After-epoch_lookup-now, Else-current-le1}
 use Rattle.votes.proofs.votes_core.Goals as goal
 
+-- what is lent
 abbrev ballot : Settings → List ℕ → Finality → List ℕ → List ℕ → Ballot
 ballot s roots old registry marks = ballot_of s roots old registry marks
 

@@ -4,7 +4,6 @@ use mathlib.Core.List.{List}
 use mathlib.Core.Path.{◌≡◌, ap, fun_ext}
 use Prim.Native.Nat.{ℕ}
 use lib.Dec.{ltb, leb-suc-suc}
-use borrow.Author.Rules.{rules}
 use Rattle.definitions.specs.Lists.{all}
 use Rattle.definitions_votes.specs.Filling.{good_mark}
 use Rattle.definitions_votes.specs.Votes.{votes_tests}

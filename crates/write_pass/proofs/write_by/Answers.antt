@@ -2,19 +2,19 @@ use mathlib.Core.Path.{◌≡◌, sym, ◌∙◌}
 use Prim.Native.Nat.{◌+◌, ◌-◌, ◌*◌, ◌≤◌, ◌<◌}
 use lib.ListN.{length}
 use native.Mathlib.Omega.{arith}
-use Rattle.write_pass.proofs.Loop.{passing_none, passing_few, passing_balance, passing_from, passing_to, passing_inside, passing_ten, passing_between, passing_more, passing_stop, passing_all, passing_filled, passing_pair, passing_pair_few, passing_room, passing_exit}
+use Rattle.write_pass.proofs.Loop.{Passing, passing_none, passing_few, passing_balance, passing_from, passing_to, passing_inside, passing_ten, passing_between, passing_more, passing_stop, passing_all, passing_filled, passing_pair, passing_pair_few, passing_room, passing_exit}
 use Rattle.laws.proofs.Loops.Entry.{put_at}
 use Rattle.write_pass.proofs.write_by.Goals.{After-carry-1, After-write_entry-written, In-loop-i}
 use Rattle.write_pass.proofs.write_by.Goals as goal
 
 -- the turn's entry stands in both registries, and came back with its ten numbers
-inside : (c : In-loop-i → let at = c.before in let i = at.loop.i in (10 * i + 10 ≤ length (start at).args.opening.now) × (10 * i + 10 ≤ length at.loop.closing) × (10 * i + 10 < 1152921504606846976)
+inside : (c : In-loop-i) → let i = c.loop-i.i in (10 * i + 10 ≤ length c.args.opening.now) × (10 * i + 10 ≤ length c.loop-i.closing) × (10 * i + 10 < 1152921504606846976)
 inside c = passing_inside c.loop-i.invariant c.loop-i-test.true
 
-ten : (c : After-write_entry-written → length c.write-entry.new.1.1.1.1.1.1.1.1.0 ≡ 10
+ten : (c : After-write_entry-written) → length c.write_entry-written.new.to.1.1.1.1.1.1.1.1.0 ≡ 10
 ten c = c.write_entry-written.auto.1.1.1.1.1.1.1.1.0 ∙ passing_to c.loop-i.invariant c.loop-i-test.true
 
-part_end : (c : After-carry-1 → let at-in-loop = turn (written c) in 10 * at-in-loop.before.loop.i + 10 ≤ length (put_at at-in-loop.before.loop.closing at-in-loop.before.loop.i c.write_entry-written.new.to.1.1.1.1.1.1.1.1.0)
+part_end : (c : After-carry-1) → 10 * c.loop-i.i + 10 ≤ length (put_at c.loop-i.closing c.loop-i.i c.write_entry-written.new.to.1.1.1.1.1.1.1.1.0)
 part_end c =
     passing_room c.loop-i.invariant c.loop-i-test.true c.write_entry-written.ensures c.if-refusal-ne0.false (ten c.After-write_entry-written)
 

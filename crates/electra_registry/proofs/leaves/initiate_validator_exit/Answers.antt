@@ -1,6 +1,5 @@
 use Prim.Native.Nat.{◌^◌, ◌<◌}
 use native.Mathlib.Omega.{arith}
-use borrow.Author.Rules.{rules}
 use Rattle.refusals.proofs.Laws.{small}
 use Rattle.registry.proofs.Epochs.{epochs}
 use Rattle.electra_refusals.proofs.Passed.{ExitPassed, exit-passed}

@@ -1,4 +1,3 @@
-use Prim.Native.Nat.{◌-◌}
 use native.Mathlib.Omega.{arith}
 use Rattle.electra_registry.proofs.Moves.{updating_none, updating_ten, updating_more, updating_stop, updating_all}
 use Rattle.electra_registry.proofs.updates.update_all.Goals as goal

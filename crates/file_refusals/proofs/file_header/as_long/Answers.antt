@@ -1,7 +1,6 @@
 use mathlib.Core.Path.{sym}
 use native.Mathlib.Omega.{arith}
 use borrow.Author.Tests.{eq-eqb, ne_eqb}
-use borrow.Author.Rules.{rules}
 use Rattle.definitions_file.specs.File.{file_length}
 use Rattle.file_refusals.proofs.file_header.as_long.Goals as goal
 

@@ -1,9 +1,8 @@
-use mathlib.Core.Bool.{and_false}
+use mathlib.Core.Bool.{and-false}
 use mathlib.Core.List.{List}
 use mathlib.Core.Path.{◌≡◌}
 use Prim.Native.Nat.{ℕ}
 use native.Mathlib.Omega.{arith}
-use borrow.Author.Rules.{rules}
 use borrow.Author.Tests.{le-leb, lt-leb, eqb-true}
 use lib.ListN.{length, get_or}
 use Rattle.definitions.specs.Lists.{every}
@@ -20,7 +19,7 @@ abbrev bytes : List ℕ → List ℕ
 bytes bytes' = bytes'
 
 abbrev found : After-read_numbers → List ℕ
-found c = c.read_numbers.new.numbers.1.1.0
+found c = c.read_numbers.new.numbers
 
 tests : (c : After-read_numbers) → good_header (bytes c.args.bytes.now) ≡ every (tests_by (bytes c.args.bytes.now) (found c))
 tests c = by-found (bytes c.args.bytes.now) (found c) c.read_numbers.ensures
@@ -31,16 +30,16 @@ returns-then-bytes-lt-SETTINGS_AT c = rw (lt-leb _ _ c.if-bytes-lt-SETTINGS_AT.t
 
 pub returns-then-version-lt1 : goal.returns-then-version-lt1
 unfolding every
-returns-then-version-lt1 c = rw (tests (goal.at.returns-then-version-lt1 c).After-read_numbers, lt-leb _ _ c.if-version-lt1.true) (simp and_false)
+returns-then-version-lt1 c = rw (tests (goal.at.returns-then-version-lt1 c).After-read_numbers, lt-leb _ _ c.if-version-lt1.true) (simp and-false)
 
 pub returns-then-version-gt2 : goal.returns-then-version-gt2
 unfolding every
-returns-then-version-gt2 c = rw (tests (goal.at.returns-then-version-gt2 c).After-read_numbers, lt-leb _ _ c.if-version-gt2.true) (simp and_false)
+returns-then-version-gt2 c = rw (tests (goal.at.returns-then-version-gt2 c).After-read_numbers, lt-leb _ _ c.if-version-gt2.true) (simp and-false)
 
 pub returns-then-not-as_long : goal.returns-then-not-as_long
 unfolding every
 returns-then-not-as_long c =
-    rw (tests (goal.at.returns-then-not-as_long c).After-read_numbers, fails c.as_long.ensures (ap not c.if-not-as_long.true)) (simp and_false)
+    rw (tests (goal.at.returns-then-not-as_long c).After-read_numbers, fails c.as_long.ensures (ap not c.if-not-as_long.true)) (simp and-false)
 
 pub header_of-called_for-requires : goal.header_of-called_for-requires
 header_of-called_for-requires c =

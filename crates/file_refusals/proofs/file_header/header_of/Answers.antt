@@ -1,4 +1,3 @@
-use borrow.Author.Rules.{rules}
 use Rattle.file_refusals.proofs.file_header.header_of.Goals as goal
 
 pub returns : goal.returns

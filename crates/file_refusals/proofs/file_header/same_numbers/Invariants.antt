@@ -1,10 +1,7 @@
-use mathlib.Core.Path.{◌≡◌, refl, sym, ◌∙◌}
+use mathlib.Core.Path.{◌≡◌}
 use Prim.Native.Nat.{◌≤◌, ◌-◌}
-use native.Mathlib.Omega.{arith}
-use borrow.Author.Tests.{eq-eqb, ne_eqb}
 use lib.ListN.{length, drop}
 use Rattle.definitions_file.specs.File.{same_numbers}
-use Rattle.file_refusals.proofs.file_header.Headers.{same_none, same_more}
 use Rattle.file_refusals.proofs.file_header.same_numbers.Given as goal
 
 abbrev pub invariant-loop-i : goal.invariant-loop-i

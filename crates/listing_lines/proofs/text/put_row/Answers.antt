@@ -1,5 +1,4 @@
 use native.Mathlib.Omega.{arith}
-use borrow.Author.Rules.{rules}
 use Rattle.fields.proofs.decimals.Put.{put-more}
 use Rattle.listing_lines.proofs.text.put_row.Goals as goal
 

@@ -1,13 +1,7 @@
-use mathlib.Core.Path.{refl, sym}
 use Prim.Native.Nat.{◌-◌}
-use native.Mathlib.Omega.{arith}
-use borrow.Author.Rules.{rules}
 use Rattle.definitions_close.specs.Store.{entries_from}
-use Rattle.refusals.proofs.All.{Passed, passed_none, passed-more, passed-stop, passed-all, fails, passes}
+use Rattle.refusals.proofs.All.{Passed}
 use Rattle.store.specs.Answers.{rules_pass}
-use Rattle.store.proofs.store_entries.Entries.{blank, length-entries, part_length, part-tested}
-use mathlib.Core.Path.{ap}
-use mathlib.Core.Bool.{not}
 use Rattle.store.proofs.store_entries.entries_pass.Given as goal
 
 abbrev pub invariant-loop-i : goal.invariant-loop-i

@@ -1,4 +1,3 @@
-use borrow.Author.Rules.{rules}
 use Rattle.definitions_close.specs.Store.{follows}
 use Rattle.store.proofs.store_entries.follows.Goals as goal
 

@@ -1,6 +1,5 @@
 use mathlib.Core.Bool.{Bool, true, false, cond}
 use mathlib.Core.Path.{◌≡◌, refl}
-use borrow.Author.Rules.{rules}
 use lib.Dec.{eqb}
 use Rattle.definitions.specs.Rules.{good_rules, good_bellatrix}
 use Rattle.refusals.specs.Refusal.{rules_refusal}

@@ -1,4 +1,3 @@
-use borrow.Author.Rules.{rules}
 use Rattle.definitions.specs.Rules.{rules_shaped}
 use Rattle.store.proofs.store_entries.rules_shaped.Goals as goal
 

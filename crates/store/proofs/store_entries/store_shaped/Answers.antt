@@ -1,5 +1,4 @@
 use mathlib.Core.Path.{sym, ◌∙◌}
-use borrow.Author.Rules.{rules}
 use Rattle.store.proofs.Passed.{no_room, in_room}
 use Rattle.store.proofs.store_entries.Entries.{three}
 use Rattle.store.proofs.store_entries.store_shaped.Goals as goal

@@ -1,4 +1,3 @@
-use borrow.Author.Rules.{rules}
 use Rattle.laws.proofs.Tests.{shape-failed}
 use Rattle.store.specs.Called.{tests_with}
 use Rattle.store.proofs.Passed.{no_room, grouped}

@@ -2,7 +2,6 @@ use mathlib.Core.Bool.{◌&&◌}
 use mathlib.Core.Path.{ap, ◌∙◌}
 use Prim.Native.Nat.{◌-◌, ◌*◌, ◌<◌}
 use native.Mathlib.Omega.{arith}
-use borrow.Author.Rules.{rules}
 use Rattle.definitions.specs.declared.Rules.{Rules}
 use Rattle.definitions.specs.Refusals.{roots_shaped, slashings_shaped}
 use Rattle.definitions_close.specs.Store.{Entry, entries_from, last_of, of_last}

@@ -1,6 +1,5 @@
 use mathlib.Core.Path.{◌∙◌}
 use native.Mathlib.Omega.{arith}
-use borrow.Author.Rules.{rules}
 use Rattle.definitions.specs.Checked.{bind}
 use Rattle.definitions_close.specs.Store.{entries_from, last_of}
 use Rattle.definitions_close.specs.StoreClose.{rules_at_slot}

@@ -1,5 +1,4 @@
 use mathlib.Core.Path.{◌∙◌, sym, ap}
-use borrow.Author.Rules.{rules}
 use Rattle.definitions_close.specs.Store.{rules_answer_for}
 use Rattle.store.proofs.store_rules.Given.{with-passed, with-refused, with-rules}
 use Rattle.store.proofs.store_rules.rules_for.Goals as goal

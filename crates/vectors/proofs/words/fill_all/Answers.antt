@@ -1,7 +1,4 @@
-use borrow.Author.Rules.{rules}
-use Prim.Native.Nat.{◌≤◌, ◌-◌, ◌*◌}
-use mathlib.Core.Path.{◌≡◌}
-use lib.ListN.{length, length-take, length-drop, length-set}
+use lib.ListN.{length-take, length-drop, length-set}
 use native.Mathlib.Omega.{arith}
 use Rattle.vectors.proofs.words.fill_all.Goals as goal
 

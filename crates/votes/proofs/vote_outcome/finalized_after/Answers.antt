@@ -2,7 +2,6 @@ use mathlib.Core.Path.{ap}
 use Rattle.definitions.specs.declared.Finality.{Finality}
 use Rattle.definitions.specs.Document.Phase0.EpochProcessing.{weighed}
 use Rattle.definitions_votes.specs.Votes.{finalized_after}
-use borrow.Author.Rules.{rules}
 use Rattle.votes.proofs.vote_outcome.finalized_after.Goals as goal
 
 pub returns : goal.returns

@@ -1,7 +1,6 @@
 use borrow.Author.Tests.{eq-eqb, ne_eqb, lt-ltb, le-ltb}
 use native.Mathlib.Omega.{arith}
 use Rattle.votes.specs.Epochs.{insert_into}
-use borrow.Author.Rules.{rules}
 use Rattle.votes.proofs.vote_outcome.inserted.Goals as goal
 
 pub returns-then-list-eq0 : goal.returns-then-list-eq0

@@ -1,4 +1,3 @@
-use borrow.Author.Rules.{rules}
 use Rattle.votes.proofs.vote_outcome.passes.Goals as goal
 
 pub returns : goal.returns

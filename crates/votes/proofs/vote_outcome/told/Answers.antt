@@ -1,6 +1,5 @@
 use Rattle.votes.proofs.vote_outcome.Shown.{four_inserted, told-answer}
 use Rattle.definitions_votes.specs.Votes.{outcome_of}
-use borrow.Author.Rules.{rules}
 use Rattle.votes.proofs.vote_outcome.told.Goals as goal
 
 pub returns : goal.returns

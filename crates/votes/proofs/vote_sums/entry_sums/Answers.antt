@@ -1,5 +1,4 @@
 use Rattle.votes.proofs.vote_sums.Entry.{same-sums}
-use borrow.Author.Rules.{rules}
 use Rattle.votes.proofs.vote_sums.entry_sums.Goals as goal
 
 pub returns : goal.returns

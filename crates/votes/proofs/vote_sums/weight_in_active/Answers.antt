@@ -1,7 +1,6 @@
 use mathlib.Core.Path.{sym, ◌∙◌}
 use Rattle.definitions_votes.specs.Filling.{none_set}
 use Rattle.votes.proofs.vote_sums.Entry.{active-is}
-use borrow.Author.Rules.{rules}
 use Rattle.votes.proofs.vote_sums.weight_in_active.Goals as goal
 
 pub returns : goal.returns

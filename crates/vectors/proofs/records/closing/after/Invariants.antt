@@ -1,9 +1,6 @@
-use borrow.Author.Rules.{rules}
 use Prim.Native.Nat.{◌≤◌, ◌-◌}
 use mathlib.Core.Path.{◌≡◌}
 use lib.ListN.{length}
-use native.Mathlib.Omega.{arith}
-use Rattle.vectors.proofs.records.closing.expected.Reads as expected-reads
 use Rattle.vectors.proofs.records.closing.after.Given as goal
 
 abbrev pub invariant-loop-i : goal.invariant-loop-i

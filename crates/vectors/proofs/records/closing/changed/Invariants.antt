@@ -1,7 +1,5 @@
-use borrow.Author.Rules.{rules}
 use Prim.Native.Nat.{◌≤◌, ◌-◌, ◌*◌}
 use lib.ListN.{length}
-use native.Mathlib.Omega.{arith}
 use Rattle.vectors.proofs.records.closing.changed.Given as goal
 
 abbrev pub invariant-loop-k : goal.invariant-loop-k
