@@ -13,17 +13,17 @@ use Rattle.outage.proofs.put_file.Goals.{After-good_tail, After-read_file-read, 
 use Rattle.outage.proofs.put_file.Goals as goal
 
 -- what was read is as long as the header calls for
-exact : (c : After-read_file-read) → let a = c.args in let read = c.read_file-read.new.slashings in Exact a.file.now a.opening.now a.absences.now read.0 read.1.0 a.roots.now a.closing_registry.now a.closing_slashings.now a.text.now
-exact c = let kept = c.read_file-read.auto.slashings in exact_read c.requires kept.0 kept.1.0
+exact : (c : After-read_file-read) → let a = c.args in let read = c.read_file-read.new in Exact a.file.now a.opening.now a.absences.now read.registry read.slashings a.roots.now a.closing_registry.now a.closing_slashings.now a.text.now
+exact c = let kept = c.read_file-read.auto in exact_read c.requires kept.registry kept.slashings
 
-opened : (c : Else-read-ne0) → let read = c.read_file-read.last.1 in Opened c.args.file.now c.read_file-read.result.settings c.read_file-read.result.finality read.0 read.1.0
+opened : (c : Else-read-ne0) → let read = c.read_file-read.new in Opened c.args.file.now c.read_file-read.result.settings c.read_file-read.result.finality read.registry read.slashings
 opened c =
     let e = c.read_file-read.ensures in
     opened-from c.requires e.refusal_value c.if-read-ne0.false e.settings_value e.finality_value e.registry_after e.slashings_after
 
 tested : (c : After-good_tail) → let a = c.args in c.good_tail.result ≡ good_tail (count_of a.file.now) a.tail.now
 tested c =
-    c.good_tail.ensures ∙ ap (λ (n : ℕ). good_tail n c.args.tail.now) (omega (arith, (exact c.After-read_file-read).entries))
+    c.good_tail.ensures ∙ ap (λ (n : ℕ). good_tail n c.args.tail.now) (let kept = c.read_file-read.auto in omega (arith, (exact_read c.requires kept.registry kept.slashings).entries))
 
 pub returns-then-read-ne0 : goal.returns-then-read-ne0
 returns-then-read-ne0 c =

@@ -20,10 +20,13 @@ put_run-requires c =
     let x = c.requires.exact in
     let o = c.requires.opened in
     let t = behind (goal.at.put_run-requires c).Start in
-    let n = c.read_number-epochs.ensures.0 in (
-      ready x o c.roots-1.given (simp (length-take, length-drop) (omega (arith, t.long))) c.absences-1.given,
-      (room x o (omega (arith, n, t.few)), ((shaped x o c.copy.ensures, c.copy.ensures), omega (arith, n, t.few, c.opening-1.given, x.openings, x.few, x.bytes))),
-    )
+    let n = c.read_number-epochs.ensures.0 in
+    record {
+      ready = ready x o c.put_bytes.auto.file (simp (length-take, length-drop) (omega (arith, t.long))) c.read_numbers.auto.numbers;
+      room = room x o (omega (arith, n, t.few));
+      opening_value = (shaped x o c.copy.ensures, c.copy.ensures);
+      opening_in_bounds = omega (arith, n, t.few, c.copy.auto.to, x.openings, x.few, x.bytes);
+    }
 
 pub returns : goal.returns
 returns c =

@@ -9,7 +9,7 @@ pub run_epochs-ran-requires : goal.run_epochs-ran-requires
 run_epochs-ran-requires c = record { ready = c.requires.ready; room = c.requires.room }
 
 pub put_refused-requires : goal.put_refused-requires
-put_refused-requires c = omega (arith, c.run_epochs-ran.ensures.inside, c.text-1.given, c.requires.opening_in_bounds)
+put_refused-requires c = omega (arith, c.run_epochs-ran.ensures.inside, c.run_epochs-ran.auto.text, c.requires.opening_in_bounds)
 
 pub returns-then-ran-ne0 : goal.returns-then-ran-ne0
 returns-then-ran-ne0 c =
@@ -22,7 +22,7 @@ returns-then-ran-ne0 c =
 pub put_rows-requires : goal.put_rows-requires
 put_rows-requires c =
     let e = ap length c.requires.opening_value.1 in
-    record { opening_value = (c.requires.opening_value.0, c.registry-1.given ∙ sym e); opening_in_bounds = omega (arith, c.run_epochs-ran.ensures.inside, c.text-1.given, c.requires.opening_in_bounds) }
+    record { opening_value = (c.requires.opening_value.0, c.run_epochs-ran.auto.registry ∙ sym e); opening_in_bounds = omega (arith, c.run_epochs-ran.ensures.inside, c.run_epochs-ran.auto.text, c.requires.opening_in_bounds) }
 
 pub returns : goal.returns
 returns c =

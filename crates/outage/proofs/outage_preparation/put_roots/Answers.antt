@@ -1,8 +1,7 @@
-use Prim.Native.Nat.{◌+◌, ◌-◌, ◌%◌, ◌<◌}
+use Prim.Native.Nat.{◌+◌, ◌%◌, ◌<◌}
 use native.Mathlib.Nat.{mod-lt}
 use native.Mathlib.Omega.{arith}
-use borrow.Author.Rules.{rules}
-use Rattle.outage.proofs.outage_preparation.Roots.{Rooting, rooting_none, rooting_more, rooting_all}
+use Rattle.outage.proofs.outage_preparation.Roots.{rooting_none, rooting_more, rooting_all}
 use Rattle.outage.proofs.outage_preparation.put_roots.Goals.{At-loop-i}
 use Rattle.outage.proofs.outage_preparation.put_roots.Goals as goal
 

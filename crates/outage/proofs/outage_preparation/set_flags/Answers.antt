@@ -1,4 +1,3 @@
-use Prim.Native.Nat.{◌-◌}
 use native.Mathlib.Omega.{arith}
 use Rattle.laws.proofs.Loops.Entry.{entry-ten}
 use Rattle.registry.proofs.activation.Places.{placed-none, placed-more}

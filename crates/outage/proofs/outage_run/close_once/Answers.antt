@@ -35,11 +35,11 @@ put_head-last-requires c =
 
 pub copy-requires : goal.copy-requires
 copy-requires c =
-    omega (arith, c.closing_registry-1.given, c.requires.entries)
+    omega (arith, c.close_as_altair-closed.auto.closing_registry, c.requires.entries)
 
 pub copy-requires-2 : goal.copy-requires-2
 copy-requires-2 c =
-    omega (arith, c.closing_slashings-1.given, c.requires.sums)
+    omega (arith, c.close_as_altair-closed.auto.closing_slashings, c.requires.sums)
 
 pub returns : goal.returns
 unfolding head_of
