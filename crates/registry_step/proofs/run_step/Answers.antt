@@ -4,7 +4,16 @@ use Rattle.registry_step.proofs.Run.{run-restored, run-done}
 use Rattle.registry_step.proofs.run_step.Goals as goal
 
 pub update_registry-done-requires : goal.update_registry-done-requires
-update_registry-done-requires c = (c.requires.s_value, (c.requires.state_slot_bound, ((c.requires.opening_len.0, c.copy.ensures), c.requires.1.1.1)))
+update_registry-done-requires c =
+    let a = c.requires in
+    record {
+      s_value = a.s_value;
+      state_slot_bound = a.state_slot_bound;
+      opening_len = (a.opening_len.0, c.copy.ensures);
+      stop_in_bounds = a.stop_in_bounds;
+      queue_value = a.queue_value;
+      finds = a.finds;
+    }
 
 pub returns-then-done-ne0 : goal.returns-then-done-ne0
 returns-then-done-ne0 c =
