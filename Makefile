@@ -34,7 +34,7 @@ compile := $(CC) -std=c11 -Wall -Wextra -fPIC -ffile-prefix-map=$(CURDIR)=. $(CF
 link := $(CC) $(LDFLAGS) -Wl,--build-id=none
 
 # without what rt makes there
-sources := crates.txt $(shell find crates -path '*/out' -prune -o -name '*.rt' -print)
+sources = crates.txt $(shell find crates -path '*/out' -prune -o -name '*.rt' -print)
 programs := close_record try_outage
 
 .PHONY: all programs run install uninstall stage release wheel deb test clean

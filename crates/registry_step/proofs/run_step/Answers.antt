@@ -5,14 +5,13 @@ use Rattle.registry_step.proofs.run_step.Goals as goal
 
 pub update_registry-done-requires : goal.update_registry-done-requires
 update_registry-done-requires c =
-    let a = c.requires in
     record {
-      s_value = a.s_value;
-      state_slot_bound = a.state_slot_bound;
-      opening_len = (a.opening_len.0, c.copy.ensures);
-      stop_in_bounds = a.stop_in_bounds;
-      queue_value = a.queue_value;
-      finds = a.finds;
+      s_value = c.requires.s_value;
+      state_slot_bound = c.requires.state_slot_bound;
+      opening_len = (c.requires.opening_len.0, c.copy.ensures);
+      stop_in_bounds = c.requires.stop_in_bounds;
+      queue_value = c.requires.queue_value;
+      finds = c.requires.finds;
     }
 
 pub returns-then-done-ne0 : goal.returns-then-done-ne0

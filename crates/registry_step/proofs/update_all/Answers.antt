@@ -1,3 +1,4 @@
+use Prim.Native.Nat.{◌-◌}
 use native.Mathlib.Omega.{arith}
 use Rattle.registry.proofs.Turns.{updating_none, updating_few, updating_ten, updating_more, updating_stop, updating_all}
 use Rattle.registry_step.proofs.update_all.Goals as goal
