@@ -1,9 +1,9 @@
 -- What the types hold of a record that passes the tests.
-use mathlib.Core.Path.{◌≡◌, sym, ◌∙◌}
-use mathlib.Core.List.{List, [], ◌∷◌, map}
+use mathlib.Core.Path.{◌≡◌}
+use mathlib.Core.List.{List, [], ◌∷◌}
 use Prim.Native.Nat.{ℕ, ◌^◌, ◌<◌}
 use native.Mathlib.Omega.{arith}
-use lib.ListN.{length, get_or, length-map}
+use lib.ListN.{length, get_or}
 use mir.Val.{Val}
 use denote.Array.{Array, each}
 use denote.Builtin.{u8}
@@ -22,7 +22,7 @@ use Rattle.round_trip.proofs.Numbers.{below_nil, below_cons}
 use Rattle.laws_file.proofs.Tests.{write_good}
 
 -- an array of bytes in a struct
-each_below : (xs : List ℕ) (us : List Val) → shadow (each ℕ u8.own_val (map (λ (x : ℕ). x) xs) us) → Below 256 xs
+each_below : (xs : List ℕ) (us : List Val) → shadow (each ℕ u8.own_val xs us) → Below 256 xs
 each_below [] [] s = below_nil
 each_below [] (u ∷ us) s = absurd s
 each_below (x ∷ xs) [] s = absurd s
@@ -32,9 +32,9 @@ record Root (c : Checkpoint) : Type 0 where
   long : length c.root ≡ 32
   bytes : Below 256 c.root
 
-root : (c : Checkpoint) {vs : List Val} → Is (Array u8 32) (map (λ (x : ℕ). x) c.root) vs → Root c
+root : (c : Checkpoint) {vs : List Val} → Is (Array u8 32) c.root vs → Root c
 root c p =
-    record { long = sym (length-map c.root (λ (x : ℕ). x)) ∙ p.1.0.1; bytes = each_below c.root p.0 p.1.1 }
+    record { long = p.1.0.1; bytes = each_below c.root p.0 p.1.1 }
 
 -- settings, slot, bits and epochs that pass 2 and 3 fit their types
 settings-below : {s : Settings} → SmallSettings s → Below (2 ^ 64) (settings_numbers s)

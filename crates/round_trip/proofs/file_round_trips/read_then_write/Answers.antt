@@ -7,18 +7,18 @@ use Rattle.round_trip.proofs.file_round_trips.RoundTrips.{contents-found, same_b
 use Rattle.round_trip.proofs.file_round_trips.read_then_write.Goals as goal
 
 pub returns-then-read-ne0 : goal.returns-then-read-ne0
-returns-then-read-ne0 c = absurd (c.if-read-ne0.true (c.read_file-read.ensures.refusal_value ∙ read-code _ _ _ ∙ ap code_of p.tests))
+returns-then-read-ne0 c p = absurd (c.if-read-ne0.true (c.read_file-read.ensures.refusal_value ∙ read-code _ _ _ ∙ ap code_of p.tests))
 
 pub file_roots-roots-requires : goal.file_roots-roots-requires
 file_roots-roots-requires c = (read-lengths _ _ _ (c.read_file-read.ensures.refusal_value ∙ read-code _ _ _) c.if-read-ne0.false).header
 
 pub returns : goal.returns
-returns c =
+returns c p =
     let a = c.args in
     let found = c.read_file-read in
     let e = found.ensures in
-    let k : Contents = contents_with found.result.settings found.result.finality found.last.1.0 c.file_roots-roots.result.now found.last.1.1.0 in
+    let k : Contents = contents_with found.result.settings found.result.finality found.new.registry c.file_roots-roots.result.now found.new.slashings in
     let roots = c.file_roots-roots.ensures ∙ sym (ap (λ (x : Contents). x.roots) (contents-found a.bytes.now a.registry.now a.slashings.now p.tests)) in
-    let same : k ≡ (read a.bytes.now a.registry.now a.slashings.now).contents = λ i. record { settings = e.1.1.0 i; finality = e.1.1.1.0 i; registry = e.1.1.1.1.1.0 i; roots = roots i; slashings = e.1.1.1.1.1.1 i } in
+    let same : k ≡ (read a.bytes.now a.registry.now a.slashings.now).contents = λ i. record { settings = e.settings_value i; finality = e.finality_value i; registry = e.registry_after i; roots = roots i; slashings = e.slashings_after i } in
     let bytes : Below 256 a.bytes.now = record { each = λ i l. (c.shared_slice_known-1.given i).fits } in
-    same_bytes _ _ _ _ k found.result.queue bytes same e.1.1.1.1.0 c.write_file.ensures.value c.write_file.ensures.file_after p
+    same_bytes _ _ _ _ k found.result.queue bytes same e.queue_value c.write_file.ensures.value c.write_file.ensures.file_after p

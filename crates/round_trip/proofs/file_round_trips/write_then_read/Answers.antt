@@ -18,7 +18,7 @@ pair : (c : Start) → TypedQueue c.args.queue
 pair c = record { last = omega (arith, c.well_formed); number = omega (arith, c.well_formed) }
 
 pub returns : goal.returns
-returns c =
+returns c p =
     let a = c.args in
     let e = c.read_file.ensures in
     let t = typed (contents c.args.settings c.args.finality c.args.registry.now c.args.roots.now c.args.slashings.now) a.queue a.file.now p.tests c.well_formed.1.0 (λ i. (c.shared_slice_known-1.given i).fits) (λ i. (c.shared_slice_known-2-1.given i).fits) (λ i. (c.shared_slice_known-3-1.given i).fits) in
