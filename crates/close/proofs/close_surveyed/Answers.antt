@@ -14,10 +14,12 @@ pub slashings_reset_core-requires : goal.slashings_reset_core-requires
 slashings_reset_core-requires c = (ap length c.copy.ensures ∙ c.requires.tested.slashings, c.requires.tested.settings)
 
 pub returns-then-answer-eq0 : goal.returns-then-answer-eq0
-returns-then-answer-eq0 c = (closed-done c.run_steps-stepped.ensures.limited_worked (omega (arith, c.if-answer-eq0.true)) (c.slashings_reset_core.ensures ∙ ap (reset_slashings _ _) c.copy.ensures), c.run_steps-stepped.ensures.1)
+returns-then-answer-eq0 c =
+    let stepped = c.run_steps-stepped.ensures in
+    record { steps_closed = closed-done c.run_steps-stepped.ensures.limited_worked (omega (arith, c.if-answer-eq0.true)) (c.slashings_reset_core.ensures ∙ ap (reset_slashings _ _) c.copy.ensures); books = stepped.books; pair_of = stepped.pair_of }
 
 pub copy-requires-2 : goal.copy-requires-2
-copy-requires-2 c = omega (arith, c.requires.closing_registry_len.0, c.closing_registry-1.given)
+copy-requires-2 c = omega (arith, c.requires.closing_registry_len.0, c.run_steps-stepped.auto.closing_registry)
 
 pub returns : goal.returns
 returns c = record { steps_closed = closed-refused c.run_steps-stepped.ensures.limited_worked (λ y. omega (arith, c.if-answer-eq0.false)) refl (λ same. search rules) (λ none. search rules) c.copy-2.ensures c.copy.ensures; books = record { booked = λ z. absurd (omega (arith, z, c.if-answer-eq0.false)) }; pair_of = record { pair = λ z. absurd (omega (arith, z, c.if-answer-eq0.false)) } }

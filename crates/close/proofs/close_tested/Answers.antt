@@ -24,7 +24,7 @@ ep : (c : Start) → Epochs c.args.s c.args.finality.slot
 ep c = let p = c.requires.tested.settings in epochs c.args.s c.args.finality.slot p.good (small _ p.small)
 
 tested : (r : Rules) (c : After-survey_registry-found) → code_of (record_tests (call r c.args.finality c.args.registry.now c.args.slashings.now c.args.roots.now c.args.closing_registry.now c.args.closing_slashings.now)) ≡ 0 → c.survey_registry-found.result.refusal ≡ code_of (close_tests (call r c.args.finality c.args.registry.now c.args.slashings.now c.args.roots.now c.args.closing_registry.now c.args.closing_slashings.now))
-tested r c z = entries-tested Churn (call r.args.finality r.args.registry.now r.args.slashings.now r.args.roots.now r.args.closing_registry.now r.args.closing_slashings.now (start c)) (sym z) refl c.survey-registry.ensures.tested
+tested r c z = entries-tested Churn (call r c.args.finality c.args.registry.now c.args.slashings.now c.args.roots.now c.args.closing_registry.now c.args.closing_slashings.now) (sym z) refl c.survey_registry-found.ensures.tested
 
 pub current_epoch-current-requires : goal.current_epoch-current-requires
 current_epoch-current-requires c =

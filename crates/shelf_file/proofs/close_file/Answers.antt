@@ -24,7 +24,7 @@ head c = both _ _ (passes c.on_shelf.ensures (ap not c.if-not-on_shelf.false))
 counts : (c : After-read_counts-counts) → let n = c.read_counts-counts.result in Counts c.args.file.now (10 * n.validators) (10 * n.validators + n.slashings)
 counts c =
     let e = c.read_counts-counts.ensures in
-    let h = head c.Else-not-on_shelf in
+    let h = both _ _ (passes c.on_shelf.ensures (ap not c.if-not-on_shelf.false)) in
     record {
       header = h.0;
       second = eqb-true _ 2 h.1;

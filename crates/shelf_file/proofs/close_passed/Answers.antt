@@ -3,7 +3,6 @@ use mathlib.Core.Path.{◌≡◌, sym, ap, ◌∙◌}
 use mathlib.Core.List.{List, ◌++◌}
 use Prim.Native.Nat.{ℕ, ◌-◌, ◌≤◌}
 use native.Mathlib.Omega.{arith}
-use borrow.Author.Rules.{rules}
 use lib.ListN.{length, take, drop}
 use Rattle.definitions_file.specs.File.{contents_of}
 use Rattle.fields.proofs.Stores.{sets-whole}
@@ -15,13 +14,13 @@ use Rattle.shelf_file.proofs.close_passed.Goals as goal
 
 -- the working list as it was read
 abbrev numbers : After-file_roots-roots → List ℕ
-numbers c = c.read_opening.new.numbers.1.1.1.0
+numbers c = c.read_opening.new.numbers
 
 ordered : (c : Start) → c.args.a ≤ c.args.b
 ordered c = omega (arith, c.requires.counted.counts)
 
 within : (c : After-file_roots-roots) → c.args.b ≤ length (numbers c)
-within c = omega (arith, c.requires.counted.room, c.read_opening.auto)
+within c = omega (arith, c.requires.counted.room, c.read_opening.auto.numbers)
 
 read : (c : After-file_roots-roots) → let a = c.args in FileRead a.rules a.file.now c.settings_under-s.result c.read_finality-finality.result (take a.a (numbers c)) (numbers_behind a.a a.b (numbers c)) c.file_roots-roots.result.now
 unfolding contents_of
@@ -37,8 +36,8 @@ read c =
     }
 
 -- the slashings after their reset, in the list
-behind : (c : After-slashings_reset_core) → let a = c.args in let ys = c.slashings_reset_core.new.slashings.1.1.0 in numbers_behind a.a a.b (take a.a (numbers c.After-file_roots-roots) ++ (ys ++ drop (a.b - a.a) (drop a.a (numbers c.After-file_roots-roots)))) ≡ ys
-behind c = behind-put _ _ _ _ (ordered c.Start) (within c.After-file_roots-roots) c.slashings_reset_core.auto.slashings.1.1.0
+behind : (c : After-slashings_reset_core) → let a = c.args in let ys = c.slashings_reset_core.new.slashings in numbers_behind a.a a.b (take a.a c.read_opening.new.numbers ++ (ys ++ drop (a.b - a.a) (drop a.a c.read_opening.new.numbers))) ≡ ys
+behind c = behind-put c.args.a c.args.b c.read_opening.new.numbers c.slashings_reset_core.new.slashings (omega (arith, c.requires.counted.counts)) (omega (arith, c.requires.counted.room, c.read_opening.auto.numbers)) c.slashings_reset_core.auto.slashings
 
 pub close_opening-answer-requires : goal.close_opening-answer-requires
 close_opening-answer-requires c =
@@ -51,7 +50,7 @@ returns-then-answer-ne0 c =
 pub put_closed-requires : goal.put_closed-requires
 put_closed-requires c =
     let p = c.requires in
-    record { a_le_b = (ordered (goal.at.put_closed-requires c).Start, omega (arith, within (goal.at.put_closed-requires c).After-file_roots-roots, c.numbers-2-1.given)); sized = sized (read (goal.at.put_closed-requires c).After-file_roots-roots) (c.closing-1.given ∙ p.closing_len.0 ∙ p.counted.counts.registry) (ap length (behind (goal.at.put_closed-requires c).After-slashings_reset_core) ∙ c.slashings_reset_core.auto.slashings.1.1.0) p.closing_len.1 }
+    record { a_le_b = (ordered (goal.at.put_closed-requires c).Start, omega (arith, within (goal.at.put_closed-requires c).After-file_roots-roots)); sized = sized (read (goal.at.put_closed-requires c).After-file_roots-roots) (c.closing-1.given ∙ p.closing_len.0 ∙ p.counted.counts.registry) (ap length (behind (goal.at.put_closed-requires c).After-slashings_reset_core) ∙ c.slashings_reset_core.auto.slashings) p.closing_len.1 }
 
 pub returns : goal.returns
 returns c =

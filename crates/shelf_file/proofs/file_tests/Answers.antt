@@ -1,6 +1,5 @@
 use mathlib.Core.Path.{refl, ap, ◌∙◌}
 use native.Mathlib.Omega.{arith}
-use borrow.Author.Rules.{rules}
 use lib.ListN.{length-take}
 use Rattle.definitions.specs.declared.Rules.{Rules}
 use Rattle.refusals.specs.Refusal.{rules_refusal}

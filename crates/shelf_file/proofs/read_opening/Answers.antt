@@ -19,4 +19,4 @@ pub read_numbers-requires-2 : goal.read_numbers-requires-2
 read_numbers-requires-2 c = let p = c.requires in simp length-take (omega (arith, p.counts, counts-long p.counts))
 
 pub returns : goal.returns
-returns c = opened c.requires c.read_numbers.last.1.1.0 c.read_numbers-2.new.numbers.1.1.0 c.read_numbers.ensures c.read_numbers-2.ensures
+returns c = opened c.requires c.read_numbers.new.numbers c.read_numbers-2.new.numbers c.read_numbers.ensures c.read_numbers-2.ensures
