@@ -6,10 +6,12 @@
 #   make release                      target/release: an archive to hand on and its sha256 sum, the same bytes each time
 #   make wheel                        target/release: the Python wheel, which carries the shared library, and its sha256 sum
 #   make deb                          target/release: Debian packages of library, development files, Python package and commands
+#   make programs                     target/bin: the proved programs, close_record and try_outage
 #   make test                         tests/run
+#   make clean                        removes target/
 #
-# The proved functions are the archive that `rt staticlib exports` writes; PROVED=FILE names one that was made elsewhere. The proved
-# program that altair-outage runs is target/bin/try_outage, which `rt check try_outage` writes; PROGRAMS=FOLDER names another folder.
+# The proved functions are the archive that packaging/archive writes; PROVED=FILE names one that was made elsewhere. The proved program
+# that altair-outage runs is target/bin/try_outage, which `make programs` writes; PROGRAMS=FOLDER names another folder.
 VERSION := 5.0.0
 INTERFACE := $(firstword $(subst ., ,$(VERSION)))
 PREFIX ?= /usr/local
@@ -22,7 +24,7 @@ out := target/altair
 stage := target/stage/$(release)
 manifest := share/doc/altair/SHA256SUMS
 shared := libaltair.so.$(VERSION)
-PROVED ?= target/staticlib/libexports.a
+PROVED ?= crates/exports/out/libexports.a
 PROGRAMS ?= target/bin
 # every file of tools/ that can be run is installed as altair-NAME; tools/crates reads the repository's own sources
 commands := $(filter-out crates,$(notdir $(shell find tools -maxdepth 1 -type f -perm -u=x | LC_ALL=C sort)))
@@ -31,20 +33,33 @@ python := share/altair/python
 compile := $(CC) -std=c11 -Wall -Wextra -fPIC -ffile-prefix-map=$(CURDIR)=. $(CFLAGS) -I bindings/c
 link := $(CC) $(LDFLAGS) -Wl,--build-id=none
 
-.PHONY: all run install uninstall stage release wheel deb test clean
+# without what rt makes there
+sources = crates.txt $(shell find crates -path '*/out' -prune -o -name '*.rt' -print)
+programs := close_record try_outage
+
+.PHONY: all programs run install uninstall stage release wheel deb test clean
 all: $(out)/libaltair.a $(out)/$(shared) $(out)/altair-close
 
+rt_is_here = @command -v rt >/dev/null || { echo 'make: no rt on the PATH: the Rattle toolchain proves and writes $@' >&2; exit 1; }
 ifeq ($(origin PROVED),file)
-$(PROVED): crates.txt $(shell find crates -name '*.rt')
-	@command -v rt >/dev/null || { echo 'make: no rt on the PATH: the Rattle toolchain proves and writes $@' >&2; exit 1; }
-	rt staticlib exports
+$(PROVED): $(sources)
+	$(rt_is_here)
+	packaging/archive
 	touch $@
 endif
+programs: $(programs:%=$(PROGRAMS)/%)
 ifeq ($(origin PROGRAMS),file)
-$(PROGRAMS)/try_outage: crates.txt $(shell find crates -name '*.rt')
-	@command -v rt >/dev/null || { echo 'make: no rt on the PATH: the Rattle toolchain proves and writes $@' >&2; exit 1; }
-	rt check try_outage
+# `rt ci` leaves a program in its crate's folder, and so does `rt run`, which runs it too
+crates/close_record/out/close_record crates/try_outage/out/try_outage: $(sources)
+	$(rt_is_here)
+	rm -f $@
+	cd $(dir $(@D)) && { rt run <stdin >/dev/null; test -x out/$(@F); }
 	touch $@
+$(PROGRAMS)/close_record: crates/close_record/out/close_record
+$(PROGRAMS)/try_outage: crates/try_outage/out/try_outage
+$(programs:%=$(PROGRAMS)/%):
+	mkdir -p $(@D)
+	cp $< $@.new && mv -f $@.new $@
 endif
 
 run: all
@@ -132,4 +147,4 @@ test:
 	tests/run
 
 clean:
-	rm -rf $(out) target/stage target/release
+	rm -rf target

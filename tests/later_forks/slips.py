@@ -25,13 +25,13 @@ SLIPS = {
     "the four pairs from the last": (ALTAIR_CLOSE, "in zip((0, 2, 4, 6), deltas):", "in zip((6, 4, 2, 0), deltas[::-1]):"),
     "the leak is read only under a hit": (
         "altair_process_rewards_and_penalties",
-        "    leak = is_in_inactivity_leak(state)  # row `nobodyHits`: before the loop\n",
+        "    leak = is_in_inactivity_leak(state)  # row `nobody_hits`: before the loop\n",
         "",
         "            if not leak:\n                numerator",
         "            if not is_in_inactivity_leak(state):\n                numerator"),
     "the leak is read only where somebody is eligible": (
         "altair_process_inactivity_updates",
-        "    leak = is_in_inactivity_leak(state)  # row `nobodyEligible`: before the loop\n",
+        "    leak = is_in_inactivity_leak(state)  # row `nobody_eligible`: before the loop\n",
         "",
         "        if not leak:\n            recovery",
         "        if not is_in_inactivity_leak(state):\n            recovery"),

@@ -195,7 +195,7 @@ def flag_index_deltas(state, flag):
     participating = unslashed_participating(state, flag, previous)
     participating_increments = total_balance(state, participating) // state.rules.effective_balance_increment
     active_increments = total_active_balance(state) // state.rules.effective_balance_increment
-    leak = is_in_inactivity_leak(state)  # row `nobodyHits`: before the loop
+    leak = is_in_inactivity_leak(state)  # row `nobody_hits`: before the loop
     for i, validator in enumerate(state.validators):
         if not is_eligible(validator, previous):
             continue
@@ -270,7 +270,7 @@ def process_inactivity_updates(state):
         return
     previous = previous_epoch(state)
     participating = unslashed_participating(state, TARGET, previous)
-    leak = is_in_inactivity_leak(state)  # row `nobodyEligible`: before the loop
+    leak = is_in_inactivity_leak(state)  # row `nobody_eligible`: before the loop
     for i, validator in enumerate(state.validators):
         if not is_eligible(validator, previous):
             continue
@@ -348,7 +348,7 @@ def process_effective_balance_updates_one_maximum(state):
     """phase0's."""
     rules = state.rules
     hysteresis = rules.effective_balance_increment // rules.hysteresis_quotient
-    downward = u64(hysteresis * rules.hysteresis_downward_multiplier)  # row `noValidators`: before the loop
+    downward = u64(hysteresis * rules.hysteresis_downward_multiplier)  # row `no_validators`: before the loop
     upward = u64(hysteresis * rules.hysteresis_upward_multiplier)
     for validator in state.validators:
         move_effective_balance(rules, validator, downward, upward, rules.max_effective_balance)

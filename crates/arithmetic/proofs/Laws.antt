@@ -50,7 +50,7 @@ module _ {B S : Type 0} {g : Checked B → S} {m : Checked ℕ} (k : ℕ → Che
   pub stop : {q : ℕ} → OnlyOverflow m → Says m r → r ≡ Refused q → s ≡ g (refused overflow) → Answers g (bind m k) s
   stop o h e u = stop-told k o h tells_number e u
 
--- `search (needs, chain)`, under `unfolding` the definition, proves what a chain returns; `depth 9` for seven steps
+-- `search (rules, chain)`, under `unfolding` the definition, proves what a chain returns; `depth 9` for seven steps
 pub ruleset chain = (next, stop, only)
 
 -- for a chain with steps that answer a Truth or Deltas too

@@ -1,6 +1,6 @@
 // Reads a record file from standard input and prints its close, or `refused` and the number.
 #![tactic(auto)]
 
-fn main() {
-    console::close_from(0);
+fn main(rt: HostRuntime) {
+    console::close_from(&rt, &mut rt.stdin());
 }

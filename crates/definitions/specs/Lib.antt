@@ -11,7 +11,7 @@
 -- A `record` has fields, given by `record { field = e; .. }`; a record of statements says all of them. A `data` has cases; of statements, one holds.
 -- `let x = e in r` names e in r; `module _ (x : A) where` gives x to all below it; `x'` is a name; `use P.{a}` takes the name a from the file P.
 -- Lists besides: `map f xs`, `foldl f b xs` from the front, `zip_with`, `length`, `take n`, `drop n`, `replicate n x`; `sets xs i ys` puts ys at i.
--- A contract, `ensures { λ r. ⌜ .. ⌝ }`, is of the answer r; `now x.entry` is what a lent slice holds before the call, `now x.exit` after it.
+-- A contract, `ensures { .. }`, is of the answer, `result`; `x.now` is what a lent slice holds, `x.old` and `x.new` what it held before the call and after it.
 pub mod Lists
 pub mod Record
 pub mod Updates

@@ -181,7 +181,7 @@ unfolding fold_until_checked filter
 loop-done r q {p} h [] e = rw (← value_same e) (done_none p p [] h refl refl)
 loop-done {n} {vs₀} r q {p} h (d ∷ ds) {p'} e =
     whichever (deposits_stop r q p d) e (λ t e. rw (← value_same e) (done_none p p (d ∷ ds) h refl refl))
-    (λ t e. (let b = bound _ _ e in next b.first (turn-went r q h d b.gave) b.then (λ k. loop-done r q k ds b.then)))
+    (λ t e. (let b = bound _ _ e in next b.first (turn-went r q h d b.gave) b.then (λ k. loop-done r q {p = b.first} k ds b.then)))
   where
     next : (m : Processing) → Went n vs₀ q p d m → fold_until_checked (deposits_stop r q) (process_deposit r q) m ds ≡ value p' → (Kept n vs₀ m.registry → Done n vs₀ q m ds p') → Done n vs₀ q p (d ∷ ds) p'
     next m w e rec =

@@ -7,6 +7,8 @@ mod registry;
 mod reward;
 mod slot;
 
+use std::io;
+use std::io::BufRead;
 use vectors::{Case, word};
 
 fn agrees(c: Case, words: &[u64], bytes: &[u8], room: &mut [u64]) -> bool {
@@ -39,16 +41,17 @@ fn count(tally: &mut [u64], place: usize, more: usize) {
 
 // False where the case is malformed.
 fn replay_case(
+    rt: &impl Print,
     words: &[u64],
     bytes: &[u8],
     at: usize,
     end: usize,
     room: &mut [u64],
     tally: &mut [u64],
-) -> bool {
+) -> io::Result<bool> {
     let c = vectors::read_case(words, at, end);
     if !c.is_whole {
-        return false;
+        return Ok(false);
     }
     let leaf = c.leaf;
     let place = leaf as usize;
@@ -57,81 +60,93 @@ fn replay_case(
     if agrees(c, words, bytes, room) {
         count(tally, 0, 32);
         count(tally, place, 32);
-        return true;
+        return Ok(true);
     }
-    print::wrong(leaf, word(tally, 0, 0));
-    true
+    print::wrong(rt, leaf, word(tally, 0, 0))?;
+    Ok(true)
 }
 
 // False where a case is malformed.
-fn replay_cases(words: &[u64], bytes: &[u8], room: &mut [u64], tally: &mut [u64]) -> bool {
-    let mut left = word(words, 0, 0);
+fn replay_cases(
+    rt: &impl Print,
+    words: &[u64],
+    bytes: &[u8],
+    room: &mut [u64],
+    tally: &mut [u64],
+) -> io::Result<bool> {
     let mut at = vectors::first_case(words);
-    while left > 0 {
+    for _ in 0..word(words, 0, 0) {
         let end = vectors::next_case(words, at);
-        if !replay_case(words, bytes, at, end, room, tally) {
-            return false;
+        if !replay_case(rt, words, bytes, at, end, room, tally)? {
+            return Ok(false);
         }
         at = end;
-        left -= 1;
     }
-    true
+    Ok(true)
 }
 
-// 0: the list has ended, 1: a block is done, 2: a block is malformed.
-fn replay_block(tally: &mut [u64]) -> u64 {
-    let mut bytes = io::large_buffer();
-    let n = io::read_full(0, &mut bytes);
-    if n == 0 {
-        return 0;
+// What came of reading a block.
+#[derive(Clone, Copy)]
+enum Block {
+    Ended,
+    Replayed,
+    Malformed,
+}
+
+fn replay_block(
+    rt: &impl Print,
+    reader: &mut impl BufRead,
+    tally: &mut [u64],
+) -> io::Result<Block> {
+    if reader.fill_buf()?.is_empty() {
+        return Ok(Block::Ended);
     }
-    if n != 65536 {
-        return 2;
+    let mut bytes = [0u8; 65536];
+    if reader.read_exact(&mut bytes).is_err() {
+        return Ok(Block::Malformed);
     }
     let mut words = vectors::room();
     if !vectors::fill(&bytes, &mut words) {
-        return 2;
+        return Ok(Block::Malformed);
     }
     let mut room = vectors::room();
-    if replay_cases(&words, &bytes, &mut room, tally) {
-        return 1;
+    if replay_cases(rt, &words, &bytes, &mut room, tally)? {
+        return Ok(Block::Replayed);
     }
-    2
+    Ok(Block::Malformed)
 }
 
 // A proved loop has to end, and nothing says that the input does: no run uses up these turns.
-fn replay(tally: &mut [u64]) -> bool {
-    let mut turns = u64::MAX;
-    while turns > 0 {
-        let state = replay_block(tally);
-        if state != 1 {
-            return state == 0;
+fn replay(rt: &impl Print, reader: &mut impl BufRead, tally: &mut [u64]) -> io::Result<bool> {
+    for _ in 0..u64::MAX {
+        match replay_block(rt, reader, tally)? {
+            Block::Ended => return Ok(true),
+            Block::Replayed => {}
+            Block::Malformed => return Ok(false),
         }
-        turns -= 1;
     }
-    false
+    Ok(false)
 }
 
-fn print_leaf(tally: &[u64], leaf: usize) {
-    print::name(leaf as u64);
-    io::write_all(1, b" ");
-    print::of(word(tally, leaf, 32), word(tally, leaf, 0));
-    io::write_all(1, b"\n");
+fn print_leaf(rt: &impl Print, tally: &[u64], leaf: usize) -> io::Result<()> {
+    rt.print(print::name(leaf as u64))?;
+    rt.print(" ")?;
+    print::of(rt, word(tally, leaf, 32), word(tally, leaf, 0))?;
+    rt.println("")
 }
 
-fn print_tally(tally: &[u64]) {
+fn print_tally(rt: &impl Print, tally: &[u64]) -> io::Result<()> {
     for leaf in 1..30usize {
-        print_leaf(tally, leaf);
+        print_leaf(rt, tally, leaf)?;
     }
-    print::of(word(tally, 0, 32), word(tally, 0, 0));
-    io::write_all(1, b" leaf cases agree\n");
+    print::of(rt, word(tally, 0, 32), word(tally, 0, 0))?;
+    rt.println(" leaf cases agree")
 }
 
-fn main() {
+fn main(rt: HostRuntime) -> io::Result<()> {
     let mut tally = [0u64; 64];
-    if replay(&mut tally) {
-        print_tally(&tally);
-        return;
+    if replay(&rt, &mut rt.reader(), &mut tally)? {
+        return print_tally(&rt, &tally);
     }
-    io::write_all(1, b"bad block\n");
+    rt.println("bad block")
 }

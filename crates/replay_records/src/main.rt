@@ -7,6 +7,8 @@ mod read;
 mod steps;
 mod tally;
 
+use std::io;
+use std::io::BufRead;
 use vectors::records::{Outcome, Record, in_buffers, in_refusal, unwritten};
 use vectors::word;
 
@@ -61,81 +63,100 @@ fn differs_in_room(operation: u64, r: Record, o: Outcome, words: &[u64], bytes: 
 }
 
 // False where the answers do not fill the record.
-fn replay_record(words: &[u64], bytes: &[u8], at: usize, end: usize, tally: &mut [u64]) -> bool {
+fn replay_record(
+    rt: &impl Print,
+    words: &[u64],
+    bytes: &[u8],
+    at: usize,
+    end: usize,
+    tally: &mut [u64],
+) -> io::Result<bool> {
     let number = tally::records(tally);
     let r = vectors::records::read_record(words, at, end);
     let answers = r.answers;
     if 10 < answers {
-        return print::whole(number, false);
+        return print::whole(rt, number, false);
     }
     let mut answer = r.first_answer;
     for operation in 0..answers {
         let o = vectors::records::read_outcome(words, answer, end, operation);
         tally::note(
+            rt,
             tally,
             number,
             operation,
             o.refusal,
             differs_in_room(operation, r, o, words, bytes),
-        );
+        )?;
         answer = o.end;
     }
-    print::whole(number, answer == end)
+    print::whole(rt, number, answer == end)
 }
 
 // False where a record is malformed.
-fn replay_records(words: &[u64], bytes: &[u8], tally: &mut [u64]) -> bool {
-    let mut left = word(words, 0, 0);
+fn replay_records(
+    rt: &impl Print,
+    words: &[u64],
+    bytes: &[u8],
+    tally: &mut [u64],
+) -> io::Result<bool> {
     let mut at: usize = 1;
-    while left > 0 {
+    for _ in 0..word(words, 0, 0) {
         let end = vectors::records::next_record(words, at);
-        if !replay_record(words, bytes, at, end, tally) {
-            return false;
+        if !replay_record(rt, words, bytes, at, end, tally)? {
+            return Ok(false);
         }
         at = end;
-        left -= 1;
     }
-    true
+    Ok(true)
 }
 
-// 0: the list has ended, 1: a block is done, 2: a block is malformed.
-fn replay_block(tally: &mut [u64]) -> u64 {
-    let mut bytes = io::large_buffer();
-    let n = io::read_full(0, &mut bytes);
-    if n == 0 {
-        return 0;
+// What came of reading a block.
+#[derive(Clone, Copy)]
+enum Block {
+    Ended,
+    Replayed,
+    Malformed,
+}
+
+fn replay_block(
+    rt: &impl Print,
+    reader: &mut impl BufRead,
+    tally: &mut [u64],
+) -> io::Result<Block> {
+    if reader.fill_buf()?.is_empty() {
+        return Ok(Block::Ended);
     }
-    if n != 65536 {
-        return 2;
+    let mut bytes = [0u8; 65536];
+    if reader.read_exact(&mut bytes).is_err() {
+        return Ok(Block::Malformed);
     }
     let mut words = vectors::room();
     if !vectors::fill(&bytes, &mut words) {
-        return 2;
+        return Ok(Block::Malformed);
     }
-    if replay_records(&words, &bytes, tally) {
-        return 1;
+    if replay_records(rt, &words, &bytes, tally)? {
+        return Ok(Block::Replayed);
     }
-    2
+    Ok(Block::Malformed)
 }
 
 // A proved loop has to end, and nothing says that the input does: no run uses up these turns.
-fn replay(tally: &mut [u64]) -> bool {
-    let mut turns = u64::MAX;
-    while turns > 0 {
-        let state = replay_block(tally);
-        if state != 1 {
-            return state == 0;
+fn replay(rt: &impl Print, reader: &mut impl BufRead, tally: &mut [u64]) -> io::Result<bool> {
+    for _ in 0..u64::MAX {
+        match replay_block(rt, reader, tally)? {
+            Block::Ended => return Ok(true),
+            Block::Replayed => {}
+            Block::Malformed => return Ok(false),
         }
-        turns -= 1;
     }
-    false
+    Ok(false)
 }
 
-fn main() {
+fn main(rt: HostRuntime) -> io::Result<()> {
     let mut tally = [0u64; 161];
-    if replay(&mut tally) {
-        tally::print(&tally);
-        return;
+    if replay(&rt, &mut rt.reader(), &mut tally)? {
+        return tally::print(&rt, &tally);
     }
-    io::write_all(1, b"the list is malformed\n");
+    rt.println("the list is malformed")
 }

@@ -1,22 +1,24 @@
 // What is written, in columns.
+use std::io;
 
-fn part_of(names: &[u8], from: usize, to: usize) -> bool {
+fn part_of(rt: &impl Print, names: &[u8], from: usize, to: usize) -> io::Result<()> {
     if to < from {
-        return false;
+        return Ok(());
     }
     if names.len() < to {
-        return false;
+        return Ok(());
     }
-    io::write_all(1, &names[from..to])
+    rt.write_all(&names[from..to])
 }
 
 // The names of reference/vectors/records.txt, by number, in 20 bytes each.
-pub fn function(number: u64) -> bool {
+pub fn function(rt: &impl Print, number: u64) -> io::Result<()> {
     if 9 < number {
-        return false;
+        return Ok(());
     }
     let from = 20 * (number as usize);
     part_of(
+        rt,
         b"read                justification       inactivity          rewards             registry            slashings           effective-balances  slashings-reset     participation-flags close               ",
         from,
         from + 20,
@@ -24,33 +26,30 @@ pub fn function(number: u64) -> bool {
 }
 
 // The parts of an answer, by their numbers in vectors::records, in 10 bytes each.
-fn part(differs: u64) -> bool {
+fn part(rt: &impl Print, differs: u64) -> io::Result<()> {
     if 8 < differs {
-        return false;
+        return Ok(());
     }
     let from = 10 * (differs as usize);
     part_of(
+        rt,
         b"          refusal   position  settings  finality  roots     registry  slashings raised    ",
         from,
         from + 10,
     )
 }
 
-pub fn difference(number: u64, differs: u64, record: u64) {
-    function(number);
-    part(differs);
-    io::write_all(1, b"differs in record ");
-    io::print_decimal(1, record);
-    io::write_all(1, b"\n");
+pub fn difference(rt: &impl Print, number: u64, differs: u64, record: u64) -> io::Result<()> {
+    function(rt, number)?;
+    part(rt, differs)?;
+    println!(rt; "differs in record {record}")
 }
 
 // Says so where a record is not whole, and passes that on.
-pub fn whole(record: u64, is_whole: bool) -> bool {
+pub fn whole(rt: &impl Print, record: u64, is_whole: bool) -> io::Result<bool> {
     if is_whole {
-        return true;
+        return Ok(true);
     }
-    io::write_all(1, b"malformed: record ");
-    io::print_decimal(1, record);
-    io::write_all(1, b"\n");
-    false
+    println!(rt; "malformed: record {record}")?;
+    Ok(false)
 }

@@ -25,7 +25,7 @@ fn in_contents(
     if !finality_stands(f, words, bytes, finality_place(file, words)) {
         return FINALITY;
     }
-    if !check::same(roots, all_roots(file, words, bytes)) {
+    if roots != all_roots(file, words, bytes) {
         return ROOTS;
     }
     NOTHING

@@ -1,6 +1,7 @@
 // How many answers agree. Of each function, 16 numbers apart: at 0 to 6 the answers that agree, by their refusal, 0 where it
 // accepts; then all that agree, and all answers. Last, the answers that differ.
 use crate::print;
+use std::io;
 use vectors::word;
 
 const AGREED: usize = 7;
@@ -40,73 +41,65 @@ pub fn records(tally: &[u64]) -> u64 {
 }
 
 // One answer: which part differs, or 0.
-pub fn note(tally: &mut [u64], record: u64, function: u64, refusal: u64, differs: u64) {
+pub fn note(
+    rt: &impl Print,
+    tally: &mut [u64],
+    record: u64,
+    function: u64,
+    refusal: u64,
+    differs: u64,
+) -> io::Result<()> {
     count(tally, place(function, ASKED));
     if differs != 0 {
         count(tally, DIFFERENCES);
-        print::difference(function, differs, record);
-        return;
+        return print::difference(rt, function, differs, record);
     }
     count(tally, place(function, AGREED));
     if refusal <= 6 {
         count(tally, place(function, refusal as usize));
     }
+    Ok(())
 }
 
-fn print_refusal(tally: &[u64], function: u64, refusal: u64) {
+fn print_refusal(rt: &impl Print, tally: &[u64], function: u64, refusal: u64) -> io::Result<()> {
     let n = counted(tally, function, refusal as usize);
     if n == 0 {
-        return;
+        return Ok(());
     }
-    io::write_all(1, b", ");
-    io::print_decimal(1, refusal);
-    io::write_all(1, b": ");
-    io::print_decimal(1, n);
+    print!(rt; ", {refusal}: {n}")
 }
 
-fn print_refusals(tally: &[u64], function: u64) {
-    io::write_all(1, b" (0: ");
-    io::print_decimal(1, counted(tally, function, 0));
-    print_refusal(tally, function, 1);
-    print_refusal(tally, function, 2);
-    print_refusal(tally, function, 3);
-    print_refusal(tally, function, 4);
-    print_refusal(tally, function, 5);
-    print_refusal(tally, function, 6);
-    io::write_all(1, b")");
+fn print_refusals(rt: &impl Print, tally: &[u64], function: u64) -> io::Result<()> {
+    let accepted = counted(tally, function, 0);
+    print!(rt; " (0: {accepted}")?;
+    for refusal in 1..7u64 {
+        print_refusal(rt, tally, function, refusal)?;
+    }
+    rt.print(")")
 }
 
-fn print_function(tally: &[u64], function: u64) {
-    print::function(function);
-    io::print_decimal(1, counted(tally, function, AGREED));
-    io::write_all(1, b" of ");
-    io::print_decimal(1, counted(tally, function, ASKED));
-    io::write_all(1, b" agree");
-    print_refusals(tally, function);
-    io::write_all(1, b"\n");
+fn print_function(rt: &impl Print, tally: &[u64], function: u64) -> io::Result<()> {
+    let agreed = counted(tally, function, AGREED);
+    let asked = counted(tally, function, ASKED);
+    print::function(rt, function)?;
+    print!(rt; "{agreed} of {asked} agree")?;
+    print_refusals(rt, tally, function)?;
+    rt.println("")
 }
 
-fn print_functions(tally: &[u64]) {
-    print_function(tally, 0);
-    print_function(tally, 1);
-    print_function(tally, 2);
-    print_function(tally, 3);
-    print_function(tally, 4);
-    print_function(tally, 5);
-    print_function(tally, 6);
-    print_function(tally, 7);
-    print_function(tally, 8);
-    print_function(tally, 9);
+fn print_functions(rt: &impl Print, tally: &[u64]) -> io::Result<()> {
+    for function in 0..10u64 {
+        print_function(rt, tally, function)?;
+    }
+    Ok(())
 }
 
 // A line for each function, then whether all agree.
-pub fn print(tally: &[u64]) {
-    print_functions(tally);
+pub fn print(rt: &impl Print, tally: &[u64]) -> io::Result<()> {
+    print_functions(rt, tally)?;
     let n = word(tally, DIFFERENCES, 0);
     if n == 0 {
-        io::write_all(1, b"all agree\n");
-        return;
+        return rt.println("all agree");
     }
-    io::print_decimal(1, n);
-    io::write_all(1, b" differ\n");
+    println!(rt; "{n} differ")
 }

@@ -2,34 +2,29 @@
 // with `o` is that of a tried outage: what the program try_outage prints of it.
 #![tactic(auto)]
 
-fn main() {
-    let n = os::arg_count();
-    for i in 1..n {
-        print_named(i);
+use std::rt::Files;
+use std::{env, fs, io};
+
+fn main(rt: HostRuntime) -> io::Result<()> {
+    for name in env::args(&rt)?.skip(1) {
+        print_named(&rt, name.as_str())?;
     }
+    Ok(())
 }
 
-fn is_outage(name: &[u8]) -> bool {
-    if name.len() == 0 {
-        return false;
-    }
-    name[0] == b'o'
+fn is_outage(name: &str) -> bool {
+    name.starts_with('o')
 }
 
-fn print_named(i: usize) {
-    let mut name = io::buffer();
-    let end = os::arg(i, &mut name);
-    io::write_all(1, &name[..end]);
-    io::write_all(1, b"\n");
-    let fd = os::open_read(&name[..end]);
-    if fd < 0 {
-        io::write_all(1, b"cannot be opened\n");
-        return;
-    }
-    if is_outage(&name[..end]) {
-        console::outage_console::try_from(fd);
+fn print_named(rt: &(impl Files + Print + Eprint), name: &str) -> io::Result<()> {
+    rt.println(name)?;
+    let Ok(mut file) = fs::open(rt, name) else {
+        return rt.println("cannot be opened");
+    };
+    if is_outage(name) {
+        console::outage_console::try_from(rt, &mut file);
     } else {
-        console::close_from(fd);
+        console::close_from(rt, &mut file);
     }
-    libc::close(fd);
+    Ok(())
 }

@@ -1,6 +1,6 @@
 // Reads a record file, a number of epochs, a root and each validator's absence from standard input, and prints the closes of those epochs.
 #![tactic(auto)]
 
-fn main() {
-    console::outage_console::try_from(0);
+fn main(rt: HostRuntime) {
+    console::outage_console::try_from(&rt, &mut rt.stdin());
 }

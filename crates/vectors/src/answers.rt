@@ -104,7 +104,7 @@ pub fn root_agrees(refusal: u64, root: &[u8], c: Case, bytes: &[u8]) -> bool {
         return false;
     }
     let n = stored_bytes(refusal);
-    check::same(root, bytes_part(bytes, c.answer, n))
+    root == bytes_part(bytes, c.answer, n)
 }
 
 fn checkpoint_stands(p: Checkpoint, words: &[u64], bytes: &[u8], at: usize) -> bool {
@@ -112,7 +112,7 @@ fn checkpoint_stands(p: Checkpoint, words: &[u64], bytes: &[u8], at: usize) -> b
         return false;
     }
     let root = p.root;
-    check::same(&root, bytes_part(bytes, past(at, 1, words.len()), 32))
+    &root[..] == bytes_part(bytes, past(at, 1, words.len()), 32)
 }
 
 // The finality is that of seventeen words at a place.

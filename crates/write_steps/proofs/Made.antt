@@ -12,7 +12,7 @@ use Rattle.definitions.specs.Lists.{every}
 use Rattle.definitions.specs.Record.{Validator, decode}
 use Rattle.definitions.specs.Checked.{value}
 use Rattle.definitions.specs.Rust.Phase0.Helpers.{get_current_epoch, get_previous_epoch, get_validator_churn_limit}
-use Rattle.laws.proofs.Checked.{bound, not_value}
+use Rattle.laws.proofs.Checked.{not_value}
 use Rattle.laws.proofs.Encode.{length-decode}
 use Rattle.definitions.specs.declared.ExitQueue.{ExitQueue}
 use Rattle.exit_queue.specs.Queue.{Tracks, start_pair}

@@ -19,7 +19,7 @@ use Rattle.exit_queue.specs.Queue.{Tracks, moved}
 use Rattle.exit_queue.proofs.Tracks.{tracks-set}
 use Rattle.registry.specs.Updates.{update_at, turn_by}
 use Rattle.registry.proofs.Turns.{turn-tracked, turn-keeps}
-use Rattle.write_turn.specs.Sweep.{Moved, sweep, after, last, dropped}
+use Rattle.write_turn.specs.Sweep.{Moved, sweep, last, dropped}
 use Rattle.write_turn.proofs.Sweeps.Fused.{swept_both, swept_last, paired, keeping}
 use Rattle.write_turn.proofs.Sweeps.Follows.{Follows}
 use Rattle.write_turn.specs.declared.Plan.{Plan}

@@ -10,7 +10,7 @@ use Rattle.registry.specs.Updates.{turn_by}
 use Rattle.definitions_electra.specs.declared.ExitChurn.{ExitChurn}
 use Rattle.definitions_electra.specs.Evaluated.Electra.EpochProcessing.{slash as slash_later}
 use Rattle.electra_registry.specs.declared.updates.RegistryNumbers.{RegistryNumbers}
-use Rattle.electra_registry.specs.Turns.{Turned, turn_by as turn_by_balance}
+use Rattle.electra_registry.specs.Turns.{turn_by as turn_by_balance}
 use Rattle.rates.specs.declared.Rates.{Rates}
 use Rattle.rates.specs.declared.reward_balances.PairsAnswer.{PairsAnswer}
 use Rattle.rates.specs.Rated.{Fits}

@@ -52,7 +52,7 @@ def arguments(name):
     add("--genesis-time", metavar="SECOND", help="when slot 0 began, for dates on the plot")
     add("--seconds-per-slot", metavar="N", default="12", help="for dates on the plot (12)")
     add("--force", action="store_true", help="replace a file that is there already")
-    add("--program", metavar="FILE", help=f"the program try_outage ({PROGRAM}, which `rt check try_outage` builds)")
+    add("--program", metavar="FILE", help=f"the program try_outage ({PROGRAM}, which `make programs` builds)")
     add("--library", action="store_true", help="through the library, whatever the record's length")
     return parser
 
@@ -116,7 +116,7 @@ def printed(program, parts):
     try:
         made = subprocess.run([program], input=b"".join(parts), stdout=subprocess.PIPE, check=True).stdout.decode("ascii")
     except OSError as error:
-        raise Stopped(f"{program}: {error.strerror}: `rt check try_outage` builds it") from None
+        raise Stopped(f"{program}: {error.strerror}: `make programs` builds it") from None
     except (subprocess.CalledProcessError, UnicodeDecodeError) as error:
         raise Stopped(f"{program}: {error}") from None
     if not made.endswith("\n"):

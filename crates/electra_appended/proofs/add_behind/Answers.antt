@@ -6,7 +6,7 @@ use Rattle.electra_appended.proofs.add_behind.Goals as goal
 pub add_deposits-requires : goal.add_deposits-requires
 add_deposits-requires c =
     let h = c.requires.buffers in
-    let long = c.copy_front.kept in
+    let long = c.copy_front.auto.to in
     let some = (good-settings c.args.rules.settings c.requires.settings_value.0).positive.effective_balance_increment in
     record { registry_len = (omega (arith, long, h.room), omega (arith, long, h.room_too), rw c.new_numbers-k.ensures some); places_value = (rw h.table at c.clear.ensures, h.keys, c.requires.settings_value.1) }
 

@@ -25,7 +25,7 @@ steps_in_front-front-requires c =
 pub open_registry-requires : goal.open_registry-requires
 open_registry-requires c =
     let p = passed (goal.at.open_registry-requires c).Start in
-    let k = c.steps_in_front-front.kept in
+    let k = c.steps_in_front-front.auto.closing_registry in
     (omega (arith, k, p.roomy_registry, p.shape.long), omega (arith, p.roomy_compounding, p.credentials), omega (arith, k, p.roomy_amounts))
 
 pub open_queues-requires : goal.open_queues-requires
@@ -45,7 +45,7 @@ returns-then-front-ne0 c =
 
 pub finish-counts-requires : goal.finish-counts-requires
 finish-counts-requires c =
-    let k = c.steps_in_front-front.kept in
+    let k = c.steps_in_front-front.auto.closing_registry in
     finish-lent (called (goal.at.finish-counts-requires c).Start) (passed (goal.at.finish-counts-requires c).Start) c.steps_in_front-front.ensures c.if-front-ne0.false (omega (arith, k)) (omega (arith, k)) (omega (arith, k))
 
 pub returns : goal.returns
@@ -56,43 +56,43 @@ returns c =
     accepted (called s) s.pre (passed s) at-steps.steps-in-front.ensures at-else1.if1.left c.finish-counts.ensures c.closed_answer.ensures
 
 pub shape_of-closing_registry-then-front-ne0 : goal.shape_of-closing_registry-then-front-ne0
-shape_of-closing_registry-then-front-ne0 c = (let o : tie.After-open-registry = (goal.at.shape_of-closing_registry-then-front-ne0 c).After-open_registry in let s : tie.After-steps-in-front = o.before.before.before.before.before.before.before.before.before.before.before.before in omega (arith, c.open_queues.kept, o.open-registry.kept, s.steps-in-front.kept))
+shape_of-closing_registry-then-front-ne0 c = (let o : tie.After-open-registry = (goal.at.shape_of-closing_registry-then-front-ne0 c).After-open_registry in let s : tie.After-steps-in-front = o.before.before.before.before.before.before.before.before.before.before.before.before in omega (arith, c.open_queues.auto.closing_slashings, o.open-registry.kept, s.steps-in-front.kept))
 
 pub shape_of-closing_compounding-then-front-ne0 : goal.shape_of-closing_compounding-then-front-ne0
-shape_of-closing_compounding-then-front-ne0 c = (let o : tie.After-open-registry = (goal.at.shape_of-closing_compounding-then-front-ne0 c).After-open_registry in let s : tie.After-steps-in-front = o.before.before.before.before.before.before.before.before.before.before.before.before in omega (arith, c.open_queues.kept, o.open-registry.kept, s.steps-in-front.kept))
+shape_of-closing_compounding-then-front-ne0 c = (let o : tie.After-open-registry = (goal.at.shape_of-closing_compounding-then-front-ne0 c).After-open_registry in let s : tie.After-steps-in-front = o.before.before.before.before.before.before.before.before.before.before.before.before in omega (arith, c.open_queues.auto.closing_slashings, o.open-registry.kept, s.steps-in-front.kept))
 
 pub shape_of-closing_slashings-then-front-ne0 : goal.shape_of-closing_slashings-then-front-ne0
-shape_of-closing_slashings-then-front-ne0 c = (let o : tie.After-open-registry = (goal.at.shape_of-closing_slashings-then-front-ne0 c).After-open_registry in let s : tie.After-steps-in-front = o.before.before.before.before.before.before.before.before.before.before.before.before in omega (arith, c.open_queues.kept, o.open-registry.kept, s.steps-in-front.kept))
+shape_of-closing_slashings-then-front-ne0 c = (let o : tie.After-open-registry = (goal.at.shape_of-closing_slashings-then-front-ne0 c).After-open_registry in let s : tie.After-steps-in-front = o.before.before.before.before.before.before.before.before.before.before.before.before in omega (arith, c.open_queues.auto.closing_slashings, o.open-registry.kept, s.steps-in-front.kept))
 
 pub shape_of-closing_deposits-then-front-ne0 : goal.shape_of-closing_deposits-then-front-ne0
-shape_of-closing_deposits-then-front-ne0 c = (let o : tie.After-open-registry = (goal.at.shape_of-closing_deposits-then-front-ne0 c).After-open_registry in let s : tie.After-steps-in-front = o.before.before.before.before.before.before.before.before.before.before.before.before in omega (arith, c.open_queues.kept, o.open-registry.kept, s.steps-in-front.kept))
+shape_of-closing_deposits-then-front-ne0 c = (let o : tie.After-open-registry = (goal.at.shape_of-closing_deposits-then-front-ne0 c).After-open_registry in let s : tie.After-steps-in-front = o.before.before.before.before.before.before.before.before.before.before.before.before in omega (arith, c.open_queues.auto.closing_slashings, o.open-registry.kept, s.steps-in-front.kept))
 
 pub shape_of-closing_consolidations-then-front-ne0 : goal.shape_of-closing_consolidations-then-front-ne0
-shape_of-closing_consolidations-then-front-ne0 c = (let o : tie.After-open-registry = (goal.at.shape_of-closing_consolidations-then-front-ne0 c).After-open_registry in let s : tie.After-steps-in-front = o.before.before.before.before.before.before.before.before.before.before.before.before in omega (arith, c.open_queues.kept, o.open-registry.kept, s.steps-in-front.kept))
+shape_of-closing_consolidations-then-front-ne0 c = (let o : tie.After-open-registry = (goal.at.shape_of-closing_consolidations-then-front-ne0 c).After-open_registry in let s : tie.After-steps-in-front = o.before.before.before.before.before.before.before.before.before.before.before.before in omega (arith, c.open_queues.auto.closing_slashings, o.open-registry.kept, s.steps-in-front.kept))
 
 pub shape_of-amounts-then-front-ne0 : goal.shape_of-amounts-then-front-ne0
-shape_of-amounts-then-front-ne0 c = (let o : tie.After-open-registry = (goal.at.shape_of-amounts-then-front-ne0 c).After-open_registry in let s : tie.After-steps-in-front = o.before.before.before.before.before.before.before.before.before.before.before.before in omega (arith, c.open_queues.kept, o.open-registry.kept, s.steps-in-front.kept))
+shape_of-amounts-then-front-ne0 c = (let o : tie.After-open-registry = (goal.at.shape_of-amounts-then-front-ne0 c).After-open_registry in let s : tie.After-steps-in-front = o.before.before.before.before.before.before.before.before.before.before.before.before in omega (arith, c.open_queues.auto.closing_slashings, o.open-registry.kept, s.steps-in-front.kept))
 
 pub shape_of-places-then-front-ne0 : goal.shape_of-places-then-front-ne0
-shape_of-places-then-front-ne0 c = (let o : tie.After-open-registry = (goal.at.shape_of-places-then-front-ne0 c).After-open_registry in let s : tie.After-steps-in-front = o.before.before.before.before.before.before.before.before.before.before.before.before in omega (arith, c.open_queues.kept, o.open-registry.kept, s.steps-in-front.kept))
+shape_of-places-then-front-ne0 c = (let o : tie.After-open-registry = (goal.at.shape_of-places-then-front-ne0 c).After-open_registry in let s : tie.After-steps-in-front = o.before.before.before.before.before.before.before.before.before.before.before.before in omega (arith, c.open_queues.auto.closing_slashings, o.open-registry.kept, s.steps-in-front.kept))
 
 pub shape_of-closing_registry : goal.shape_of-closing_registry
-shape_of-closing_registry c = (let s : tie.After-steps-in-front = (goal.at.shape_of-closing_registry c).After-steps_in_front-front in omega (arith, c.finish-counts.kept, s.steps-in-front.kept))
+shape_of-closing_registry c = (let s : tie.After-steps-in-front = (goal.at.shape_of-closing_registry c).After-steps_in_front-front in omega (arith, c.finish-counts.auto.closing_registry, s.steps-in-front.kept))
 
 pub shape_of-closing_compounding : goal.shape_of-closing_compounding
-shape_of-closing_compounding c = (let s : tie.After-steps-in-front = (goal.at.shape_of-closing_compounding c).After-steps_in_front-front in omega (arith, c.finish-counts.kept, s.steps-in-front.kept))
+shape_of-closing_compounding c = (let s : tie.After-steps-in-front = (goal.at.shape_of-closing_compounding c).After-steps_in_front-front in omega (arith, c.finish-counts.auto.closing_registry, s.steps-in-front.kept))
 
 pub shape_of-closing_slashings : goal.shape_of-closing_slashings
-shape_of-closing_slashings c = (let s : tie.After-steps-in-front = (goal.at.shape_of-closing_slashings c).After-steps_in_front-front in omega (arith, c.finish-counts.kept, s.steps-in-front.kept))
+shape_of-closing_slashings c = (let s : tie.After-steps-in-front = (goal.at.shape_of-closing_slashings c).After-steps_in_front-front in omega (arith, c.finish-counts.auto.closing_registry, s.steps-in-front.kept))
 
 pub shape_of-closing_deposits : goal.shape_of-closing_deposits
-shape_of-closing_deposits c = (let s : tie.After-steps-in-front = (goal.at.shape_of-closing_deposits c).After-steps_in_front-front in omega (arith, c.finish-counts.kept, s.steps-in-front.kept))
+shape_of-closing_deposits c = (let s : tie.After-steps-in-front = (goal.at.shape_of-closing_deposits c).After-steps_in_front-front in omega (arith, c.finish-counts.auto.closing_registry, s.steps-in-front.kept))
 
 pub shape_of-closing_consolidations : goal.shape_of-closing_consolidations
-shape_of-closing_consolidations c = (let s : tie.After-steps-in-front = (goal.at.shape_of-closing_consolidations c).After-steps_in_front-front in omega (arith, c.finish-counts.kept, s.steps-in-front.kept))
+shape_of-closing_consolidations c = (let s : tie.After-steps-in-front = (goal.at.shape_of-closing_consolidations c).After-steps_in_front-front in omega (arith, c.finish-counts.auto.closing_registry, s.steps-in-front.kept))
 
 pub shape_of-amounts : goal.shape_of-amounts
-shape_of-amounts c = (let s : tie.After-steps-in-front = (goal.at.shape_of-amounts c).After-steps_in_front-front in omega (arith, c.finish-counts.kept, s.steps-in-front.kept))
+shape_of-amounts c = (let s : tie.After-steps-in-front = (goal.at.shape_of-amounts c).After-steps_in_front-front in omega (arith, c.finish-counts.auto.closing_registry, s.steps-in-front.kept))
 
 pub shape_of-places : goal.shape_of-places
-shape_of-places c = (let s : tie.After-steps-in-front = (goal.at.shape_of-places c).After-steps_in_front-front in omega (arith, c.finish-counts.kept, s.steps-in-front.kept))
+shape_of-places c = (let s : tie.After-steps-in-front = (goal.at.shape_of-places c).After-steps_in_front-front in omega (arith, c.finish-counts.auto.closing_registry, s.steps-in-front.kept))

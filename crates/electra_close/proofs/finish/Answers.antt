@@ -18,7 +18,7 @@ write_added-count-requires c =
 pub last_in_front-requires : goal.last_in_front-requires
 last_in_front-requires c =
     let l = c.requires in
-    record { slashings_len = (l.vector, l.passed); closing_slashings_len = (l.slashed, omega (arith, l.registry, c.write_added-count.kept, c.write_added-count.ensures.within)) }
+    record { slashings_len = (l.vector, l.passed); closing_slashings_len = (l.slashed, omega (arith, l.registry, c.write_added-count.auto.closing_registry, c.write_added-count.ensures.within)) }
 
 pub returns : goal.returns
 returns c =

@@ -25,6 +25,6 @@ eight_steps-requires c =
 pub returns : goal.returns
 returns c =
     let l = c.requires in
-    let k = c.eight_steps.kept in
+    let k = c.eight_steps.auto.closing in
     let a = c.args in
     in_front (length a.compounding.now) a.closing_registry.now a.amounts.now l.room l.rows (omega (arith, k)) (omega (arith, k)) c.eight_steps.ensures

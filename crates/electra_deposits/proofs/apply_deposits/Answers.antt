@@ -1,9 +1,6 @@
 use native.Mathlib.Omega.{arith}
-use mathlib.Core.Path.{◌≡◌, refl, ◌∙◌}
-use Prim.Native.Nat.{◌-◌, ◌/◌}
-use lib.ListN.{length}
-use borrow.Author.Rules.{rules}
-use Rattle.electra_deposits.proofs.Alone.{Going, going_none, going_all, going_left, going_stop, going_full, going_more}
+use mathlib.Core.Path.{refl, ◌∙◌}
+use Rattle.electra_deposits.proofs.Alone.{going_none, going_all, going_left, going_stop, going_full, going_more}
 use Rattle.electra_deposits.proofs.apply_deposits.Goals as goal
 
 pub loop-i-init : goal.loop-i-init
@@ -28,7 +25,7 @@ returns-then-refusal-ne0 c =
 pub returns-then-turn : goal.returns-then-turn
 returns-then-turn c =
     let inv = c.loop-i.invariant in
-    rw c.deposited_of-then-turn.ensures (going_full inv.2 c.loop-i-test.true c.deposit_at-d.ensures c.stops_before.ensures c.if-stops_before.false c.deposit_turn-turn.ensures c.if-refusal-ne0.false c.deposit_turn-turn.kept.0 c.if-turn.true)
+    rw c.deposited_of-then-turn.ensures (going_full inv.2 c.loop-i-test.true c.deposit_at-d.ensures c.stops_before.ensures c.if-stops_before.false c.deposit_turn-turn.ensures c.if-refusal-ne0.false c.deposit_turn-turn.auto.registry c.if-turn.true)
 
 pub overflow_step-i : goal.overflow_step-i
 overflow_step-i c = omega (arith, c.loop-i-test.true, c.loop-i.invariant.0)
@@ -36,7 +33,7 @@ overflow_step-i c = omega (arith, c.loop-i-test.true, c.loop-i.invariant.0)
 pub loop-i-preserved : goal.loop-i-preserved
 loop-i-preserved c =
     let inv = c.loop-i.invariant in
-    let kept = c.deposit_turn-turn.kept.0 in
+    let kept = c.deposit_turn-turn.auto.registry in
     (inv.0, kept ∙ inv.1, going_more inv.2 c.loop-i-test.true c.deposit_at-d.ensures c.stops_before.ensures c.if-stops_before.false c.deposit_turn-turn.ensures c.if-refusal-ne0.false kept c.if-turn.false)
 
 pub returns : goal.returns

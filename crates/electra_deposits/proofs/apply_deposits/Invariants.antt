@@ -1,9 +1,7 @@
-use native.Mathlib.Omega.{arith}
-use mathlib.Core.Path.{◌≡◌, refl, ◌∙◌}
+use mathlib.Core.Path.{◌≡◌}
 use Prim.Native.Nat.{◌-◌, ◌/◌}
 use lib.ListN.{length}
-use borrow.Author.Rules.{rules}
-use Rattle.electra_deposits.proofs.Alone.{Going, going_none, going_all, going_left, going_stop, going_full, going_more}
+use Rattle.electra_deposits.proofs.Alone.{Going}
 use Rattle.electra_deposits.proofs.apply_deposits.Given as goal
 
 abbrev pub invariant-loop-i : goal.invariant-loop-i

@@ -1,6 +1,5 @@
 use mathlib.Core.Path.{sym}
 use Rattle.laws_electra.proofs.Deposits.{deposit-at}
-use borrow.Author.Rules.{rules}
 use Rattle.electra_deposits.proofs.deposit_at.Goals as goal
 
 pub returns : goal.returns

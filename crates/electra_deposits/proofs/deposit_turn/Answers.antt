@@ -1,7 +1,6 @@
 use Rattle.electra_deposits.proofs.Alone.{turn-withdrawn, turn-exited, turn-over, turn-full, turn-applied}
 use Rattle.arithmetic.proofs.Operations.{only-add64}
 use Rattle.arithmetic.proofs.Laws.{says-value, says_overflow}
-use borrow.Author.Rules.{rules}
 use Rattle.electra_deposits.proofs.deposit_turn.Goals as goal
 
 pub returns-then-withdrawn_at : goal.returns-then-withdrawn_at

@@ -1,7 +1,6 @@
 use lib.Dec.{ltb}
 use Rattle.definitions.specs.Record.{FAR_FUTURE_EPOCH}
 use Rattle.electra_deposits.proofs.Alone.{tested-none, tested-exit}
-use borrow.Author.Rules.{rules}
 use Rattle.electra_deposits.proofs.exited_at.Goals as goal
 
 pub returns-then-n-key : goal.returns-then-n-key

@@ -1,5 +1,4 @@
 use Rattle.electra_deposits.proofs.Alone.{raised-none, raised-one}
-use borrow.Author.Rules.{rules}
 use Rattle.electra_deposits.proofs.raise.Goals as goal
 
 pub returns-then-n-d : goal.returns-then-n-d

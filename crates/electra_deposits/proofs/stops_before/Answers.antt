@@ -1,4 +1,3 @@
-use borrow.Author.Rules.{rules}
 use Rattle.electra_deposits.proofs.Alone.{stop-late, stop-many, stop-none, stop-bridge}
 use Rattle.electra_deposits.proofs.stops_before.Goals as goal
 

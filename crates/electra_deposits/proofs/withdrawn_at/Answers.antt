@@ -1,6 +1,5 @@
 use lib.Dec.{ltb}
 use Rattle.electra_deposits.proofs.Alone.{tested-none, tested-withdrawable}
-use borrow.Author.Rules.{rules}
 use Rattle.electra_deposits.proofs.withdrawn_at.Goals as goal
 
 pub returns-then-n-key : goal.returns-then-n-key

@@ -18,7 +18,7 @@ pub returns-then-first-ne0 : goal.returns-then-first-ne0
 returns-then-first-ne0 c =
     let a = c.args in
     let h = c.first_five-first.ensures in
-    let k = c.first_five-first.kept in
+    let k = c.first_five-first.auto.closing in
     first-refused a.rules a.finality a.churn a.numbers a.registry.now a.compounding.now a.slashings.now a.roots.now a.deposits.now a.pairs.now c.requires (omega (arith, k, c.requires.later.tens)) (omega (arith, k, c.requires.later.twelves)) (rw c.under-s.ensures at h) c.if-first-ne0.true refl
 
 pub later_three-later-requires : goal.later_three-later-requires
@@ -26,7 +26,7 @@ later_three-later-requires c =
     let l = c.requires in
     let a = c.args in
     let at-else1 : tie.Else1 = (goal.at.later_three-later-requires c).Else-first-ne0 in
-    let k = c.first_five-first.kept in
+    let k = c.first_five-first.auto.closing in
     record { rules_value = l.good; later_lent = record { tens = omega (arith, k, l.later.tens); twelves = omega (arith, k, l.later.twelves); fives = l.later.fives; keys = l.later.keys; twos = l.later.twos; within = l.later.within; table = l.later.table }; none_yet = none_yet a.rules a.finality a.churn a.numbers a.registry.now a.compounding.now a.slashings.now a.roots.now a.deposits.now a.pairs.now l (omega (arith, k, l.later.tens)) (omega (arith, k, l.later.twelves)) (rw c.under-s.ensures at c.first_five-first.ensures) at-else1.if1.false }
 
 pub returns : goal.returns
@@ -34,5 +34,5 @@ returns c =
     let at-else1 : tie.Else1 = (goal.at.returns c).Else-first-ne0 in
     let a = c.args in
     let h = c.first_five-first.ensures in
-    let k = c.first_five-first.kept in
+    let k = c.first_five-first.auto.closing in
     goes a.rules a.finality a.churn a.numbers a.registry.now a.compounding.now a.slashings.now a.roots.now a.deposits.now a.pairs.now c.requires (omega (arith, k, c.requires.later.tens)) (omega (arith, k, c.requires.later.twelves)) (rw c.under-s.ensures at h) at-else1.if1.left c.later_three-later.ensures

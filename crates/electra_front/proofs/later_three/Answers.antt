@@ -19,7 +19,7 @@ returns-then-six-ne0 c =
 pub moves_and_balances-moved-requires : goal.moves_and_balances-moved-requires
 moves_and_balances-moved-requires c =
     let l = c.requires.later_lent in
-    record { registry_len = (omega (arith, c.deposits_in_front-six.kept, l.tens), l.twos); pairs_value = l.within; settings_value = (good-electra _ c.requires.rules_value).settings }
+    record { registry_len = (omega (arith, c.deposits_in_front-six.auto.registry, l.tens), l.twos); pairs_value = l.within; settings_value = (good-electra _ c.requires.rules_value).settings }
 
 pub returns-then-moved-ne0 : goal.returns-then-moved-ne0
 returns-then-moved-ne0 c =

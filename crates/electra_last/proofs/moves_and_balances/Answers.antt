@@ -12,7 +12,7 @@ returns-then-moved-ne0 c =
     moves-refused a.rules a.next_epoch _ a.compounding.now a.registry.now a.pairs.now c.consolidate_all-moved.ensures.consolidates c.consolidate_all-moved.ensures.moves_booked c.if-moved-ne0.true
 
 pub effective_balances_core-refusal-requires : goal.effective_balances_core-refusal-requires
-effective_balances_core-refusal-requires c = (omega (arith, c.consolidate_all-moved.kept, c.requires.registry_len.0), c.requires.settings_value)
+effective_balances_core-refusal-requires c = (omega (arith, c.consolidate_all-moved.auto.registry, c.requires.registry_len.0), c.requires.settings_value)
 
 pub returns : goal.returns
 returns c =

@@ -29,19 +29,19 @@ returns-in_default-left_to_consume c =
 
 pub book_named-requires-2 : goal.book_named-requires-2
 book_named-requires-2 c =
-    let k = c.apply_deposits-done.auto.0 in
-    let j = c.book_named.auto.1.1.1.0 in
+    let k = c.apply_deposits-done.auto.registry in
+    let j = c.book_named.auto.amounts.1.1.1.0 in
     let a = c.requires.registry_len in
     (omega (arith, k, a.0), omega (arith, k, j, a.1))
 
 pub book_named-requires-3 : goal.book_named-requires-3
 book_named-requires-3 c =
-    let k = c.apply_deposits-done.auto.0 in
-    let j = c.book_named.auto.1.1.1.0 in
-    let i = c.book_named-2.auto.1.1.1.0 in
+    let k = c.apply_deposits-done.auto.registry in
+    let j = c.book_named.auto.amounts.1.1.1.0 in
+    let i = c.book_named-2.auto.amounts.1.1.1.0 in
     let a = c.requires.registry_len in
     (omega (arith, k, a.0), omega (arith, k, j, i, a.1))
 
 pub returns : goal.returns
 returns c =
-    record { ran = λ st l. deposits-held c.args.rules l c.requires.registry_len.0 c.queue_numbers.ensures c.in-Value.is c.apply_deposits-done.ensures c.if-refusal-ne0.false c.left_to_consume.ensures c.in-Value-left_to_consume.is c.book_named.ensures c.book_named-2.ensures c.book_named-3.ensures c.apply_deposits-done.auto.0 c.requires.none_yet }
+    record { ran = λ st l. deposits-held c.args.rules l c.requires.registry_len.0 c.queue_numbers.ensures c.in-Value.is c.apply_deposits-done.ensures c.if-refusal-ne0.false c.left_to_consume.ensures c.in-Value-left_to_consume.is c.book_named.ensures c.book_named-2.ensures c.book_named-3.ensures c.apply_deposits-done.auto.registry c.requires.none_yet }

@@ -1,6 +1,7 @@
 -- the call under these rules
 use mathlib.Core.Path.{◌≡◌, refl, sym}
 use native.Mathlib.Omega.{arith}
+use borrow.Author.Rules.{rules}
 use Rattle.definitions.specs.declared.Rules.{Rules}
 use Rattle.definitions.specs.Checked.{code_of}
 use Rattle.definitions_close.specs.FullClose.{FullCall, limited_full_tests}

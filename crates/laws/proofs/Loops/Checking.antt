@@ -80,5 +80,5 @@ module _ {f : Validator → Checked Validator} {n : ℕ} {xs₀ : List ℕ} {i :
         let t = at_entry ∙ sym (checked_stop f (decode xs₀) i b g.passed (λ k. z (at_entry ∙ k))) in
         record { code = t; held = λ vs v. absurd (z (t ∙ ap code_of v)) }
 
--- `search (needs, checking)` answers each need of such a loop that is not plain arithmetic, but for `loop-again`, which is `checking-more`
+-- `search (rules, checking)` answers each need of such a loop that is not plain arithmetic, but for `loop-again`, which is `checking-more`
 pub ruleset checking = (checking-none, checking-ten, checking-stop, checking-all)

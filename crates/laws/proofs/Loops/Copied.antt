@@ -28,5 +28,5 @@ module _ {src : List ℕ} {i : ℕ} {dst : List ℕ} (g : Copied src i dst) wher
   pub copied_all : length src ≤ i → dst ≡ src
   copied_all l = ext_get_or 0 dst src g.long (λ j h. g.held j (omega arith))
 
--- `search (needs, copying)` answers each need of such a loop that is not plain arithmetic
+-- `search (rules, copying)` answers each need of such a loop that is not plain arithmetic
 pub ruleset copying = (copied_none, copied_more, copied_all)

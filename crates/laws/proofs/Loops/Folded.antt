@@ -23,5 +23,5 @@ module _ {S : Type 0} {f : S → Validator → S} {z : S} {n : ℕ} {xs : List �
   pub folded-all : n ≤ i → s ≡ foldl f z (decode xs)
   folded-all l = g.held ∙ ap (foldl f z) (prefix_all g.at l)
 
--- `search (needs, folding)` answers each need of such a loop that is not plain arithmetic
+-- `search (rules, folding)` answers each need of such a loop that is not plain arithmetic
 pub ruleset folding = (folded-none, reading_ten, folded_more, folded-all)

@@ -65,5 +65,5 @@ module _ {f : List Validator → ℕ → Checked (List Validator)} {n : ℕ} {xs
         let e : length (decode xs₀) ≡ i + suc (n - suc i) = omega (arith, count) in
         rw (e, turn f (decode xs₀) (decode xs) i (n - suc i) g.held) (ran-stop h _ z)
 
--- `search (needs, iterating)` answers each need of such a loop that is not plain arithmetic, but for `loop-again`, which is `iterated-more`
+-- `search (rules, iterating)` answers each need of such a loop that is not plain arithmetic, but for `loop-again`, which is `iterated-more`
 pub ruleset iterating = (iterated-none, iterated-stop, iterated-all)

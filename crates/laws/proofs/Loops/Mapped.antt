@@ -77,5 +77,5 @@ module _ {f : Validator → Validator} {n : ℕ} {xs₀ : List ℕ} {i : ℕ} {x
         let len = length-encode (map_first f (i + 1) vs) in
         record { begun = m.begun; below = omega arith; long = rw k (omega (arith, len, length-map_first f (i + 1) vs, length-decode n xs₀ m.begun)); held = k }
 
--- `search (needs, mapping)` answers each need of such a loop that is not plain arithmetic
+-- `search (rules, mapping)` answers each need of such a loop that is not plain arithmetic
 pub ruleset mapping = (mapped-none, mapped-ten, mapped-more, mapped-all)

@@ -14,7 +14,7 @@ use Rattle.outage.proofs.put_file.Goals as goal
 
 -- what was read is as long as the header calls for
 exact : (c : After-read_file-read) → let a = c.args in let read = c.read_file-read.new.slashings in Exact a.file.now a.opening.now a.absences.now read.0 read.1.0 a.roots.now a.closing_registry.now a.closing_slashings.now a.text.now
-exact c = let kept = c.read_file-read.auto.1 in exact_read c.requires kept.0 kept.1.0
+exact c = let kept = c.read_file-read.auto.slashings in exact_read c.requires kept.0 kept.1.0
 
 opened : (c : Else-read-ne0) → let read = c.read_file-read.last.1 in Opened c.args.file.now c.read_file-read.result.settings c.read_file-read.result.finality read.0 read.1.0
 opened c =

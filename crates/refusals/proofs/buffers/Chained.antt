@@ -24,5 +24,5 @@ module _ {m : Checked ℕ} (k : ℕ → Checked (List Validator)) {n : Number} {
   pub ran_over : {q : ℕ} → OnlyOverflow m → Says m n → n ≡ Refused q → Ran (bind m k) xs 5
   ran_over o h e = ran_overflow (bind-refused k (says_overflow h o e).0)
 
--- `search (needs, chained)`, under `unfolding` the step, proves what it returns
+-- `search (rules, chained)`, under `unfolding` the step, proves what it returns
 pub ruleset chained = (ran-given, ran_over, only)

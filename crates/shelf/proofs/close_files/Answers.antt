@@ -1,19 +1,20 @@
-use mathlib.Core.Path.{refl, sym, ◌∙◌}
+use mathlib.Core.Path.{◌≡◌, refl, sym, ◌∙◌}
 use Prim.Native.Nat.{◌+◌, ◌-◌, ◌≤◌, ◌<◌}
 use native.Mathlib.Omega.{arith}
 use borrow.Author.Tests.{ltb-true, ltb-false}
+use lib.Dec.{ltb}
 use lib.ListN.{length, get_or}
 use Rattle.shelf.proofs.Lengths.{each-longest, longest-drop}
-use Rattle.shelf.proofs.Shelving.{shelving-none, shelving-more, shelving-all, inside, file-long, part-long, shaped}
+use Rattle.shelf.proofs.Shelving.{Shelving, shelving-none, shelving-more, shelving-all, inside, file-long, part-long, shaped}
 use Rattle.shelf.proofs.close_files.Goals.{In-loop-more}
 use Rattle.shelf.proofs.close_files.Goals as goal
 
 -- a file is left
-left : (c : In-loop-more → c.before.loop.i < length (start c.before).args.lengths.now
+left : (c : In-loop-more) → c.loop-more.i < length c.args.lengths.now
 left c = ltb-true _ _ (sym c.loop-more.invariant.3 ∙ c.loop-more-test.true)
 
 -- and ends within the shelf
-fits : (c : In-loop-more → let k = c.before.loop in let a = (start c.before).args in let end = k.at + get_or a.lengths.now k.i 0 in (end ≤ length a.files.now) × (end ≤ length k.closing)
+fits : (c : In-loop-more) → let k = c.loop-more in let a = c.args in let end = k.at + get_or a.lengths.now k.i 0 in (end ≤ length a.files.now) × (end ≤ length k.closing)
 fits c =
     let g = c.loop-more.invariant.0 in
     let l = inside _ _ _ _ _ g (left c) in (l, omega (arith, l, g.as_long))

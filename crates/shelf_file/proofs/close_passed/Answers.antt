@@ -38,7 +38,7 @@ read c =
 
 -- the slashings after their reset, in the list
 behind : (c : After-slashings_reset_core) → let a = c.args in let ys = c.slashings_reset_core.new.slashings.1.1.0 in numbers_behind a.a a.b (take a.a (numbers c.After-file_roots-roots) ++ (ys ++ drop (a.b - a.a) (drop a.a (numbers c.After-file_roots-roots)))) ≡ ys
-behind c = behind-put _ _ _ _ (ordered c.Start) (within c.After-file_roots-roots) c.slashings_reset_core.auto.1.1.0
+behind c = behind-put _ _ _ _ (ordered c.Start) (within c.After-file_roots-roots) c.slashings_reset_core.auto.slashings.1.1.0
 
 pub close_opening-answer-requires : goal.close_opening-answer-requires
 close_opening-answer-requires c =
@@ -51,7 +51,7 @@ returns-then-answer-ne0 c =
 pub put_closed-requires : goal.put_closed-requires
 put_closed-requires c =
     let p = c.requires in
-    record { a_le_b = (ordered (goal.at.put_closed-requires c).Start, omega (arith, within (goal.at.put_closed-requires c).After-file_roots-roots, c.numbers-2-1.given)); sized = sized (read (goal.at.put_closed-requires c).After-file_roots-roots) (c.closing-1.given ∙ p.closing_len.0 ∙ p.counted.counts.registry) (ap length (behind (goal.at.put_closed-requires c).After-slashings_reset_core) ∙ c.slashings_reset_core.auto.1.1.0) p.closing_len.1 }
+    record { a_le_b = (ordered (goal.at.put_closed-requires c).Start, omega (arith, within (goal.at.put_closed-requires c).After-file_roots-roots, c.numbers-2-1.given)); sized = sized (read (goal.at.put_closed-requires c).After-file_roots-roots) (c.closing-1.given ∙ p.closing_len.0 ∙ p.counted.counts.registry) (ap length (behind (goal.at.put_closed-requires c).After-slashings_reset_core) ∙ c.slashings_reset_core.auto.slashings.1.1.0) p.closing_len.1 }
 
 pub returns : goal.returns
 returns c =

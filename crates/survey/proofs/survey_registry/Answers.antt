@@ -6,9 +6,9 @@ use Rattle.survey.proofs.survey_registry.Goals.{In-loop-i}
 use Rattle.survey.proofs.survey_registry.Goals as goal
 
 -- the registry is lent, so that it has no 2^60 numbers
-fewer : (c : In-loop-i → 10 * c.before.loop.i + 10 < 1152921504606846976
+fewer : (c : In-loop-i) → 10 * c.loop-i.i + 10 < 1152921504606846976
 fewer c =
-    omega (arith, c.loop-i-test.true, c.well_formed.1.1.1.0.0)
+    omega (arith, c.loop-i-test.true, c.type_inv.registry)
 
 pub loop-i-init : goal.loop-i-init
 loop-i-init c = rw (c.no_sums.ensures, c.no_overs.ensures) (seeing_none _ _ _ c.requires.registry_len c.requires.kept_len.0 c.requires.kept_len.1)

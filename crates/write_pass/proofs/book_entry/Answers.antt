@@ -11,4 +11,4 @@ fill_entry-requires c =
     record { planned = a.planned; answer_for = a.answer_for; from_len = (a.from_len.0, a.from_len.1, nine-part c.args.amounts.now c.args.i (omega (arith, c.if-amounts-b.false))); between = a.between }
 
 pub returns : goal.returns
-returns c = put-part c.args.amounts.now c.args.i c.fill_entry.auto.1.1.1.1.1.0 c.fill_entry.ensures
+returns c = put-part c.args.amounts.now c.args.i c.fill_entry.auto.nine c.fill_entry.ensures

@@ -13,4 +13,4 @@ pub returns : goal.returns
 returns c =
     let a = c.args in
     let h = c.write_by-passed.ensures in
-    (altair-ran a.s a.p a.t (record { epoch = 0; finalized_epoch = 0; least = 0; limit = 0; delay = 0; min_activation_balance = 0; ejection_balance = 0 }) (record { queue = a.first; left = a.quota; churn = record { exit_balance_to_consume = 0; earliest_exit_epoch = 0 } }) (decode a.opening.now) h.swept, h.1)
+    record { ran = altair-ran a.s a.p a.t (record { epoch = 0; finalized_epoch = 0; least = 0; limit = 0; delay = 0; min_activation_balance = 0; ejection_balance = 0 }) (record { queue = a.first; left = a.quota; churn = record { exit_balance_to_consume = 0; earliest_exit_epoch = 0 } }) (decode a.opening.now) h.swept; fills = h.fills; pair_of = h.pair_of }

@@ -1,22 +1,17 @@
 use mathlib.Core.Path.{◌≡◌, sym, ◌∙◌}
-use Prim.Native.Nat.{◌+◌, ◌-◌, ◌*◌, ◌≤◌, ◌<◌}
+use Prim.Native.Nat.{◌+◌, ◌*◌, ◌≤◌, ◌<◌}
 use lib.ListN.{length}
 use native.Mathlib.Omega.{arith}
 use Rattle.write_pass.proofs.Loop.{passing_none, passing_few, passing_balance, passing_from, passing_to, passing_inside, passing_ten, passing_between, passing_more, passing_stop, passing_all, passing_filled, passing_pair, passing_pair_few, passing_room, passing_exit}
-use Rattle.laws.proofs.Loops.Entry.{put_at}
-use Rattle.write_pass.proofs.write_by.Goals.{After-carry-1, After-write_entry-written, In-loop-i}
+use Rattle.write_pass.proofs.write_by.Goals.{After-write_entry-written, In-loop-i}
 use Rattle.write_pass.proofs.write_by.Goals as goal
 
 -- the turn's entry stands in both registries, and came back with its ten numbers
-inside : (c : In-loop-i → let at = c.before in let i = at.loop.i in (10 * i + 10 ≤ length (start at).args.opening.now) × (10 * i + 10 ≤ length at.loop.closing) × (10 * i + 10 < 1152921504606846976)
+inside : (c : In-loop-i) → let i = c.loop-i.i in (10 * i + 10 ≤ length c.args.opening.now) × (10 * i + 10 ≤ length c.loop-i.closing) × (10 * i + 10 < 1152921504606846976)
 inside c = passing_inside c.loop-i.invariant c.loop-i-test.true
 
-ten : (c : After-write_entry-written → length c.write-entry.new.1.1.1.1.1.1.1.1.0 ≡ 10
-ten c = c.write_entry-written.auto.1.1.1.1.1.1.1.1.0 ∙ passing_to c.loop-i.invariant c.loop-i-test.true
-
-part_end : (c : After-carry-1 → let at-in-loop = turn (written c) in 10 * at-in-loop.before.loop.i + 10 ≤ length (put_at at-in-loop.before.loop.closing at-in-loop.before.loop.i c.write_entry-written.new.to.1.1.1.1.1.1.1.1.0)
-part_end c =
-    passing_room c.loop-i.invariant c.loop-i-test.true c.write_entry-written.ensures c.if-refusal-ne0.false (ten c.After-write_entry-written)
+ten : (c : After-write_entry-written) → length c.write_entry-written.new.to ≡ 10
+ten c = c.write_entry-written.auto.to ∙ passing_to c.loop-i.invariant c.loop-i-test.true
 
 pub loop-i-init : goal.loop-i-init
 loop-i-init c =
@@ -31,8 +26,8 @@ write_entry-written-requires c =
     let g = c.loop-i.invariant in
     let l = c.loop-i-test.true in
     let a = c.requires in
-    let told = c.rates_in-rates.ensures.1 in
-    record { planned = a.planned; rates_for = record { fits = told.0; same = told.1 ∙ sym (passing_balance g l) }; from_len = (passing_from g l, passing_to g l); current_epoch_bound = (a.current_epoch_bound.0, a.current_epoch_bound.1, passing_few g l a.current_epoch_bound.2) }
+    let told = c.rates_in-rates.ensures in
+    record { planned = a.planned; rates_for = record { fits = told.fits; same = told.effective_balance_value ∙ sym (passing_balance g l) }; from_len = (passing_from g l, passing_to g l); current_epoch_bound = (a.current_epoch_bound.0, a.current_epoch_bound.1, passing_few g l a.current_epoch_bound.2) }
 
 pub shape_of-closing-then-refusal-ne0 : goal.shape_of-closing-then-refusal-ne0
 shape_of-closing-then-refusal-ne0 c =
@@ -44,7 +39,8 @@ shape_of-table-then-refusal-ne0 c =
 
 pub returns-then-refusal-ne0 : goal.returns-then-refusal-ne0
 returns-then-refusal-ne0 c =
-    passing_stop c.loop-i.invariant c.loop-i-test.true c.write_entry-written.ensures c.if-refusal-ne0.true
+    let p = passing_stop c.loop-i.invariant c.loop-i-test.true c.write_entry-written.ensures c.if-refusal-ne0.true in
+    record { swept = p.0; fills = p.1.0; pair_of = p.1.1 }
 
 pub book_entry-requires : goal.book_entry-requires
 book_entry-requires c =
@@ -57,7 +53,7 @@ book_entry-requires c =
 pub loop-i-preserved : goal.loop-i-preserved
 loop-i-preserved c =
     let b = c.book_entry in
-    passing_more c.loop-i.invariant c.loop-i-test.true c.write_entry-written.ensures c.if-refusal-ne0.false (ten (goal.at.loop-i-preserved c).After-write_entry-written) c.rates_in-rates.ensures.table_of_2 b.auto.1.1.1.1.1.1.0 b.ensures c.exited-pair.ensures
+    passing_more c.loop-i.invariant c.loop-i-test.true c.write_entry-written.ensures c.if-refusal-ne0.false (ten (goal.at.loop-i-preserved c).After-write_entry-written) c.rates_in-rates.ensures.table_of_2 b.auto.amounts b.ensures c.exited-pair.ensures
 
 pub bounds-closing-i : goal.bounds-closing-i
 bounds-closing-i c =
@@ -124,7 +120,8 @@ pub slice_bounds-book_entry-start : goal.slice_bounds-book_entry-start
 slice_bounds-book_entry-start c = omega (arith, inside (goal.at.slice_bounds-book_entry-start c).In-loop-i, ten (goal.at.slice_bounds-book_entry-start c).After-write_entry-written)
 
 pub slice_bounds-book_entry-end : goal.slice_bounds-book_entry-end
-slice_bounds-book_entry-end c = part_end (goal.at.slice_bounds-book_entry-end c).After-carry-1
+slice_bounds-book_entry-end c =
+    passing_room c.loop-i.invariant c.loop-i-test.true c.write_entry-written.ensures c.if-refusal-ne0.false (ten (goal.at.slice_bounds-book_entry-end c).After-write_entry-written)
 
 pub overflow_mul-i : goal.overflow_mul-i
 overflow_mul-i c = omega (arith, inside (goal.at.overflow_mul-i c).In-loop-i)

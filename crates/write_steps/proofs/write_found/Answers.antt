@@ -23,7 +23,7 @@ abbrev Accepted-at : Settings → ℕ → ℕ → List ℕ → List ℕ → Type
 Accepted-at s state_slot finalized_epoch slashings opening = Accepted s state_slot finalized_epoch slashings (decode opening)
 
 current-small : (c : After-current_epoch-current) → c.current_epoch-current.result < 2 ^ 48
-current-small c = rw c.current_epoch-current.ensures (ep c.Start).small
+current-small c = rw c.current_epoch-current.ensures (epochs c.args.s c.args.state_slot c.requires.s_value.0 c.requires.s_value.1).small
 
 pub plan_for-requires : goal.plan_for-requires
 plan_for-requires c = (c.requires.s_value.0, total-least _ _ c.requires.found.totals.active)

@@ -27,7 +27,7 @@ Accepted-at s state_slot finalized_epoch slashings opening = Accepted s state_sl
 -- the present epoch is small
 current-small : (c : After-current_epoch-epoch) → c.current_epoch-epoch.result < 2 ^ 48
 current-small c =
-    rw c.current_epoch-epoch.ensures (ep c.Start).small
+    rw c.current_epoch-epoch.ensures (epochs c.args.s c.args.state_slot c.requires.s_value.0 c.requires.s_value.1).small
 
 pub returns-then-not-all_fit : goal.returns-then-not-all_fit
 returns-then-not-all_fit c =
@@ -59,7 +59,7 @@ write_found-requires c =
 pub returns : goal.returns
 returns c =
     let wrote = c.write_found.ensures in
-    (wrote.ran_under.under _ (rw (c.activation_limit-most.ensures, c.current_epoch-epoch.ensures) at c.cut_queue-cut.ensures), wrote.1)
+    record { ran = wrote.ran_under.under _ (rw (c.activation_limit-most.ensures, c.current_epoch-epoch.ensures) at c.cut_queue-cut.ensures); books = wrote.books; pair_of = wrote.pair_of }
 
 pub overflow_add-least : goal.overflow_add-least
 overflow_add-least c = omega (arith, current-small (goal.at.overflow_add-least c).After-current_epoch-epoch)

@@ -40,5 +40,5 @@ module _ {f : Validator → Checked Validator} (g : Validator → Checked Valida
           let q : bind (f (decode_one before)) g ≡ refused p = ap (λ (m : Checked Validator). bind m g) e in
           record { code = h.code ∙ ap code_of e ∙ ap code_of (sym q); held = λ v t. absurd (not_value (sym q ∙ t)) }
 
--- `search (needs, in_turn_lem)` proves what a function that calls others on one entry, in turn, returns
+-- `search (rules, in_turn_lem)` proves what a function that calls others on one entry, in turn, returns
 pub ruleset in_turn_lem = (settles-runs, plain_runs, runs_then, runs-stop)

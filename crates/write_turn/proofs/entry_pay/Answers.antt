@@ -18,7 +18,7 @@ pub entry_reward_by-rewarded-requires : goal.entry_reward_by-rewarded-requires
 entry_reward_by-rewarded-requires c =
     let a = c.requires in
     let rates = a.rates_for in
-    record { shared_by = a.planned.shared; inactivity_score_bias_nonzero = (a.planned.bias, a.planned.quotient); says = a.planned.product; len = c.entry_update_score-scored.kept.1.1.1.1.0 ∙ a.len; fits = rates.fits; effective_balance_value = rates.same ∙ sym (balance-scored _ _ _ _ c.entry_update_score-scored.ensures) }
+    record { shared_by = a.planned.shared; inactivity_score_bias_nonzero = (a.planned.bias, a.planned.quotient); says = a.planned.product; len = c.entry_update_score-scored.auto.entry ∙ a.len; fits = rates.fits; effective_balance_value = rates.same ∙ sym (balance-scored _ _ _ _ c.entry_update_score-scored.ensures) }
 
 pub returns : goal.returns
 returns c =

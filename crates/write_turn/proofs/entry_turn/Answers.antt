@@ -8,7 +8,7 @@ pub returns-then-turned-ne0 : goal.returns-then-turned-ne0
 returns-then-turned-ne0 c = last-stop (churn-steps _ c.update_entry-turned.ensures) _ c.if-turned-ne0.true
 
 pub entry_slash-slashed-requires : goal.entry_slash-slashed-requires
-entry_slash-slashed-requires c = (c.update_entry-turned.kept.0 ∙ c.requires.len.0, c.requires.planned.shared.increment)
+entry_slash-slashed-requires c = (c.update_entry-turned.auto.entry ∙ c.requires.len.0, c.requires.planned.shared.increment)
 
 pub returns : goal.returns
 returns c = last_then (churn-steps _ c.update_entry-turned.ensures) _ c.if-turned-ne0.false (settles-runs c.entry_slash-slashed.ensures)

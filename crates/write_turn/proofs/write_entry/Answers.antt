@@ -18,56 +18,48 @@ returns-then-paid-ne0 c =
 pub entry_turn-turned-requires : goal.entry_turn-turned-requires
 entry_turn-turned-requires c =
     let a = c.requires in
-    record { planned = a.planned; len = (c.entry_pay-paid.kept.1.1.1.0 ∙ c.copy_entry.kept.1.0 ∙ a.from_len.1, a.current_epoch_bound.1) }
+    record { planned = a.planned; len = (c.entry_pay-paid.auto.entry ∙ c.copy_entry.auto.to ∙ a.from_len.1, a.current_epoch_bound.1) }
 
 pub returns-then-later-ne0 : goal.returns-then-later-ne0
 returns-then-later-ne0 c =
-    let at-then2 : tie.Then2 = (goal.at.returns-then-later-ne0 c).Then-later-ne0 in
-    let at-else1 : tie.Else1 = (goal.at.returns-then-later-ne0 c).Else-paid-ne0 in
-    let a = (start at-else1).args in
-    let pays = (paid at-else1).entry-pay.ensures in
-    let same = (copied at-else1).copy-entry.ensures in
+    let a = c.args in
+    let pays = c.entry_pay-paid.ensures in
+    let same = c.copy_entry.ensures in
     record {
-      steps = steps_copied same (later-steps a.later a.s a.p a.t a.n at-then2.if2.true (first_then pays.runs _ at-else1.if1.false c.entry_turn-turned.ensures));
+      steps = steps_copied same (later-steps a.later a.s a.p a.t a.n c.if-later-ne0.true (first_then pays.runs _ c.if-paid-ne0.false c.entry_turn-turned.ensures));
       few = omega arith;
-      answer = λ z. rw (← same) (pays.answer at-else1.if1.false);
+      answer = λ z. rw (← same) (pays.answer c.if-paid-ne0.false);
     }
 
 pub entry_move-moved-requires : goal.entry_move-moved-requires
 entry_move-moved-requires c =
     let a = c.requires in
-    (c.entry_pay-paid.kept.1.1.1.0 ∙ c.copy_entry.kept.1.0 ∙ a.from_len.1, a.current_epoch_bound.0, a.current_epoch_bound.2)
+    (c.entry_pay-paid.auto.entry ∙ c.copy_entry.auto.to ∙ a.from_len.1, a.current_epoch_bound.0, a.current_epoch_bound.2)
 
 pub returns-then-moved-ne0 : goal.returns-then-moved-ne0
 returns-then-moved-ne0 c =
-    let at-else2 : tie.Else2 = (goal.at.returns-then-moved-ne0 c).Else-later-ne0 in
-    let at-else1 : tie.Else1 = (goal.at.returns-then-moved-ne0 c).Else-paid-ne0 in
-    let a = (start at-else1).args in
-    let pays = (paid at-else1).entry-pay.ensures in
+    let a = c.args in
+    let pays = c.entry_pay-paid.ensures in
     let moved = c.entry_move-moved.ensures in
     record {
-      steps = steps_copied (copied at-else1).copy-entry.ensures (queue-steps a.later a.s a.p a.t a.n (omega (arith, at-else2.if2.false)) (first_then pays.runs _ at-else1.if1.false (last-stop moved.steps _ c.if-moved-ne0.true)));
+      steps = steps_copied c.copy_entry.ensures (queue-steps a.later a.s a.p a.t a.n (omega (arith, c.if-later-ne0.false)) (first_then pays.runs _ c.if-paid-ne0.false (last-stop moved.steps _ c.if-moved-ne0.true)));
       few = moved.few;
       answer = λ z. absurd (c.if-moved-ne0.true z);
     }
 
 pub entry_finish-refusal-requires : goal.entry_finish-refusal-requires
 entry_finish-refusal-requires c =
-    let at-else1 : tie.Else1 = (goal.at.entry_finish-refusal-requires c).Else-paid-ne0 in
-    let a = (start at-else1).requires in
-    record { planned = a.0; len = c.entry_move-moved.auto.1.1.1.1.1.0 ∙ (paid at-else1).entry-pay.auto.1.1.1.0 ∙ (copied at-else1).copy-entry.auto.1.0 ∙ a.1.1.0.1 }
+    let a = c.requires in
+    record { planned = a.planned; len = c.entry_move-moved.auto.entry ∙ c.entry_pay-paid.auto.entry ∙ c.copy_entry.auto.to ∙ a.from_len.1 }
 
 pub returns : goal.returns
 returns c =
-    let at-else3 : tie.Else3 = (goal.at.returns c).Else-moved-ne0 in
-    let at-else2 : tie.Else2 = (goal.at.returns c).Else-later-ne0 in
-    let at-else1 : tie.Else1 = (goal.at.returns c).Else-paid-ne0 in
-    let a = (start at-else1).args in
-    let pays = (paid at-else1).entry-pay.ensures in
-    let same = (copied at-else1).copy-entry.ensures in
+    let a = c.args in
+    let pays = c.entry_pay-paid.ensures in
+    let same = c.copy_entry.ensures in
     let moved = c.entry_move-moved.ensures in
     record {
-      steps = steps_copied same (queue-steps a.later a.s a.p a.t a.n (omega (arith, at-else2.if2.false)) (first_then pays.runs _ at-else1.if1.false (last_then moved.steps _ at-else3.if3.false c.entry_finish-refusal.ensures)));
+      steps = steps_copied same (queue-steps a.later a.s a.p a.t a.n (omega (arith, c.if-later-ne0.false)) (first_then pays.runs _ c.if-paid-ne0.false (last_then moved.steps _ c.if-moved-ne0.false c.entry_finish-refusal.ensures)));
       few = moved.few;
-      answer = λ z. rw (← same) (pays.answer at-else1.if1.false);
+      answer = λ z. rw (← same) (pays.answer c.if-paid-ne0.false);
     }

@@ -1,11 +1,6 @@
 use native.Mathlib.Omega.{arith}
-use mathlib.Core.Path.{◌≡◌, refl, ◌∙◌}
-use mathlib.Core.Bool.{true}
-use Prim.Native.Nat.{◌-◌, ◌/◌, ◌≤◌, ◌<◌}
-use lib.ListN.{length}
-use borrow.Author.Rules.{rules}
-use Rattle.electra_deposits.specs.Room.{keyed}
-use Rattle.electra_deposits.proofs.Table.{Adding, adding_none, adding_within, adding_all, adding_stop, adding_more, room-left, table-long, place-below, key_here}
+use mathlib.Core.Path.{refl, ◌∙◌}
+use Rattle.electra_deposits.proofs.Table.{adding_none, adding_within, adding_all, adding_stop, adding_more, room-left, table-long, place-below, key_here}
 use Rattle.electra_deposits.proofs.adding.add_deposits.Goals as goal
 
 pub loop-i-init : goal.loop-i-init
@@ -31,8 +26,8 @@ returns-then-applied-ne0 c =
 pub loop-i-preserved : goal.loop-i-preserved
 loop-i-preserved c =
     let inv = c.loop-i.invariant in
-    let kept = c.join-applied.kept in
-    (inv.0, inv.1, inv.2, kept.0 ∙ inv.3, kept.1.0 ∙ inv.4, kept.1.1.0 ∙ inv.5, adding_more inv.6 inv.0 c.loop-i-test.true c.deposit_at-d.ensures inv.1 c.join-applied.ensures c.if-applied-ne0.false kept.0 kept.1.0)
+    let kept = c.join-applied.auto in
+    (inv.0, inv.1, inv.2, kept.registry ∙ inv.3, kept.compounding ∙ inv.4, kept.places ∙ inv.5, adding_more inv.6 inv.0 c.loop-i-test.true c.deposit_at-d.ensures inv.1 c.join-applied.ensures c.if-applied-ne0.false kept.registry kept.compounding)
 
 pub returns : goal.returns
 returns c =

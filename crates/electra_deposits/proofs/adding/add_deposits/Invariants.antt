@@ -1,11 +1,9 @@
-use native.Mathlib.Omega.{arith}
-use mathlib.Core.Path.{◌≡◌, refl, ◌∙◌}
+use mathlib.Core.Path.{◌≡◌}
 use mathlib.Core.Bool.{true}
 use Prim.Native.Nat.{◌-◌, ◌/◌, ◌≤◌, ◌<◌}
 use lib.ListN.{length}
-use borrow.Author.Rules.{rules}
 use Rattle.electra_deposits.specs.Room.{keyed}
-use Rattle.electra_deposits.proofs.Table.{Adding, adding_none, adding_within, adding_all, adding_stop, adding_more, room-left, table-long, place-below, key_here}
+use Rattle.electra_deposits.proofs.Table.{Adding}
 use Rattle.electra_deposits.proofs.adding.add_deposits.Given as goal
 
 abbrev pub invariant-loop-i : goal.invariant-loop-i

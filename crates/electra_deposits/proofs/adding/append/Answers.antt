@@ -1,6 +1,5 @@
 use Rattle.laws.proofs.Loops.Entry.{entry-back}
 use mathlib.Core.Path.{refl}
-use borrow.Author.Rules.{rules}
 use Rattle.electra_deposits.proofs.adding.append.Goals as goal
 
 pub returns : goal.returns

@@ -1,6 +1,5 @@
 use Rattle.electra_deposits.proofs.Steps.{applied-known, applied-invalid, applied-new, joined-front, joined-new}
 use native.Mathlib.Omega.{arith}
-use borrow.Author.Rules.{rules}
 use Rattle.electra_deposits.proofs.adding.join.Goals as goal
 
 pub returns-then-d-n : goal.returns-then-d-n

@@ -1,7 +1,6 @@
 use native.Mathlib.Nat.{mod-le}
 use borrow.Author.Tests.{eq-eqb, ne_eqb}
 use native.Mathlib.Omega.{arith}
-use borrow.Author.Rules.{rules}
 use Rattle.electra_deposits.proofs.adding.new_effective.Goals as goal
 
 pub overflow_sub-rounded : goal.overflow_sub-rounded

@@ -1,7 +1,6 @@
 use Rattle.electra_deposits.proofs.Steps.{written}
 use lib.ListN.{length-set}
 use native.Mathlib.Omega.{arith}
-use borrow.Author.Rules.{rules}
 use Rattle.electra_deposits.proofs.adding.write_validator.Goals as goal
 
 pub bounds-entry-4 : goal.bounds-entry-4

@@ -1,5 +1,4 @@
 use Rattle.electra_deposits.proofs.closing.Written.{adds_none, adds_one}
-use borrow.Author.Rules.{rules}
 use Rattle.electra_deposits.proofs.closing.add_if.Goals as goal
 
 pub returns-then-on : goal.returns-then-on

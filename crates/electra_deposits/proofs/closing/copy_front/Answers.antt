@@ -1,5 +1,4 @@
 use Rattle.electra_deposits.proofs.closing.Over.{front_copied}
-use borrow.Author.Rules.{rules}
 use Rattle.electra_deposits.proofs.closing.copy_front.Goals as goal
 
 pub returns : goal.returns

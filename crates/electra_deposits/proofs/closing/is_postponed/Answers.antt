@@ -1,5 +1,4 @@
 use Rattle.electra_deposits.proofs.closing.Written.{is-withdrawn, is-exiting}
-use borrow.Author.Rules.{rules}
 use Rattle.electra_deposits.proofs.closing.is_postponed.Goals as goal
 
 pub returns-then-withdrawn_at : goal.returns-then-withdrawn_at

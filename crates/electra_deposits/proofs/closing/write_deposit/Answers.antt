@@ -1,7 +1,6 @@
 use native.Mathlib.Omega.{arith}
 use lib.ListN.{length-set}
 use Rattle.electra_deposits.proofs.closing.Written.{five}
-use borrow.Author.Rules.{rules}
 use Rattle.electra_deposits.proofs.closing.write_deposit.Goals as goal
 
 pub returns : goal.returns

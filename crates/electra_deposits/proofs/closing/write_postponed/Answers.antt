@@ -1,10 +1,6 @@
 use mathlib.Core.Path.{◌≡◌, refl, ◌∙◌}
-use Prim.Native.Nat.{◌-◌, ◌/◌, ◌*◌, ◌≤◌}
 use native.Mathlib.Omega.{arith}
-use lib.ListN.{length}
-use Rattle.electra_deposits.specs.Written.{Postponing}
 use Rattle.electra_deposits.proofs.closing.Written.{postponing-none, postponing-few, postponing-more}
-use borrow.Author.Rules.{rules}
 use Rattle.electra_deposits.proofs.closing.write_postponed.Goals as goal
 
 pub loop-i-init : goal.loop-i-init
@@ -24,7 +20,7 @@ pub loop-i-preserved : goal.loop-i-preserved
 loop-i-preserved c =
     let inv = c.loop-i.invariant in
     let l = c.loop-i-test.true in
-    let kept = c.add_if-count.auto.0 in
+    let kept = c.add_if-count.auto.queue in
     let more = postponing-more inv.5 (omega (arith, l, inv.1)) c.deposit_at-d.ensures c.is_postponed-on.ensures c.add_if-count.ensures in
     (inv.0, inv.1, omega (arith, kept, inv.2), omega (arith, l), kept ∙ inv.4, more)
 

@@ -1,10 +1,7 @@
-use mathlib.Core.Path.{◌≡◌, refl, ◌∙◌}
+use mathlib.Core.Path.{◌≡◌}
 use Prim.Native.Nat.{◌-◌, ◌/◌, ◌*◌, ◌≤◌}
-use native.Mathlib.Omega.{arith}
 use lib.ListN.{length}
 use Rattle.electra_deposits.specs.Written.{Postponing}
-use Rattle.electra_deposits.proofs.closing.Written.{postponing-none, postponing-few, postponing-more}
-use borrow.Author.Rules.{rules}
 use Rattle.electra_deposits.proofs.closing.write_postponed.Given as goal
 
 abbrev pub invariant-loop-i : goal.invariant-loop-i

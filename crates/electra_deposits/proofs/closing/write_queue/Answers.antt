@@ -1,6 +1,5 @@
 use native.Mathlib.Omega.{arith}
 use Rattle.electra_deposits.proofs.closing.Written.{postponing-few, written}
-use borrow.Author.Rules.{rules}
 use Rattle.electra_deposits.proofs.closing.write_queue.Goals as goal
 
 pub overflow_add-result : goal.overflow_add-result

@@ -1,6 +1,5 @@
 use native.Mathlib.Omega.{arith}
 use Rattle.electra_deposits.proofs.step.Close.{close-done, close-back}
-use borrow.Author.Rules.{rules}
 use Rattle.electra_deposits.proofs.step.deposits_core.Goals as goal
 
 pub returns-then-refusal-eq0 : goal.returns-then-refusal-eq0

@@ -1,7 +1,6 @@
 use mathlib.Core.Path.{◌∙◌}
 use native.Mathlib.Omega.{arith}
 use Rattle.electra_deposits.proofs.step.Front.{compounding-fits, long-compounding, cleared, finished}
-use borrow.Author.Rules.{rules}
 use Rattle.electra_deposits.proofs.step.finish.Goals as goal
 
 pub copy_front-requires : goal.copy_front-requires

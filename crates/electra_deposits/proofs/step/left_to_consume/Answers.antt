@@ -1,5 +1,4 @@
 use Rattle.electra_deposits.proofs.step.Run.{left-reached, left-none}
-use borrow.Author.Rules.{rules}
 use Rattle.electra_deposits.proofs.step.left_to_consume.Goals as goal
 
 pub returns-then-reached : goal.returns-then-reached

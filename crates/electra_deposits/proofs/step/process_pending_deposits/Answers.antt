@@ -1,6 +1,5 @@
 use Rattle.electra_refusals.proofs.Passed.{good-electra, deposits-passed}
 use Rattle.electra_deposits.proofs.step.Close.{lent, tests-refused, tests-passed}
-use borrow.Author.Rules.{rules}
 use Rattle.electra_deposits.proofs.step.process_pending_deposits.Goals as goal
 
 pub returns-then-refusal-ne0 : goal.returns-then-refusal-ne0

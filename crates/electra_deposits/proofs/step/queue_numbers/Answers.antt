@@ -5,7 +5,6 @@ use Rattle.arithmetic.proofs.Operations.{only-add64, only-mul64}
 use Rattle.arithmetic.proofs.Laws.{next, stop}
 use Rattle.definitions_electra.specs.Evaluated.Electra.EpochProcessing.{queueing}
 use Rattle.electra_registry.proofs.Limits.{only-limit}
-use borrow.Author.Rules.{rules}
 use Rattle.electra_deposits.proofs.step.queue_numbers.Goals as goal
 
 pub current_epoch-requires : goal.current_epoch-requires

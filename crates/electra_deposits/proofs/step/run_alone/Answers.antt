@@ -1,5 +1,4 @@
 use Rattle.electra_deposits.proofs.step.Front.{front_long, fronted}
-use borrow.Author.Rules.{rules}
 use Rattle.electra_deposits.proofs.step.run_alone.Goals as goal
 
 pub apply_deposits-requires : goal.apply_deposits-requires
@@ -10,4 +9,4 @@ apply_deposits-requires c =
 pub returns : goal.returns
 returns c =
     let a = c.args in
-    fronted a.q a.registry.now a.deposits.now a.closing_registry.now c.copy_front.ensures c.apply_deposits.auto.0 c.apply_deposits.ensures
+    fronted a.q a.registry.now a.deposits.now a.closing_registry.now c.copy_front.ensures c.apply_deposits.auto.registry c.apply_deposits.ensures

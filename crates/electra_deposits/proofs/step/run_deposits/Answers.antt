@@ -1,6 +1,5 @@
 use Rattle.refusals.proofs.Laws.{good-settings}
 use Rattle.electra_deposits.proofs.step.Close.{next-far, queue-given, step-over, step_run}
-use borrow.Author.Rules.{rules}
 use Rattle.electra_deposits.proofs.step.run_deposits.Goals as goal
 
 pub returns-in_default : goal.returns-in_default

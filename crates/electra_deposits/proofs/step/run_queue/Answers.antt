@@ -1,6 +1,5 @@
 use Rattle.electra_deposits.proofs.step.Front.{registry-fits, lent_again}
 use Rattle.electra_deposits.proofs.step.Run.{run-refused, run-within, run-over, run-done}
-use borrow.Author.Rules.{rules}
 use Rattle.electra_deposits.proofs.step.run_queue.Goals as goal
 
 pub run_alone-done-requires : goal.run_alone-done-requires
@@ -24,11 +23,11 @@ pub finish-requires : goal.finish-requires
 finish-requires c =
     let a = c.args in
     let p = c.requires in
-    record { lent = lent_again p.lent c.run_alone-done.auto.1.1.1.0; increment_nonzero = (p.increment_nonzero.0, p.increment_nonzero.1, run-within a.k a.q p.lent p.increment_nonzero.2 c.run_alone-done.ensures c.if-refusal-ne0.false) }
+    record { lent = lent_again p.lent c.run_alone-done.auto.closing_registry; increment_nonzero = (p.increment_nonzero.0, p.increment_nonzero.1, run-within a.k a.q p.lent p.increment_nonzero.2 c.run_alone-done.ensures c.if-refusal-ne0.false) }
 
 pub returns : goal.returns
 returns c =
     let a = c.args in
     let p = c.requires in
     let f = c.finish in
-    run-done a.k a.q p.lent p.increment_nonzero.2 c.run_alone-done.ensures c.if-refusal-ne0.false c.left_to_consume.ensures c.in-Value.is f.ensures f.auto.1.1.1.1.1.1.0
+    run-done a.k a.q p.lent p.increment_nonzero.2 c.run_alone-done.ensures c.if-refusal-ne0.false c.left_to_consume.ensures c.in-Value.is f.ensures f.auto.closing_compounding

@@ -1,15 +1,8 @@
 use native.Mathlib.Omega.{arith}
-use mathlib.Core.Path.{◌≡◌, refl, ◌∙◌}
-use mathlib.Core.Bool.{true}
-use Prim.Native.Nat.{◌-◌, ◌/◌, ◌≤◌, ◌<◌}
-use lib.ListN.{length}
-use borrow.Author.Rules.{rules}
+use mathlib.Core.Path.{refl, ◌∙◌}
 use borrow.Author.Tests.{not-true, not-false}
-use Rattle.electra_deposits.specs.Room.{keyed}
-use Rattle.electra_deposits.proofs.Tests.{Testing, testing_none, testing_all, testing_more, testing_stop, added-few}
+use Rattle.electra_deposits.proofs.Tests.{testing_none, testing_all, testing_more, testing_stop, added-few}
 use Rattle.electra_deposits.proofs.Table.{key_here}
-use mathlib.Core.Path.{ap}
-use mathlib.Core.Bool.{not}
 use Rattle.electra_deposits.proofs.testing.new_pass.Goals as goal
 
 pub loop-i-init : goal.loop-i-init
@@ -29,7 +22,7 @@ test_deposit-tested-requires c =
 pub returns-then-not-tested : goal.returns-then-not-tested
 returns-then-not-tested c =
     let inv = c.loop-i.invariant in
-    testing_stop inv.4 inv.0 c.loop-i-test.true c.deposit_at-d.ensures inv.1 c.test_deposit-tested.ensures (not-true _ (ap not c.if-not-tested.true))
+    testing_stop inv.4 inv.0 c.loop-i-test.true c.deposit_at-d.ensures inv.1 c.test_deposit-tested.ensures (not-true _ c.if-not-tested.true)
 
 pub overflow_add-added : goal.overflow_add-added
 overflow_add-added c =
@@ -40,8 +33,8 @@ overflow_add-added c =
 pub loop-i-preserved : goal.loop-i-preserved
 loop-i-preserved c =
     let inv = c.loop-i.invariant in
-    let kept = c.test_deposit-tested.kept.0 in
-    (inv.0, inv.1, inv.2, kept ∙ inv.3, testing_more inv.4 inv.0 c.loop-i-test.true c.deposit_at-d.ensures inv.1 c.test_deposit-tested.ensures (not-false _ (ap not c.if-not-tested.false)) kept)
+    let kept = c.test_deposit-tested.auto.places in
+    (inv.0, inv.1, inv.2, kept ∙ inv.3, testing_more inv.4 inv.0 c.loop-i-test.true c.deposit_at-d.ensures inv.1 c.test_deposit-tested.ensures (not-false _ c.if-not-tested.false) kept)
 
 pub returns : goal.returns
 returns c =

@@ -1,15 +1,9 @@
-use native.Mathlib.Omega.{arith}
-use mathlib.Core.Path.{◌≡◌, refl, ◌∙◌}
+use mathlib.Core.Path.{◌≡◌}
 use mathlib.Core.Bool.{true}
 use Prim.Native.Nat.{◌-◌, ◌/◌, ◌≤◌, ◌<◌}
 use lib.ListN.{length}
-use borrow.Author.Rules.{rules}
-use borrow.Author.Tests.{not-true, not-false}
 use Rattle.electra_deposits.specs.Room.{keyed}
-use Rattle.electra_deposits.proofs.Tests.{Testing, testing_none, testing_all, testing_more, testing_stop, added-few}
-use Rattle.electra_deposits.proofs.Table.{key_here}
-use mathlib.Core.Path.{ap}
-use mathlib.Core.Bool.{not}
+use Rattle.electra_deposits.proofs.Tests.{Testing}
 use Rattle.electra_deposits.proofs.testing.new_pass.Given as goal
 
 abbrev pub invariant-loop-i : goal.invariant-loop-i

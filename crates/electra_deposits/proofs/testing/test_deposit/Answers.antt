@@ -1,5 +1,4 @@
 use native.Mathlib.Omega.{arith}
-use borrow.Author.Rules.{rules}
 use Rattle.electra_deposits.proofs.TestSteps.{test-old, test_free, test-over, test-more, test-invalid, test_low, test-high, test-new, over-one, over-two, under}
 use Rattle.electra_deposits.proofs.testing.test_deposit.Goals as goal
 

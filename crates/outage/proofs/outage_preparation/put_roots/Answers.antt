@@ -1,12 +1,13 @@
 use Prim.Native.Nat.{◌+◌, ◌-◌, ◌%◌, ◌<◌}
 use native.Mathlib.Nat.{mod-lt}
 use native.Mathlib.Omega.{arith}
-use Rattle.outage.proofs.outage_preparation.Roots.{rooting_none, rooting_more, rooting_all}
+use borrow.Author.Rules.{rules}
+use Rattle.outage.proofs.outage_preparation.Roots.{Rooting, rooting_none, rooting_more, rooting_all}
 use Rattle.outage.proofs.outage_preparation.put_roots.Goals.{At-loop-i}
 use Rattle.outage.proofs.outage_preparation.put_roots.Goals as goal
 
 -- the slot's root has a place
-placed : (c : At-loop-i → let a = (start c).args in (a.slot + c.loop-i.i) % a.places < a.places
+placed : (c : At-loop-i) → let a = c.args in (a.slot + c.loop-i.i) % a.places < a.places
 placed c = mod-lt (c.args.slot + c.loop-i.i) {m = c.args.places} c.requires.places_nonzero.0
 
 pub loop-i-preserved : goal.loop-i-preserved

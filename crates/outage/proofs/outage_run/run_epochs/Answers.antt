@@ -1,15 +1,19 @@
 use mathlib.Core.Path.{refl, ◌∙◌}
-use Prim.Native.Nat.{◌-◌}
+use Prim.Native.Nat.{◌-◌, ◌/◌}
 use native.Mathlib.Omega.{arith}
+use lib.ListN.{length}
+use Rattle.definitions_file.specs.File.{contents_with}
+use Rattle.definitions_file.specs.OutageInput.{plan_of}
+use Rattle.outage.specs.Ready.{Ready}
 use Rattle.outage.proofs.outage_run.Slot.{went-small}
-use Rattle.outage.proofs.outage_run.Running.{running_none, running_more, running-stop, running-all, ready-more, Lasting}
+use Rattle.outage.proofs.outage_run.Running.{Running, running_none, running_more, running-stop, running-all, ready-more, Lasting}
 use Rattle.outage.proofs.outage_run.run_epochs.Goals.{After-try_epoch-closed}
 use Rattle.outage.proofs.outage_run.run_epochs.Goals as goal
 
-lasting : (c : After-try_epoch-closed → let a = (start (turn c).before).args in let left = c.try_epoch-closed.new.1.1.1.1 in Lasting a.registry.now a.slashings.now a.roots.now a.closing_registry.now a.closing_slashings.now a.text.now left.0 left.1.0 left.1.1.0 left.1.1.1.0 left.1.1.1.1.0 left.1.1.1.1.1.0
+lasting : (c : After-try_epoch-closed) → let a = c.args in let left = c.try_epoch-closed.new.1.1.1.1 in Lasting a.registry.now a.slashings.now a.roots.now a.closing_registry.now a.closing_slashings.now a.text.now left.0 left.1.0 left.1.1.0 left.1.1.1.0 left.1.1.1.1.0 left.1.1.1.1.1.0
 lasting c =
     let k = c.loop-i.invariant.2 in
-    let kept = c.try_epoch-closed.auto.1.1.1.1 in
+    let kept = c.try_epoch-closed.auto.closing_slashings in
     record {
       entries = kept.0 ∙ k.entries;
       sums = kept.1.0 ∙ k.sums;
@@ -37,7 +41,7 @@ returns-then-closed-ne0 c =
 pub loop-i-preserved : goal.loop-i-preserved
 loop-i-preserved c =
     let g = c.loop-i.invariant in
-    let kept = c.try_epoch-closed.kept.1.1.1.1 in
+    let kept = c.try_epoch-closed.auto.closing_slashings in
     let w = c.try_epoch-closed.ensures in
     let z = c.if-closed-ne0.false in
     (running_more g.0 c.loop-i-test.true w z, ready-more g.1 (went-small _ w z) kept.0 kept.1.1.0, lasting (goal.at.loop-i-preserved c).After-try_epoch-closed)
