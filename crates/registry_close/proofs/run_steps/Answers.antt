@@ -41,5 +41,9 @@ returns-then-wrote-ne0 c =
 pub returns : goal.returns
 returns c =
     let slot = slot_kept c.args.limit _ _ _ c.args.slashings.now _ (justified (goal.at.returns c).After-justification_core-justified) (given (goal.at.returns c).Else-justified-ne0) in
-    let wrote = c.write_registry-wrote.ensures in record { limited_worked = worked-done _ _ _ _ _ _ (justified (goal.at.returns c).After-justification_core-justified) (given (goal.at.returns c).Else-justified-ne0) wrote.ran (omega (arith, c.if-wrote-ne0.false))
-          (ap (λ (slot : ℕ). reset_slashings c.args.s slot c.args.slashings.now) (sym slot)) (omega (arith, given (goal.at.returns c).Else-justified-ne0)) refl refl; books = record { booked = λ z. wrote.books.booked (omega (arith, c.if-wrote-ne0.false)) }; pair_of = record { pair = λ z. wrote.pair_of.pair (omega (arith, c.if-wrote-ne0.false)) } }
+    let wrote = c.write_registry-wrote.ensures in record {
+      limited_worked = worked-done _ _ _ _ _ _ (justified (goal.at.returns c).After-justification_core-justified) (given (goal.at.returns c).Else-justified-ne0) wrote.ran (omega (arith, c.if-wrote-ne0.false))
+          (ap (λ (slot : ℕ). reset_slashings c.args.s slot c.args.slashings.now) (sym slot)) (omega (arith, given (goal.at.returns c).Else-justified-ne0)) refl refl;
+      books = record { booked = λ z. wrote.books.booked (omega (arith, c.if-wrote-ne0.false)) };
+      pair_of = record { pair = λ z. wrote.pair_of.pair (omega (arith, c.if-wrote-ne0.false)) };
+    }
