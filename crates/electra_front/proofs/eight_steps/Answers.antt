@@ -1,6 +1,5 @@
 use mathlib.Core.Path.{refl}
 use native.Mathlib.Omega.{arith}
-use borrow.Author.Rules.{rules}
 use Rattle.electra_close_tests.proofs.Passed.{in_place-good}
 use Rattle.electra_front.proofs.Eights.{first-refused, none_yet, goes}
 use Rattle.electra_front.proofs.eight_steps.Goals as goal
