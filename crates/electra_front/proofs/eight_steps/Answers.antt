@@ -1,6 +1,5 @@
 use mathlib.Core.Path.{refl}
 use native.Mathlib.Omega.{arith}
-use borrow.Author.Rules.{rules}
 use Rattle.electra_close_tests.proofs.Passed.{in_place-good}
 use Rattle.electra_front.proofs.Eights.{first-refused, none_yet, goes}
 use Rattle.electra_front.proofs.eight_steps.Goals as goal
@@ -12,7 +11,7 @@ first_five-first-requires c =
     let w = l.later.twelves in
     let g = in_place-good _ l.good in
     rw c.under-s.ensures
-    ((l.good, g, refl, l.finality), (l.justification, (omega (arith, l.tens), omega (arith, l.tens, t), omega (arith, l.tens, w))))
+    (record { rules_value = (l.good, g, refl, l.finality); registry_value = l.justification; registry_len = (omega (arith, l.tens), omega (arith, l.tens, t), omega (arith, l.tens, w)) })
 
 pub returns-then-first-ne0 : goal.returns-then-first-ne0
 returns-then-first-ne0 c =

@@ -1,5 +1,5 @@
 use mathlib.Core.Path.{refl, subst, ◌∙◌}
-use Prim.Native.Nat.{ℕ, ◌-◌}
+use Prim.Native.Nat.{ℕ}
 use native.Mathlib.Omega.{arith}
 use Rattle.electra_sixth.specs.Named.{Naming}
 use Rattle.electra_sixth.proofs.Named.{naming_none, naming_more}

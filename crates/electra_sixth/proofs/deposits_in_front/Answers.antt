@@ -1,6 +1,5 @@
 -- the places on the way
 use native.Mathlib.Omega.{arith}
-use borrow.Author.Rules.{rules}
 use Rattle.electra_refusals.proofs.Passed.{good-electra}
 use Rattle.electra_sixth.proofs.InFront.{queue-refused, loop-refused, left-refused, deposits-held}
 use Rattle.electra_sixth.proofs.deposits_in_front.Goals as goal
