@@ -44,13 +44,17 @@ module _ (bytes : List ℕ) {h : Header} (e : h ≡ header_read bytes) (l : leng
 
 -- what the caller learns
 abbrev pub Printed : List ℕ → List ℕ → List ℕ → ℕ → Type 0
-Printed bytes before after r = (r ≡ printed_length bytes before) × ((after ≡ printed_text bytes before) × ((r ≤ length after) × (r ≡ length (take r after))))
+Printed bytes before after r = record {
+  value : r ≡ printed_length bytes before;
+  text_after : after ≡ printed_text bytes before;
+  upper_bound : (r ≤ length after) × (r ≡ length (take r after));
+}
 
 pub too_short : (bytes text : List ℕ) → length text < longest → Printed bytes text text 0
 unfolding printed_length printed_text
 too_short bytes text l =
     let e = lt-leb longest (length text) l in
-    (rw e, (rw e, (omega arith, refl)))
+    record { value = rw e; text_after = rw e; upper_bound = (omega arith, refl) }
 
 pub long-enough : (bytes : List ℕ) {before after : List ℕ} {r : ℕ} → longest ≤ length before → Put before 0 (listing bytes) after r → r ≤ length before → length after ≡ length before → Printed bytes before after r
 unfolding printed_length printed_text
@@ -59,4 +63,4 @@ long-enough bytes {before} {after} {r} t p l m =
     let z : 0 + length (listing bytes) ≡ length (listing bytes) = omega arith in
     let inside : r ≤ length after = omega (arith, l, m) in
     let held = p.held ∙ sets-eq (listing bytes) before 0 (omega (arith, p.stopped, l)) ∙ ap (λ (k : ℕ). listing bytes ++ drop k before) z in
-    (rw e (p.stopped ∙ z), (rw e held, (inside, sym (length-take-le r after inside))))
+    record { value = rw e (p.stopped ∙ z); text_after = rw e held; upper_bound = (inside, sym (length-take-le r after inside)) }

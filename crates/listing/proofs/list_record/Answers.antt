@@ -14,7 +14,7 @@ file_roots-roots-requires c = (read-lengths _ _ _ (sym c.read_file-opened.ensure
 
 -- by way of `z`: the search from the end alone does not reach the start
 pub list_close-requires : goal.list_close-requires
-list_close-requires c = omega (arith, c.requires.room, c.requires.entries, c.registry-1.given)
+list_close-requires c = omega (arith, c.requires.room, c.requires.entries, c.read_file-opened.auto.registry)
 
 pub returns : goal.returns
 returns c =

@@ -1,11 +1,10 @@
-use mathlib.Core.Path.{◌≡◌, refl, sym, ◌∙◌}
-use Prim.Native.Nat.{◌+◌, ◌-◌, ◌≤◌, ◌<◌}
+use mathlib.Core.Path.{refl, sym, ◌∙◌}
+use Prim.Native.Nat.{◌+◌, ◌≤◌, ◌<◌}
 use native.Mathlib.Omega.{arith}
 use borrow.Author.Tests.{ltb-true, ltb-false}
-use lib.Dec.{ltb}
 use lib.ListN.{length, get_or}
 use Rattle.shelf.proofs.Lengths.{each-longest, longest-drop}
-use Rattle.shelf.proofs.Shelving.{Shelving, shelving-none, shelving-more, shelving-all, inside, file-long, part-long, shaped}
+use Rattle.shelf.proofs.Shelving.{shelving-none, shelving-more, shelving-all, inside, file-long, part-long, shaped}
 use Rattle.shelf.proofs.close_files.Goals.{In-loop-more}
 use Rattle.shelf.proofs.close_files.Goals as goal
 
@@ -37,13 +36,16 @@ close_file-answer-requires c =
 pub loop-more-preserved : goal.loop-more-preserved
 loop-more-preserved c =
     let k = c.loop-more in
-    let g = k.inv.0 in
+    let g = k.invariant.0 in
     let l = left (goal.at.loop-more-preserved c).In-loop-more in
     let f = c.close_file-answer in
-    (shelving-more _ _ _ _ _ g l f.ensures.0 f.ensures.1 (f.auto.1.1.1.1.1.0 ∙ part-long _ _ _ _ _ g l), c.opening_numbers-1.given ∙ k.inv.1, c.closing_numbers-1.given ∙ k.inv.2, refl)
+    (shelving-more _ _ _ _ _ g l f.ensures.value f.ensures.part_after (f.auto.part ∙ part-long _ _ _ _ _ g l), f.auto.opening_numbers ∙ k.invariant.1, f.auto.closing_numbers ∙ k.invariant.2, refl)
 
 pub returns : goal.returns
-returns c = let k = c.loop-more in shelving-all _ _ _ _ _ k.invariant.0 (ltb-false _ _ (sym k.invariant.3 ∙ c.loop-more-test.false))
+returns c =
+    let k = c.loop-more in
+    let all = shelving-all _ _ _ _ _ k.invariant.0 (ltb-false _ _ (sym k.invariant.3 ∙ c.loop-more-test.false)) in
+    record { answers_after = all.0; closing_after = all.1 }
 
 pub offset_bounds-lengths-i : goal.offset_bounds-lengths-i
 offset_bounds-lengths-i c = omega (arith, left (goal.at.offset_bounds-lengths-i c).In-loop-more)

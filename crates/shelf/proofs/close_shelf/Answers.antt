@@ -18,4 +18,4 @@ returns c =
     let t = passes c.shelf_shaped.ensures (ap not c.if-not-shelf_shaped.false) in
     let f = c.close_files in
     let e = f.ensures in
-    record { value = rw t; answers_after = rw t e.0; closing_after = rw t e.1; working = record { long = f.kept.1.1.1.0; unwritten = λ n. absurd (n refl) }; working_2 = record { long = f.kept.1.1.1.1.0; unwritten = λ n. absurd (n refl) } }
+    record { value = rw t; answers_after = rw t e.answers_after; closing_after = rw t e.closing_after; working = record { long = f.auto.opening_numbers; unwritten = λ n. absurd (n refl) }; working_2 = record { long = f.auto.closing_numbers; unwritten = λ n. absurd (n refl) } }

@@ -1,5 +1,4 @@
 use mathlib.Core.Path.{sym}
-use Prim.Native.Nat.{◌-◌}
 use native.Mathlib.Omega.{arith}
 use borrow.Author.Tests.{ne_eqb}
 use Rattle.definitions.specs.Lists.{sum}
@@ -16,4 +15,4 @@ pub loop-i-preserved : goal.loop-i-preserved
 loop-i-preserved c = let a = c.args in let l = c.loop-i in (omega arith, omega (arith, sum_more a.lengths.now l.i c.loop-i-test.true))
 
 pub returns : goal.returns
-returns c = let a = c.args in left-none (sum a.lengths.now) c.loop-i.false a.total (omega (arith, sum-none a.lengths.now c.loop-i.i c.loop-i-test.false))
+returns c = let a = c.args in left-none (sum a.lengths.now) c.loop-i.left a.total (omega (arith, sum-none a.lengths.now c.loop-i.i c.loop-i-test.false))

@@ -27,7 +27,7 @@ returns-then-closed-ne0 c =
 pub put_close-requires : goal.put_close-requires
 put_close-requires c =
     let a = passed (goal.at.put_close-requires c).Else-closed-ne0 in
-    record { slots_per_epoch_nonzero = a.epochs; registry_value = (a.shaped, omega (arith, a.alike, c.closing_registry-1.given)); registry_in_bounds = c.requires }
+    record { slots_per_epoch_nonzero = a.epochs; registry_value = (a.shaped, omega (arith, a.alike, c.close_as_altair-closed.auto.closing_registry)); registry_in_bounds = c.requires }
 
 pub returns : goal.returns
 unfolding close_text accepted_text
