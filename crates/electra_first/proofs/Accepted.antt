@@ -2,11 +2,11 @@
 use mathlib.Core.Path.{◌≡◌, refl, sym, ap, ◌∙◌}
 use mathlib.Core.Bool.{true, false, true≢false}
 use mathlib.Core.List.{List}
-use Prim.Native.Nat.{ℕ, ◌+◌, ◌<◌}
+use Prim.Native.Nat.{ℕ}
 use native.Mathlib.Omega.{arith}
 use Rattle.definitions.specs.declared.Settings.{Settings}
 use Rattle.definitions.specs.Record.{Validator, decode}
-use Rattle.definitions.specs.Checked.{Checked, value, refused, overflow, bind, code_of}
+use Rattle.definitions.specs.Checked.{Checked, value, refused, overflow, code_of}
 use Rattle.definitions.specs.Rules.{in_place}
 use Rattle.definitions.specs.Rust.Phase0.Helpers.{is_active_validator, get_current_epoch, get_previous_epoch, get_total_active_balance, get_active_validator_indices}
 use Rattle.laws.proofs.Checked.{value_same, bound, number_not_zero}
@@ -30,12 +30,12 @@ use Rattle.write_turn.proofs.Sweeps.Fused.{only-sweep}
 use Rattle.write_steps.proofs.Made.{plain-fit}
 use Rattle.write_steps.proofs.Only.{only-inactivity, only-rewards, only-active}
 use Rattle.write_steps.proofs.Accepted.{Gave, total-gave, adjusted-any, Summed, summed}
-use Rattle.electra_first.specs.Paid.{Paid, paid_by}
-use Rattle.electra_first.specs.Taken.{exits_of, Taken, taken_by}
+use Rattle.electra_first.specs.Paid.{paid_by}
+use Rattle.electra_first.specs.Taken.{exits_of, taken_by}
 use Rattle.electra_first.specs.First.{Four, four_by, FourRan}
 use Rattle.electra_first.proofs.Turning.{left, only-turn_later, only_slash_later, swept_total}
 use Rattle.electra_first.proofs.Fused.{total-same, exits_swept}
-use Rattle.electra_first.proofs.Booked.{Ways, ways}
+use Rattle.electra_first.proofs.Booked.{ways}
 
 pub record Accepted (r : ElectraRules) (s : Settings) (slot fin : ℕ) (slashings : List ℕ) (vs : List Validator) : Type 0 where
   pub sums : Summed s slot fin vs

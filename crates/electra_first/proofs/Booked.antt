@@ -1,8 +1,8 @@
 -- The pass ran: the four, and what they book.
-use mathlib.Core.Path.{◌≡◌, refl, sym, ap, subst, ◌∙◌}
+use mathlib.Core.Path.{◌≡◌, sym, ap, subst, ◌∙◌}
 use mathlib.Core.Bool.{Bool, true}
 use mathlib.Core.List.{List, [], ◌∷◌, ◌++◌, map}
-use Prim.Native.Nat.{ℕ, ◌+◌, ◌-◌, ◌*◌, ◌/◌, ◌≤◌, ◌<◌}
+use Prim.Native.Nat.{ℕ, ◌+◌, ◌-◌, ◌*◌, ◌/◌, ◌<◌}
 use native.Mathlib.Omega.{arith}
 use lib.ListN.{length, get_or, length-map}
 use Rattle.definitions.specs.declared.Settings.{Settings}
@@ -13,7 +13,7 @@ use Rattle.definitions.specs.Rules.{in_place}
 use Rattle.definitions.specs.Rust.Phase0.Helpers.{get_current_epoch, get_previous_epoch}
 use Rattle.definitions.specs.Rust.Altair.EpochProcessing.{process_inactivity_updates, process_rewards_and_penalties}
 use Rattle.definitions_close.specs.Amounts.{booked_by_rewards}
-use Rattle.laws.proofs.Checked.{value_same, bound, number_not_zero}
+use Rattle.laws.proofs.Checked.{value_same, bound}
 use Rattle.laws.proofs.Encode.{decode-encode, length-decode, length-encode}
 use Rattle.arithmetic.proofs.Laws.{bind-value}
 use Rattle.laws_close.proofs.Amounts.Lists.{each-length, each_at, at_map}
@@ -31,16 +31,16 @@ use Rattle.electra_slashings.specs.Slashed.{slashed_registry}
 use Rattle.electra_amounts.specs.Columns.{Spread}
 use Rattle.survey.specs.declared.Totals.{Totals}
 use Rattle.survey.specs.Sums.{TotalsOf}
-use Rattle.write_turn.specs.Sweep.{Moved, sweep}
+use Rattle.write_turn.specs.Sweep.{sweep}
 use Rattle.write_turn.specs.Steps.{Swept}
 use Rattle.write_turn.specs.declared.Plan.{Plan}
 use Rattle.write_turn.specs.Written.{pay_of, churn_with, later_with}
-use Rattle.write_pass.specs.Filled.{eight_by, nine_by, Filled}
+use Rattle.write_pass.specs.Filled.{nine_by, Filled}
 use Rattle.write_steps.specs.Numbers.{leak_of, plan_of, Makes}
 use Rattle.write_steps.proofs.Eights.{eight_is}
 use Rattle.electra_first.specs.Paid.{Paid, paid_by}
 use Rattle.electra_first.specs.Taken.{exits_of, Taken, taken_by, balance_at}
-use Rattle.electra_first.specs.First.{Four, four_by, NineColumns, Nine, FourRan}
+use Rattle.electra_first.specs.First.{Four, four_by, NineColumns, FourRan}
 use Rattle.electra_first.specs.Numbers.{numbers_by}
 use Rattle.electra_first.proofs.Turning.{left, swept_balances}
 use Rattle.electra_first.proofs.Fused.{out, exits_swept, plan, numbers, paid-all, four_swept}

@@ -1,17 +1,15 @@
 -- Rows of nine, spread to rows of twelve.
-use mathlib.Core.Path.{◌≡◌, refl, sym, ap, ◌∙◌}
-use mathlib.Core.Bool.{cond}
+use mathlib.Core.Path.{◌≡◌, sym, ap, ◌∙◌}
 use mathlib.Core.List.{List, ◌++◌}
 use Prim.Native.Nat.{ℕ, ◌+◌, ◌-◌, ◌*◌, ◌/◌, ◌%◌, ◌≤◌, ◌<◌}
 use native.Mathlib.Omega.{arith}
 use borrow.Author.Tests.{lt-ltb, le-ltb}
-use lib.Dec.{ltb}
 use lib.ListN.{length, get_or, take, drop, length-append, take-append-drop}
 use lib.Seq.{get_or-take, get_or-drop}
 use Rattle.definitions.specs.declared.Settings.{Settings}
 use Rattle.definitions.specs.Record.{Validator, decode, nobody}
 use Rattle.laws_close.proofs.Amounts.Nines.{front}
-use Rattle.electra_amounts.specs.Columns.{spread_at, Spread}
+use Rattle.electra_amounts.specs.Columns.{Spread}
 use Rattle.write_turn.specs.declared.Plan.{Plan}
 use Rattle.write_pass.specs.Filled.{nine_by, Filled}
 

@@ -1,16 +1,15 @@
 -- Justification, then the four.
 use mathlib.Core.Path.{◌≡◌, refl, sym, ap, ◌∙◌}
-use mathlib.Core.List.{List, []}
-use Prim.Native.Nat.{ℕ, ◌^◌, ◌<◌}
-use native.Mathlib.Omega.{arith}
+use mathlib.Core.List.{List}
+use Prim.Native.Nat.{ℕ}
 use Rattle.definitions.specs.declared.Settings.{Settings}
 use Rattle.definitions.specs.declared.Finality.{Finality}
 use Rattle.definitions.specs.declared.CloseAnswer.{CloseAnswer}
-use Rattle.definitions.specs.Record.{Validator, encode, decode}
+use Rattle.definitions.specs.Record.{decode}
 use Rattle.definitions.specs.Checked.{Checked, value, refused, bind, code_of}
 use Rattle.definitions.specs.Raised.{raised_totals, raised_unless_refused, close_answer_for}
 use Rattle.definitions.specs.Rust.Altair.EpochProcessing.{process_justification_and_finalization}
-use Rattle.definitions.specs.Close.{justification_step, step, limited_step}
+use Rattle.definitions.specs.Close.{justification_step, limited_step}
 use Rattle.definitions_close.specs.FinalizingTest.{finalizing_test}
 use Rattle.definitions_electra.specs.declared.ElectraRules.{ElectraRules}
 use Rattle.definitions_electra.specs.declared.ExitChurn.{ExitChurn}
@@ -18,7 +17,7 @@ use Rattle.definitions_electra.specs.declared.ExitChurnAnswer.{ExitChurnAnswer}
 use Rattle.laws.proofs.Checked.{value_same, number_not_zero}
 use Rattle.laws.proofs.Frame.Slot.{slot_step}
 use Rattle.electra_first.specs.declared.First.{First}
-use Rattle.electra_first.specs.First.{Four, four_by, Nine, FourRan, Five, five_by, FirstHeld, FirstRan}
+use Rattle.electra_first.specs.First.{Four, four_by, FourRan, Five, five_by, FirstHeld, FirstRan}
 use Rattle.electra_first.proofs.Stops.{stop-code, stop-value}
 
 module _ (r : ElectraRules) (s : Settings) (f : Finality) (churn : ExitChurn) (registry slashings roots : List ℕ) {j : CloseAnswer}

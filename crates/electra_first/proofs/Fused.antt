@@ -1,16 +1,16 @@
 -- The four steps over the registry are one pass, by the totals of the opening.
 use mathlib.Core.Path.{◌≡◌, refl, sym, ap, ◌∙◌}
 use mathlib.Core.Bool.{Bool, true}
-use mathlib.Core.List.{List, []}
-use Prim.Native.Nat.{ℕ, ◌+◌, ◌/◌, ◌<◌}
+use mathlib.Core.List.{List}
+use Prim.Native.Nat.{ℕ, ◌/◌}
 use native.Mathlib.Omega.{arith}
 use Rattle.definitions.specs.declared.Settings.{Settings}
 use Rattle.definitions.specs.declared.Number.{Number}
-use Rattle.definitions.specs.Record.{Validator, encode, decode}
-use Rattle.definitions.specs.Checked.{Checked, value, refused, bind, settle, map_checked}
+use Rattle.definitions.specs.Record.{Validator, encode}
+use Rattle.definitions.specs.Checked.{Checked, value, refused, bind, map_checked}
 use Rattle.definitions.specs.Rules.{in_place}
 use Rattle.definitions.specs.Document.Phase0.Helpers.{compute_epoch_at_slot}
-use Rattle.definitions.specs.Rust.Phase0.Helpers.{get_current_epoch, get_previous_epoch, get_total_balance, get_total_active_balance, get_active_validator_indices}
+use Rattle.definitions.specs.Rust.Phase0.Helpers.{get_current_epoch, get_previous_epoch, get_total_balance, get_total_active_balance}
 use Rattle.definitions.specs.Rust.Altair.EpochProcessing.{process_inactivity_updates, process_rewards_and_penalties, is_slashing_due}
 use Rattle.laws.proofs.Encode.{decode-encode}
 use Rattle.slashings.specs.Adjusted.{adjusted_balance}
@@ -23,7 +23,7 @@ use Rattle.definitions_electra.specs.Calls.{registry_work}
 use Rattle.definitions_electra.specs.Evaluated.Electra.Helpers.{get_activation_exit_churn_limit}
 use Rattle.definitions_electra.specs.Evaluated.Electra.EpochProcessing.{slash}
 use Rattle.electra_registry.specs.declared.updates.RegistryNumbers.{RegistryNumbers}
-use Rattle.electra_registry.specs.Updates.{numbers_of, Exiting, exiting, updates_by}
+use Rattle.electra_registry.specs.Updates.{numbers_of, Exiting}
 use Rattle.electra_registry.proofs.Loop.{registry-text}
 use Rattle.electra_slashings.specs.Slashed.{slashed_registry}
 use Rattle.survey.specs.declared.Totals.{Totals}
@@ -32,7 +32,7 @@ use Rattle.write_turn.specs.Sweep.{Moved, sweep, last}
 use Rattle.write_turn.specs.declared.Plan.{Plan}
 use Rattle.write_turn.specs.Written.{pay_of, churn_with, turn_later, later_with}
 use Rattle.write_turn.proofs.Sweeps.Fused.{swept_first, swept_last, keeping}
-use Rattle.arithmetic.proofs.Operations.{OnlyOverflow, only-value, only-bind}
+use Rattle.arithmetic.proofs.Operations.{only-value, only-bind}
 use Rattle.write_steps.specs.Numbers.{plan_of, leak_of}
 use Rattle.write_steps.proofs.Leak.{leak-some}
 use Rattle.write_steps.proofs.Only.{only_pay}
@@ -40,7 +40,7 @@ use Rattle.write_steps.proofs.Kept.{totals-kept}
 use Rattle.write_steps.proofs.Tracked.{pay_bare}
 use Rattle.write_steps.proofs.Steps.{pays}
 use Rattle.electra_first.specs.Paid.{Paid, paid_by}
-use Rattle.electra_first.specs.Taken.{exits_of, Taken, taken_by}
+use Rattle.electra_first.specs.Taken.{exits_of, taken_by}
 use Rattle.electra_first.specs.First.{Four, four_by}
 use Rattle.electra_first.specs.Numbers.{numbers_by}
 use Rattle.electra_first.proofs.Turning.{left, turns_swept, only-turn_later, only_slash_later, swept_total}

@@ -3,15 +3,14 @@
 use mathlib.Core.Path.{◌≡◌, refl, sym, ap, ◌∙◌}
 use mathlib.Core.Bool.{Bool, true, false, cond, ◌&&◌}
 use mathlib.Core.List.{List, [], ◌∷◌}
-use Prim.Native.Nat.{ℕ, ◌+◌}
+use Prim.Native.Nat.{ℕ}
 use lib.Dec.{leb, eqb}
 use lib.ListN.{length, get_or, set}
 use Rattle.definitions.specs.Lists.{range}
 use Rattle.definitions.specs.Record.{Validator, FAR_FUTURE_EPOCH, nobody}
 use Rattle.definitions.specs.Updates.{with_eligibility, with_activation, with_exit}
 use Rattle.definitions.specs.Checked.{Checked, value, refused, bind, add64, fold_checked}
-use Rattle.definitions.specs.Rust.Phase0.Helpers.{is_active_validator, is_eligible_for_activation, get_current_epoch, compute_activation_exit_epoch}
-use Rattle.laws.proofs.Checked.{bind-bind}
+use Rattle.definitions.specs.Rust.Phase0.Helpers.{is_active_validator, is_eligible_for_activation, compute_activation_exit_epoch}
 use Rattle.definitions_electra.specs.declared.ElectraRules.{ElectraRules}
 use Rattle.definitions_electra.specs.declared.ExitChurn.{ExitChurn}
 use Rattle.definitions_electra.specs.Record.{ElectraState, with_vs, with_churn}

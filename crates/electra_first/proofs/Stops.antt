@@ -1,8 +1,8 @@
 -- A refusal on the way is the whole's.
-use mathlib.Core.Path.{◌≡◌, refl, sym, ap, ◌∙◌}
+use mathlib.Core.Path.{◌≡◌}
 use Prim.Native.Nat.{ℕ}
 use Rattle.definitions.specs.Checked.{Checked, value, refused, bind, code_of}
-use Rattle.laws.proofs.Checked.{not_value, number_not_zero}
+use Rattle.laws.proofs.Checked.{not_value}
 
 module _ {A B : Type 0} (m : Checked A) (k : A → Checked B) {x : ℕ} (e : x ≡ code_of m) (z : x ≡ 0 → ⊥) where
   pub stop-code : x ≡ code_of (bind m k)

@@ -1,26 +1,25 @@
 -- The first five are the text's, of any state.
-use mathlib.Core.Path.{◌≡◌, refl, sym, ap, ◌∙◌}
+use mathlib.Core.Path.{◌≡◌, refl, sym, ◌∙◌}
 use mathlib.Core.List.{List, [], ◌∷◌}
 use Prim.Native.Nat.{ℕ}
-use lib.ListN.{take}
 use Rattle.definitions.specs.declared.Settings.{Settings}
 use Rattle.definitions.specs.declared.Finality.{Finality}
-use Rattle.definitions.specs.Record.{Validator, BeaconState}
+use Rattle.definitions.specs.Record.{Validator}
 use Rattle.definitions.specs.Checked.{Checked, value, refused, bind, fold_checked}
 use Rattle.definitions.specs.Rules.{in_place}
 use Rattle.definitions.specs.Rust.Altair.EpochProcessing.{process_justification_and_finalization, process_inactivity_updates, process_rewards_and_penalties}
-use Rattle.definitions.specs.Close.{justification_step, inactivity_step, rewards_step, step, limited_step}
+use Rattle.definitions.specs.Close.{justification_step, inactivity_step, rewards_step, limited_step}
 use Rattle.definitions_electra.specs.declared.ElectraRules.{ElectraRules}
 use Rattle.definitions_electra.specs.declared.ExitChurn.{ExitChurn}
 use Rattle.definitions_electra.specs.Record.{ElectraState, with_altair, with_churn}
-use Rattle.definitions_electra.specs.Evaluated.Electra.EpochProcessing.{ElectraStep, kept, registry_updates, slashings, electra_step, close_up_to}
+use Rattle.definitions_electra.specs.Evaluated.Electra.EpochProcessing.{kept, registry_updates, slashings, electra_step, close_up_to}
 use Rattle.electra_registry.specs.Updates.{Exiting}
 use Rattle.electra_slashings.specs.Slashed.{slashed_registry}
 use Rattle.electra_slashings.proofs.Slashed.{step_by_lem}
 use Rattle.electra_first.specs.Paid.{Paid, paid_by}
 use Rattle.electra_first.specs.Taken.{exits_of, Taken, taken_by}
 use Rattle.electra_first.specs.First.{Four, four_by, Five, five_by, after_five}
-use Rattle.electra_first.proofs.RegistryIn.{put_in, registry_in}
+use Rattle.electra_first.proofs.RegistryIn.{registry_in}
 
 -- one step that gives f of what was worked out, then the others
 pub then : {A S K : Type 0} (go : S → K → Checked S) (s : S) (k : K) (ks : List K) (m : Checked A) (f : A → S) → go s k ≡ bind m (λ a. value (f a)) → fold_checked go s (k ∷ ks) ≡ bind m (λ a. fold_checked go (f a) ks)

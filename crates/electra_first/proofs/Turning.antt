@@ -1,14 +1,13 @@
 -- The registry step as a pass that carries the exit queue's two numbers, and what it leaves.
 use mathlib.Core.Path.{◌≡◌, refl, sym, ap, ◌∙◌}
-use mathlib.Core.Bool.{Bool, true, false, cond}
 use mathlib.Core.List.{List, [], ◌∷◌, ◌++◌, map}
-use Prim.Native.Nat.{ℕ, suc, ◌+◌, ◌^◌, ◌<◌, max}
+use Prim.Native.Nat.{ℕ, suc, ◌^◌, ◌<◌, max}
 use native.Mathlib.Omega.{arith}
 use lib.Dec.{eqb}
-use lib.ListN.{length, get_or, set, length-append}
+use lib.ListN.{length, set, length-append}
 use Rattle.definitions.specs.declared.Settings.{Settings}
 use Rattle.definitions.specs.Lists.{range}
-use Rattle.definitions.specs.Record.{Validator, FAR_FUTURE_EPOCH, nobody, encode}
+use Rattle.definitions.specs.Record.{Validator, FAR_FUTURE_EPOCH, nobody}
 use Rattle.definitions.specs.Updates.{with_exit}
 use Rattle.definitions.specs.Checked.{Checked, value, refused, bind, add64, sum64, fold_checked}
 use Rattle.definitions.specs.Rust.Phase0.Helpers.{is_active_validator, get_current_epoch, get_active_validator_indices, get_total_balance, get_total_active_balance}

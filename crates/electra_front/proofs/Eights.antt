@@ -1,18 +1,16 @@
 -- The first five, then the later three: the text's ten, of which the last two are never refused.
 use mathlib.Core.Path.{◌≡◌, refl, sym, ap, ◌∙◌}
-use mathlib.Core.Bool.{true}
-use mathlib.Core.List.{List, []}
-use Prim.Native.Nat.{ℕ, ◌+◌, ◌-◌, ◌*◌, ◌/◌, ◌≤◌, ◌<◌}
+use mathlib.Core.List.{List}
+use Prim.Native.Nat.{ℕ, ◌+◌, ◌*◌, ◌/◌, ◌<◌}
 use native.Mathlib.Omega.{arith}
-use lib.ListN.{length, get_or, take, replicate, get_or-replicate}
+use lib.ListN.{length, get_or, replicate, get_or-replicate}
 use Rattle.definitions.specs.declared.Finality.{Finality}
-use Rattle.definitions.specs.Lists.{all}
-use Rattle.definitions.specs.Record.{Validator, encode, decode}
+use Rattle.definitions.specs.Record.{decode}
 use Rattle.definitions.specs.Checked.{Checked, value, refused, bind, code_of}
 use Rattle.definitions.specs.Rust.Altair.EpochProcessing.{process_justification_and_finalization}
 use Rattle.definitions.specs.Close.{justification_step, limited_step}
 use Rattle.laws.proofs.Frame.Slot.{slot_step}
-use Rattle.laws.proofs.Checked.{value_same, bound, number_not_zero}
+use Rattle.laws.proofs.Checked.{bound}
 use Rattle.laws.proofs.Encode.{length-encode, length-decode, decode-encode}
 use Rattle.laws_close.proofs.Amounts.Rewarded.{rewarded}
 use Rattle.definitions_close.specs.Amounts.{booked_by_rewards}
@@ -36,7 +34,7 @@ use Rattle.electra_sixth.specs.Named.{NoneYet}
 use Rattle.electra_sixth.specs.Sixth.{AsLent}
 use Rattle.electra_front.specs.declared.Later.{Later}
 use Rattle.electra_front.specs.declared.Front.{Front}
-use Rattle.electra_front.specs.Later.{LaterHeld, LaterOf, LaterRan}
+use Rattle.electra_front.specs.Later.{LaterOf, LaterRan}
 use Rattle.electra_front.specs.Front.{opening_of, FrontLent, FrontHeld, FrontRan}
 use Rattle.electra_twelve.proofs.Moves.{column-same}
 use Rattle.electra_twelve.proofs.Between.{between}

@@ -1,12 +1,12 @@
 -- Steps 6 to 8 on the opening's validators, one after the other.
 use mathlib.Core.Path.{◌≡◌, refl, sym, ap, ◌∙◌}
 use mathlib.Core.List.{List, []}
-use Prim.Native.Nat.{ℕ, ◌+◌, ◌-◌, ◌*◌, ◌/◌, ◌≤◌, ◌<◌}
+use Prim.Native.Nat.{ℕ, ◌+◌, ◌*◌, ◌/◌, ◌≤◌}
 use native.Mathlib.Omega.{arith}
-use lib.ListN.{length, get_or, take}
+use lib.ListN.{length, take}
 use Rattle.definitions.specs.Record.{Validator, encode, decode}
 use Rattle.definitions.specs.Checked.{Checked, value, refused, bind, code_of}
-use Rattle.laws.proofs.Checked.{value_same, not_value, bound, number_not_zero}
+use Rattle.laws.proofs.Checked.{value_same, bound, number_not_zero}
 use Rattle.laws.proofs.Encode.{length-decode, decode-encode}
 use Rattle.arithmetic.proofs.Laws.{bind-value}
 use Rattle.definitions_electra.specs.declared.ElectraRules.{ElectraRules}
@@ -21,10 +21,10 @@ use Rattle.electra_twelve.proofs.Moves.{column-same}
 use Rattle.electra_steps.specs.Last.{Six, six_by, Eight, seven_eight}
 use Rattle.electra_steps.specs.Finds.{Finds}
 use Rattle.electra_sixth.specs.declared.Sixth.{Sixth}
-use Rattle.electra_sixth.specs.Sixth.{AsLent, SixHeld, SixEnds, SixthRan}
+use Rattle.electra_sixth.specs.Sixth.{AsLent, SixHeld, SixthRan}
 use Rattle.electra_added.specs.New.{new_updates, NewRefusal}
 use Rattle.electra_front.specs.declared.Later.{Later}
-use Rattle.electra_front.specs.Later.{LaterHeld, LaterOf, LaterRan}
+use Rattle.electra_front.specs.Later.{LaterHeld, LaterRan}
 use Rattle.electra_front.proofs.Steps.{ended, seven-eight}
 
 pub movements-same : (next n : ℕ) (vs : List Validator) (pairs xs ys : List ℕ) → column 10 n xs ≡ column 10 n ys → column 11 n xs ≡ column 11 n ys → movements next n vs pairs xs ≡ movements next n vs pairs ys

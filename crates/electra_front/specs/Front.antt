@@ -2,7 +2,7 @@
 use Rattle.std.specs.Prelude.{◌≡◌, true, List, [], ℕ, ◌+◌, ◌-◌, ◌*◌, ◌/◌, ◌≤◌, ◌<◌, length, get_or, take, replicate}
 use Rattle.definitions.specs.declared.Finality.{Finality}
 use Rattle.definitions.specs.Record.{encode, decode}
-use Rattle.definitions.specs.Checked.{Checked, value, code_of}
+use Rattle.definitions.specs.Checked.{value, code_of}
 use Rattle.definitions.specs.Refusals.{good_finality, justification_tests}
 use Rattle.definitions.specs.Raised.{raised_totals}
 use Rattle.definitions_close.specs.Amounts.{booked_by_rewards}

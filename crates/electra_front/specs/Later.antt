@@ -1,7 +1,7 @@
 -- Pending deposits, pending consolidations and effective balances on the opening's validators, with the amounts that they book.
 use Rattle.std.specs.Prelude.{◌≡◌, true, List, ℕ, ◌+◌, ◌-◌, ◌*◌, ◌/◌, ◌≤◌, ◌<◌, length, get_or, take}
 use Rattle.definitions.specs.Record.{encode, decode}
-use Rattle.definitions.specs.Checked.{Checked, value, bind, code_of}
+use Rattle.definitions.specs.Checked.{value, bind, code_of}
 use Rattle.definitions_electra.specs.declared.ElectraRules.{ElectraRules}
 use Rattle.definitions_electra.specs.declared.DepositNumbers.{DepositNumbers}
 use Rattle.definitions_electra.specs.Record.{ElectraState, decode_consolidations}

@@ -1,13 +1,13 @@
 -- The outcome of a close that is refused, in its tests and after them.
 use mathlib.Core.Path.{◌≡◌, refl, sym, ap, ap₂, ◌∙◌}
 use mathlib.Core.List.{List, [], ◌∷◌, ◌++◌}
-use Prim.Native.Nat.{ℕ, ◌*◌, ◌/◌, ◌-◌, ◌≤◌}
+use Prim.Native.Nat.{ℕ, ◌*◌, ◌-◌, ◌≤◌}
 use native.Mathlib.Omega.{arith}
 use lib.ListN.{length, take, drop, replicate, length-take, length-replicate}
 use Rattle.definitions.specs.Checked.{Checked, value, refused, Refusal, number_of, bind, code_of}
 use Rattle.definitions.specs.Refusals.{after_tests, closing_buffer}
 use Rattle.laws_electra.proofs.Consolidations.{length_pairs}
-use Rattle.definitions_electra.specs.Record.{ElectraState, decode_consolidations}
+use Rattle.definitions_electra.specs.Record.{ElectraState}
 use Rattle.definitions_electra.specs.Refusals.{count_of}
 use Rattle.definitions_electra.specs.Calls.{over}
 use Rattle.definitions_electra.specs.Evaluated.Electra.EpochProcessing.{process_epoch}

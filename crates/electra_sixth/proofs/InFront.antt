@@ -1,5 +1,5 @@
 -- The step of a state, by what is lent of it.
-use mathlib.Core.Path.{◌≡◌, refl, sym, ap, ap₂, ◌∙◌}
+use mathlib.Core.Path.{◌≡◌, refl, sym, ap, ◌∙◌}
 use mathlib.Core.Bool.{cond}
 use mathlib.Core.List.{List}
 use Prim.Native.Nat.{ℕ, ◌+◌, ◌-◌, ◌*◌, ◌/◌, ◌<◌}
@@ -11,7 +11,7 @@ use Rattle.definitions.specs.Record.{Validator, encode, decode}
 use Rattle.definitions.specs.Checked.{Checked, value, refused, Refusal, number_of, bind, code_of, sub64}
 use Rattle.definitions.specs.Answers.{Answers, Says}
 use Rattle.laws.proofs.Checked.{number_not_zero, not_value, value_same}
-use Rattle.laws.proofs.Encode.{length-encode, length-decode, decode-encode}
+use Rattle.laws.proofs.Encode.{length-decode, decode-encode}
 use Rattle.arithmetic.proofs.Laws.{says-value, says_overflow, bind-value, bind-refused}
 use Rattle.definitions_electra.specs.declared.ElectraRules.{ElectraRules}
 use Rattle.definitions_electra.specs.declared.DepositNumbers.{DepositNumbers}

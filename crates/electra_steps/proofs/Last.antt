@@ -7,19 +7,18 @@ use lib.ListN.{length, drop}
 use Rattle.definitions.specs.Lists.{all}
 use Rattle.definitions.specs.Record.{Validator}
 use Rattle.definitions.specs.Checked.{Checked, value, refused, bind, add64, fold_checked}
-use Rattle.definitions.specs.Rules.{in_place}
 use Rattle.definitions.specs.Close.{slashings_reset_step, participation_flags_step, limited_step}
 use Rattle.definitions_electra.specs.declared.ElectraRules.{ElectraRules}
 use Rattle.definitions_electra.specs.declared.PendingDeposit.{PendingDeposit}
 use Rattle.definitions_electra.specs.Loops.{fold_until_checked}
-use Rattle.definitions_electra.specs.Record.{PendingConsolidation, ElectraState, registry_of, with_deposits, with_consolidations}
+use Rattle.definitions_electra.specs.Record.{ElectraState, registry_of, with_deposits, with_consolidations}
 use Rattle.definitions_electra.specs.Document.Electra.EpochProcessing.{current_epoch_of, Queueing, Processing, started, deposits_stop, Consolidating, consolidations_stop}
 use Rattle.definitions_electra.specs.Evaluated.Electra.EpochProcessing.{ElectraStep, kept, pending_deposits, pending_consolidations, effective_balances, electra_step, process_deposit, queueing, left_to_consume, process_consolidation, update_effective_balances, process_pending_deposits, process_pending_consolidations, process_effective_balance_updates}
 use Rattle.laws_electra.specs.Consolidations.{within}
 use Rattle.laws_electra_close.proofs.Beside.{beside, consolidations-beside, consolidations-many}
 use Rattle.laws_electra_close.proofs.Balances.{balances-split}
 use Rattle.electra_first.proofs.Text.{then, bind-same, flat}
-use Rattle.electra_steps.specs.Last.{Six, six_by, after_six, Eight, eight_by, after_eight, after_ten}
+use Rattle.electra_steps.specs.Last.{six_by, after_six, Eight, eight_by, after_eight, after_ten}
 
 pub sixth : (r : ElectraRules) (st : ElectraState) → electra_step r st pending_deposits ≡ bind (six_by r st) (λ x. value (after_six st x))
 unfolding electra_step process_pending_deposits six_by bind

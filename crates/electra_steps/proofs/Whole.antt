@@ -1,23 +1,21 @@
 -- All ten: the first five, the deposits, and the rest by the two parts of the registry that the deposits leave.
-use mathlib.Core.Path.{◌≡◌, refl, sym, ap, ◌∙◌}
+use mathlib.Core.Path.{◌≡◌, ap, ◌∙◌}
 use mathlib.Core.Bool.{true}
-use mathlib.Core.List.{List, [], ◌∷◌, ◌++◌}
+use mathlib.Core.List.{[], ◌∷◌, ◌++◌}
 use Prim.Native.Nat.{ℕ}
 use lib.ListN.{length, take, drop, take-append-drop}
 use Rattle.definitions.specs.Lists.{all}
-use Rattle.definitions.specs.Record.{Validator}
-use Rattle.definitions.specs.Checked.{Checked, value, refused, bind, add64, fold_checked}
+use Rattle.definitions.specs.Checked.{Checked, value, bind, fold_checked}
 use Rattle.definitions.specs.Rules.{in_place}
 use Rattle.definitions.specs.Close.{slashings_reset_step, participation_flags_step}
 use Rattle.laws.proofs.Loops.Iterated.{fold_checked-append}
 use Rattle.definitions_electra.specs.declared.ElectraRules.{ElectraRules}
-use Rattle.definitions_electra.specs.Record.{ElectraState, with_deposits}
-use Rattle.definitions_electra.specs.Document.Electra.EpochProcessing.{current_epoch_of}
-use Rattle.definitions_electra.specs.Evaluated.Electra.EpochProcessing.{ElectraStep, kept, pending_deposits, pending_consolidations, effective_balances, steps, electra_step, close_up_to, process_epoch}
+use Rattle.definitions_electra.specs.Record.{ElectraState}
+use Rattle.definitions_electra.specs.Evaluated.Electra.EpochProcessing.{kept, pending_deposits, pending_consolidations, effective_balances, steps, electra_step, close_up_to, process_epoch}
 use Rattle.laws_electra.specs.Consolidations.{within}
 use Rattle.electra_first.specs.First.{Five, five_by, after_five}
 use Rattle.electra_first.proofs.Text.{then, bind-same, flat, up_to-five}
-use Rattle.electra_steps.specs.Last.{Six, six_by, after_six, Eight, seven_eight, after_eight, after_ten}
+use Rattle.electra_steps.specs.Last.{Six, six_by, after_six, seven_eight, after_eight, after_ten}
 use Rattle.electra_steps.proofs.Last.{sixth, at_once, bind-given, seventh-eighth, ninth-tenth}
 
 -- what the deposits leave of the n that the record opened with: as many validators as credentials

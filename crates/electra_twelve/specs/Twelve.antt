@@ -1,9 +1,7 @@
 -- What the amounts hold where the parts of a close have ended, in the parts' own terms.
 use Rattle.std.specs.Prelude.{◌≡◌, cond, List, [], ℕ, ◌+◌, ◌-◌, ◌*◌, ◌≤◌, ◌<◌, eqb, length, get_or, take}
-use Rattle.definitions.specs.declared.Settings.{Settings}
 use Rattle.definitions.specs.Record.{Validator}
 use Rattle.definitions.specs.Checked.{value}
-use Rattle.definitions.specs.Rules.{in_place}
 use Rattle.definitions_close.specs.Amounts.{booked_by_rewards}
 use Rattle.definitions_electra.specs.declared.ElectraRules.{ElectraRules}
 use Rattle.definitions_electra.specs.Loops.{fold_until_checked}

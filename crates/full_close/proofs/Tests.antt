@@ -8,7 +8,7 @@ use lib.ListN.{length}
 use Rattle.definitions.specs.declared.ActivationLimit.{ActivationLimit}
 use Rattle.definitions.specs.declared.ExitQueue.{ExitQueue}
 use Rattle.definitions.specs.Record.{decode}
-use Rattle.definitions.specs.Checked.{refused, code_of}
+use Rattle.definitions.specs.Checked.{code_of}
 use Rattle.definitions.specs.ExitQueue.{queue_of}
 use Rattle.definitions.specs.Close.{limited_tests}
 use Rattle.definitions_close.specs.QueueCalls.{then_queue}

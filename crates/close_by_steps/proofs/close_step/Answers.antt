@@ -4,7 +4,6 @@ use borrow.Author.Tests.{eq-eqb}
 use Rattle.definitions_close.specs.CloseBySteps.{unwritten, close_step}
 use Rattle.close_by_steps.specs.Called.{step_called}
 use Rattle.close_by_steps.proofs.Stepped.{in_turn_lem, too_late, another}
-use borrow.Author.Rules.{rules}
 use Rattle.close_by_steps.proofs.close_step.Goals as goal
 
 pub returns-then-done-eq9 : goal.returns-then-done-eq9

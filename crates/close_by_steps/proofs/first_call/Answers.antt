@@ -1,6 +1,5 @@
 use Rattle.full_close.specs.Called.{full_called}
 use Rattle.close_by_steps.proofs.Stepped.{ready, first_ends, first-called}
-use borrow.Author.Rules.{rules}
 use Rattle.close_by_steps.proofs.first_call.Goals as goal
 
 pub returns-then-refusal-ne0 : goal.returns-then-refusal-ne0

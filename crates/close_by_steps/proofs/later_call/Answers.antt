@@ -2,7 +2,6 @@ use Rattle.full_close.specs.Called.{full_called}
 use native.Mathlib.Omega.{arith}
 use Rattle.definitions_close.specs.CloseBySteps.{so_far}
 use Rattle.close_by_steps.proofs.Stepped.{ready, later-away, later-called}
-use borrow.Author.Rules.{rules}
 use Rattle.close_by_steps.proofs.later_call.Goals as goal
 
 pub returns-then-refusal-ne0 : goal.returns-then-refusal-ne0

@@ -13,7 +13,7 @@ use Rattle.definitions.specs.Checked.{Checked, value, refused, bind, code_of, se
 use Rattle.definitions.specs.RegisterOrder.{registry_updates_to}
 use Rattle.definitions.specs.Rust.Phase0.EpochProcessing.{process_registry_updates, reset_slashings}
 use Rattle.definitions.specs.Close.{Step, inactivity_step, rewards_step, registry_step, slashings_step, effective_balances_step, participation_flags_step, step, limited_step, on_validators}
-use Rattle.definitions_close.specs.CloseBySteps.{step_after, eights, amounts_by}
+use Rattle.definitions_close.specs.CloseBySteps.{step_after, amounts_by}
 use Rattle.laws.proofs.Checked.{value_same, bound}
 use Rattle.laws.proofs.Encode.{length-decode, encode-decode}
 use Rattle.laws.specs.Ran.{Ran}

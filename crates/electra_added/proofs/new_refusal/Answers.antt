@@ -1,6 +1,5 @@
 use mathlib.Core.Path.{◌∙◌, ap}
 use Prim.Native.Nat.{ℕ}
-use borrow.Author.Rules.{rules}
 use lib.ListN.{replicate}
 use Rattle.arithmetic.proofs.Answers.{answers-value, answers_overflow}
 use Rattle.electra_refusals.proofs.Passed.{good-electra}

@@ -1,5 +1,4 @@
 use native.Mathlib.Omega.{arith}
-use borrow.Author.Rules.{rules}
 use Rattle.refusals.proofs.Laws.{good-settings}
 use Rattle.electra_appended.proofs.add_behind.Goals as goal
 

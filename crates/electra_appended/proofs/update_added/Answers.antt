@@ -1,4 +1,3 @@
-use borrow.Author.Rules.{rules}
 use Rattle.electra_appended.proofs.Updated.{updated}
 use Rattle.electra_appended.proofs.update_added.Goals as goal
 

@@ -30,69 +30,23 @@ open_registry-requires c =
 
 pub open_queues-requires : goal.open_queues-requires
 open_queues-requires c =
-    let at-steps : tie.After-steps-in-front = (goal.at.open_queues-requires c).After-steps_in_front-front in
-    let p = passed (start at-steps) in
+    let p = passed (goal.at.open_queues-requires c).Start in
     (p.same_slashings, p.same_deposits, p.same_consolidations)
 
 pub returns-then-front-ne0 : goal.returns-then-front-ne0
 returns-then-front-ne0 c =
-    let at_open : tie.After-open-registry = (goal.at.returns-then-front-ne0 c).After-open_registry in
-    let at-steps : tie.After-steps-in-front = at_open.before.before.before.before.before.before.before.before.before.before.before.before in
-    let s = start at-steps in
-    let o = at_open.open-registry.ensures in
+    let s = (goal.at.returns-then-front-ne0 c).Start in
+    let o = c.open_registry.ensures in
     let q = c.open_queues.ensures in
-    put_back (called s) s.pre (passed s) at-steps.steps-in-front.ensures c.if-front-ne0.true c.opening_answer.ensures o.0 o.1.0 q.closing_slashings_after q.closing_deposits_after q.closing_consolidations_after o.1.1
+    put_back (called s) c.requires (passed s) c.steps_in_front-front.ensures c.if-front-ne0.true c.opening_answer.ensures o.closing_registry_after o.closing_compounding_after q.closing_slashings_after q.closing_deposits_after q.closing_consolidations_after o.amounts_after
 
 pub finish-counts-requires : goal.finish-counts-requires
 finish-counts-requires c =
+    let s = (goal.at.finish-counts-requires c).Start in
     let k = c.steps_in_front-front.auto.closing_registry in
-    finish-lent (called (goal.at.finish-counts-requires c).Start) (passed (goal.at.finish-counts-requires c).Start) c.steps_in_front-front.ensures c.if-front-ne0.false (omega (arith, k)) (omega (arith, k)) (omega (arith, k))
+    finish-lent (called s) (passed s) c.steps_in_front-front.ensures c.if-front-ne0.false (omega (arith, k)) (omega (arith, k)) (omega (arith, k))
 
 pub returns : goal.returns
 returns c =
-    let at-steps : tie.After-steps-in-front = (goal.at.returns c).After-steps_in_front-front in
-    let at-else1 : tie.Else1 = (goal.at.returns c).Else-front-ne0 in
-    let s = start at-steps in
-    accepted (called s) s.pre (passed s) at-steps.steps-in-front.ensures at-else1.if1.left c.finish-counts.ensures c.closed_answer.ensures
-
-pub shape_of-closing_registry-then-front-ne0 : goal.shape_of-closing_registry-then-front-ne0
-shape_of-closing_registry-then-front-ne0 c = (let o : tie.After-open-registry = (goal.at.shape_of-closing_registry-then-front-ne0 c).After-open_registry in let s : tie.After-steps-in-front = o.before.before.before.before.before.before.before.before.before.before.before.before in omega (arith, c.open_queues.auto.closing_slashings, o.open-registry.kept, s.steps-in-front.kept))
-
-pub shape_of-closing_compounding-then-front-ne0 : goal.shape_of-closing_compounding-then-front-ne0
-shape_of-closing_compounding-then-front-ne0 c = (let o : tie.After-open-registry = (goal.at.shape_of-closing_compounding-then-front-ne0 c).After-open_registry in let s : tie.After-steps-in-front = o.before.before.before.before.before.before.before.before.before.before.before.before in omega (arith, c.open_queues.auto.closing_slashings, o.open-registry.kept, s.steps-in-front.kept))
-
-pub shape_of-closing_slashings-then-front-ne0 : goal.shape_of-closing_slashings-then-front-ne0
-shape_of-closing_slashings-then-front-ne0 c = (let o : tie.After-open-registry = (goal.at.shape_of-closing_slashings-then-front-ne0 c).After-open_registry in let s : tie.After-steps-in-front = o.before.before.before.before.before.before.before.before.before.before.before.before in omega (arith, c.open_queues.auto.closing_slashings, o.open-registry.kept, s.steps-in-front.kept))
-
-pub shape_of-closing_deposits-then-front-ne0 : goal.shape_of-closing_deposits-then-front-ne0
-shape_of-closing_deposits-then-front-ne0 c = (let o : tie.After-open-registry = (goal.at.shape_of-closing_deposits-then-front-ne0 c).After-open_registry in let s : tie.After-steps-in-front = o.before.before.before.before.before.before.before.before.before.before.before.before in omega (arith, c.open_queues.auto.closing_slashings, o.open-registry.kept, s.steps-in-front.kept))
-
-pub shape_of-closing_consolidations-then-front-ne0 : goal.shape_of-closing_consolidations-then-front-ne0
-shape_of-closing_consolidations-then-front-ne0 c = (let o : tie.After-open-registry = (goal.at.shape_of-closing_consolidations-then-front-ne0 c).After-open_registry in let s : tie.After-steps-in-front = o.before.before.before.before.before.before.before.before.before.before.before.before in omega (arith, c.open_queues.auto.closing_slashings, o.open-registry.kept, s.steps-in-front.kept))
-
-pub shape_of-amounts-then-front-ne0 : goal.shape_of-amounts-then-front-ne0
-shape_of-amounts-then-front-ne0 c = (let o : tie.After-open-registry = (goal.at.shape_of-amounts-then-front-ne0 c).After-open_registry in let s : tie.After-steps-in-front = o.before.before.before.before.before.before.before.before.before.before.before.before in omega (arith, c.open_queues.auto.closing_slashings, o.open-registry.kept, s.steps-in-front.kept))
-
-pub shape_of-places-then-front-ne0 : goal.shape_of-places-then-front-ne0
-shape_of-places-then-front-ne0 c = (let o : tie.After-open-registry = (goal.at.shape_of-places-then-front-ne0 c).After-open_registry in let s : tie.After-steps-in-front = o.before.before.before.before.before.before.before.before.before.before.before.before in omega (arith, c.open_queues.auto.closing_slashings, o.open-registry.kept, s.steps-in-front.kept))
-
-pub shape_of-closing_registry : goal.shape_of-closing_registry
-shape_of-closing_registry c = (let s : tie.After-steps-in-front = (goal.at.shape_of-closing_registry c).After-steps_in_front-front in omega (arith, c.finish-counts.auto.closing_registry, s.steps-in-front.kept))
-
-pub shape_of-closing_compounding : goal.shape_of-closing_compounding
-shape_of-closing_compounding c = (let s : tie.After-steps-in-front = (goal.at.shape_of-closing_compounding c).After-steps_in_front-front in omega (arith, c.finish-counts.auto.closing_registry, s.steps-in-front.kept))
-
-pub shape_of-closing_slashings : goal.shape_of-closing_slashings
-shape_of-closing_slashings c = (let s : tie.After-steps-in-front = (goal.at.shape_of-closing_slashings c).After-steps_in_front-front in omega (arith, c.finish-counts.auto.closing_registry, s.steps-in-front.kept))
-
-pub shape_of-closing_deposits : goal.shape_of-closing_deposits
-shape_of-closing_deposits c = (let s : tie.After-steps-in-front = (goal.at.shape_of-closing_deposits c).After-steps_in_front-front in omega (arith, c.finish-counts.auto.closing_registry, s.steps-in-front.kept))
-
-pub shape_of-closing_consolidations : goal.shape_of-closing_consolidations
-shape_of-closing_consolidations c = (let s : tie.After-steps-in-front = (goal.at.shape_of-closing_consolidations c).After-steps_in_front-front in omega (arith, c.finish-counts.auto.closing_registry, s.steps-in-front.kept))
-
-pub shape_of-amounts : goal.shape_of-amounts
-shape_of-amounts c = (let s : tie.After-steps-in-front = (goal.at.shape_of-amounts c).After-steps_in_front-front in omega (arith, c.finish-counts.auto.closing_registry, s.steps-in-front.kept))
-
-pub shape_of-places : goal.shape_of-places
-shape_of-places c = (let s : tie.After-steps-in-front = (goal.at.shape_of-places c).After-steps_in_front-front in omega (arith, c.finish-counts.auto.closing_registry, s.steps-in-front.kept))
+    let s = (goal.at.returns c).Start in
+    accepted (called s) c.requires (passed s) c.steps_in_front-front.ensures c.if-front-ne0.false c.finish-counts.ensures c.closed_answer.ensures

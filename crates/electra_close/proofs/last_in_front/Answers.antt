@@ -11,7 +11,7 @@ last_two-requires c =
     let b = 10 * c.args.count in
     let z : b - 0 ≡ b = omega arith in
     let t = length-take-le b c.args.registry.now p.closing_slashings_len.1 in
-    rw (c.under-s.ensures, z) (p.slashings_len, (p.closing_slashings_len.0, omega (arith, t)))
+    rw (c.under-s.ensures, z) (record { slashings_len = p.slashings_len; closing_slashings_len = p.closing_slashings_len.0; registry_len = omega (arith, t) })
 
 pub returns : goal.returns
 returns c =

@@ -10,7 +10,7 @@ write_queues-requires c =
     let a = 10 * c.args.n in
     let z : a - 0 ≡ a = omega arith in
     let t = length-take-le a c.args.registry.now p.n_in_bounds.0 in
-    rw z ((omega (arith, t), p.n_in_bounds.1), p.1)
+    rw z (record { registry_len = (omega (arith, t), p.n_in_bounds.1); index_in_bounds = p.index_in_bounds; consolidations_len = p.pairs_len; closing_consolidations_len = p.closing_pairs_len })
 
 pub returns : goal.returns
 returns c =

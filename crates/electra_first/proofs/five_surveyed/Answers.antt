@@ -1,7 +1,6 @@
 use mathlib.Core.Path.{◌≡◌, refl}
 use Prim.Native.Nat.{◌<◌, ◌^◌}
 use native.Mathlib.Omega.{arith}
-use borrow.Author.Rules.{rules}
 use Rattle.definitions.specs.Record.{decode}
 use Rattle.definitions.specs.Raised.{raised_totals, close_answer_for}
 use Rattle.definitions.specs.Rust.Altair.EpochProcessing.{process_justification_and_finalization}
@@ -25,7 +24,7 @@ justified c =
     c.justification_core-justified.ensures.of (decode c.args.registry.now) (totals-found c.args.s c.args.finality.slot c.args.registry.now c.requires.finds c.total_of-active.ensures c.total_of-target.ensures c.total_of-current_target.ensures)
 
 same-slot : (c : Else-justified-ne0) → c.justification_core-justified.result.finality.slot ≡ c.args.finality.slot
-same-slot c = let a = c.args in slot_kept a.rules a.s a.finality a.churn a.registry.now a.slashings.now a.roots.now (justified c.After-justification_core-justified) c.if-justified-ne0.false
+same-slot c = let a = c.args in slot_kept a.rules a.s a.finality a.churn a.registry.now a.slashings.now a.roots.now (c.justification_core-justified.ensures.of (decode a.registry.now) (totals-found a.s a.finality.slot a.registry.now c.requires.finds c.total_of-active.ensures c.total_of-target.ensures c.total_of-current_target.ensures)) c.if-justified-ne0.false
 
 small : (c : Else-justified-ne0) → c.justification_core-justified.result.finality.slot < 2 ^ 48
 small c = rw (same-slot c) (good-finality _ c.requires.rules_value.3).slot

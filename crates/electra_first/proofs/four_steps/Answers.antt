@@ -36,7 +36,7 @@ Accepted-at rules s state_slot finalized_epoch slashings opening = Accepted rule
 
 -- the present epoch is small
 small : (c : After-make_plan-p) → c.current_epoch-current.result < 2 ^ 48
-small c = rw c.current_epoch-current.ensures (eps c.Start).small
+small c = rw c.current_epoch-current.ensures (epochs _ _ c.requires.rules_value.2 c.requires.rules_value.1).small
 
 pub current_epoch-current-requires : goal.current_epoch-current-requires
 current_epoch-current-requires c = (good-settings _ c.requires.rules_value.2).positive.slots_per_epoch
@@ -102,4 +102,4 @@ returns c =
     let z = c.if-done-ne0.false in
     let long = c.requires.opening_len in
     let nines : length (take (9 * (length a.opening.now / 10) - 0) a.amounts.now) ≡ 9 * (length a.opening.now / 10) = simp length-take (omega (arith, long)) in
-    by-ran a.rules a.s a.state_slot a.finalized_epoch a.slashings.now a.churn c.requires.rules_value.3 c.requires.rules_value.0 (ep (goal.at.returns c).Start) (eps (goal.at.returns c).Start) a.opening.now c.requires.totals_of _ (answers-value tells_truth c.leak_of.ensures c.in-Value.is) _ (says-value c.adjusted_balance.ensures c.in-Value-adjusted_balance.is) now c.previous_epoch-previous.ensures c.make_plan-p.ensures c.numbers_by-n.ensures wrote.ensures.0 long.0 (wrote.auto.1.1.1.1.1.0 ∙ long.1) _ (wrote.ensures.1.filled z nines) refl c.spread.ensures (back_long (9 * (length a.opening.now / 10) - 0) wrote.new.1.1.1.1.1.1.0 a.amounts.now wrote.auto.1.1.1.1.1.1.0 ∙ long.2)
+    by-ran a.rules a.s a.state_slot a.finalized_epoch a.slashings.now a.churn c.requires.rules_value.3 c.requires.rules_value.0 (ep (goal.at.returns c).Start) (eps (goal.at.returns c).Start) a.opening.now c.requires.totals_of _ (answers-value tells_truth c.leak_of.ensures c.in-Value.is) _ (says-value c.adjusted_balance.ensures c.in-Value-adjusted_balance.is) now c.previous_epoch-previous.ensures c.make_plan-p.ensures c.numbers_by-n.ensures wrote.ensures.swept long.0 (wrote.auto.closing ∙ long.1) _ (wrote.ensures.fills.filled z nines) refl c.spread.ensures (back_long (9 * (length a.opening.now / 10) - 0) wrote.new.amounts a.amounts.now wrote.auto.amounts ∙ long.2)

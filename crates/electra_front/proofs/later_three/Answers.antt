@@ -1,5 +1,4 @@
 use native.Mathlib.Omega.{arith}
-use borrow.Author.Rules.{rules}
 use Rattle.electra_refusals.proofs.Passed.{good-electra}
 use Rattle.electra_front.proofs.Threes.{six-refused, move_refused, goes, few-done}
 use Rattle.electra_front.proofs.later_three.Goals as goal

@@ -1,5 +1,5 @@
 use mathlib.Core.Path.{refl, subst, ◌∙◌}
-use Prim.Native.Nat.{ℕ, ◌-◌}
+use Prim.Native.Nat.{ℕ}
 use native.Mathlib.Omega.{arith}
 use Rattle.electra_sixth.specs.Named.{Naming}
 use Rattle.electra_sixth.proofs.Named.{naming_none, naming_more}
@@ -31,7 +31,7 @@ pub loop-k-preserved : goal.loop-k-preserved
 loop-k-preserved c =
     let inv = c.loop-k.invariant in
     let one = c.book_one in
-    (inv.0, one.auto.1.1.1.0 ∙ inv.1, omega (arith, c.loop-k-test.true), naming_more inv.3 c.requires.1 one.ensures)
+    (inv.0, one.auto.amounts ∙ inv.1, omega (arith, c.loop-k-test.true), naming_more inv.3 c.requires.1 one.ensures)
 
 pub shape_of-amounts : goal.shape_of-amounts
 shape_of-amounts c = c.loop-k.invariant.1

@@ -1,6 +1,5 @@
 -- the places on the way
 use native.Mathlib.Omega.{arith}
-use borrow.Author.Rules.{rules}
 use Rattle.electra_refusals.proofs.Passed.{good-electra}
 use Rattle.electra_sixth.proofs.InFront.{queue-refused, loop-refused, left-refused, deposits-held}
 use Rattle.electra_sixth.proofs.deposits_in_front.Goals as goal
@@ -30,15 +29,15 @@ returns-in_default-left_to_consume c =
 pub book_named-requires-2 : goal.book_named-requires-2
 book_named-requires-2 c =
     let k = c.apply_deposits-done.auto.registry in
-    let j = c.book_named.auto.amounts.1.1.1.0 in
+    let j = c.book_named.auto.amounts in
     let a = c.requires.registry_len in
     (omega (arith, k, a.0), omega (arith, k, j, a.1))
 
 pub book_named-requires-3 : goal.book_named-requires-3
 book_named-requires-3 c =
     let k = c.apply_deposits-done.auto.registry in
-    let j = c.book_named.auto.amounts.1.1.1.0 in
-    let i = c.book_named-2.auto.amounts.1.1.1.0 in
+    let j = c.book_named.auto.amounts in
+    let i = c.book_named-2.auto.amounts in
     let a = c.requires.registry_len in
     (omega (arith, k, a.0), omega (arith, k, j, i, a.1))
 

@@ -1,36 +1,29 @@
 -- The nine numbers that the pass fills are those of the steps, by the plan of an accepted close.
-use mathlib.Core.Path.{◌≡◌, refl, sym, ap, subst, ◌∙◌}
-use mathlib.Core.Bool.{Bool, true, false, true≢false}
-use mathlib.Core.List.{List, [], ◌∷◌, ◌++◌, map}
+use mathlib.Core.Path.{◌≡◌, sym, ap, subst, ◌∙◌}
+use mathlib.Core.Bool.{Bool}
+use mathlib.Core.List.{List, [], ◌∷◌, ◌++◌}
 use Prim.Native.Nat.{ℕ, ◌+◌, ◌-◌, ◌*◌, ◌/◌, ◌<◌}
 use native.Mathlib.Omega.{arith}
-use borrow.Author.Tests.{eqb-true, eq-eqb, ne_eqb}
-use lib.Dec.{eqb}
-use lib.ListN.{length, get_or, take, drop, replicate}
+use lib.ListN.{length, get_or, take, drop}
 use Rattle.definitions.specs.declared.Settings.{Settings}
 use Rattle.definitions.specs.declared.ActivationLimit.{ActivationLimit}
 use Rattle.definitions.specs.declared.Number.{Number}
 use Rattle.definitions.specs.Record.{Validator, decode, nobody}
-use Rattle.definitions.specs.Checked.{Checked, value, bind, map_checked}
-use Rattle.definitions.specs.Rust.Phase0.Helpers.{get_current_epoch, get_previous_epoch, get_total_active_balance}
+use Rattle.definitions.specs.Checked.{value, map_checked}
+use Rattle.definitions.specs.Rust.Phase0.Helpers.{get_current_epoch, get_previous_epoch}
 use Rattle.definitions.specs.Rust.Phase0.EpochProcessing.{is_in_inactivity_leak}
-use Rattle.definitions.specs.Rust.Altair.Helpers.{get_unslashed_participating_indices, flag_totals}
-use Rattle.definitions.specs.Rust.Altair.EpochProcessing.{all_deltas}
-use Rattle.laws.proofs.Checked.{value_same}
 use Rattle.laws.proofs.Encode.{length-decode}
 use Rattle.arithmetic.proofs.Laws.{bind-value}
-use Rattle.definitions_close.specs.Amounts.{booked, booked_by_rewards, nines}
+use Rattle.definitions_close.specs.Amounts.{nines}
 use Rattle.laws_close.specs.Nine.{nine_of}
-use Rattle.laws_close.proofs.Amounts.Lists.{each-length, each_at, at_map}
+use Rattle.laws_close.proofs.Amounts.Lists.{each-length, each_at}
 use Rattle.laws_close.proofs.Amounts.Nines.{Eights, nine-at, nines-long, nine_ext}
 use Rattle.laws_close.proofs.Amounts.Way.{Way, by-rewards, by-slashings, filled-ninth}
-use Rattle.rewards.specs.Shared.{totals_of}
 use Rattle.balances.specs.declared.effective_balances.Thresholds.{Thresholds}
 use Rattle.registry.proofs.Epochs.{Epochs}
 use Rattle.survey.specs.declared.Totals.{Totals}
 use Rattle.survey.specs.Sums.{TotalsOf}
 use Rattle.write_turn.specs.declared.Plan.{Plan}
-use Rattle.write_turn.specs.Planned.{scored_by}
 use Rattle.write_turn.specs.Written.{pay_of}
 use Rattle.write_pass.specs.Filled.{eight_by, nine_by, nine_at, Filled}
 use Rattle.write_steps.specs.Numbers.{plan_of, leak_of, BookedBy}

@@ -1,7 +1,6 @@
 -- the call under these rules
 use mathlib.Core.Path.{◌≡◌, refl, sym}
 use native.Mathlib.Omega.{arith}
-use borrow.Author.Rules.{rules}
 use Rattle.definitions.specs.declared.Rules.{Rules}
 use Rattle.definitions.specs.Checked.{code_of}
 use Rattle.definitions_close.specs.FullClose.{FullCall, limited_full_tests}
@@ -28,9 +27,9 @@ ep c = let p = c.requires.tested.settings in epochs c.args.s c.args.finality.slo
 
 tested : (r : Rules) (c : After-first_refusal-refusal) → code_of (limited_record_tests c.args.limit (call r c.args.finality c.args.queue c.args.registry.now c.args.slashings.now c.args.roots.now c.args.closing_registry.now c.args.closing_slashings.now c.args.amounts.now).call) ≡ 0 → c.first_refusal-refusal.result ≡ code_of (limited_full_tests c.args.limit (call r c.args.finality c.args.queue c.args.registry.now c.args.slashings.now c.args.roots.now c.args.closing_registry.now c.args.closing_slashings.now c.args.amounts.now))
 tested r c z =
-    let at-survey-registry = c.before.before.before.before.before in
-    let found = at-survey-registry.survey-registry.ensures in
-    queue-tested (start c).args.limit (call r.args.finality r.args.queue r.args.registry.now r.args.slashings.now r.args.roots.now r.args.closing_registry.now r.args.closing_slashings.now r.args.amounts.now (start c)) (start c).requires.1.0.2 (entries-tested (start c).args.limit (call r.args.finality r.args.queue r.args.registry.now r.args.slashings.now r.args.roots.now r.args.closing_registry.now r.args.closing_slashings.now r.args.amounts.now (start c)).call (sym z) refl found.tested) (tracks-is found.queue) c.before.queue-refusal.ensures c.first-refusal.ensures
+    let found = c.survey_registry-found.ensures in
+    let k = call r c.args.finality c.args.queue c.args.registry.now c.args.slashings.now c.args.roots.now c.args.closing_registry.now c.args.closing_slashings.now c.args.amounts.now in
+    queue-tested c.args.limit k c.requires.closing_registry_len.2 (entries-tested c.args.limit k.call (sym z) refl found.tested) (tracks-is found.queue) c.queue_refusal-wrong.ensures c.first_refusal-refusal.ensures
 
 pub current_epoch-current-requires : goal.current_epoch-current-requires
 current_epoch-current-requires c =

@@ -4,7 +4,15 @@ use Rattle.registry_step.proofs.Run.{run-restored, run-done}
 use Rattle.registry_step.proofs.run_step.Goals as goal
 
 pub update_registry-done-requires : goal.update_registry-done-requires
-update_registry-done-requires c = (c.requires.s_value, (c.requires.state_slot_bound, ((c.requires.opening_len.0, c.copy.ensures), c.requires.1.1.1)))
+update_registry-done-requires c =
+    record {
+      s_value = c.requires.s_value;
+      state_slot_bound = c.requires.state_slot_bound;
+      opening_len = (c.requires.opening_len.0, c.copy.ensures);
+      stop_in_bounds = c.requires.stop_in_bounds;
+      queue_value = c.requires.queue_value;
+      finds = c.requires.finds;
+    }
 
 pub returns-then-done-ne0 : goal.returns-then-done-ne0
 returns-then-done-ne0 c =

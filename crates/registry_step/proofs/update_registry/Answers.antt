@@ -33,7 +33,11 @@ update_by-requires c =
     let e = c.current_epoch-epoch.ensures in
     let p = epochs _ _ c.requires.s_value c.requires.state_slot_bound.0 in
     rw c.requires.opening_len.1
-    ((c.requires.opening_len.0, omega (arith, p.small, e), (good-settings _ c.requires.s_value).small.max_seed_lookahead), (c.requires.stop_in_bounds, rw c.start_pair-start.ensures (tracks-start (omega (arith, p.fits, e)) (rw (sym c.requires.queue_value) at (tracks-queue (decode c.args.opening.now))))))
+    record {
+      registry_len = (c.requires.opening_len.0, omega (arith, p.small, e), (good-settings _ c.requires.s_value).small.max_seed_lookahead);
+      stop_in_bounds = c.requires.stop_in_bounds;
+      tracks = rw c.start_pair-start.ensures (tracks-start (omega (arith, p.fits, e)) (rw (sym c.requires.queue_value) at (tracks-queue (decode c.args.opening.now))));
+    }
 
 pub returns : goal.returns
 returns c =

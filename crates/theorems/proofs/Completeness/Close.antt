@@ -104,6 +104,7 @@ met-listed l s st (later a (later b (later c (later d (later e (here q)))))) =
     at_effective_balances (none_before l s _ _ _ a (none_before l s _ _ _ b (none_before l s _ _ _ c (none_before l s _ _ _ d (none_before l s _ _ _ e q.row)))))
 met-listed l s st (later a (later b (later c (later d (later e (later f (here q))))))) = absurd (has-row q.row)
 met-listed l s st (later a (later b (later c (later d (later e (later f (later g (here q)))))))) = absurd (has-row q.row)
+met-listed l s st (later a (later b (later c (later d (later e (later f (later g (later _ x)))))))) = elim x [ ]
 
 -- The document's 64-bit close, once justification has given a value
 

@@ -56,7 +56,7 @@ zip_many (v ∷ vs) (d ∷ ds) e = record { many = ap suc (zip_many vs ds (omega
 deltas-many : (vs ws : List Validator) (gs : List (Validator → Deltas)) → AsMany ws vs → AsMany (foldl document.apply_deltas ws (map (λ g. map g vs) gs)) vs
 deltas-many vs ws [] h = h
 deltas-many vs ws (g ∷ gs) h =
-    deltas-many vs _ gs (as_many (zip_many ws (map g vs) (length-map vs g ∙ sym h.many)) h)
+    deltas-many vs (document.apply_deltas ws (map g vs)) gs (as_many (zip_many ws (map g vs) (length-map vs g ∙ sym h.many)) h)
 
 exit-many : (s : Settings) (state_slot : ℕ) (vs : List Validator) (index : ℕ) → AsMany (initiate_validator_exit s state_slot vs index) vs
 unfolding initiate_validator_exit

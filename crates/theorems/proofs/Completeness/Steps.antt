@@ -193,6 +193,11 @@ module _ (l : ActivationLimit) where
   rows-refused : (s : Settings) (st : BeaconState) (k : Step) → Row s st k → Rust.limited_step l s st k ≡ refused overflow
   rows-refused s st inactivity_step (nobody_eligible a e) = inactivity-refused l s st a
   rows-refused s st rewards_step (nobody_hits a e f g) = rewards-refused l s st a
+  rows-refused s st justification_step x = elim x [ ]
+  rows-refused s st registry_step x = elim x [ ]
+  rows-refused s st slashings_step x = elim x [ ]
+  rows-refused s st slashings_reset_step x = elim x [ ]
+  rows-refused s st participation_flags_step x = elim x [ ]
   rows-refused s st effective_balances_step (no_validators e (inl d)) = downward-refused l s st d
   rows-refused s st effective_balances_step (no_validators e (inr u)) = upward-refused l s st u
 

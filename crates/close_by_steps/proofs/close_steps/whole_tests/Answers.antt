@@ -4,7 +4,6 @@ use Rattle.close.specs.Called.{called}
 use Rattle.close.proofs.Lent.{lent, record_refused, entries-tested}
 use Rattle.full_close.specs.Called.{full_called}
 use Rattle.full_close.proofs.Tests.{amounts-refused, close-refused, queue-tested}
-use borrow.Author.Rules.{rules}
 use Rattle.close_by_steps.proofs.close_steps.whole_tests.Goals as goal
 
 pub returns-then-amounts-registry : goal.returns-then-amounts-registry

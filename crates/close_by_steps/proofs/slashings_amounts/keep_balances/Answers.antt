@@ -1,4 +1,3 @@
-use Prim.Native.Nat.{◌-◌}
 use mathlib.Core.Path.{refl, ◌∙◌}
 use Rattle.close_by_steps.proofs.slashings_amounts.Taken.{putting-none, putting-nine, putting-more, put_all, balance-is}
 use native.Mathlib.Omega.{arith}
@@ -17,7 +16,7 @@ loop-i-preserved c =
     let g = c.loop-i.invariant in
     let l = c.loop-i-test.true in
     let e = c.put_ninth in
-    putting-more g l (e.auto.1.0 ∙ putting-nine g l) e.ensures (balance-is _ _ _ c.requires.0 l)
+    putting-more g l (e.auto.nine ∙ putting-nine g l) e.ensures (balance-is _ _ _ c.requires.0 l)
 
 pub returns : goal.returns
 returns c = put_all c.loop-i.invariant c.loop-i-test.false refl

@@ -17,7 +17,7 @@ loop-i-preserved c =
     let g = c.loop-i.invariant in
     let l = c.loop-i-test.true in
     let e = c.put_ninth in
-    putting-more g l (e.auto.1.0 ∙ putting-nine g l) e.ensures (c.lowered_by-taken.ensures ∙ lowered_is _ _ ∙ ap₂ ◌-◌ (putting-ninth g l) (balance-is _ _ _ c.requires.0 l))
+    putting-more g l (e.auto.nine ∙ putting-nine g l) e.ensures (c.lowered_by-taken.ensures ∙ lowered_is _ _ ∙ ap₂ ◌-◌ (putting-ninth g l) (balance-is _ _ _ c.requires.0 l))
 
 pub returns : goal.returns
 returns c =

@@ -1,4 +1,3 @@
-use Prim.Native.Nat.{◌-◌}
 use mathlib.Core.Path.{◌∙◌}
 use Rattle.close_by_steps.proofs.step_amounts.Rewards.{booking_none, booking_ten, booking_nine, booking_stop, booking_more, booking_all}
 use native.Mathlib.Omega.{arith}
@@ -32,7 +31,7 @@ loop-i-preserved c =
     let g = c.loop-i.invariant in
     let l = c.loop-i-test.true in
     let e = c.entry_reward_booked-refusal in
-    booking_more g l e.ensures c.if-refusal-ne0.false (e.auto.1.1.1.1.1.1.1.1.0 ∙ booking_nine g l)
+    booking_more g l e.ensures c.if-refusal-ne0.false (e.auto.nine ∙ booking_nine g l)
 
 pub returns : goal.returns
 returns c = booking_all c.loop-i.invariant c.loop-i-test.false (let g = c.loop-i.invariant in omega (arith, g.first))
