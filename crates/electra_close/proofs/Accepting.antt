@@ -1,17 +1,15 @@
 -- The close after its tests: what the lent lists hold, refused or not.
 use mathlib.Core.Path.{◌≡◌, refl, sym, ap, ◌∙◌}
-use mathlib.Core.List.{List, [], ◌++◌}
+use mathlib.Core.List.{List, ◌++◌}
 use Prim.Native.Nat.{ℕ, ◌+◌, ◌-◌, ◌*◌, ◌/◌, ◌≤◌, ◌<◌}
 use native.Mathlib.Omega.{arith}
-use lib.ListN.{length, get_or, take, drop, replicate, length-append, length-drop, length-replicate, take-append-drop, get_or-replicate, get_or-append}
+use lib.ListN.{length, get_or, take, drop, replicate, length-drop, length-replicate, take-append-drop, get_or-replicate, get_or-append}
 use lib.Seq.{ext_get_or, get_or-take, get_or-drop, length-take-le, take-append_seam, drop-append-add, drop-drop}
-use Rattle.definitions.specs.Record.{encode, decode}
-use Rattle.definitions.specs.Checked.{Checked, value, bind, code_of}
+use Rattle.definitions.specs.Record.{encode}
+use Rattle.definitions.specs.Checked.{value, bind, code_of}
 use Rattle.definitions.specs.Refusals.{after_tests, closing_buffer}
 use Rattle.laws.proofs.Encode.{length-encode, length-decode}
-use Rattle.definitions_electra.specs.declared.ElectraRules.{ElectraRules}
 use Rattle.definitions_electra.specs.Record.{ElectraState, encode_deposits, encode_consolidations}
-use Rattle.definitions_electra.specs.Refusals.{count_of, deposits_of}
 use Rattle.definitions_electra.specs.Calls.{over}
 use Rattle.definitions_electra.specs.Evaluated.Electra.EpochProcessing.{process_epoch}
 use Rattle.definitions_electra_close.specs.declared.ElectraAnswer.{ElectraAnswer}

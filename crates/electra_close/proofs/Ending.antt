@@ -1,25 +1,24 @@
 -- The end of a close: the queues, those added, and the last two steps.
-use mathlib.Core.Path.{◌≡◌, refl, sym, ap, ◌∙◌}
-use mathlib.Core.List.{List, [], ◌++◌}
-use Prim.Native.Nat.{ℕ, ◌+◌, ◌-◌, ◌*◌, ◌/◌, ◌≤◌, ◌<◌}
+use mathlib.Core.Path.{◌≡◌, sym, ap, ◌∙◌}
+use mathlib.Core.List.{List, ◌++◌}
+use Prim.Native.Nat.{ℕ, ◌-◌, ◌*◌, ◌/◌}
 use native.Mathlib.Omega.{arith}
-use lib.ListN.{length, get_or, take, drop, length-map, length-append}
+use lib.ListN.{length, take, drop, length-map}
 use lib.Seq.{length-take-le, take-append_seam, drop-append_seam}
 use Rattle.definitions.specs.Record.{Validator, encode, decode}
-use Rattle.definitions.specs.Checked.{Checked, value, bind, add64}
+use Rattle.definitions.specs.Checked.{value}
 use Rattle.definitions.specs.Rust.Phase0.EpochProcessing.{reset_slashings}
 use Rattle.definitions.specs.Rust.Altair.EpochProcessing.{process_participation_flag_updates}
 use Rattle.laws.proofs.Checked.{value_same, bound}
 use Rattle.laws.proofs.Encode.{length-encode, decode-encode}
 use Rattle.definitions_electra.specs.declared.ElectraRules.{ElectraRules}
-use Rattle.definitions_electra.specs.Record.{Registry, ElectraState}
+use Rattle.definitions_electra.specs.Record.{ElectraState}
 use Rattle.definitions_electra.specs.Calls.{over}
 use Rattle.definitions_electra.specs.Evaluated.Electra.EpochProcessing.{update_effective_balances}
-use Rattle.electra_steps.specs.Last.{under, Six, six_by, after_six, Eight, eight_by, seven_eight, after_eight, after_ten}
-use Rattle.electra_appended.specs.Appended.{Appended, WritesAdded}
+use Rattle.electra_steps.specs.Last.{under, Six, after_six, Eight, eight_by, seven_eight, after_eight, after_ten}
+use Rattle.electra_appended.specs.Appended.{WritesAdded}
 use Rattle.electra_queues.specs.declared.Queues.{Queues}
-use Rattle.electra_queues.specs.Queues.{QueuesHeld, WritesQueues}
-use Rattle.electra_close.specs.declared.Counts.{Counts}
+use Rattle.electra_queues.specs.Queues.{WritesQueues}
 use Rattle.electra_close.specs.Finish.{rotated_to, FinishLent, Reached, Ended, Finishes}
 
 -- as `registry[0..b]` comes back

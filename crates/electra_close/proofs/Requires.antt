@@ -1,5 +1,5 @@
 -- What the parts of the close require, once its tests are passed.
-use mathlib.Core.Path.{◌≡◌, refl, sym, ap, ◌∙◌}
+use mathlib.Core.Path.{◌≡◌, refl, sym, ◌∙◌}
 use mathlib.Core.Bool.{true}
 use mathlib.Core.List.{List}
 use Prim.Native.Nat.{ℕ, ◌*◌, ◌^◌}
@@ -10,8 +10,8 @@ use Rattle.definitions.specs.Checked.{Checked, value, refused, code_of}
 use Rattle.definitions.specs.Refusals.{settings_shaped}
 use Rattle.laws.proofs.Checked.{number_not_zero}
 use Rattle.refusals.proofs.Laws.{good-finality}
-use Rattle.definitions_electra.specs.Refusals.{count_of, deposits_of, keys_shaped}
-use Rattle.definitions_electra_close.specs.Close.{ElectraCall, electra_state_of, electra_tests}
+use Rattle.definitions_electra.specs.Refusals.{count_of, keys_shaped}
+use Rattle.definitions_electra_close.specs.Close.{ElectraCall, electra_state_of}
 use Rattle.electra_deposits.specs.Room.{keyed}
 use Rattle.electra_consolidations.proofs.Closing.{placed_of}
 use Rattle.electra_close_tests.proofs.Passed.{ElectraPassed, in_place-good, justification-passes}

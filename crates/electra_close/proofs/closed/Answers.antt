@@ -1,6 +1,5 @@
 use mathlib.Core.Path.{refl, ap}
 use native.Mathlib.Omega.{arith}
-use borrow.Author.Rules.{rules}
 use Rattle.definitions.specs.Checked.{code_of}
 use Rattle.definitions_electra_close.specs.Close.{ElectraCall}
 use Rattle.definitions_electra_close.specs.Calls.{electra_called}

@@ -1,5 +1,4 @@
 use mathlib.Core.Path.{sym, ◌∙◌}
-use borrow.Author.Rules.{rules}
 use Rattle.definitions_electra_close.specs.Close.{ElectraCall}
 use Rattle.definitions_electra_close.specs.Calls.{electra_called}
 use Rattle.electra_close.proofs.Accepting.{untouched}

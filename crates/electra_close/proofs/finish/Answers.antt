@@ -1,6 +1,5 @@
 use mathlib.Core.Path.{refl}
 use native.Mathlib.Omega.{arith}
-use borrow.Author.Rules.{rules}
 use Rattle.electra_refusals.proofs.Passed.{good-electra}
 use Rattle.electra_close.proofs.Ending.{finishes}
 use Rattle.electra_close.proofs.finish.Goals as goal
