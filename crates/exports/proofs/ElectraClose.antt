@@ -1,6 +1,6 @@
 -- Demands 1 and 2 of `electra_close` and that its amounts add up; of every list of its calls when deposits start earning and how full an exit epoch
 -- gets; demand 3 of every list in which each close names any fork. `Learnt` is a function's own contract.
-use mathlib.Core.Path.{◌≡◌, refl, ap, ap₂, ◌∙◌, subst}
+use mathlib.Core.Path.{◌≡◌, refl, sym, ap, ap₂, ◌∙◌, subst}
 use mathlib.Core.Logic.{◌≢◌}
 use mathlib.Core.Bool.{Bool, true, false, cond}
 use mathlib.Core.List.{List, [], ◌∷◌, ◌++◌, map, map-append, cons≢nil}
@@ -97,7 +97,8 @@ amounts-call c z =
     }
 
 pub amounts-electra_close : (c : ElectraCame) → (came_back c).answer.refusal ≡ 0 → AmountsCame (called c) (came_back c)
-amounts-electra_close c z = rw c.holds (amounts-call (called c) (rw c.holds at z))
+amounts-electra_close c z =
+    rw c.holds (amounts-call (called c) (ap (λ (o : ElectraOutcome). o.answer.refusal) (sym c.holds) ∙ z))
 
 -- Deposits start earning
 
@@ -219,7 +220,12 @@ order-answered st (refused p) = (refl, refl)
 
 same-exit : (c : Bool × Exiting) → exit_came c ≡ exits.event (c.0, exiting_of c.1)
 unfolding electra_close electra_closed exit_work
-same-exit (w, by_close c) = let d = called c in let e = close-answered d (electra_closed d) in rw (c.holds, e.0, e.1) refl
+same-exit (w, by_close c) =
+    let d = called c in
+    let e = close-answered d (electra_closed d) in
+    let churn = ap (λ (o : ElectraOutcome). o.answer.churn) c.holds ∙ e.0 in
+    let refusal = ap (λ (o : ElectraOutcome). o.answer.refusal) c.holds ∙ e.1 in
+    rw (churn, refusal) refl
 same-exit (w, by_order c) =
     let e = order-answered (lent_to c) (exits.worked (exiting_of (by_order c))) in
     rw (c.holds.answer, e.0, e.1) refl
