@@ -7,27 +7,28 @@ use borrow.Author.Tests.{ltb-true}
 use lib.ListN.{length, get_or}
 use Rattle.definitions.specs.declared.Settings.{Settings}
 use Rattle.definitions.specs.Record.{decode_one, decode, nobody}
-use Rattle.definitions.specs.Checked.{value, code_of}
+use Rattle.definitions.specs.declared.Refusal.{Refusal}
+use Rattle.definitions.specs.Checked.{Checked, value, refused, number_of}
 use Rattle.definitions.specs.Document.Phase0.Helpers.{is_eligible_for_activation}
 use Rattle.definitions.specs.RegisterOrder.{ahead}
 use Rattle.definitions_wait.specs.Wait.{wait_tests, no_wait, waiting, wait_of, wait_for, activation_wait}
 use Rattle.laws.proofs.Loops.Entry.{entry_at, entry-is}
-use Rattle.laws.proofs.Tests.{in_order_lem}
+use Rattle.laws.proofs.Tests.{in_order-value}
 use Rattle.refusals.proofs.Answers.{after-passed, after-refused}
 use Rattle.refusals.proofs.Laws.{registry-shaped}
 
 module _ (s : Settings) (finalized_epoch : ℕ) (registry : List ℕ) (index : ℕ) where
-  module _ {x : ℕ} (e : x ≡ code_of (wait_tests s finalized_epoch registry index)) where
-    pub wait-refused : (x ≡ 0 → ⊥) → no_wait x ≡ activation_wait s finalized_epoch registry index
-    wait-refused z =
-        let r = after-refused (wait_tests s finalized_epoch registry index) (value (wait_of s finalized_epoch (decode registry) index)) e z in
-        rw r.is (ap no_wait r.number)
+  module _ {x : Checked (Unit {0})} (e : x ≡ wait_tests s finalized_epoch registry index) where
+    pub wait-refused : {p : Refusal} {n : ℕ} → x ≡ refused p → n ≡ number_of p → no_wait n ≡ activation_wait s finalized_epoch registry index
+    wait-refused z k =
+        ap no_wait k
+        ∙ sym (ap wait_for (after-refused (wait_tests s finalized_epoch registry index) (value (wait_of s finalized_epoch (decode registry) index)) e z))
 
-    pub wait-lent : x ≡ 0 → (length registry ≡ 10 * (length registry / 10)) × (index < length registry / 10)
+    pub wait-lent : x ≡ value tt → (length registry ≡ 10 * (length registry / 10)) × (index < length registry / 10)
     unfolding wait_tests
-    wait-lent z = let p = in_order_lem _ _ _ (sym e ∙ z) in ((registry-shaped registry (p.shaped 1)).long, ltb-true _ _ (p.shaped 2))
+    wait-lent z = let p = in_order-value _ _ _ (sym e ∙ z) in ((registry-shaped registry (p.shaped 1)).long, ltb-true _ _ (p.shaped 2))
 
-    pub wait-passed : x ≡ 0 → wait_of s finalized_epoch (decode registry) index ≡ activation_wait s finalized_epoch registry index
+    pub wait-passed : x ≡ value tt → wait_of s finalized_epoch (decode registry) index ≡ activation_wait s finalized_epoch registry index
     wait-passed z = sym (ap wait_for (after-passed (wait_tests s finalized_epoch registry index) (value (wait_of s finalized_epoch (decode registry) index)) e z))
 
   module _ (n : ℕ) (long : length registry ≡ 10 * n) (l : index < n) {b : Bool} (e : b ≡ is_eligible_for_activation finalized_epoch (decode_one (entry_at registry index))) where

@@ -3,12 +3,11 @@
 
 ghost use Rattle.std.specs.Prelude.{◌≡◌, ◌&&◌, ◌||◌, ◌*◌, ◌≤◌, ◌<◌, ltb, eqb, length};
 ghost use Rattle.definitions.specs.Record.{decode_one, decode};
-ghost use Rattle.definitions.specs.Checked.{code_of};
 ghost use Rattle.definitions.specs.Document.Phase0.Helpers.{is_eligible_for_activation};
 ghost use Rattle.definitions.specs.RegisterOrder.{ahead};
 ghost use Rattle.definitions_wait.specs.Wait.{wait_tests, closes_for, no_wait, wait_of, activation_wait};
 
-use definitions::{ACTIVATION_ELIGIBILITY_EPOCH, Settings};
+use definitions::{ACTIVATION_ELIGIBILITY_EPOCH, Refusal, Settings};
 use definitions_wait::WaitAnswer;
 use entries::entry_is_eligible_for_activation;
 use refusals::{
@@ -81,8 +80,13 @@ fn no_wait(refusal: u64) -> WaitAnswer
     }
 }
 
-fn wait_tests(s: Settings, finalized_epoch: u64, registry: &[u64], index: u64) -> u64
-    ensures { result ≡ code_of (wait_tests s finalized_epoch registry.now index) }
+fn wait_tests(
+    s: Settings,
+    finalized_epoch: u64,
+    registry: &[u64],
+    index: u64,
+) -> Result<(), Refusal>
+    ensures { result ≡ wait_tests s finalized_epoch registry.now index }
 {
     in_order(
         &[
@@ -128,9 +132,8 @@ pub fn activation_wait(
 ) -> WaitAnswer
     ensures { result ≡ activation_wait s finalized_epoch registry.now index }
 {
-    let refusal = wait_tests(s, finalized_epoch, registry, index);
-    if refusal != 0 {
-        return no_wait(refusal);
+    if let Err(refusal) = wait_tests(s, finalized_epoch, registry, index) {
+        return no_wait(refusal.number());
     }
     wait_core(
         s,

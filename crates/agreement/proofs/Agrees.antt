@@ -7,23 +7,25 @@ use mathlib.Core.Logic.{◌⊎◌, inl}
 use Prim.Native.Nat.{ℕ, ◌+◌, ◌-◌, ◌*◌, ◌^◌}
 use lib.Dec.{ltb, leb}
 use Rattle.definitions.specs.Lists.{sum}
-use Rattle.definitions.specs.Checked.{Refusal, no_root, overflow, Checked, value, refused, bind, add64, sub64, mul64, sum64, map_checked, fold_checked}
+use Rattle.definitions.specs.Checked.{Checked, value, refused, bind, add64, sub64, mul64, sum64, map_checked, fold_checked}
+use Rattle.definitions.specs.declared.Refusal.{Refusal}
+use Rattle.definitions.specs.declared.Refusal.TheVariants.{NoRoot, Overflow}
 use Rattle.laws.proofs.Checked.{not_value, value_same}
 
 pub record Agrees {A : Type 0} (P : Refusal → Type 0) (m : Checked A) (x : A) : Type 0 where
   pub same : (a : A) → m ≡ value a → x ≡ a
   pub only : (r : Refusal) → m ≡ refused r → P r
 
-abbrev pub Overflow : Refusal → Type 0
-Overflow r = r ≡ overflow
+abbrev pub IsOverflow : Refusal → Type 0
+IsOverflow r = r ≡ Overflow
 
-abbrev pub OverflowOrNoRoot : Refusal → Type 0
-OverflowOrNoRoot r = (r ≡ overflow) ⊎ (r ≡ no_root)
+abbrev pub IsOverflowOrNoRoot : Refusal → Type 0
+IsOverflowOrNoRoot r = (r ≡ Overflow) ⊎ (r ≡ NoRoot)
 
 pub weaken : {A : Type 0} {P Q : Refusal → Type 0} {m : Checked A} {x : A} → ((r : Refusal) → P r → Q r) → Agrees P m x → Agrees Q m x
 weaken w h = record { same = h.same; only = λ r p. w r (h.only r p) }
 
-pub or_more : {A : Type 0} {Q : Refusal → Type 0} {m : Checked A} {x : A} → Agrees Overflow m x → Agrees (λ r. (r ≡ overflow) ⊎ Q r) m x
+pub or_more : {A : Type 0} {Q : Refusal → Type 0} {m : Checked A} {x : A} → Agrees IsOverflow m x → Agrees (λ r. (r ≡ Overflow) ⊎ Q r) m x
 or_more h = weaken (λ r e. inl e) h
 
 pub not_refused : {A : Type 0} {r : Refusal} {a : A} → value a ≡ refused r → ⊥
@@ -55,19 +57,19 @@ either-agrees false h g = g
 
 -- Arithmetic
 
-pub add64-agrees : (a b : ℕ) → Agrees Overflow (add64 a b) (a + b)
+pub add64-agrees : (a b : ℕ) → Agrees IsOverflow (add64 a b) (a + b)
 unfolding add64
 add64-agrees a b = either-agrees (ltb (a + b) (2 ^ 64)) value-agrees (refused-agrees refl)
 
-pub sub64-agrees : (a b : ℕ) → Agrees Overflow (sub64 a b) (a - b)
+pub sub64-agrees : (a b : ℕ) → Agrees IsOverflow (sub64 a b) (a - b)
 unfolding sub64
 sub64-agrees a b = either-agrees (leb b a) value-agrees (refused-agrees refl)
 
-pub mul64-agrees : (a b : ℕ) → Agrees Overflow (mul64 a b) (a * b)
+pub mul64-agrees : (a b : ℕ) → Agrees IsOverflow (mul64 a b) (a * b)
 unfolding mul64
 mul64-agrees a b = either-agrees (ltb (a * b) (2 ^ 64)) value-agrees (refused-agrees refl)
 
-pub sum64-agrees : (xs : List ℕ) → Agrees Overflow (sum64 xs) (sum xs)
+pub sum64-agrees : (xs : List ℕ) → Agrees IsOverflow (sum64 xs) (sum xs)
 unfolding sum64
 sum64-agrees xs = either-agrees (ltb (sum xs) (2 ^ 64)) value-agrees (refused-agrees refl)
 

@@ -5,7 +5,9 @@ use Rattle.definitions.specs.declared.Settings.{Settings}
 use Rattle.definitions.specs.declared.ActivationLimit.{ActivationLimit}
 use Rattle.definitions.specs.declared.ActivationLimit.TheVariants.{Churn, AtMost}
 use Rattle.definitions.specs.Record.{BeaconState}
-use Rattle.definitions.specs.Checked.{Refusal, no_root, overflow, refused, fold_checked}
+use Rattle.definitions.specs.Checked.{refused, fold_checked}
+use Rattle.definitions.specs.declared.Refusal.{Refusal}
+use Rattle.definitions.specs.declared.Refusal.TheVariants.{NoRoot, Overflow}
 use Rattle.definitions.specs.Rules.{settings_under, in_place}
 use Rattle.definitions.specs.Document.Phase0.EpochProcessing.{process_slashings_reset}
 use Rattle.definitions.specs.Document.Altair.EpochProcessing as document
@@ -32,7 +34,7 @@ participation_flags l s st = value-agrees
 
 -- 5, or 4 from justification
 abbrev pub StepRefusal : Step → Refusal → Type 0
-StepRefusal k r = (r ≡ overflow) ⊎ ((r ≡ no_root) × (k ≡ justification_step))
+StepRefusal k r = (r ≡ Overflow) ⊎ ((r ≡ NoRoot) × (k ≡ justification_step))
 
 pub each_step : (l : ActivationLimit) (s : Settings) (st : BeaconState) (k : Step) → Agrees (StepRefusal k) (rust.limited_step l s st k) (limited_document_step l s st k)
 each_step l s st justification_step = weaken (λ r. ⊎_elim (λ e. inl e) (λ e. inr (e, refl))) (justification l s st)
@@ -49,7 +51,7 @@ step-agrees r st st' k p = (under r).steps st k ∙ (each_step Churn (settings_u
 
 -- 5, or justification's 4
 abbrev pub CloseRefusal : Settings → BeaconState → Refusal → Type 0
-CloseRefusal s st r = (r ≡ overflow) ⊎ ((r ≡ no_root) × (rust.step s st justification_step ≡ refused no_root))
+CloseRefusal s st r = (r ≡ Overflow) ⊎ ((r ≡ NoRoot) × (rust.step s st justification_step ≡ refused NoRoot))
 
 first_step : (l : ActivationLimit) (s : Settings) (st : BeaconState) → Agrees (CloseRefusal s st) (rust.limited_step l s st justification_step) (document.process_justification_and_finalization s st)
 unfolding rust.limited_step

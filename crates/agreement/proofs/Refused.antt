@@ -5,13 +5,15 @@ use Rattle.definitions.specs.declared.ActivationLimit.{ActivationLimit}
 use Rattle.definitions.specs.declared.Settings.{Settings}
 use Rattle.definitions.specs.declared.ActivationLimit.TheVariants.{Churn}
 use Rattle.definitions.specs.Record.{BeaconState}
-use Rattle.definitions.specs.Checked.{Refusal, no_root, overflow, refused, bind}
+use Rattle.definitions.specs.Checked.{refused, bind}
+use Rattle.definitions.specs.declared.Refusal.{Refusal}
+use Rattle.definitions.specs.declared.Refusal.TheVariants.{NoRoot, Overflow}
 use Rattle.definitions.specs.Document.Phase0.EpochProcessing.{process_slashings_reset}
 use Rattle.definitions.specs.Document.Altair.EpochProcessing as document
 use Rattle.definitions.specs.Rust.Altair.EpochProcessing as rust
 use Rattle.definitions.specs.Refusals.{after_tests}
 use Rattle.definitions.specs.Rules.{settings_under}
-use Rattle.definitions.specs.Close.{step, limited_step, justification_step, Call, state_of, closed, process_epoch, limited_epoch}
+use Rattle.definitions.specs.Close.{limited_step, justification_step, Call, state_of, closed, process_epoch, limited_epoch}
 use Rattle.agreement.specs.Refused.{Refused, AfterTests}
 use Rattle.agreement.proofs.Close.{each_step, limited-close, close}
 
@@ -26,10 +28,10 @@ refused-by s st =
       close = (close s st).only;
     }
 
-pub limited-refused : (l : ActivationLimit) (s : Settings) (st : BeaconState) (r : Refusal) → limited_epoch l s st ≡ refused r → (r ≡ overflow) ⊎ (r ≡ no_root)
+pub limited-refused : (l : ActivationLimit) (s : Settings) (st : BeaconState) (r : Refusal) → limited_epoch l s st ≡ refused r → (r ≡ Overflow) ⊎ (r ≡ NoRoot)
 limited-refused l s st r p = ⊎_elim (λ e. inl e) (λ e. inr e.0) ((limited-close l s st).only r p)
 
-pub work-refused : (c : Call) (r : Refusal) → process_epoch (settings_under c.rules) (state_of c) ≡ refused r → (r ≡ overflow) ⊎ (r ≡ no_root)
+pub work-refused : (c : Call) (r : Refusal) → process_epoch (settings_under c.rules) (state_of c) ≡ refused r → (r ≡ Overflow) ⊎ (r ≡ NoRoot)
 work-refused c r p = limited-refused Churn (settings_under c.rules) (state_of c) r p
 
 pub after-tests : (c : Call) → AfterTests c

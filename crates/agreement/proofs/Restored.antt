@@ -7,7 +7,9 @@ use Prim.Native.Nat.{ℕ, ◌≤◌}
 use native.Mathlib.Omega.{arith}
 use Rattle.definitions.specs.Lists.{every}
 use Rattle.definitions.specs.Record.{BeaconState}
-use Rattle.definitions.specs.Checked.{Checked, Refusal, bad_shape, bad_settings, bad_record, no_root, overflow, value, refused, bind, number_of}
+use Rattle.definitions.specs.Checked.{Checked, value, refused, bind, number_of}
+use Rattle.definitions.specs.declared.Refusal.{Refusal}
+use Rattle.definitions.specs.declared.Refusal.TheVariants.{BadShape, BadSettings, BadRecord, NoRoot, Overflow}
 use Rattle.definitions.specs.Refusals.{in_order, after_tests, closing_buffer}
 use Rattle.definitions.specs.Raised.{raised_unless_refused}
 use Rattle.definitions.specs.Rules.{settings_under}
@@ -68,12 +70,12 @@ unfolding in_order
 tests-number shaped settings recorded r p = go (every shaped) (every settings) (every recorded) p
   where
     go : (a b c : Bool) → tested a b c ≡ refused r → OneOf (number_of r) (1 ∷ 2 ∷ 3 ∷ [])
-    go false b c p = let e : r ≡ bad_shape = cc in rw e (inl refl)
-    go true false c p = let e : r ≡ bad_settings = cc in rw e (inr (inl refl))
-    go true true false p = let e : r ≡ bad_record = cc in rw e (inr (inr (inl refl)))
+    go false b c p = let e : r ≡ BadShape = cc in rw e (inl refl)
+    go true false c p = let e : r ≡ BadSettings = cc in rw e (inr (inl refl))
+    go true true false p = let e : r ≡ BadRecord = cc in rw e (inr (inr (inl refl)))
     go true true true p = absurd (not_refused p)
 
-pub work-number : (r : Refusal) → (r ≡ overflow) ⊎ (r ≡ no_root) → OneOf (number_of r) (4 ∷ 5 ∷ [])
+pub work-number : (r : Refusal) → (r ≡ Overflow) ⊎ (r ≡ NoRoot) → OneOf (number_of r) (4 ∷ 5 ∷ [])
 work-number r (inl e) = rw e (inr (inl refl))
 work-number r (inr e) = rw e (inl refl)
 

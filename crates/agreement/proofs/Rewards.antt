@@ -14,7 +14,7 @@ use Rattle.definitions.specs.Document.Altair.EpochProcessing as document
 use Rattle.definitions.specs.Rust.Altair.EpochProcessing as rust
 use Rattle.definitions.specs.Rust.Altair.Helpers.{FlagTotals}
 use Rattle.definitions.specs.Close.{limited_step, rewards_step}
-use Rattle.agreement.proofs.Agrees.{Agrees, Overflow, value-agrees, equal-agrees, bind-agrees, cond-agrees, map-agrees, fold_agrees}
+use Rattle.agreement.proofs.Agrees.{Agrees, IsOverflow, value-agrees, equal-agrees, bind-agrees, cond-agrees, map-agrees, fold_agrees}
 use Rattle.agreement.proofs.Helpers.{increase_balance, kept-validators}
 use Rattle.agreement.proofs.Deltas.{totals_of, flag-totals, flag-deltas, inactivity-deltas}
 
@@ -35,7 +35,7 @@ fold_zip f g [] xs = refl
 fold_zip f g (h ∷ hs) xs =
     ap (λ t. foldl (zip_with f) t (map (λ h. map h xs) hs)) (zip_maps f g h xs) ∙ fold_zip f (λ x. f (g x) (h x)) hs xs
 
-pub apply-delta : (v : Validator) (d : Deltas) → Agrees Overflow (rust.apply_delta v d) (document.apply_delta v d)
+pub apply-delta : (v : Validator) (d : Deltas) → Agrees IsOverflow (rust.apply_delta v d) (document.apply_delta v d)
 unfolding rust.apply_delta document.apply_delta
 apply-delta v d = bind-agrees _ (increase_balance v _) value-agrees
 
@@ -57,13 +57,13 @@ by-validator s st =
 abbrev totals_at : Settings → BeaconState → ℕ → FlagTotals
 totals_at s st flag_index = totals_of s st.finality.slot st.finality.finalized_checkpoint.epoch st.validators flag_index
 
-rewards-one : (s : Settings) (st : BeaconState) (v : Validator) → Agrees Overflow (rust.reward_and_penalize s s.inactivity_penalty_quotient_altair (get_current_epoch s st.finality.slot) (get_previous_epoch s st.finality.slot) (totals_at s st 0) (totals_at s st 1) (totals_at s st 2) v) (rewarded s st v)
+rewards-one : (s : Settings) (st : BeaconState) (v : Validator) → Agrees IsOverflow (rust.reward_and_penalize s s.inactivity_penalty_quotient_altair (get_current_epoch s st.finality.slot) (get_previous_epoch s st.finality.slot) (totals_at s st 0) (totals_at s st 1) (totals_at s st 2) v) (rewarded s st v)
 unfolding rust.reward_and_penalize rust.all_deltas
 rewards-one s st v =
     let flag = flag-deltas s st.finality.slot st.finality.finalized_checkpoint.epoch st.validators in
     bind-agrees _ (bind-agrees _ (flag 0 v) (bind-agrees _ (flag 1 v) (bind-agrees _ (flag 2 v) (bind-agrees _ (inactivity-deltas s _ _ v) value-agrees)))) (fold_agrees apply-delta v _)
 
-pub rewards : (l : ActivationLimit) (s : Settings) (st : BeaconState) → Agrees Overflow (limited_step l s st rewards_step) (document.process_rewards_and_penalties s s.inactivity_penalty_quotient_altair st)
+pub rewards : (l : ActivationLimit) (s : Settings) (st : BeaconState) → Agrees IsOverflow (limited_step l s st rewards_step) (document.process_rewards_and_penalties s s.inactivity_penalty_quotient_altair st)
 unfolding limited_step rust.process_rewards_and_penalties document.process_rewards_and_penalties get_flag_index_deltas get_inactivity_penalty_deltas
 rewards l s st =
     let genesis = eqb (get_current_epoch s st.finality.slot) 0 in

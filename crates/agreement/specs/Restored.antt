@@ -1,7 +1,8 @@
 -- Document 01, "What is returned": what a close hands back and what the closing buffers hold, by the number that it answers.
 use Rattle.std.specs.Prelude.{◌≡◌, List, [], ◌∷◌, ◌⊎◌, ℕ}
 use Rattle.definitions.specs.Record.{BeaconState, encode, decode}
-use Rattle.definitions.specs.Checked.{Checked, Refusal, value, refused}
+use Rattle.definitions.specs.Checked.{Checked, value, refused}
+use Rattle.definitions.specs.declared.Refusal.{Refusal}
 use Rattle.definitions.specs.Refusals.{closing_buffer}
 use Rattle.definitions.specs.Raised.{none_raised, raised_totals}
 use Rattle.definitions.specs.Close.{Call, close, closed}

@@ -1,5 +1,4 @@
 -- Laws on the checked operations, and on answers that say them.
 pub mod Operations
-pub mod Answers
 pub mod Laws
 mod Newton

@@ -6,11 +6,12 @@ ghost use Rattle.definitions.specs.Refusals.{good_settings, effective_balance_te
 ghost use Rattle.definitions.specs.Rust.Phase0.EpochProcessing.{update_effective_balance, process_effective_balance_updates};
 ghost use Rattle.laws.specs.Ran.{Settles, Ran};
 ghost use Rattle.definitions.specs.Closes.{Closes};
-ghost use Rattle.balances.specs.Thresholds.{thresholds_of, SaysThresholds};
+ghost use Rattle.balances.specs.Thresholds.{thresholds_of};
 
 use arithmetic::{add64, min, mul64};
-use definitions::{BALANCE, EFFECTIVE_BALANCE, Number, Settings};
-use refusals::buffers::{copy, put_back};
+use definitions::{BALANCE, EFFECTIVE_BALANCE, Refusal, Settings};
+use over_entries::each_entry;
+use refusals::buffers::put_back;
 use refusals::{good_registry, good_settings, in_order, registry_shaped, settings_shaped};
 
 // How far a balance may lie below and above the effective balance before that follows it.
@@ -20,28 +21,18 @@ pub struct Thresholds {
     pub upward: u64,
 }
 
-#[derive(Clone, Copy)]
-pub enum ThresholdsAnswer {
-    Value(Thresholds),
-    Refused(u64),
-}
-
-pub fn hysteresis(s: Settings) -> ThresholdsAnswer
+pub fn hysteresis(s: Settings) -> Result<Thresholds, Refusal>
     requires { 0 < s.hysteresis_quotient }
-    ensures { SaysThresholds (thresholds_of s) result }
+    ensures { result ≡ thresholds_of s }
 {
     let increment = s.effective_balance_increment / s.hysteresis_quotient;
-    let Number::Value(downward) = mul64(increment, s.hysteresis_downward_multiplier) else {
-        return ThresholdsAnswer::Refused(5);
-    };
-    let Number::Value(upward) = mul64(increment, s.hysteresis_upward_multiplier) else {
-        return ThresholdsAnswer::Refused(5);
-    };
+    let downward = mul64(increment, s.hysteresis_downward_multiplier)?;
+    let upward = mul64(increment, s.hysteresis_upward_multiplier)?;
     let thresholds = Thresholds {
         downward: downward,
         upward: upward,
     };
-    ThresholdsAnswer::Value(thresholds)
+    Ok(thresholds)
 }
 
 // Rounded down to an increment, and at most the maximum.
@@ -56,58 +47,48 @@ fn rounded(s: Settings, balance: u64) -> u64
 }
 
 // The second sum is evaluated only where the first test failed.
-pub fn entry_update(s: Settings, downward: u64, upward: u64, entry: &mut [u64]) -> u64
+pub fn entry_update(
+    s: Settings,
+    downward: u64,
+    upward: u64,
+    entry: &mut [u64],
+) -> Result<(), Refusal>
     requires { (length entry.old ≡ 10) × (0 < s.effective_balance_increment) }
     ensures { Settles (update_effective_balance s downward upward) entry.old entry.new result }
 {
     let effective = entry[EFFECTIVE_BALANCE];
     let balance = entry[BALANCE];
-    let Number::Value(low) = add64(balance, downward) else {
-        return 5;
-    };
+    let low = add64(balance, downward)?;
     if low < effective {
         entry[EFFECTIVE_BALANCE] = rounded(s, balance);
-        return 0;
+        return Ok(());
     }
-    let Number::Value(high) = add64(effective, upward) else {
-        return 5;
-    };
+    let high = add64(effective, upward)?;
     if high < balance {
         entry[EFFECTIVE_BALANCE] = rounded(s, balance);
-        return 0;
+        return Ok(());
     }
-    0
+    Ok(())
 }
 
-fn update_all(s: Settings, downward: u64, upward: u64, registry: &mut [u64]) -> u64
+fn update_all(s: Settings, downward: u64, upward: u64, registry: &mut [u64]) -> Result<(), Refusal>
     requires { (length registry.old ≡ 10 * (length registry.old / 10)) × (0 < s.effective_balance_increment) }
     ensures { Ran (map_checked (update_effective_balance s downward upward) (decode registry.old)) registry.new result }
 {
-    let n = registry.len() / 10;
-    for i in 0..n {
-        let a = 10 * i;
-        let b = a + 10;
-        let refusal = entry_update(s, downward, upward, &mut registry[a..b]);
-        if refusal != 0 {
-            return refusal;
-        }
-    }
-    0
+    each_entry(|entry| entry_update(s, downward, upward, entry), registry)
 }
 
 // The step in place. Both thresholds are evaluated also over no validators.
-pub fn effective_balances_core(s: Settings, registry: &mut [u64]) -> u64
+pub fn effective_balances_core(s: Settings, registry: &mut [u64]) -> Result<(), Refusal>
     requires { (length registry.old ≡ 10 * (length registry.old / 10)) × (good_settings s ≡ true) }
     ensures { Ran (process_effective_balance_updates s (decode registry.old)) registry.new result }
 {
-    let ThresholdsAnswer::Value(thresholds) = hysteresis(s) else {
-        return 5;
-    };
+    let thresholds = hysteresis(s)?;
     update_all(s, thresholds.downward, thresholds.upward, registry)
 }
 
-fn effective_balance_tests(s: Settings, opening: &[u64], closing: &[u64]) -> u64
-    ensures { result ≡ code_of (effective_balance_tests s opening.now closing.now) }
+fn effective_balance_tests(s: Settings, opening: &[u64], closing: &[u64]) -> Result<(), Refusal>
+    ensures { result ≡ effective_balance_tests s opening.now closing.now }
 {
     in_order(
         &[
@@ -120,15 +101,16 @@ fn effective_balance_tests(s: Settings, opening: &[u64], closing: &[u64]) -> u64
     )
 }
 
-pub fn process_effective_balance_updates(s: Settings, opening: &[u64], closing: &mut [u64]) -> u64
+pub fn process_effective_balance_updates(
+    s: Settings,
+    opening: &[u64],
+    closing: &mut [u64],
+) -> Result<(), Refusal>
     ensures { Closes encode (effective_balance_tests s opening.now closing.old)
-        (process_effective_balance_updates s (decode opening.now)) opening.now closing.old closing.new result }
+        (process_effective_balance_updates s (decode opening.now)) opening.now closing.old closing.new (code_of result) }
 {
-    let refusal = effective_balance_tests(s, opening, closing);
-    if refusal != 0 {
-        return refusal;
-    }
-    copy(opening, closing);
+    effective_balance_tests(s, opening, closing)?;
+    closing.copy_from_slice(opening);
     let done = effective_balances_core(s, closing);
     put_back(done, opening, closing);
     done

@@ -3,7 +3,7 @@
 
 ghost use Rattle.std.specs.Prelude.{◌≡◌, length};
 ghost use Rattle.definitions.specs.Record.{decode_one, encode_one};
-ghost use Rattle.definitions.specs.Checked.{value};
+ghost use Rattle.definitions.specs.Checked.{code_of, value};
 ghost use Rattle.definitions.specs.LeafRefusals.{entry_tests};
 ghost use Rattle.definitions.specs.Rust.Phase0.Helpers.{increase_balance, decrease_balance};
 ghost use Rattle.laws.specs.Ran.{Settles};
@@ -12,18 +12,16 @@ ghost use Rattle.definitions.specs.Closes.{Closes};
 pub mod effective_balances;
 
 use arithmetic::add64;
-use definitions::{BALANCE, Number};
+use definitions::{BALANCE, Refusal};
 use leaf_refusals::entry_tests;
 
-pub fn entry_increase_balance(entry: &mut [u64], delta: u64) -> u64
+pub fn entry_increase_balance(entry: &mut [u64], delta: u64) -> Result<(), Refusal>
     requires { length entry.old ≡ 10 }
     ensures { Settles (λ v. increase_balance v delta) entry.old entry.new result }
 {
-    let Number::Value(balance) = add64(entry[BALANCE], delta) else {
-        return 5;
-    };
+    let balance = add64(entry[BALANCE], delta)?;
     entry[BALANCE] = balance;
-    0
+    Ok(())
 }
 
 // Stops at 0.
@@ -39,25 +37,19 @@ pub fn entry_decrease_balance(entry: &mut [u64], delta: u64)
     entry[BALANCE] = balance - delta;
 }
 
-pub fn increase_balance(entry: &mut [u64], delta: u64) -> u64
+pub fn increase_balance(entry: &mut [u64], delta: u64) -> Result<(), Refusal>
     ensures { Closes encode_one (entry_tests entry.old) (increase_balance (decode_one entry.old) delta) entry.old
-        entry.old entry.new result }
+        entry.old entry.new (code_of result) }
 {
-    let refusal = entry_tests(entry);
-    if refusal != 0 {
-        return refusal;
-    }
+    entry_tests(entry)?;
     entry_increase_balance(entry, delta)
 }
 
-pub fn decrease_balance(entry: &mut [u64], delta: u64) -> u64
+pub fn decrease_balance(entry: &mut [u64], delta: u64) -> Result<(), Refusal>
     ensures { Closes encode_one (entry_tests entry.old) (value (decrease_balance (decode_one entry.old) delta)) entry.old
-        entry.old entry.new result }
+        entry.old entry.new (code_of result) }
 {
-    let refusal = entry_tests(entry);
-    if refusal != 0 {
-        return refusal;
-    }
+    entry_tests(entry)?;
     entry_decrease_balance(entry, delta);
-    0
+    Ok(())
 }

@@ -3,166 +3,130 @@
 #![tactic(auto)]
 
 ghost use Rattle.std.specs.Prelude.{◌≡◌, ◌<◌};
-ghost use Rattle.definitions.specs.Answers.{Says, SaysTruth};
-ghost use Rattle.definitions.specs.Checked.{code_of};
 ghost use Rattle.definitions_clock.specs.Clock.{last_slot_of, first_second_of_slot_call, last_second_of_slot_call, first_second_of_epoch_call, last_second_of_epoch_call};
 ghost use Rattle.definitions_clock.specs.Calls.{clock_tests, second_tests, fits64, slot_at_time, epoch_at_time, is_in_closing_window, first_second_of_slot, last_second_of_slot, first_second_of_epoch, last_second_of_epoch};
 
 use arithmetic::{add64, mul64};
-use definitions::{Number, Truth};
+use definitions::Refusal;
 use definitions_clock::Clock;
 
 // 15, then 2.
-fn clock_refusal(c: Clock) -> u64
-    ensures { result ≡ code_of (clock_tests c) }
+fn clock_refusal(c: Clock) -> Result<(), Refusal>
+    ensures { result ≡ clock_tests c }
 {
     if c.seconds_per_slot == 0 {
-        return 15;
+        return Err(Refusal::NoSeconds);
     }
     if c.slots_per_epoch == 0 {
-        return 2;
+        return Err(Refusal::BadSettings);
     }
     if c.slots_per_epoch < 281474976710656 {
-        return 0;
+        return Ok(());
     }
-    2
+    Err(Refusal::BadSettings)
 }
 
 // 15, then 2, then 14.
-fn second_refusal(c: Clock, second: u64) -> u64
-    ensures { result ≡ code_of (second_tests c second) }
+fn second_refusal(c: Clock, second: u64) -> Result<(), Refusal>
+    ensures { result ≡ second_tests c second }
 {
-    let refusal = clock_refusal(c);
-    if refusal != 0 {
-        return refusal;
-    }
+    clock_refusal(c)?;
     if second < c.genesis_time {
-        return 14;
+        return Err(Refusal::BeforeGenesis);
     }
-    0
+    Ok(())
 }
 
 // What is worked out once the tests have passed.
 
-fn slot_start(c: Clock, slot: u64) -> Number
-    ensures { Says (fits64 (first_second_of_slot_call c slot)) result }
+fn slot_start(c: Clock, slot: u64) -> Result<u64, Refusal>
+    ensures { result ≡ fits64 (first_second_of_slot_call c slot) }
 {
-    let Number::Value(seconds) = mul64(slot, c.seconds_per_slot) else {
-        return Number::Refused(5);
-    };
+    let seconds = mul64(slot, c.seconds_per_slot)?;
     add64(seconds, c.genesis_time)
 }
 
-fn slot_end(c: Clock, slot: u64) -> Number
+fn slot_end(c: Clock, slot: u64) -> Result<u64, Refusal>
     requires { 0 < c.seconds_per_slot }
-    ensures { Says (fits64 (last_second_of_slot_call c slot)) result }
+    ensures { result ≡ fits64 (last_second_of_slot_call c slot) }
 {
-    let Number::Value(start) = slot_start(c, slot) else {
-        return Number::Refused(5);
-    };
+    let start = slot_start(c, slot)?;
     add64(start, c.seconds_per_slot - 1)
 }
 
-fn epoch_start(c: Clock, epoch: u64) -> Number
+fn epoch_start(c: Clock, epoch: u64) -> Result<u64, Refusal>
     requires { 0 < c.seconds_per_slot }
-    ensures { Says (fits64 (first_second_of_epoch_call c epoch)) result }
+    ensures { result ≡ fits64 (first_second_of_epoch_call c epoch) }
 {
-    let Number::Value(slot) = mul64(epoch, c.slots_per_epoch) else {
-        return Number::Refused(5);
-    };
+    let slot = mul64(epoch, c.slots_per_epoch)?;
     slot_start(c, slot)
 }
 
-fn epoch_last_slot(c: Clock, epoch: u64) -> Number
+fn epoch_last_slot(c: Clock, epoch: u64) -> Result<u64, Refusal>
     requires { 0 < c.slots_per_epoch }
-    ensures { Says (fits64 (last_slot_of c epoch)) result }
+    ensures { result ≡ fits64 (last_slot_of c epoch) }
 {
-    let Number::Value(first) = mul64(epoch, c.slots_per_epoch) else {
-        return Number::Refused(5);
-    };
+    let first = mul64(epoch, c.slots_per_epoch)?;
     add64(first, c.slots_per_epoch - 1)
 }
 
-fn epoch_end(c: Clock, epoch: u64) -> Number
+fn epoch_end(c: Clock, epoch: u64) -> Result<u64, Refusal>
     requires { (0 < c.seconds_per_slot) × (0 < c.slots_per_epoch) }
-    ensures { Says (fits64 (last_second_of_epoch_call c epoch)) result }
+    ensures { result ≡ fits64 (last_second_of_epoch_call c epoch) }
 {
-    let Number::Value(slot) = epoch_last_slot(c, epoch) else {
-        return Number::Refused(5);
-    };
+    let slot = epoch_last_slot(c, epoch)?;
     slot_end(c, slot)
 }
 
 // The calls.
 
-pub fn slot_at_time(c: Clock, second: u64) -> Number
-    ensures { Says (slot_at_time c second) result }
+pub fn slot_at_time(c: Clock, second: u64) -> Result<u64, Refusal>
+    ensures { result ≡ slot_at_time c second }
 {
-    let refusal = second_refusal(c, second);
-    if refusal != 0 {
-        return Number::Refused(refusal);
-    }
-    Number::Value((second - c.genesis_time) / c.seconds_per_slot)
+    second_refusal(c, second)?;
+    Ok((second - c.genesis_time) / c.seconds_per_slot)
 }
 
-pub fn epoch_at_time(c: Clock, second: u64) -> Number
-    ensures { Says (epoch_at_time c second) result }
+pub fn epoch_at_time(c: Clock, second: u64) -> Result<u64, Refusal>
+    ensures { result ≡ epoch_at_time c second }
 {
-    let refusal = second_refusal(c, second);
-    if refusal != 0 {
-        return Number::Refused(refusal);
-    }
-    Number::Value((second - c.genesis_time) / c.seconds_per_slot / c.slots_per_epoch)
+    second_refusal(c, second)?;
+    Ok((second - c.genesis_time) / c.seconds_per_slot / c.slots_per_epoch)
 }
 
 // Whether a second is in the last slot of its epoch.
-pub fn is_in_closing_window(c: Clock, second: u64) -> Truth
-    ensures { SaysTruth (is_in_closing_window c second) result }
+pub fn is_in_closing_window(c: Clock, second: u64) -> Result<bool, Refusal>
+    ensures { result ≡ is_in_closing_window c second }
 {
-    let refusal = second_refusal(c, second);
-    if refusal != 0 {
-        return Truth::Refused(refusal);
-    }
+    second_refusal(c, second)?;
     let slot = (second - c.genesis_time) / c.seconds_per_slot;
-    Truth::Value(slot % c.slots_per_epoch == c.slots_per_epoch - 1)
+    Ok(slot % c.slots_per_epoch == c.slots_per_epoch - 1)
 }
 
-pub fn first_second_of_slot(c: Clock, slot: u64) -> Number
-    ensures { Says (first_second_of_slot c slot) result }
+pub fn first_second_of_slot(c: Clock, slot: u64) -> Result<u64, Refusal>
+    ensures { result ≡ first_second_of_slot c slot }
 {
-    let refusal = clock_refusal(c);
-    if refusal != 0 {
-        return Number::Refused(refusal);
-    }
+    clock_refusal(c)?;
     slot_start(c, slot)
 }
 
-pub fn last_second_of_slot(c: Clock, slot: u64) -> Number
-    ensures { Says (last_second_of_slot c slot) result }
+pub fn last_second_of_slot(c: Clock, slot: u64) -> Result<u64, Refusal>
+    ensures { result ≡ last_second_of_slot c slot }
 {
-    let refusal = clock_refusal(c);
-    if refusal != 0 {
-        return Number::Refused(refusal);
-    }
+    clock_refusal(c)?;
     slot_end(c, slot)
 }
 
-pub fn first_second_of_epoch(c: Clock, epoch: u64) -> Number
-    ensures { Says (first_second_of_epoch c epoch) result }
+pub fn first_second_of_epoch(c: Clock, epoch: u64) -> Result<u64, Refusal>
+    ensures { result ≡ first_second_of_epoch c epoch }
 {
-    let refusal = clock_refusal(c);
-    if refusal != 0 {
-        return Number::Refused(refusal);
-    }
+    clock_refusal(c)?;
     epoch_start(c, epoch)
 }
 
-pub fn last_second_of_epoch(c: Clock, epoch: u64) -> Number
-    ensures { Says (last_second_of_epoch c epoch) result }
+pub fn last_second_of_epoch(c: Clock, epoch: u64) -> Result<u64, Refusal>
+    ensures { result ≡ last_second_of_epoch c epoch }
 {
-    let refusal = clock_refusal(c);
-    if refusal != 0 {
-        return Number::Refused(refusal);
-    }
+    clock_refusal(c)?;
     epoch_end(c, epoch)
 }

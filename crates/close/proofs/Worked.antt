@@ -9,9 +9,8 @@ use Rattle.definitions.specs.Record.{BeaconState}
 use Rattle.definitions.specs.Raised.{none_raised, raised_unless_refused}
 use Rattle.definitions.specs.Refusals.{closing_buffer}
 use Rattle.definitions.specs.Close.{limited_epoch}
-use Rattle.laws.proofs.Loops.Ran.{code-value}
 use Rattle.registry_close.specs.Worked.{LimitedWorked}
-use Rattle.registry_close.proofs.Worked.{code-refused}
+use Rattle.registry_close.proofs.Worked.{code-refused, code-value}
 use Rattle.close.specs.Worked.{StepsClosed}
 
 module _ {by : ActivationLimit} {s : Settings} {before : BeaconState} {registry slashings : List ℕ} {r : CloseAnswer} (w : LimitedWorked by s before registry slashings r) where

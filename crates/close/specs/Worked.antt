@@ -36,4 +36,4 @@ pub record StepsClosed (limit : ActivationLimit) (s : Settings) (before : Beacon
 
 -- The outcome is that of a call under any rules by which the settings are s, and which pass these tests
 pub record ClosedUnder (s : Settings) (f : Finality) (registry slashings roots closing_registry closing_slashings : List ℕ) (o : Outcome) : Type 0 where
-  pub under : (r : Rules) → settings_under r ≡ s → let c = called r f registry slashings roots closing_registry closing_slashings in code_of (record_tests c) ≡ 0 → o ≡ close c
+  pub under : (r : Rules) → settings_under r ≡ s → let c = called r f registry slashings roots closing_registry closing_slashings in record_tests c ≡ value tt → o ≡ close c

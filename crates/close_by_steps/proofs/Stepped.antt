@@ -14,7 +14,9 @@ use Rattle.definitions.specs.declared.Finality.{Finality}
 use Rattle.definitions.specs.declared.FullAnswer.{FullAnswer}
 use Rattle.definitions.specs.Lists.{all, every}
 use Rattle.definitions.specs.Record.{BeaconState, decode}
-use Rattle.definitions.specs.Checked.{Refusal, bad_shape, number_of, Checked, value, refused, bind, code_of, settle, wrong_queue}
+use Rattle.definitions.specs.Checked.{number_of, Checked, value, refused, bind, code_of, settle}
+use Rattle.definitions.specs.declared.Refusal.{Refusal}
+use Rattle.definitions.specs.declared.Refusal.TheVariants.{BadShape, WrongQueue}
 use Rattle.definitions.specs.ExitQueue.{queue_of, is_queue_of, queue_test}
 use Rattle.definitions.specs.Raised.{was_raised, raised_totals}
 use Rattle.definitions.specs.Refusals.{in_order, settings_shaped, good_settings, good_validator, registry_shaped, roots_shaped, good_finality, good_registry, justification_tests, after_tests, closing_buffer}
@@ -26,11 +28,10 @@ use Rattle.definitions_close.specs.Amounts.{amounts_shaped}
 use Rattle.definitions_close.specs.FinalizingTest.{finalizing_test}
 use Rattle.definitions_close.specs.FullClose.{FullCall, full_tests, limited_full_tests, settings_of}
 use Rattle.definitions_close.specs.declared.Running.{Running}
-use Rattle.definitions_close.specs.CloseBySteps.{StepCall, StepOutcome, in_turn, so_far, found, step_tests, step_after, stepped, amounts_by, stepped_amounts, ended_by, goes_on, running_after, unwritten, step_in_turn, close_step}
-use Rattle.laws.proofs.Checked.{not_value, bound, checked_value}
+use Rattle.definitions_close.specs.CloseBySteps.{StepCall, StepOutcome, in_turn, so_far, found, step_tests, step_after, stepped, amounts_by, stepped_amounts, ended_by, goes_on, running_after, unwritten, turned_away, step_in_turn, close_step}
+use Rattle.laws.proofs.Checked.{not_value, number_not_zero, bound, checked_value}
 use Rattle.laws.proofs.Encode.{encode-decode}
 use Rattle.laws.proofs.Rules.{by-fork}
-use Rattle.refusals.proofs.Answers.{passed}
 use Rattle.close.specs.Worked.{record_tests, limited_record_tests}
 use Rattle.close.proofs.Lent.{lent}
 use Rattle.laws_close.proofs.Passed.{full-passed}
@@ -43,7 +44,7 @@ use Rattle.laws.proofs.Checked.{settled-buffer}
 use Rattle.registry_close.specs.Worked.{state_now}
 use Rattle.laws.proofs.Queue.{is-queue}
 
-shaped-bind : (t : Bool) {m : Checked (Unit {0})} → cond t m (refused bad_shape) ≡ value tt → m ≡ value tt
+shaped-bind : (t : Bool) {m : Checked (Unit {0})} → cond t m (refused BadShape) ≡ value tt → m ≡ value tt
 shaped-bind true e = e
 shaped-bind false e = absurd (not_value e)
 
@@ -54,24 +55,28 @@ parts c t =
     let b = bound (close_tests c.call) (λ _. queue_test c.queue (decode c.call.registry)) w in
     (b.gave, b.then)
 
-record_code : (c : Call) → close_tests c ≡ value tt → code_of (record_tests c) ≡ 0
+no-code : (m : Checked (Unit {0})) → code_of m ≡ 0 → m ≡ value tt
+no-code (value u) e = refl
+no-code (refused r) e = absurd (number_not_zero r e)
+
+record_passed : (c : Call) → close_tests c ≡ value tt → record_tests c ≡ value tt
 unfolding limited_tests limited_record_tests
-record_code c t = record_fewer _ _ (good_finality c.finality ∷ []) (good_registry c.registry ∷ []) t
+record_passed c t = no-code _ (record_fewer _ _ (good_finality c.finality ∷ []) (good_registry c.registry ∷ []) t)
 
 pair_is : (c : FullCall) → queue_test c.queue (decode c.call.registry) ≡ value tt → c.queue ≡ queue_of (decode c.call.registry)
 unfolding queue_test
-pair_is c t = is-queue c.queue (decode c.call.registry) (checked_value wrong_queue (is_queue_of c.queue (decode c.call.registry)) t).0
+pair_is c t = is-queue c.queue (decode c.call.registry) (checked_value WrongQueue (is_queue_of c.queue (decode c.call.registry)) t).0
 
 justifying : (s : Settings) (roots : List ℕ) (f : Finality) (registry : List ℕ) → settings_shaped s ≡ true → roots_shaped s roots ≡ true → registry_shaped registry ≡ true → good_settings s ≡ true → good_finality f ≡ true → all good_validator (decode registry) ≡ true → justification_tests s roots f registry ≡ value tt
 unfolding justification_tests in_order good_registry every
 justifying s roots f registry a b d e g h = rw (a, b, d, e, g, h)
 
-pub ready : (c : FullCall) {x : ℕ} → x ≡ code_of (full_tests c) → x ≡ 0 → Ready (settings_of c) c.call.finality c.queue c.call.registry c.call.slashings c.call.roots c.call.closing_registry c.call.closing_slashings c.amounts
+pub ready : (c : FullCall) {x : Checked (Unit {0})} → x ≡ full_tests c → x ≡ value tt → Ready (settings_of c) c.call.finality c.queue c.call.registry c.call.slashings c.call.roots c.call.closing_registry c.call.closing_slashings c.amounts
 ready c {x} e z =
-    let t = passed (full_tests c) e z in
+    let t = sym e ∙ z in
     let p = full-passed c t in
     let b = parts c t in
-    let k = lent Churn c.call {x = 0} (sym (record_code c.call b.0)) refl in
+    let k = lent Churn c.call refl (record_passed c.call b.0) in
     let roots : roots_shaped (settings_of c) c.call.roots ≡ true = by-fork c.call.rules (λ t. roots_shaped t c.call.roots ≡ true) p.roots p.roots in
     record {
       opening = k.opening;
@@ -121,17 +126,13 @@ module _ (c : FullCall) (number : ℕ) (a : FullAnswer) (k : ℕ) where
 at_zero : (P : Running → Type 0) (running : Running) → running.done ≡ 0 → P (record { done = 0; answer = running.answer; orders = running.orders }) → P running
 at_zero P running d h = subst (λ (n : ℕ). P (record { done = n; answer = running.answer; orders = running.orders })) (sym d) h
 
-pub first_ends : (c : FullCall) {x : ℕ} → x ≡ code_of (full_tests c) → (x ≡ 0 → ⊥) → {answer : RunningAnswer} → answer ≡ ended_answer x c.call.finality c.queue 0 → FirstCalled c (step_outcome answer c.call.closing_registry c.call.closing_slashings c.amounts)
-first_ends c {x} e n {answer} h = record { is = λ number running d. at_zero (λ w. step_outcome answer c.call.closing_registry c.call.closing_slashings c.amounts ≡ step_in_turn (step_called number w c)) running d (rw h (go number running (full_tests c) refl e)) }
-  where
-    go : (number : ℕ) (running : Running) (w : Checked (Unit {0})) → full_tests c ≡ w → x ≡ code_of w → step_outcome (ended_answer x c.call.finality c.queue 0) c.call.closing_registry c.call.closing_slashings c.amounts ≡ step_in_turn (step_called number (record { done = 0; answer = running.answer; orders = running.orders }) c)
-    go number running (value u) t q = absurd (n q)
-    go number running (refused r) t q = ap (λ (y : ℕ). step_outcome (ended_answer y c.call.finality c.queue 0) c.call.closing_registry c.call.closing_slashings c.amounts) q ∙ first-turned c number running.answer running.orders t
+pub first_ends : (c : FullCall) {x : Checked (Unit {0})} → x ≡ full_tests c → {p : Refusal} → x ≡ refused p → {n : ℕ} → n ≡ number_of p → {answer : RunningAnswer} → answer ≡ ended_answer n c.call.finality c.queue 0 → FirstCalled c (step_outcome answer c.call.closing_registry c.call.closing_slashings c.amounts)
+first_ends c e z told {answer} h = record { is = λ number running d. at_zero (λ w. step_outcome answer c.call.closing_registry c.call.closing_slashings c.amounts ≡ step_in_turn (step_called number w c)) running d (rw (h, told) (first-turned c number running.answer running.orders (sym e ∙ z))) }
 
-pub first-called : (c : FullCall) {x : ℕ} → x ≡ code_of (full_tests c) → x ≡ 0 → {s : Settings} → s ≡ settings_of c → {o : StepOutcome} → o ≡ first_by s c.call.finality c.queue c.call.registry c.call.slashings c.amounts (process_justification_and_finalization s c.call.roots c.call.finality (decode c.call.registry)) → FirstCalled c o
+pub first-called : (c : FullCall) {x : Checked (Unit {0})} → x ≡ full_tests c → x ≡ value tt → {s : Settings} → s ≡ settings_of c → {o : StepOutcome} → o ≡ first_by s c.call.finality c.queue c.call.registry c.call.slashings c.amounts (process_justification_and_finalization s c.call.roots c.call.finality (decode c.call.registry)) → FirstCalled c o
 first-called c e z {s} k {o} h =
     let p = ready c e z in
-    record { is = λ number running d. at_zero (λ w. o ≡ step_in_turn (step_called number w c)) running d (h ∙ ap (λ (t : Settings). first_by t c.call.finality c.queue c.call.registry c.call.slashings c.amounts (process_justification_and_finalization t c.call.roots c.call.finality (decode c.call.registry))) k ∙ first-at c number running.answer running.orders (passed (full_tests c) e z) p.opening.registry p.queue) }
+    record { is = λ number running d. at_zero (λ w. o ≡ step_in_turn (step_called number w c)) running d (h ∙ ap (λ (t : Settings). first_by t c.call.finality c.queue c.call.registry c.call.slashings c.amounts (process_justification_and_finalization t c.call.roots c.call.finality (decode c.call.registry))) k ∙ first-at c number running.answer running.orders (sym e ∙ z) p.opening.registry p.queue) }
 
 -- A later call
 
@@ -170,15 +171,11 @@ module _ (c : FullCall) (running : Running) (number : ℕ) (n : running.done ≡
       go (value after) e = later-value e t
       go (refused r) e = later-stopped e t
 
-pub later-away : (c : FullCall) (running : Running) → (running.done ≡ 0 → ⊥) → {x : ℕ} → x ≡ code_of (full_tests (so_far running c)) → (x ≡ 0 → ⊥) → LaterCalled running c (step_outcome (record { refusal = x; ended = 0; running = running }) c.call.closing_registry c.call.closing_slashings c.amounts)
-later-away c running d {x} e n = record { is = λ number. go number (full_tests (so_far running c)) refl e }
-  where
-    go : (number : ℕ) (w : Checked (Unit {0})) → full_tests (so_far running c) ≡ w → x ≡ code_of w → step_outcome (record { refusal = x; ended = 0; running = running }) c.call.closing_registry c.call.closing_slashings c.amounts ≡ step_in_turn (step_called number running c)
-    go number (value u) t q = absurd (n q)
-    go number (refused r) t q = ap (λ (y : ℕ). step_outcome (record { refusal = y; ended = 0; running = running }) c.call.closing_registry c.call.closing_slashings c.amounts) q ∙ later-turned c running number d t
+pub later-away : (c : FullCall) (running : Running) → (running.done ≡ 0 → ⊥) → {x : Checked (Unit {0})} → x ≡ full_tests (so_far running c) → {p : Refusal} → x ≡ refused p → {answer : RunningAnswer} → answer ≡ turned_away p running → LaterCalled running c (step_outcome answer c.call.closing_registry c.call.closing_slashings c.amounts)
+later-away c running d e z h = record { is = λ number. rw h (later-turned c running number d (sym e ∙ z)) }
 
-pub later-called : (c : FullCall) (running : Running) → (running.done ≡ 0 → ⊥) → {x : ℕ} → x ≡ code_of (full_tests (so_far running c)) → x ≡ 0 → {s : Settings} → s ≡ settings_of c → {o : StepOutcome} → o ≡ later_of running.done s running.answer running.orders c.call.finality c.queue c.call.registry c.call.slashings c.call.roots c.call.closing_registry c.call.closing_slashings c.amounts → LaterCalled running c o
-later-called c running d e z {s} k {o} h = record { is = λ number. h ∙ ap (λ (t : Settings). later_of running.done t running.answer running.orders c.call.finality c.queue c.call.registry c.call.slashings c.call.roots c.call.closing_registry c.call.closing_slashings c.amounts) k ∙ later-at c running number d (passed (full_tests (so_far running c)) e z) }
+pub later-called : (c : FullCall) (running : Running) → (running.done ≡ 0 → ⊥) → {x : Checked (Unit {0})} → x ≡ full_tests (so_far running c) → x ≡ value tt → {s : Settings} → s ≡ settings_of c → {o : StepOutcome} → o ≡ later_of running.done s running.answer running.orders c.call.finality c.queue c.call.registry c.call.slashings c.call.roots c.call.closing_registry c.call.closing_slashings c.amounts → LaterCalled running c o
+later-called c running d e z {s} k {o} h = record { is = λ number. h ∙ ap (λ (t : Settings). later_of running.done t running.answer running.orders c.call.finality c.queue c.call.registry c.call.slashings c.call.roots c.call.closing_registry c.call.closing_slashings c.amounts) k ∙ later-at c running number d (sym e ∙ z) }
 
 -- The machine
 

@@ -16,18 +16,18 @@ eight_of s quotient current previous source target head v =
 
 -- f is what is done to a validator, g what is booked of it: eight numbers, and 0 as the ninth
 
-pub record BooksEntry (f : Validator → Checked Validator) (g : Validator → Checked (List ℕ)) (before after nine : List ℕ) (r : ℕ) : Type 0 where
+pub record BooksEntry (f : Validator → Checked Validator) (g : Validator → Checked (List ℕ)) (before after nine : List ℕ) (r : Checked (Unit {0})) : Type 0 where
   pub settles : Settles f before after r
-  pub books : r ≡ 0 → (e : List ℕ) → g (decode_one before) ≡ value e → nine ≡ e ++ (0 ∷ [])
+  pub books : r ≡ value tt → (e : List ℕ) → g (decode_one before) ≡ value e → nine ≡ e ++ (0 ∷ [])
 
-pub record BooksAll (f : Validator → Checked Validator) (g : Validator → Checked (List ℕ)) (before after amounts : List ℕ) (r : ℕ) : Type 0 where
+pub record BooksAll (f : Validator → Checked Validator) (g : Validator → Checked (List ℕ)) (before after amounts : List ℕ) (r : Checked (Unit {0})) : Type 0 where
   pub ran : Ran (map_checked f (decode before)) after r
-  pub long : r ≡ 0 → length amounts ≡ 9 * (length before / 10)
-  pub books : r ≡ 0 → (i : ℕ) → i < length before / 10 → (e : List ℕ) → g (get_or (decode before) i nobody) ≡ value e → nine_at amounts i ≡ e ++ (0 ∷ [])
+  pub long : r ≡ value tt → length amounts ≡ 9 * (length before / 10)
+  pub books : r ≡ value tt → (i : ℕ) → i < length before / 10 → (e : List ℕ) → g (get_or (decode before) i nobody) ≡ value e → nine_at amounts i ≡ e ++ (0 ∷ [])
 
 -- the step
 
-pub record RewardsBooked (s : Settings) (quotient state_slot finalized_epoch : ℕ) (before after amounts : List ℕ) (r : ℕ) : Type 0 where
+pub record RewardsBooked (s : Settings) (quotient state_slot finalized_epoch : ℕ) (before after amounts : List ℕ) (r : Checked (Unit {0})) : Type 0 where
   pub ran : Ran (process_rewards_and_penalties s quotient state_slot finalized_epoch (decode before)) after r
-  pub books : r ≡ 0 → (es : List (List ℕ)) → booked_by_rewards s quotient state_slot finalized_epoch (decode before) ≡ value es
+  pub books : r ≡ value tt → (es : List (List ℕ)) → booked_by_rewards s quotient state_slot finalized_epoch (decode before) ≡ value es
       → amounts ≡ nines es (map (λ v. 0) (decode before))

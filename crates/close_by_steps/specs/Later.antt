@@ -2,7 +2,8 @@
 use Rattle.std.specs.Prelude.{◌≡◌, cond, List, ℕ, eqb, length, replicate}
 use Rattle.definitions.specs.declared.Settings.{Settings}
 use Rattle.definitions.specs.Record.{Validator, BeaconState, encode}
-use Rattle.definitions.specs.Checked.{Checked, value, code_of, settle}
+use Rattle.definitions.specs.Checked.{Checked, value, settle}
+use Rattle.definitions.specs.Checked as checked
 use Rattle.definitions.specs.Rust.Phase0.EpochProcessing.{process_registry_updates, process_effective_balance_updates}
 use Rattle.definitions.specs.Rust.Altair.EpochProcessing.{process_inactivity_updates, process_participation_flag_updates}
 use Rattle.definitions.specs.Close.{step}
@@ -16,8 +17,8 @@ plain_by done s state_slot finalized_epoch vs =
     (cond (eqb done 5) (process_effective_balance_updates s vs) (value (process_participation_flag_updates vs))))
 
 -- the step after so many, on the state `before` with these amounts. The caller puts the opening back where it is refused.
-pub record LaterRan (done : ℕ) (s : Settings) (before : BeaconState) (lent registry slashings amounts : List ℕ) (r : ℕ) : Type 0 where
-  pub code : r ≡ code_of (step s before (step_after done))
+pub record LaterRan (done : ℕ) (s : Settings) (before : BeaconState) (lent registry slashings amounts : List ℕ) (r : Checked (Unit {0})) : Type 0 where
+  pub is : r ≡ checked.done (step s before (step_after done))
   pub held : (after : BeaconState) → step s before (step_after done) ≡ value after
       → (registry ≡ encode after.validators) × (slashings ≡ after.slashings) × (after.finality ≡ before.finality)
       × (amounts ≡ settle (amounts_by (step_after done) s before lent) (replicate (length lent) 0))

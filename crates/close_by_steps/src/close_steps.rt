@@ -1,6 +1,5 @@
 // The calls of a close by steps (R-9): their tests, and what the first and a later one do once these have passed.
 ghost use Rattle.std.specs.Prelude.{◌≡◌, ◌≤◌};
-ghost use Rattle.definitions.specs.Checked.{code_of};
 ghost use Rattle.definitions_close.specs.FullClose.{full_tests};
 ghost use Rattle.full_close.specs.Called.{full_called};
 ghost use Rattle.definitions.specs.Record.{decode};
@@ -11,12 +10,11 @@ ghost use Rattle.close_by_steps.specs.Ready.{Ready};
 
 use crate::later_steps::later_step;
 use close::record_tests;
-use definitions::{ExitQueue, Finality, FullAnswer, Rules, Settings};
+use definitions::{ExitQueue, Finality, FullAnswer, Refusal, Rules, Settings};
 use definitions_close::{Running, RunningAnswer};
 use exit_queue::queue_of;
 use finality::finalizing::finalizing_test;
 use justification::process_justification_and_finalization;
-use refusals::buffers::{clear, copy};
 use totals::raising::none_raised;
 use validator_exit::queue_tests::queue_refusal;
 use validator_exit::see_registry;
@@ -32,16 +30,16 @@ pub fn whole_tests(
     closing_registry: &[u64],
     closing_slashings: &[u64],
     amounts: &[u64],
-) -> u64
+) -> Result<(), Refusal>
     ensures { result
-        ≡ code_of (full_tests
+        ≡ full_tests
         (full_called rules finality queue registry.now slashings.now roots.now closing_registry.now
-        closing_slashings.now amounts.now)) }
+        closing_slashings.now amounts.now) }
 {
     if amounts.len() != 9 * (registry.len() / 10) {
-        return 1;
+        return Err(Refusal::BadShape);
     }
-    let refusal = record_tests(
+    record_tests(
         rules,
         finality,
         registry,
@@ -49,17 +47,9 @@ pub fn whole_tests(
         roots,
         closing_registry,
         closing_slashings,
-    );
-    if refusal != 0 {
-        return refusal;
-    }
-    let seen = see_registry(registry, 0);
-    let entries = seen.refusal;
-    if entries != 0 {
-        return entries;
-    }
-    let found = seen.queue;
-    queue_refusal(queue, found)
+    )?;
+    let seen = see_registry(registry, 0)?;
+    queue_refusal(queue, seen.queue)
 }
 
 // Ended as the whole close is refused.
@@ -100,9 +90,9 @@ pub fn first_tested(
         ≡ first_by s finality queue registry.now slashings.now amounts.old
         (process_justification_and_finalization s roots.now finality (decode registry.now)) }
 {
-    copy(registry, closing_registry);
-    copy(slashings, closing_slashings);
-    clear(amounts);
+    closing_registry.copy_from_slice(registry);
+    closing_slashings.copy_from_slice(slashings);
+    amounts.fill(0);
     let justified = process_justification_and_finalization(s, roots, finality, registry);
     let refusal = justified.refusal;
     if refusal != 0 {
@@ -151,7 +141,7 @@ pub fn later_tested(
         closing_registry.old closing_slashings.old amounts.old }
 {
     let present = so_far.finality;
-    let refusal = later_step(
+    if let Err(refusal) = later_step(
         done,
         s,
         present,
@@ -159,12 +149,11 @@ pub fn later_tested(
         closing_slashings,
         closing_registry,
         amounts,
-    );
-    if refusal != 0 {
-        copy(registry, closing_registry);
-        copy(slashings, closing_slashings);
-        clear(amounts);
-        return ended_by(refusal, finality, queue, orders);
+    ) {
+        closing_registry.copy_from_slice(registry);
+        closing_slashings.copy_from_slice(slashings);
+        amounts.fill(0);
+        return ended_by(refusal.number(), finality, queue, orders);
     }
     let after = queue_of(closing_registry);
     let raised = so_far.raised;

@@ -12,7 +12,7 @@ ghost use Rattle.close_by_steps.specs.Later.{plain_by, LaterRan};
 use crate::slashings_amounts::slashings_booked;
 use crate::step_amounts::rewards_booked;
 use balances::effective_balances::effective_balances_core;
-use definitions::{FAR_FUTURE_EPOCH, Finality, Settings};
+use definitions::{FAR_FUTURE_EPOCH, Finality, Refusal, Settings};
 use epochs::{current_epoch, previous_epoch};
 use exit_queue::start_pair;
 use participation::inactivity::inactivity_core;
@@ -30,7 +30,7 @@ fn registry_core(
     finalized_epoch: u64,
     kept: &mut [u64],
     registry: &mut [u64],
-) -> u64
+) -> Result<(), Refusal>
     requires s_value { good_settings s ≡ true }
     requires state_slot_bound { (state_slot < 2 ^ 48) × (finalized_epoch < 2 ^ 48) }
     requires registry_len { length registry.old ≡ 10 * (length registry.old / 10) }
@@ -53,7 +53,7 @@ fn registry_in_place(
     state_slot: u64,
     finalized_epoch: u64,
     registry: &mut [u64],
-) -> u64
+) -> Result<(), Refusal>
     requires s_value { good_settings s ≡ true }
     requires state_slot_bound { (state_slot < 2 ^ 48) × (finalized_epoch < 2 ^ 48) }
     requires registry_len { length registry.old ≡ 10 * (length registry.old / 10) }
@@ -70,7 +70,7 @@ fn plain_step(
     state_slot: u64,
     finalized_epoch: u64,
     registry: &mut [u64],
-) -> u64
+) -> Result<(), Refusal>
     requires s_value { good_settings s ≡ true }
     requires state_slot_bound { (state_slot < 2 ^ 48) × (finalized_epoch < 2 ^ 48) }
     requires registry_len { length registry.old ≡ 10 * (length registry.old / 10) }
@@ -86,7 +86,7 @@ fn plain_step(
         return effective_balances_core(s, registry);
     }
     participation_flags_core(registry);
-    0
+    Ok(())
 }
 
 // The step after `done` steps, from 1 to 7.
@@ -98,7 +98,7 @@ pub fn later_step(
     slashings: &mut [u64],
     registry: &mut [u64],
     amounts: &mut [u64],
-) -> u64
+) -> Result<(), Refusal>
     requires le_done { (1 ≤ done) × (done ≤ 7) × (good_settings s ≡ true) }
     requires passed { (Passed s finality.slot) × (finality.slot < 2 ^ 48) × (finality.finalized_checkpoint.epoch < 2 ^ 48) }
     requires registry_len { (length registry.old ≡ 10 * (length registry.old / 10))
@@ -120,7 +120,7 @@ pub fn later_step(
     }
     if done == 6 {
         slashings_reset_core(s, slot, slashings);
-        return 0;
+        return Ok(());
     }
     plain_step(done, s, slot, epoch, registry)
 }

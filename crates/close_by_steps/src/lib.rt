@@ -2,7 +2,7 @@
 #![tactic(auto)]
 
 ghost use Rattle.std.specs.Prelude.{◌≡◌, ◌≤◌};
-ghost use Rattle.definitions_close.specs.CloseBySteps.{close_step};
+ghost use Rattle.definitions_close.specs.CloseBySteps.{turned_away, close_step};
 ghost use Rattle.full_close.specs.Called.{full_called};
 ghost use Rattle.close_by_steps.specs.Called.{step_called};
 ghost use Rattle.definitions_close.specs.Calls.{step_outcome};
@@ -14,9 +14,19 @@ pub mod slashings_amounts;
 pub mod step_amounts;
 
 use crate::close_steps::{ended_by, first_tested, later_tested, whole_tests};
-use definitions::{ExitQueue, Finality, Rules};
+use definitions::{ExitQueue, Finality, Refusal, Rules};
 use definitions_close::{Running, RunningAnswer};
 use refusals::rules::settings_under;
+
+fn turned_away(refusal: Refusal, running: Running) -> RunningAnswer
+    ensures { result ≡ turned_away refusal running }
+{
+    RunningAnswer {
+        refusal: refusal.number(),
+        ended: 0,
+        running,
+    }
+}
 
 // A refusal in the tests ends the close as the whole close is refused.
 fn first_call(
@@ -34,7 +44,7 @@ fn first_call(
         closing_slashings.old amounts.old)
         (step_outcome result closing_registry.new closing_slashings.new amounts.new) }
 {
-    let refusal = whole_tests(
+    if let Err(refusal) = whole_tests(
         rules,
         finality,
         queue,
@@ -44,9 +54,8 @@ fn first_call(
         &closing_registry[..],
         &closing_slashings[..],
         &amounts[..],
-    );
-    if refusal != 0 {
-        return ended_by(refusal, finality, queue, 0);
+    ) {
+        return ended_by(refusal.number(), finality, queue, 0);
     }
     let s = settings_under(rules);
     first_tested(
@@ -84,7 +93,7 @@ fn later_call(
     let so_far = running.answer;
     let present = so_far.finality;
     let pair = so_far.queue;
-    let refusal = whole_tests(
+    if let Err(refusal) = whole_tests(
         rules,
         present,
         pair,
@@ -94,13 +103,8 @@ fn later_call(
         registry,
         slashings,
         &amounts[..],
-    );
-    if refusal != 0 {
-        return RunningAnswer {
-            refusal,
-            ended: 0,
-            running,
-        };
+    ) {
+        return turned_away(refusal, running);
     }
     let s = settings_under(rules);
     later_tested(
@@ -146,18 +150,10 @@ pub fn close_step(
         };
     }
     if 7 < done {
-        return RunningAnswer {
-            refusal: 1,
-            ended: 0,
-            running,
-        };
+        return turned_away(Refusal::BadShape, running);
     }
     if number != done + 1 {
-        return RunningAnswer {
-            refusal: 1,
-            ended: 0,
-            running,
-        };
+        return turned_away(Refusal::BadShape, running);
     }
     if done == 0 {
         return first_call(

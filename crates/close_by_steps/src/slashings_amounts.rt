@@ -3,7 +3,7 @@ ghost use Rattle.std.specs.Prelude.{◌≡◌, true, [], ◌∷◌, ◌++◌, �
 ghost use Rattle.definitions.specs.Refusals.{good_settings};
 ghost use Rattle.close_by_steps.specs.Taken.{SlashingsBooked, NinthsPut, NinthsTaken};
 
-use definitions::{BALANCE, Settings};
+use definitions::{BALANCE, Refusal, Settings};
 use rates::reward_balances::lowered_by;
 use slashings::slashings_core;
 
@@ -52,17 +52,14 @@ pub fn slashings_booked(
     slashings: &[u64],
     registry: &mut [u64],
     amounts: &mut [u64],
-) -> u64
+) -> Result<(), Refusal>
     requires s_value { good_settings s ≡ true }
     requires registry_len { (length registry.old ≡ 10 * (length registry.old / 10)) × (length amounts.old ≡ 9 * (length registry.old / 10)) }
     ensures { SlashingsBooked s multiplier state_slot slashings.now registry.old registry.new amounts.old
         amounts.new result }
 {
     keep_balances(&registry[..], amounts);
-    let refusal = slashings_core(s, multiplier, state_slot, slashings, registry);
-    if refusal != 0 {
-        return refusal;
-    }
+    slashings_core(s, multiplier, state_slot, slashings, registry)?;
     take_balances(&registry[..], amounts);
-    0
+    Ok(())
 }

@@ -1,7 +1,6 @@
 // The rewards step run alone, with the amounts that it books (R-9): eight numbers of each nine as it goes, and 0 as the ninth.
 ghost use Rattle.std.specs.Prelude.{◌≡◌, true, ◌*◌, ◌/◌, ◌≤◌, ◌<◌, length};
 ghost use Rattle.definitions.specs.Checked.{mul64};
-ghost use Rattle.definitions.specs.Answers.{Says};
 ghost use Rattle.definitions.specs.Refusals.{good_settings};
 ghost use Rattle.definitions.specs.Rust.Altair.EpochProcessing.{reward_and_penalize};
 ghost use Rattle.rewards.specs.Shared.{SharedBy, totals_of};
@@ -9,12 +8,11 @@ ghost use Rattle.rewards_step.specs.Totals.{source_totals, target_totals, head_t
 ghost use Rattle.close_by_steps.specs.Booked.{eight_of, BooksEntry, BooksAll, RewardsBooked};
 
 use arithmetic::mul64;
-use definitions::{BALANCE, Number, Settings};
+use definitions::{BALANCE, Refusal, Settings};
 use epochs::{current_epoch, previous_epoch};
-use rates::reward_balances::{PairsAnswer, all_applied, four_pairs};
-use refusals::buffers::clear;
+use rates::reward_balances::{all_applied, four_pairs};
 use rewards::{Shared, shared_numbers};
-use rewards_step::{StepTotals, TotalsAnswer, step_totals};
+use rewards_step::{StepTotals, step_totals};
 use write_pass::put_amounts;
 
 // The balance, and the nine numbers of it.
@@ -25,37 +23,24 @@ fn entry_reward_booked(
     target: u64,
     head: u64,
     quotient: u64,
-    product: Number,
+    product: Result<u64, Refusal>,
     entry: &mut [u64],
     nine: &mut [u64],
-) -> u64
+) -> Result<(), Refusal>
     requires shared_by { SharedBy s h }
     requires inactivity_score_bias_nonzero { (0 < s.inactivity_score_bias) × (0 < quotient) }
-    requires says { Says (mul64 s.inactivity_score_bias quotient) product }
+    requires says { product ≡ mul64 s.inactivity_score_bias quotient }
     requires len { (length entry.old ≡ 10) × (length nine.old ≡ 9) }
     ensures { BooksEntry (reward_and_penalize s quotient h.current_epoch h.previous_epoch (totals_of h source) (totals_of h target) (totals_of h head))
         (eight_of s quotient h.current_epoch h.previous_epoch (totals_of h source) (totals_of h target) (totals_of h head))
         entry.old entry.new nine.new result }
 {
-    let PairsAnswer::Value(pairs) = four_pairs(
-        s,
-        h,
-        source,
-        target,
-        head,
-        quotient,
-        product,
-        &entry[..],
-    ) else {
-        return 5;
-    };
+    let pairs = four_pairs(s, h, source, target, head, quotient, product, &entry[..])?;
     let before = entry[BALANCE];
-    let Number::Value(balance) = all_applied(before, pairs) else {
-        return 5;
-    };
+    let balance = all_applied(before, pairs)?;
     put_amounts(pairs, before, balance, nine);
     entry[BALANCE] = balance;
-    0
+    Ok(())
 }
 
 fn reward_all_booked(
@@ -65,13 +50,13 @@ fn reward_all_booked(
     target: u64,
     head: u64,
     quotient: u64,
-    product: Number,
+    product: Result<u64, Refusal>,
     registry: &mut [u64],
     amounts: &mut [u64],
-) -> u64
+) -> Result<(), Refusal>
     requires shared_by { SharedBy s h }
     requires inactivity_score_bias_nonzero { (0 < s.inactivity_score_bias) × (0 < quotient) }
-    requires says { Says (mul64 s.inactivity_score_bias quotient) product }
+    requires says { product ≡ mul64 s.inactivity_score_bias quotient }
     requires registry_len { (length registry.old ≡ 10 * (length registry.old / 10)) × (length amounts.old ≡ 9 * (length registry.old / 10)) }
     ensures { BooksAll (reward_and_penalize s quotient h.current_epoch h.previous_epoch (totals_of h source) (totals_of h target) (totals_of h head))
         (eight_of s quotient h.current_epoch h.previous_epoch (totals_of h source) (totals_of h target) (totals_of h head))
@@ -83,7 +68,7 @@ fn reward_all_booked(
         let b = a + 10;
         let c = 9 * i;
         let d = c + 9;
-        let refusal = entry_reward_booked(
+        entry_reward_booked(
             s,
             h,
             source,
@@ -93,12 +78,9 @@ fn reward_all_booked(
             product,
             &mut registry[a..b],
             &mut amounts[c..d],
-        );
-        if refusal != 0 {
-            return refusal;
-        }
+        )?;
     }
-    0
+    Ok(())
 }
 
 fn reward_registry_booked(
@@ -109,7 +91,7 @@ fn reward_registry_booked(
     totals: StepTotals,
     registry: &mut [u64],
     amounts: &mut [u64],
-) -> u64
+) -> Result<(), Refusal>
     requires effective_balance_increment_nonzero { (0 < s.effective_balance_increment) × (s.effective_balance_increment ≤ totals.total) }
     requires inactivity_score_bias_nonzero { (0 < s.inactivity_score_bias) × (0 < quotient) }
     requires registry_len { (length registry.old ≡ 10 * (length registry.old / 10)) × (length amounts.old ≡ 9 * (length registry.old / 10)) }
@@ -147,7 +129,7 @@ pub fn rewards_booked(
     finalized_epoch: u64,
     registry: &mut [u64],
     amounts: &mut [u64],
-) -> u64
+) -> Result<(), Refusal>
     requires s_value { good_settings s ≡ true }
     requires quotient_nonzero { 0 < quotient }
     requires registry_len { (length registry.old ≡ 10 * (length registry.old / 10)) × (length amounts.old ≡ 9 * (length registry.old / 10)) }
@@ -155,19 +137,17 @@ pub fn rewards_booked(
 {
     let current = current_epoch(s, state_slot);
     if current == 0 {
-        clear(amounts);
-        return 0;
+        amounts.fill(0);
+        return Ok(());
     }
     let previous = previous_epoch(s, state_slot);
-    let TotalsAnswer::Value(totals) = step_totals(
+    let totals = step_totals(
         s,
         state_slot,
         finalized_epoch,
         current,
         previous,
         &registry[..],
-    ) else {
-        return 5;
-    };
+    )?;
     reward_registry_booked(s, quotient, current, previous, totals, registry, amounts)
 }

@@ -13,7 +13,8 @@ use Rattle.definitions.specs.declared.Finality.{Finality}
 use Rattle.definitions.specs.Lists.{filter, sum, all, every, range, insert, sorted, maximum}
 use Rattle.definitions.specs.Record.{Validator, FAR_FUTURE_EPOCH, encode, decode, decode_first}
 use Rattle.definitions.specs.Updates.{with_balance, with_participation, with_score}
-use Rattle.definitions.specs.Checked.{Checked, value, refused, bad_shape, bad_settings, bad_record, overflow, settle, bind, add64, sub64, mul64, sum64, map_checked, fold_checked}
+use Rattle.definitions.specs.Checked.{Checked, value, refused, settle, bind, add64, sub64, mul64, sum64, map_checked, fold_checked}
+use Rattle.definitions.specs.declared.Refusal.TheVariants.{BadShape, BadSettings, BadRecord, Overflow}
 use Rattle.definitions.specs.Mainnet.{mainnet, mainnet_bellatrix}
 use Rattle.definitions.specs.Refusals.{in_order, settings_numbers, settings_from, settings_shaped, registry_shaped, good_settings, good_validator, good_registry, registry_tests}
 use Rattle.definitions.specs.LeafRefusals.{participation_entry_tests}
@@ -154,7 +155,7 @@ pub record Figures : Type 0 where
   pub stopped-queues : map (λ v. v.activation_eligibility_epoch) (updated 0 mainnet 2 (fresh ∷ [])) ≡ 4 ∷ []
   -- a stop of N is the step's own, and above N it is 1
   pub stop_of_n : registry_to_tests 1 mainnet slot 2 (encode (active 7 ∷ [])) (replicate 10 0) ≡ value tt
-  pub stop_above_n : registry_to_tests 2 mainnet slot 2 (encode (active 7 ∷ [])) (replicate 10 0) ≡ refused bad_shape
+  pub stop_above_n : registry_to_tests 2 mainnet slot 2 (encode (active 7 ∷ [])) (replicate 10 0) ≡ refused BadShape
   -- an ejection goes behind the exits that there are, and the pair moves with it
   pub behind_the_last : map (λ v. v.exit_epoch) (updated 2 mainnet 2 (until 400 ∷ leaving ∷ [])) ≡ 400 ∷ 400 ∷ []
   pub pair-moved : queue_of (updated 2 mainnet 2 (until 400 ∷ leaving ∷ [])) ≡ record { last_epoch = 400; number = 2 }
@@ -169,7 +170,7 @@ pub record Figures : Type 0 where
   pub leak : is_in_inactivity_leak mainnet 255 1 ≡ value true
   -- the bias is added before the recovery comes off; a score that leaves 64 bits is refused
   pub bias-first : map (λ v. v.inactivity_score) (settle (scored 0) []) ≡ 0 ∷ []
-  pub score-over : scored 18_446_744_073_709_551_615 ≡ refused overflow
+  pub score-over : scored 18_446_744_073_709_551_615 ≡ refused Overflow
   -- a reward, then its penalty
   pub reward_first : bind (apply_delta (with_balance 5 (active 7)) (record { reward = 3; penalty = 10 })) (λ v. value v.balance) ≡ value 0
   -- each by its own effective balance: 31 increments and 32, of a total of 63
@@ -179,12 +180,12 @@ pub record Figures : Type 0 where
   -- the total is that of the present epoch: the one who left at its start does not count
   pub total-now : get_flag_index_deltas mainnet slot 2 (active 7 ∷ until 3 ∷ []) 1 (active 7) ≡ value (record { reward = 9_302_046; penalty = 0 })
   -- a total of 2^64
-  pub total-over : get_total_active_balance mainnet slot (voter 9_223_372_036_854_775_808 0 0 ∷ voter 9_223_372_036_854_775_808 0 0 ∷ []) ≡ refused overflow
+  pub total-over : get_total_active_balance mainnet slot (voter 9_223_372_036_854_775_808 0 0 ∷ voter 9_223_372_036_854_775_808 0 0 ∷ []) ≡ refused Overflow
   -- 3 × 32×10^9 slashed is more than the total, 64×10^9, and the whole effective balance is taken, not more
   pub capped : slashed 2 (96_000_000_000 ∷ []) (due ∷ active 7 ∷ []) ≡ 32_000_000_000 ∷ 32_000_000_000 ∷ []
   -- slashings that add up to 2^64 - 1, and to one more
   pub most-slashed : slashed 1 (18_446_744_073_709_551_614 ∷ 1 ∷ []) (due ∷ active 7 ∷ []) ≡ 32_000_000_000 ∷ 32_000_000_000 ∷ []
-  pub slashed-over : process_slashings mainnet 1 slot (18_446_744_073_709_551_615 ∷ 1 ∷ []) (due ∷ []) ≡ refused overflow
+  pub slashed-over : process_slashings mainnet 1 slot (18_446_744_073_709_551_615 ∷ 1 ∷ []) (due ∷ []) ≡ refused Overflow
   -- epoch 3, a vector of 5: the place of epoch 4 is reset
   pub reset-next : reset_slashings (with_vector 5) slot (1 ∷ 2 ∷ 3 ∷ 4 ∷ 5 ∷ []) ≡ 1 ∷ 2 ∷ 3 ∷ 4 ∷ 0 ∷ []
   -- the current flags become the previous, and none are left
@@ -195,9 +196,9 @@ pub record Figures : Type 0 where
   pub both-tested : good_rules (with_quotient 1) ≡ true
   pub altair-tested : good_rules (with_quotient 0) ≡ false
   -- slot and finalized epoch of 2^48; a flag index of 3
-  pub slot-tested : registry_tests mainnet 281_474_976_710_656 2 [] [] ≡ refused bad_record
-  pub finalized-tested : registry_tests mainnet slot 281_474_976_710_656 [] [] ≡ refused bad_record
-  pub flag_index_tested : participation_entry_tests mainnet slot 3 3 (encode (active 7 ∷ [])) ≡ refused bad_shape
+  pub slot-tested : registry_tests mainnet 281_474_976_710_656 2 [] [] ≡ refused BadRecord
+  pub finalized-tested : registry_tests mainnet slot 281_474_976_710_656 [] [] ≡ refused BadRecord
+  pub flag_index_tested : participation_entry_tests mainnet slot 3 3 (encode (active 7 ∷ [])) ≡ refused BadShape
   pub flag_index_of_2 : participation_entry_tests mainnet slot 2 3 (encode (active 7 ∷ [])) ≡ value tt
 
 pub figures : Figures

@@ -12,7 +12,8 @@ use Rattle.definitions.specs.declared.Finality.{Finality}
 use Rattle.definitions.specs.Lists.{filter, sum}
 use Rattle.definitions.specs.Record.{Validator, FAR_FUTURE_EPOCH, nobody}
 use Rattle.definitions.specs.Updates.{with_participation}
-use Rattle.definitions.specs.Checked.{Checked, value, refused, no_root, overflow, bind, add64, sub64, mul64, sum64, map_checked, fold_checked}
+use Rattle.definitions.specs.Checked.{Checked, value, refused, bind, add64, sub64, mul64, sum64, map_checked, fold_checked}
+use Rattle.definitions.specs.declared.Refusal.TheVariants.{NoRoot, Overflow}
 use Rattle.definitions.specs.Mainnet.{mainnet, mainnet_bellatrix}
 use Rattle.definitions.specs.Rules.{settings_under, «ALTAIR», «BELLATRIX»}
 use Rattle.definitions.specs.Document.Phase0.Helpers.{integer_squareroot, root_within}
@@ -211,8 +212,8 @@ pub record Figures : Type 0 where
   pub does_not_justify : is_justified 1_999_999_999 3_000_000_000 ≡ value false
   -- S 8192, slot 0 at state slot 8192: found; at 8193: 4; slot equal to state slot: 4
   pub root-found : get_block_root_at_slot mainnet (replicate 32 7) 8192 0 ≡ value (replicate 32 7)
-  pub root_too_old : get_block_root_at_slot mainnet (replicate 32 7) 8193 0 ≡ refused no_root
-  pub root_of_now : get_block_root_at_slot mainnet (replicate 32 7) 8193 8193 ≡ refused no_root
+  pub root_too_old : get_block_root_at_slot mainnet (replicate 32 7) 8193 0 ≡ refused NoRoot
+  pub root_of_now : get_block_root_at_slot mainnet (replicate 32 7) 8193 8193 ≡ refused NoRoot
   -- active 262143: churn 4; 327680: 5
   pub churn-least : (vs : List Validator) → length (get_active_validator_indices vs (get_current_epoch mainnet slot)) ≡ 262_143 → get_validator_churn_limit mainnet slot vs ≡ 4
   pub churn-more : (vs : List Validator) → length (get_active_validator_indices vs (get_current_epoch mainnet slot)) ≡ 327_680 → get_validator_churn_limit mainnet slot vs ≡ 5
@@ -222,7 +223,7 @@ pub record Figures : Type 0 where
   -- not marked: no validators, roots found: both epochs are justified
   pub nobody-justifies : epochs (process_justification_and_finalization mainnet [] (finality slot 0 0 0 0) []) ≡ 3 ∷ 3 ∷ 0 ∷ []
   -- not marked: closing at the epoch's own first slot with two thirds current: 4
-  pub first_slot : process_justification_and_finalization mainnet [] (finality 96 0 0 0 0) (five 7 7) ≡ refused no_root
+  pub first_slot : process_justification_and_finalization mainnet [] (finality 96 0 0 0 0) (five 7 7) ≡ refused NoRoot
   -- not marked: the worked example's finality (slots_per_epoch 32 for 8): epoch 3, bits 7, justified 3, finalized 2
   pub example-finality : epochs (process_justification_and_finalization mainnet [] (finality slot 3 1 2 1) (five 0 7)) ≡ 7 ∷ 3 ∷ 2 ∷ []
   -- added: bit 3 falls off, and nothing is justified where nobody hits the target
@@ -231,8 +232,8 @@ pub record Figures : Type 0 where
   pub second-passes : epochs (process_justification_and_finalization mainnet [] (finality slot 3 1 2 0) previous_alone) ≡ 6 ∷ 2 ∷ 1 ∷ []
   pub fourth_overrides : epochs (process_justification_and_finalization mainnet [] (finality slot 3 1 2 0) (five 2 2)) ≡ 7 ∷ 3 ∷ 2 ∷ []
   -- added, the one order of 4 and 5 that shows: the previous epoch's root is looked up before the current epoch's product
-  pub product-after : process_justification_and_finalization mainnet [] (finality slot 0 0 0 0) heavy ≡ refused overflow
-  pub root_before : process_justification_and_finalization short_history [] (finality slot 0 0 0 0) heavy ≡ refused no_root
+  pub product-after : process_justification_and_finalization mainnet [] (finality slot 0 0 0 0) heavy ≡ refused Overflow
+  pub root_before : process_justification_and_finalization short_history [] (finality slot 0 0 0 0) heavy ≡ refused NoRoot
   -- 02, R-3, the Bellatrix pair: the same two are 47683 and 19×10^9, and under fork 0 what they were
   pub bellatrix-inactivity_penalty : scored (under «BELLATRIX») ≡ delta 0 47_683
   pub bellatrix-slashed : slashed_by (under «BELLATRIX») ≡ 32_000_000_000 - 19_000_000_000

@@ -4,7 +4,8 @@ use Rattle.std.specs.Prelude.{Bool, cond, ◌&&◌, List, eqb}
 use Rattle.definitions.specs.declared.ExitQueue.{ExitQueue}
 use Rattle.definitions.specs.Lists.{maximum}
 use Rattle.definitions.specs.Record.{Validator}
-use Rattle.definitions.specs.Checked.{Checked, value, refused, wrong_queue}
+use Rattle.definitions.specs.Checked.{Checked, value, refused}
+use Rattle.definitions.specs.declared.Refusal.TheVariants.{WrongQueue}
 use Rattle.definitions.specs.Document.Phase0.Helpers.{exit_epochs, exit_queue_churn}
 
 unfoldable pub queue_of : List Validator → ExitQueue
@@ -17,4 +18,4 @@ is_queue_of q vs = eqb q.last_epoch (queue_of vs).last_epoch && eqb q.number (qu
 
 -- "Turned away: 8, where a stored pair is not that of the register"
 unfoldable pub queue_test : ExitQueue → List Validator → Checked (Unit {0})
-queue_test q vs = cond (is_queue_of q vs) (value tt) (refused wrong_queue)
+queue_test q vs = cond (is_queue_of q vs) (value tt) (refused WrongQueue)

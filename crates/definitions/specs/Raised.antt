@@ -3,14 +3,11 @@ use Rattle.std.specs.Prelude.{cond, List, map, ℕ, ◌+◌, leb, ltb}
 use Rattle.definitions.specs.declared.Settings.{Settings}
 use Rattle.definitions.specs.declared.Finality.{Finality}
 use Rattle.definitions.specs.declared.Total.{Total}
-use Rattle.definitions.specs.declared.TotalAnswer.{TotalAnswer}
-use Rattle.definitions.specs.declared.TotalAnswer.TheVariants.{Value as TotalValue, Refused as TotalRefused}
 use Rattle.definitions.specs.declared.Raised.{Raised}
 use Rattle.definitions.specs.declared.CloseAnswer.{CloseAnswer}
 use Rattle.definitions.specs.Lists.{sum}
 use Rattle.definitions.specs.Record.{Validator, GENESIS_EPOCH}
-use Rattle.definitions.specs.Checked.{Checked, value, refused, bind, number_of, code_of, settle}
-use Rattle.definitions.specs.Answers.{Answers}
+use Rattle.definitions.specs.Checked.{Checked, value, refused, bind, code_of, settle}
 use Rattle.definitions.specs.Rust.Phase0.Helpers.{get_current_epoch, get_previous_epoch, get_active_validator_indices, get_total_balance}
 use Rattle.definitions.specs.Rust.Altair.Helpers.{TIMELY_TARGET_FLAG_INDEX, get_unslashed_participating_indices}
 
@@ -19,13 +16,6 @@ was_raised s members = cond (ltb (sum (map (λ v. v.effective_balance) members))
 
 unfoldable pub total_with_raised : Settings → List Validator → Checked Total
 total_with_raised s members = bind (get_total_balance s members) (λ total. value (record { balance = total; raised = was_raised s members }))
-
-abbrev pub total_answer_for : Checked Total → TotalAnswer
-total_answer_for (value t) = TotalValue t
-total_answer_for (refused r) = TotalRefused (number_of r)
-
-abbrev pub SaysTotal : Checked Total → TotalAnswer → Type 0
-SaysTotal m r = Answers total_answer_for m r
 
 abbrev pub none_raised : Raised
 none_raised = record { active = 0; previous = 0; current = 0 }

@@ -4,12 +4,13 @@ use Rattle.definitions.specs.declared.Settings.{Settings}
 use Rattle.definitions.specs.declared.Finality.{Finality}
 use Rattle.definitions.specs.Lists.{all, every}
 use Rattle.definitions.specs.Record.{Validator, decode}
-use Rattle.definitions.specs.Checked.{Checked, value, refused, bad_shape, bad_settings, bad_record, bind}
+use Rattle.definitions.specs.Checked.{Checked, value, refused, bind}
+use Rattle.definitions.specs.declared.Refusal.TheVariants.{BadShape, BadSettings, BadRecord}
 
 -- the tests that are numbered 1, then those numbered 2, then 3: a call lists what it tests of all that it is lent, under each number
 unfoldable pub in_order : List Bool → List Bool → List Bool → Checked (Unit {0})
 in_order shaped settings recorded =
-    cond (every shaped) (cond (every settings) (cond (every recorded) (value tt) (refused bad_record)) (refused bad_settings)) (refused bad_shape)
+    cond (every shaped) (cond (every settings) (cond (every recorded) (value tt) (refused BadRecord)) (refused BadSettings)) (refused BadShape)
 
 -- Test 1: N over 2^24, S or L outside 1 to 65536, or a lent length that is not exactly the one called for
 

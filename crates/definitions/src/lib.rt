@@ -1,6 +1,9 @@
 // What the contracts of every crate above mean: the definitions in specs/, and here the types by value.
 #![tactic(auto)]
 
+ghost use Rattle.std.specs.Prelude.{◌≡◌};
+ghost use Rattle.definitions.specs.Checked.{code_of, number_of};
+
 // An epoch that is none: primitives.rs.
 pub const FAR_FUTURE_EPOCH: u64 = 18446744073709551615;
 
@@ -86,27 +89,62 @@ pub struct Deltas {
     pub penalty: u64,
 }
 
-// Answers: what was asked for, or a refusal's number of document 01.
-
-#[derive(Clone, Copy)]
-pub enum Number {
-    Value(u64),
-    Refused(u64),
+// Why a call is refused: document 01, "What is returned", and document 02. Its number is specs/Checked.antt, `number_of`.
+#[derive(Clone, Copy, PartialEq, Eq)]
+pub enum Refusal {
+    BadShape,
+    BadSettings,
+    BadRecord,
+    NoRoot,
+    Overflow,
+    BadFile,
+    SignedOverflow,
+    WrongQueue,
+    NoExit,
+    TooEarly,
+    FullList,
+    LateStart,
+    NoEntry,
+    BeforeGenesis,
+    NoSeconds,
 }
 
-#[derive(Clone, Copy)]
-pub enum Truth {
-    Value(bool),
-    Refused(u64),
+impl Refusal {
+    pub fn number(self) -> u64
+        ensures { result ≡ number_of self }
+    {
+        match self {
+            Refusal::BadShape => 1,
+            Refusal::BadSettings => 2,
+            Refusal::BadRecord => 3,
+            Refusal::NoRoot => 4,
+            Refusal::Overflow => 5,
+            Refusal::BadFile => 6,
+            Refusal::SignedOverflow => 7,
+            Refusal::WrongQueue => 8,
+            Refusal::NoExit => 9,
+            Refusal::TooEarly => 10,
+            Refusal::FullList => 11,
+            Refusal::LateStart => 12,
+            Refusal::NoEntry => 13,
+            Refusal::BeforeGenesis => 14,
+            Refusal::NoSeconds => 15,
+        }
+    }
 }
 
-#[derive(Clone, Copy)]
-pub enum DeltasAnswer {
-    Value(Deltas),
-    Refused(u64),
+// 0, or the refusal's number.
+pub fn code(answer: Result<(), Refusal>) -> u64
+    ensures { result ≡ code_of answer }
+{
+    match answer {
+        Ok(()) => 0,
+        Err(refusal) => refusal.number(),
+    }
 }
 
 // The finality that comes back, and 0 or the refusal's number: on refusal it is the one handed in.
+// The C interface needs the number beside the value.
 #[repr(C)]
 #[derive(Clone, Copy)]
 pub struct FinalityAnswer {
@@ -122,12 +160,6 @@ pub struct Total {
     pub raised: u64,
 }
 
-#[derive(Clone, Copy)]
-pub enum TotalAnswer {
-    Value(Total),
-    Refused(u64),
-}
-
 // Whether the total of the active, and of those that hit the target of the previous and of the current epoch, was raised: 1 or 0.
 #[repr(C)]
 #[derive(Clone, Copy)]
@@ -139,6 +171,7 @@ pub struct Raised {
 
 // What justification and the close answer: the finality and 0 or the refusal's number as in FinalityAnswer, and what was raised, which is
 // nothing on refusal.
+// The C interface needs the number beside the value.
 #[repr(C)]
 #[derive(Clone, Copy)]
 pub struct CloseAnswer {
@@ -173,6 +206,7 @@ pub struct ExitQueue {
 }
 
 // 0 or the refusal's number, and the pair afterwards: on refusal it is the one handed in.
+// The C interface needs the number beside the value.
 #[repr(C)]
 #[derive(Clone, Copy)]
 pub struct QueueAnswer {
@@ -181,6 +215,7 @@ pub struct QueueAnswer {
 }
 
 // What justification answers: as CloseAnswer, and which of the four finality tests last set the checkpoint, 1 to 4, or 0.
+// The C interface needs the number beside the value.
 #[repr(C)]
 #[derive(Clone, Copy)]
 pub struct JustificationAnswer {
@@ -191,6 +226,7 @@ pub struct JustificationAnswer {
 }
 
 // What a close answers that is lent the exit queue's pair and a list of amounts: as JustificationAnswer, and the pair afterwards.
+// The C interface needs the number beside the value.
 #[repr(C)]
 #[derive(Clone, Copy)]
 pub struct FullAnswer {
@@ -201,8 +237,9 @@ pub struct FullAnswer {
     pub test: u64,
 }
 
-// The answers as plain numbers, for C and whoever has no enum: 0 and what was asked for, or a refusal's number and zeros.
+// The answers as plain numbers, for C: 0 and what was asked for, or a refusal's number and zeros.
 
+// The C interface needs the number beside the value.
 #[repr(C)]
 #[derive(Clone, Copy)]
 pub struct PlainNumber {
@@ -211,6 +248,7 @@ pub struct PlainNumber {
 }
 
 // value is 1 for true and 0 for false
+// The C interface needs the number beside the value.
 #[repr(C)]
 #[derive(Clone, Copy)]
 pub struct PlainTruth {
@@ -218,6 +256,7 @@ pub struct PlainTruth {
     pub value: u64,
 }
 
+// The C interface needs the number beside the value.
 #[repr(C)]
 #[derive(Clone, Copy)]
 pub struct PlainDeltas {
@@ -227,6 +266,7 @@ pub struct PlainDeltas {
 }
 
 // raised is 1 where the plain sum was below one increment
+// The C interface needs the number beside the value.
 #[repr(C)]
 #[derive(Clone, Copy)]
 pub struct PlainTotal {
@@ -235,6 +275,7 @@ pub struct PlainTotal {
     pub raised: u64,
 }
 
+// The C interface needs the number beside the value.
 #[repr(C)]
 #[derive(Clone, Copy)]
 pub struct PlainRoot {
@@ -242,14 +283,8 @@ pub struct PlainRoot {
     pub root: [u8; 32],
 }
 
-// A balance's net change, or a refusal's number.
-#[derive(Clone, Copy)]
-pub enum Change {
-    Value(i64),
-    Refused(u64),
-}
-
-// The same as plain numbers, for C. `value` is from -2^63 to 2^63 - 1; the call that answers it makes it
+// The net change as plain numbers, for C. `value` is from -2^63 to 2^63 - 1; the call that answers it makes it
+// The C interface needs the number beside the value.
 #[repr(C)]
 #[derive(Clone, Copy)]
 pub struct PlainChange {

@@ -5,7 +5,8 @@ use Prim.Native.Nat.{ℕ, ◌≤◌, ◌<◌}
 use native.Mathlib.Omega.{arith}
 use borrow.Author.Tests.{eqb-false, le-ltb}
 use lib.Dec.{eqb}
-use Rattle.definitions.specs.Checked.{value, refused, bad_settings, overflow, no_seconds, bind}
+use Rattle.definitions.specs.Checked.{value, refused, bind}
+use Rattle.definitions.specs.declared.Refusal.TheVariants.{BadSettings, Overflow, NoSeconds}
 use Rattle.definitions.specs.Refusals.{is_small, after_tests}
 use Rattle.laws.proofs.Checked.{not_value, value_same, bound}
 use Rattle.definitions_clock.specs.declared.Clock.{Clock}
@@ -18,7 +19,7 @@ pub fits-value : (x : ℕ) {y : ℕ} → fits64 x ≡ value y → x ≡ y
 unfolding fits64
 fits-value x {y} e = go (is64 x) e
   where
-    go : (t : Bool) → cond t (value x) (refused overflow) ≡ value y → x ≡ y
+    go : (t : Bool) → cond t (value x) (refused Overflow) ≡ value y → x ≡ y
     go true e = value_same e
     go false e = absurd (not_value e)
 
@@ -34,7 +35,7 @@ pub clock-passed : (c : Clock) {u : Unit {0}} → clock_tests c ≡ value u → 
 unfolding clock_tests
 clock-passed c {u} e = go (eqb c.seconds_per_slot 0) refl (eqb c.slots_per_epoch 0) refl e
   where
-    go : (t : Bool) → eqb c.seconds_per_slot 0 ≡ t → (n : Bool) → eqb c.slots_per_epoch 0 ≡ n → cond t (refused no_seconds) (cond (not (n || not (is_small c.slots_per_epoch))) (value tt) (refused bad_settings)) ≡ value u → ClockPassed c
+    go : (t : Bool) → eqb c.seconds_per_slot 0 ≡ t → (n : Bool) → eqb c.slots_per_epoch 0 ≡ n → cond t (refused NoSeconds) (cond (not (n || not (is_small c.slots_per_epoch))) (value tt) (refused BadSettings)) ≡ value u → ClockPassed c
     go true a n b e = absurd (not_value e)
     go false a true b e = absurd (not_value e)
     go false a false b e = record { seconds = positive c.seconds_per_slot a; slots = positive c.slots_per_epoch b }

@@ -2,7 +2,8 @@
 use mathlib.Core.Path.{◌≡◌, refl}
 use mathlib.Core.Bool.{true, false}
 use Prim.Native.Nat.{ℕ}
-use Rattle.definitions.specs.Checked.{value, refused, bad_settings, overflow, before_genesis, no_seconds, bind}
+use Rattle.definitions.specs.Checked.{value, refused, bind}
+use Rattle.definitions.specs.declared.Refusal.TheVariants.{BadSettings, Overflow, BeforeGenesis, NoSeconds}
 use Rattle.definitions.specs.Refusals.{after_tests}
 use Rattle.definitions_clock.specs.declared.Clock.{Clock}
 use Rattle.definitions_clock.specs.Calls.{clock_tests, not_before_genesis, second_tests, fits64, slot_at_time, epoch_at_time, is_in_closing_window, first_second_of_slot, last_second_of_slot, first_second_of_epoch, last_second_of_epoch}
@@ -18,14 +19,14 @@ mainnet = clock 1606824023 12 32
 pub record Figures : Type 0 where
   -- the first second of the next slot leaves 64 bits, the answer does not
   pub last_of-all : last_second_of_slot (clock 0 1 32) 18446744073709551615 ≡ value 18446744073709551615
-  pub one_too_late : last_second_of_slot (clock 1 1 32) 18446744073709551615 ≡ refused overflow
+  pub one_too_late : last_second_of_slot (clock 1 1 32) 18446744073709551615 ≡ refused Overflow
   pub last-epoch : last_second_of_epoch (clock 0 1 1) 18446744073709551615 ≡ value 18446744073709551615
   pub last-genesis : slot_at_time (clock 18446744073709551615 1 1) 18446744073709551615 ≡ value 0
   -- 15, then 2, then 14
-  pub no-seconds : slot_at_time (clock 9 0 0) 8 ≡ refused no_seconds
-  pub no-slots : slot_at_time (clock 9 1 0) 8 ≡ refused bad_settings
-  pub too_many_slots : slot_at_time (clock 9 1 281474976710656) 8 ≡ refused bad_settings
-  pub early : slot_at_time (clock 9 1 1) 8 ≡ refused before_genesis
+  pub no-seconds : slot_at_time (clock 9 0 0) 8 ≡ refused NoSeconds
+  pub no-slots : slot_at_time (clock 9 1 0) 8 ≡ refused BadSettings
+  pub too_many_slots : slot_at_time (clock 9 1 281474976710656) 8 ≡ refused BadSettings
+  pub early : slot_at_time (clock 9 1 1) 8 ≡ refused BeforeGenesis
   -- mainnet, whose Altair began at epoch 74240
   pub genesis : slot_at_time mainnet 1606824023 ≡ value 0
   pub second-slot : slot_at_time mainnet 1606824035 ≡ value 1

@@ -1,6 +1,7 @@
 -- What each call answers: a refusal, or the number. Document 02, R-11: "tested 15, 2, 14", and "An answer above 2^64 - 1 is 5".
 use Rattle.std.specs.Prelude.{Bool, cond, ◌||◌, not, ℕ, ◌^◌, ltb, eqb}
-use Rattle.definitions.specs.Checked.{Checked, value, refused, bad_settings, overflow, before_genesis, no_seconds}
+use Rattle.definitions.specs.Checked.{Checked, value, refused}
+use Rattle.definitions.specs.declared.Refusal.TheVariants.{BadSettings, Overflow, BeforeGenesis, NoSeconds}
 use Rattle.definitions.specs.Refusals.{is_small, after_tests}
 use Rattle.definitions_clock.specs.declared.Clock.{Clock}
 use Rattle.definitions_clock.specs.Clock.{slot_at, epoch_at, first_second_of_slot_call, last_second_of_slot_call, first_second_of_epoch_call, last_second_of_epoch_call, in_closing_window}
@@ -12,10 +13,10 @@ good_slots slots_per_epoch = not (eqb slots_per_epoch 0 || not (is_small slots_p
 -- 15, then 2: every call
 unfoldable pub clock_tests : Clock → Checked (Unit {0})
 clock_tests c =
-    cond (eqb c.seconds_per_slot 0) (refused no_seconds) (cond (good_slots c.slots_per_epoch) (value tt) (refused bad_settings))
+    cond (eqb c.seconds_per_slot 0) (refused NoSeconds) (cond (good_slots c.slots_per_epoch) (value tt) (refused BadSettings))
 
 unfoldable pub not_before_genesis : Clock → ℕ → Checked (Unit {0})
-not_before_genesis c second = cond (ltb second c.genesis_time) (refused before_genesis) (value tt)
+not_before_genesis c second = cond (ltb second c.genesis_time) (refused BeforeGenesis) (value tt)
 
 -- 15, then 2, then 14: the calls that are given a second
 unfoldable pub second_tests : Clock → ℕ → Checked (Unit {0})
@@ -26,7 +27,7 @@ is64 n = ltb n (2 ^ 64)
 
 -- 5: the answer alone is tested, and no number on the way to it
 unfoldable pub fits64 : ℕ → Checked ℕ
-fits64 answer = cond (is64 answer) (value answer) (refused overflow)
+fits64 answer = cond (is64 answer) (value answer) (refused Overflow)
 
 -- A slot or epoch of a second is at most the second: it always fits
 

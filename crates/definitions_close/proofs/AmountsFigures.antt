@@ -9,7 +9,8 @@ use Rattle.definitions.specs.declared.Checkpoint.{Checkpoint}
 use Rattle.definitions.specs.declared.Finality.{Finality}
 use Rattle.definitions.specs.Lists.{filter, sum, range, insert, sorted, maximum}
 use Rattle.definitions.specs.Record.{Validator, BeaconState, FAR_FUTURE_EPOCH}
-use Rattle.definitions.specs.Checked.{Checked, value, refused, overflow, bind, add64, sub64, mul64, sum64, map_checked, fold_checked}
+use Rattle.definitions.specs.Checked.{Checked, value, refused, bind, add64, sub64, mul64, sum64, map_checked, fold_checked}
+use Rattle.definitions.specs.declared.Refusal.TheVariants.{Overflow}
 use Rattle.definitions.specs.Mainnet.{mainnet}
 use Rattle.definitions.specs.Document.Phase0.Helpers.{integer_squareroot, root_within, is_eligible_for_activation_queue, is_eligible_for_activation}
 use Rattle.definitions.specs.Document.Phase0.Helpers as document
@@ -115,7 +116,7 @@ pub record Figures : Type 0 where
   pub fourth-test : last_test 3 3 (finality 0 5 2 0) ≡ 4
   pub last_of-two : last_test 3 7 (finality 0 1 1 0) ≡ 3
   pub no_test : last_test 3 7 (finality 0 5 5 0) ≡ 0
-  pub refused-test : finalizing_test mainnet worked.finality (refused overflow) ≡ 0
+  pub refused-test : finalizing_test mainnet worked.finality (refused Overflow) ≡ 0
 
 pub figures : Figures
 unfolding integer_squareroot root_within get_total_active_balance get_total_balance sum64 sum filter range insert sorted maximum bind add64 sub64 mul64 map_checked fold_checked get_active_validator_indices is_active_validator get_current_epoch get_previous_epoch compute_epoch_at_slot compute_activation_exit_epoch get_base_reward_per_increment get_base_reward flag_totals flag_index_deltas hit_deltas miss_deltas is_eligible is_unslashed_participating get_unslashed_participating_indices has_flag is_in_inactivity_leak get_finality_delay process_rewards_and_penalties all_deltas reward_and_penalize inactivity_penalty_deltas apply_delta increase_balance decrease_balance moved_score recovered_score update_inactivity_score process_inactivity_updates is_slashing_due slashing_penalty is_justified get_block_root_at_slot document.get_block_root_at_slot get_block_root compute_start_slot_at_epoch process_justification_and_finalization weigh_justification_and_finalization root_where weighed justified_bits finalized_by limited_registry_updates update_registry_at queue_eligible is_ejected is_eligible_for_activation_queue is_eligible_for_activation get_validator_churn_limit activation_queue dequeued limited_step limited_up_to booked booked_by_rewards taken_from taken_by_slashings nines limited_amounts last_test finalizing_test

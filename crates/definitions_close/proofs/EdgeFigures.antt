@@ -2,7 +2,7 @@
 -- programs"). Mainnet's settings but one root and one number of slashings; Altair from epoch 10 on, Bellatrix from epoch 20.
 use mathlib.Core.Path.{◌≡◌, refl}
 use mathlib.Core.List.{List, [], ◌∷◌, ◌++◌}
-use Prim.Native.Nat.{ℕ, ◌+◌, ◌*◌}
+use Prim.Native.Nat.{ℕ, ◌*◌}
 use lib.ListN.{drop, replicate}
 use Rattle.definitions.specs.declared.Settings.{Settings}
 use Rattle.definitions.specs.declared.Checkpoint.{Checkpoint}
@@ -11,7 +11,8 @@ use Rattle.definitions.specs.declared.ExitQueue.{ExitQueue}
 use Rattle.definitions.specs.declared.Rules.{Rules}
 use Rattle.definitions.specs.Lists.{all, every, filter, sum, maximum}
 use Rattle.definitions.specs.Record.{Validator, decode, decode_first}
-use Rattle.definitions.specs.Checked.{Checked, value, refused, bad_settings, bad_record, wrong_queue, no_entry, bind, add64, mul64, sum64}
+use Rattle.definitions.specs.Checked.{value, refused, bind, add64, mul64, sum64}
+use Rattle.definitions.specs.declared.Refusal.TheVariants.{BadSettings, BadRecord, WrongQueue, NoEntry}
 use Rattle.definitions.specs.Mainnet.{mainnet, mainnet_bellatrix}
 use Rattle.definitions.specs.Refusals.{in_order, after_tests, settings_numbers, settings_from, settings_shaped, registry_shaped, good_settings, good_finality, good_validator, good_registry}
 use Rattle.definitions.specs.LeafRefusals.{exit_tests}
@@ -32,7 +33,7 @@ use Rattle.definitions_close.specs.FullClose.{FullCall, full_tests, limited_full
 use Rattle.definitions_close.specs.CloseBySteps.{unwritten}
 use Rattle.definitions_close.specs.QueueCalls.{then_queue, exit_queue_tests}
 use Rattle.definitions_close.specs.FinalizingTest.{last_test, finalizing_test}
-use Rattle.definitions_close.specs.Orders.{NinthCall, NinthOutcome, orders_in, carried_out, answers_to, ninth_tests, ninth_in_turn, carries_out, carry_out}
+use Rattle.definitions_close.specs.Orders.{NinthCall, orders_in, carried_out, answers_to, ninth_tests, ninth_in_turn, carries_out, carry_out}
 
 abbrev small : Settings
 small = settings_from (32 ∷ 1 ∷ 1 ∷ drop 3 (settings_numbers mainnet))
@@ -135,7 +136,7 @@ voted = decode (validator 0 2)
 
 pub record Figures : Type 0 where
   -- an empty store is asked no lengths, and then it is 13; another is
-  pub empty_not_asked : rules_for (closing empty 640 7) ≡ refused no_entry
+  pub empty_not_asked : rules_for (closing empty 640 7) ≡ refused NoEntry
   pub asked : rules_for (closing store 640 1) ≡ value (under «BELLATRIX»)
   -- a later step goes by the epoch of the record so far, and the opening's is 20
   pub so_far : rules_for (store_found (second store 639)) ≡ value (under «ALTAIR»)
@@ -143,16 +144,16 @@ pub record Figures : Type 0 where
   pub still-running : (store_step (second store 319)).answer.running.done ≡ 1
   pub turned-away : (store_step (second store 319)).answer.refusal ≡ 13
   -- a period of 2^48 is 2, and that before 13
-  pub long-period : ninth_rules (ninth 0 281_474_976_710_656) ≡ refused bad_settings
+  pub long-period : ninth_rules (ninth 0 281_474_976_710_656) ≡ refused BadSettings
   pub good-period : ninth_rules (ninth 320 281_474_976_710_655) ≡ value (under «ALTAIR»)
   -- a ninth call ends the close, and after an end it does nothing but say so
   pub ended : (carry_out (ninth_after 8)).answer.running.done ≡ 9
   pub says-ended : (carry_out (ninth_after 9)).answer.ended ≡ 1
   pub out_of_turn : (carry_out (ninth_after 7)).answer.refusal ≡ 1
   -- 3 before 8
-  pub three-first : full_tests (full 2 (pair 2)) ≡ refused bad_record
-  pub then-eight : full_tests (full 1 (pair 2)) ≡ refused wrong_queue
-  pub three_first_of_an_exit : exit_queue_tests small 320 0 (pair 2) (validator 2 0) ≡ refused bad_record
+  pub three-first : full_tests (full 2 (pair 2)) ≡ refused BadRecord
+  pub then-eight : full_tests (full 1 (pair 2)) ≡ refused WrongQueue
+  pub three_first_of_an_exit : exit_queue_tests small 320 0 (pair 2) (validator 2 0) ≡ refused BadRecord
   -- the second test set the checkpoint by the new bits, 6; by the old ones, 3, it would be the fourth
   pub by_new_bits : finalizing_test mainnet (finality 127 3 1 2) (process_justification_and_finalization mainnet [] (finality 127 3 1 2) voted) ≡ 2
 

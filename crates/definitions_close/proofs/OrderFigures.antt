@@ -6,7 +6,8 @@ use lib.ListN.{replicate}
 use Rattle.definitions.specs.declared.Checkpoint.{Checkpoint}
 use Rattle.definitions.specs.Lists.{filter, range, maximum}
 use Rattle.definitions.specs.Record.{Validator, FAR_FUTURE_EPOCH}
-use Rattle.definitions.specs.Checked.{Checked, value, refused, no_exit, too_early, wrong_queue, code_of, bind, add64}
+use Rattle.definitions.specs.Checked.{value, refused, code_of, bind, add64}
+use Rattle.definitions.specs.declared.Refusal.TheVariants.{WrongQueue}
 use Rattle.definitions.specs.Mainnet.{mainnet}
 use Rattle.definitions.specs.ExitQueue.{queue_of, is_queue_of, queue_test}
 use Rattle.definitions.specs.Rust.Phase0.Helpers.{is_active_validator, compute_epoch_at_slot, get_current_epoch, compute_activation_exit_epoch, get_active_validator_indices, get_validator_churn_limit, exit_queue_epoch, initiate_validator_exit}
@@ -91,8 +92,8 @@ pub record Figures : Type 0 where
   pub taken : (take_order (lent (1 ∷ 2 ∷ 3 ∷ 4 ∷ []))).orders ≡ 1 ∷ 2 ∷ 8 ∷ 9 ∷ []
   -- 8 where the number alone, or the epoch alone, is not that of the register
   pub true_pair : queue_test (record { last_epoch = 9; number = 1 }) (validator 0 9 ∷ []) ≡ value tt
-  pub other-number : queue_test (record { last_epoch = 9; number = 2 }) (validator 0 9 ∷ []) ≡ refused wrong_queue
-  pub other-epoch : queue_test (record { last_epoch = 8; number = 1 }) (validator 0 9 ∷ []) ≡ refused wrong_queue
+  pub other-number : queue_test (record { last_epoch = 9; number = 2 }) (validator 0 9 ∷ []) ≡ refused WrongQueue
+  pub other-epoch : queue_test (record { last_epoch = 8; number = 1 }) (validator 0 9 ∷ []) ≡ refused WrongQueue
 
 pub figures : Figures
 unfolding filter range maximum bind add64 queue_of is_queue_of queue_test is_active_validator compute_epoch_at_slot get_current_epoch compute_activation_exit_epoch get_active_validator_indices get_validator_churn_limit exit_queue_epoch initiate_validator_exit may_exit is_due process_voluntary_exit carried_out answers_to appended take_order

@@ -3,7 +3,9 @@
 use Rattle.std.specs.Prelude.{Bool, cond, ◌&&◌, List, [], ◌∷◌, map, ℕ, zero, suc, ◌+◌, ◌/◌, leb, eqb, length, get_or, take, drop, replicate}
 use Rattle.definitions.specs.declared.Settings.{Settings}
 use Rattle.definitions.specs.Record.{BeaconState, encode}
-use Rattle.definitions.specs.Checked.{Refusal, bad_shape, number_of, Checked, value, refused, bind, code_of}
+use Rattle.definitions.specs.Checked.{number_of, Checked, value, refused, bind, code_of}
+use Rattle.definitions.specs.declared.Refusal.{Refusal}
+use Rattle.definitions.specs.declared.Refusal.TheVariants.{BadShape}
 use Rattle.definitions.specs.Refusals.{after_tests, closing_buffer}
 use Rattle.definitions.specs.Raised.{none_raised, raised_totals}
 use Rattle.definitions.specs.ExitQueue.{queue_of}
@@ -169,4 +171,4 @@ step_in_turn c =
 unfoldable pub close_step : StepCall → StepOutcome
 close_step c =
     cond (has_ended c.running) (unwritten (says_ended c.running) c)
-    (cond (in_turn c) (step_in_turn c) (unwritten (turned_away bad_shape c.running) c))
+    (cond (in_turn c) (step_in_turn c) (unwritten (turned_away BadShape c.running) c))

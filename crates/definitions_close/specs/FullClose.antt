@@ -8,7 +8,8 @@ use Rattle.definitions.specs.declared.ExitQueue.{ExitQueue}
 use Rattle.definitions.specs.declared.ActivationLimit.{ActivationLimit}
 use Rattle.definitions.specs.declared.ActivationLimit.TheVariants.{Churn}
 use Rattle.definitions.specs.Record.{BeaconState, encode, decode}
-use Rattle.definitions.specs.Checked.{Checked, value, refused, bad_shape, bind, code_of, settle}
+use Rattle.definitions.specs.Checked.{Checked, value, refused, bind, code_of, settle}
+use Rattle.definitions.specs.declared.Refusal.TheVariants.{BadShape}
 use Rattle.definitions.specs.Refusals.{after_tests, closing_buffer}
 use Rattle.definitions.specs.Rules.{settings_under}
 use Rattle.definitions.specs.Raised.{raised_totals, raised_unless_refused}
@@ -27,7 +28,7 @@ pub record FullCall : Type 0 where
 unfoldable pub limited_full_tests : ActivationLimit → FullCall → Checked (Unit {0})
 limited_full_tests limit c =
     let others = bind (limited_tests limit c.call) (λ _. queue_test c.queue (decode c.call.registry)) in
-    cond (amounts_shaped c.call.registry c.amounts) others (refused bad_shape)
+    cond (amounts_shaped c.call.registry c.amounts) others (refused BadShape)
 
 abbrev pub full_tests : FullCall → Checked (Unit {0})
 full_tests c = limited_full_tests Churn c

@@ -4,7 +4,8 @@ use Rattle.std.specs.Prelude.{Bool, cond, ◌&&◌, List, [], ◌∷◌, ◌++�
 use Rattle.definitions.specs.declared.Settings.{Settings}
 use Rattle.definitions.specs.declared.Rules.{Rules}
 use Rattle.definitions.specs.Record.{Validator, nobody, encode, decode, FAR_FUTURE_EPOCH}
-use Rattle.definitions.specs.Checked.{bad_shape, full_list, no_exit, too_early, Checked, value, refused, bind, code_of, settle}
+use Rattle.definitions.specs.Checked.{Checked, value, refused, bind, code_of, settle}
+use Rattle.definitions.specs.declared.Refusal.TheVariants.{BadShape, FullList, NoExit, TooEarly}
 use Rattle.definitions.specs.Refusals.{in_order, length_is, is_small, registry_shaped, good_finality, good_registry}
 use Rattle.definitions.specs.Rules.{settings_under, rules_shaped, good_rules}
 use Rattle.definitions.specs.ExitQueue.{queue_of, queue_test}
@@ -61,8 +62,8 @@ take_order c =
     let running = c.running in
     cond (has_ended running) (record { answer = says_ended running; orders = c.orders })
     (cond (takes_orders running && orders_shaped running.orders c.orders)
-    (cond (ltb running.orders (room c.orders)) (appended c) (record { answer = turned_away full_list running; orders = c.orders }))
-    (record { answer = turned_away bad_shape running; orders = c.orders }))
+    (cond (ltb running.orders (room c.orders)) (appended c) (record { answer = turned_away FullList running; orders = c.orders }))
+    (record { answer = turned_away BadShape running; orders = c.orders }))
 
 -- Carrying them out
 
@@ -83,8 +84,8 @@ process_voluntary_exit s state_slot period vs o =
     let current_epoch = get_current_epoch s state_slot in
     let index = o.validator in
     cond (may_exit current_epoch vs index)
-    (cond (is_due current_epoch period (get_or vs index nobody) o.start) (initiate_validator_exit s state_slot vs index) (refused too_early))
-    (refused no_exit)
+    (cond (is_due current_epoch period (get_or vs index nobody) o.start) (initiate_validator_exit s state_slot vs index) (refused TooEarly))
+    (refused NoExit)
 
 -- "A refused order changes nothing and the next is tried"
 unfoldable pub carried_out : Settings → ℕ → ℕ → List Validator → List Order → List Validator
@@ -167,4 +168,4 @@ ninth_in_turn c (value u) = carries_out c
 unfoldable pub carry_out : NinthCall → NinthOutcome
 carry_out c =
     cond (has_ended c.running) (untried (says_ended c.running) c)
-    (cond (eqb c.running.done 8) (ninth_in_turn c (ninth_tests c)) (untried (turned_away bad_shape c.running) c))
+    (cond (eqb c.running.done 8) (ninth_in_turn c (ninth_tests c)) (untried (turned_away BadShape c.running) c))

@@ -4,7 +4,8 @@ use Rattle.std.specs.Prelude.{Bool, true, cond, ◌&&◌, List, [], ◌∷◌, �
 use Rattle.definitions.specs.declared.Settings.{Settings}
 use Rattle.definitions.specs.declared.Rules.{Rules}
 use Rattle.definitions.specs.Lists.{all, filter, every}
-use Rattle.definitions.specs.Checked.{Checked, value, refused, late_start, no_entry, bind, code_of, settle}
+use Rattle.definitions.specs.Checked.{Checked, value, refused, bind, code_of, settle}
+use Rattle.definitions.specs.declared.Refusal.TheVariants.{LateStart, NoEntry}
 use Rattle.definitions.specs.Refusals.{in_order, after_tests, settings_numbers, settings_from}
 use Rattle.definitions.specs.Rules.{rules_shaped, good_rules}
 use Rattle.definitions_close.specs.declared.RulesAnswer.{RulesAnswer}
@@ -47,7 +48,7 @@ abbrev pub entries : Store → List Entry
 entries s = entries_from s.count s.numbers
 
 unfoldable pub last_of : List Entry → Checked Entry
-last_of [] = refused no_entry
+last_of [] = refused NoEntry
 last_of (e ∷ []) = value e
 last_of (e ∷ f ∷ es) = last_of (f ∷ es)
 
@@ -134,7 +135,7 @@ addition_shaped s new =
 
 -- "12, a new start not above the last one"
 unfoldable pub start_test : Store → Entry → Checked (Unit {0})
-start_test s new = cond (of_last (λ e. ltb e.start new.start) (last_of (entries s))) (value tt) (refused late_start)
+start_test s new = cond (of_last (λ e. ltb e.start new.start) (last_of (entries s))) (value tt) (refused LateStart)
 
 unfoldable pub addition_tests : Store → Entry → Checked (Unit {0})
 addition_tests s new =

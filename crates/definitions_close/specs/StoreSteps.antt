@@ -2,7 +2,9 @@
 -- of the record that it finds, and is then the call with these rules. Words in quotation marks are the requests'.
 use Rattle.std.specs.Prelude.{cond, List, [], ◌∷◌, ℕ, eqb}
 use Rattle.definitions.specs.declared.Rules.{Rules}
-use Rattle.definitions.specs.Checked.{Refusal, bad_shape, number_of, Checked, value, refused}
+use Rattle.definitions.specs.Checked.{number_of, Checked, value, refused}
+use Rattle.definitions.specs.declared.Refusal.{Refusal}
+use Rattle.definitions.specs.declared.Refusal.TheVariants.{BadShape}
 use Rattle.definitions.specs.Refusals.{in_order, after_tests, length_is, is_small, registry_shaped}
 use Rattle.definitions_close.specs.declared.Running.{Running}
 use Rattle.definitions_close.specs.CloseBySteps.{says_ended, has_ended, turned_away, StepCall, is_first, in_turn, ended_by, StepOutcome, unwritten, close_step}
@@ -56,7 +58,7 @@ store_step_by c (refused r) = step_refused c r
 unfoldable pub store_step : StoreStepCall → StepOutcome
 store_step c =
     cond (has_ended c.running) (unwritten (says_ended c.running) (step_of c))
-    (cond (in_turn (step_of c)) (store_step_by c (rules_for (store_found c))) (unwritten (turned_away bad_shape c.running) (step_of c)))
+    (cond (in_turn (step_of c)) (store_step_by c (rules_for (store_found c))) (unwritten (turned_away BadShape c.running) (step_of c)))
 
 -- The ninth call
 
@@ -97,4 +99,4 @@ carry_by c (refused r) = untried (turned_away r c.running) (ninth_of c)
 unfoldable pub store_carry_out : StoreNinthCall → NinthOutcome
 store_carry_out c =
     cond (has_ended c.running) (untried (says_ended c.running) (ninth_of c))
-    (cond (eqb c.running.done 8) (carry_by c (ninth_rules c)) (untried (turned_away bad_shape c.running) (ninth_of c)))
+    (cond (eqb c.running.done 8) (carry_by c (ninth_rules c)) (untried (turned_away BadShape c.running) (ninth_of c)))

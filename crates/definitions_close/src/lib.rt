@@ -18,6 +18,7 @@ pub struct Running {
 
 // What every call of such a close answers: 0 or the refusal's number, 1 where the close had ended before the call and else 0, and the close as it
 // is now. Where `ended` is 1 nothing was tested, and nothing changed.
+// The C interface needs the number beside the value.
 #[repr(C)]
 #[derive(Clone, Copy)]
 pub struct RunningAnswer {
@@ -29,6 +30,7 @@ pub struct RunningAnswer {
 // What the calls of a store of settings by starting epoch answer.
 
 // The rules read, or a refusal's number and zeros.
+// The C interface needs the number beside the value.
 #[repr(C)]
 #[derive(Clone, Copy)]
 pub struct RulesAnswer {
@@ -37,6 +39,7 @@ pub struct RulesAnswer {
 }
 
 // 0 or the refusal's number, and how many entries are in use afterwards.
+// The C interface needs the number beside the value.
 #[repr(C)]
 #[derive(Clone, Copy)]
 pub struct CountAnswer {

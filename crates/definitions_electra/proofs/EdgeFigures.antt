@@ -2,12 +2,13 @@
 -- programs"). The states are those of Figures.
 use mathlib.Core.Path.{◌≡◌, refl}
 use mathlib.Core.Bool.{true, false}
-use mathlib.Core.List.{List, [], ◌∷◌, map}
+use mathlib.Core.List.{List, [], ◌∷◌}
 use Prim.Native.Nat.{ℕ, ◌-◌}
-use lib.ListN.{length, replicate, get_or}
+use lib.ListN.{replicate, get_or}
 use Rattle.definitions.specs.Lists.{filter, sum, range, every, all}
 use Rattle.definitions.specs.Record.{Validator}
-use Rattle.definitions.specs.Checked.{Checked, refused, overflow, bind, add64, sub64, mul64, sum64, map_checked, fold_checked}
+use Rattle.definitions.specs.Checked.{Checked, refused, bind, add64, sub64, mul64, sum64, map_checked, fold_checked}
+use Rattle.definitions.specs.declared.Refusal.TheVariants.{Overflow}
 use Rattle.definitions.specs.Refusals.{good_settings}
 use Rattle.definitions.specs.Rules.{good_bellatrix}
 use Rattle.definitions.specs.Mainnet.{mainnet, mainnet_bellatrix}
@@ -55,7 +56,7 @@ slashing = rich ∷ full ∷ full ∷ full ∷ full ∷ []
 pub record Figures : Type 0 where
   -- balance and threshold, a quarter of an increment, are 2^64 - 1 together; one Gwei more is refused
   pub exact-balance : effectives (new_with 18_446_744_073_459_551_614) ≡ 32_000_000_000 ∷ 32_000_000_000 ∷ 32_000_000_000 ∷ 0 ∷ 2_048_000_000_000 ∷ []
-  pub over_by_one : new_with 18_446_744_073_459_551_615 ≡ refused overflow
+  pub over_by_one : new_with 18_446_744_073_459_551_615 ≡ refused Overflow
   -- 19.2×10^9 by the effective balance, of one that holds twice as much
   pub by-effective : get_or (balances (process_slashings mainnet_rules (state slashing (32_000_000_000 ∷ []) (churn 0 0) [] []))) 0 0
       ≡ 64_000_000_000 - 19_200_000_000

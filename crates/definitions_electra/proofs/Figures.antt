@@ -1,12 +1,13 @@
 -- Figures of Electra's definitions, each computed: document 03, F-2 gives the rules and none of the figures, so that these are worked out by hand.
 use mathlib.Core.Path.{◌≡◌, refl}
-use mathlib.Core.List.{List, [], ◌∷◌, ◌++◌, map}
-use Prim.Native.Nat.{ℕ, ◌+◌, ◌-◌}
-use lib.ListN.{length, get_or, replicate, drop}
+use mathlib.Core.List.{List, [], ◌∷◌, map}
+use Prim.Native.Nat.{ℕ, ◌-◌}
+use lib.ListN.{length, get_or, replicate}
 use Rattle.definitions.specs.declared.Checkpoint.{Checkpoint}
-use Rattle.definitions.specs.Lists.{filter, sum, range, every, all}
+use Rattle.definitions.specs.Lists.{filter, sum, range}
 use Rattle.definitions.specs.Record.{Validator, FAR_FUTURE_EPOCH}
-use Rattle.definitions.specs.Checked.{Checked, value, refused, overflow, bad_settings, number_of, bind, add64, sub64, mul64, sum64, map_checked, fold_checked}
+use Rattle.definitions.specs.Checked.{Checked, value, refused, bind, add64, sub64, mul64, sum64, map_checked, fold_checked}
+use Rattle.definitions.specs.declared.Refusal.TheVariants.{Overflow}
 use Rattle.definitions.specs.Rust.Phase0.Helpers.{is_active_validator, is_eligible_for_activation, compute_epoch_at_slot, get_current_epoch, compute_start_slot_at_epoch, compute_activation_exit_epoch, get_active_validator_indices, get_total_balance, get_total_active_balance, increase_balance, decrease_balance}
 use Rattle.definitions.specs.Mainnet.{mainnet}
 use Rattle.definitions.specs.Rust.Altair.EpochProcessing as bellatrix
@@ -199,13 +200,13 @@ pub record Figures : Type 0 where
   -- 400×10^9 where 32×10^9 is left takes two epochs more
   pub two-more : churned 8 256_000_000_000 (churn 32_000_000_000 16) 400_000_000_000 ≡ value (churn 144_000_000_000 18)
   -- a balance that reaches past 2^64 - 1 epochs is refused
-  pub exit-overflows : churned 8 1 (churn 0 18_446_744_073_709_551_615) 1 ≡ refused overflow
+  pub exit-overflows : churned 8 1 (churn 0 18_446_744_073_709_551_615) 1 ≡ refused Overflow
   -- two ejected at the limit of 128×10^9 leave together; the total of the others is not summed where nobody leaves
   pub ejections : exits (registry_after (ejected ∷ full ∷ ejected ∷ []) (churn 0 0)) ≡ 8 ∷ FAR_FUTURE_EPOCH ∷ 8 ∷ []
   pub ejections-far : exits (registry_after (ejected ∷ full ∷ ejected ∷ []) (churn 16_000_000_000 8)) ≡ 8 ∷ FAR_FUTURE_EPOCH ∷ 9 ∷ []
   -- so that 2^64 in all is refused only where somebody does
   pub not_summed : exits (registry_after (immense ∷ immense ∷ full ∷ []) (churn 0 0)) ≡ FAR_FUTURE_EPOCH ∷ FAR_FUTURE_EPOCH ∷ FAR_FUTURE_EPOCH ∷ []
-  pub summed : registry_after (immense ∷ immense ∷ ejected ∷ []) (churn 0 0) ≡ refused overflow
+  pub summed : registry_after (immense ∷ immense ∷ ejected ∷ []) (churn 0 0) ≡ refused Overflow
   -- slashings sum 32×10^9, total 160×10^9, multiplier 3: 19.2×10^9, where Bellatrix, on the same record, rounds down to 19×10^9
   pub slashed : get_or (balances (process_slashings mainnet_rules (state slashing (32_000_000_000 ∷ []) (churn 0 0) [] []))) 0 0
       ≡ 32_000_000_000 - 19_200_000_000
@@ -225,7 +226,7 @@ pub record Figures : Type 0 where
   pub not_carried : keys_left (depositing_after 5_000_000_000 (deposit 0 1 64 1 ∷ [])) ≡ 0 ∷ []
   -- what was carried is added, also for an empty queue
   pub added : keys_left (depositing_after 5_000_000_000 (deposit 0 133_000_000_001 64 1 ∷ [])) ≡ 133_000_000_000 ∷ 0 ∷ []
-  pub empty-refused : depositing_after 18_446_744_073_709_551_615 [] ≡ refused overflow
+  pub empty-refused : depositing_after 18_446_744_073_709_551_615 [] ≡ refused Overflow
   -- an invalid new key uses up the churn
   pub invalid-churn : keys_left (depositing (deposit 5 128_000_000_000 64 0 ∷ deposit 0 1 64 1 ∷ [])) ≡ 0 ∷ 0 ∷ []
   -- a deposit that does not fit carries what was available on; an invalid one of a new key is gone; a slot that is not finalized stops
@@ -261,7 +262,7 @@ pub record Figures : Type 0 where
       ≡ 2_048_000_000_000 ∷ 32_000_000_000 ∷ []
   -- thresholds of 2^94 are evaluated only where there is a validator
   pub none-evaluated : process_effective_balance_updates wide (state [] [] (churn 0 0) [] []) ≡ value (state [] [] (churn 0 0) [] [])
-  pub one-evaluated : process_effective_balance_updates wide (state (full ∷ []) [] (churn 0 0) [] []) ≡ refused overflow
+  pub one-evaluated : process_effective_balance_updates wide (state (full ∷ []) [] (churn 0 0) [] []) ≡ refused Overflow
 
 pub figures : Figures
 unfolding sum64 sum filter range bind add64 sub64 mul64 map_checked fold_checked is_active_validator is_eligible_for_activation compute_epoch_at_slot get_current_epoch compute_start_slot_at_epoch compute_activation_exit_epoch get_active_validator_indices get_total_balance get_total_active_balance increase_balance decrease_balance is_slashing_due slashing_penalty bellatrix.slash bellatrix.process_slashings fold_until_checked place_of is_eligible_for_activation_queue get_max_effective_balance balance_churn_limit activation_exit_churn_limit get_validator_from_deposit add_validator_to_registry breaks_before deposits_stop consolidations_stop get_activation_exit_churn_limit further_epochs churned compute_exit_epoch_and_update_churn initiate_validator_exit update_registry_at process_registry_updates slash process_slashings apply_pending_deposit process_deposit queueing left_to_consume process_pending_deposits consolidate process_consolidation process_pending_consolidations update_effective_balance update_effective_balances process_effective_balance_updates

@@ -1,5 +1,5 @@
 -- Tests 1, 2 and 3 of the Electra calls. Document 03, F-2, the table.
-use Rattle.std.specs.Prelude.{Bool, ◌&&◌, not, List, [], ◌∷◌, ◌++◌, ℕ, ◌+◌, ◌*◌, ◌/◌, ◌%◌, ◌^◌, leb, ltb, eqb, length, drop}
+use Rattle.std.specs.Prelude.{Bool, ◌&&◌, not, List, [], ◌∷◌, ◌++◌, ℕ, ◌+◌, ◌*◌, ◌/◌, ◌%◌, ◌^◌, leb, ltb, eqb, length}
 use Rattle.definitions.specs.Lists.{all, every}
 use Rattle.definitions.specs.Checked.{Checked}
 use Rattle.definitions.specs.Refusals.{in_order, is_small, settings_shaped, registry_shaped, slashings_shaped, same_length, length_is, good_settings, good_registry}
@@ -8,7 +8,7 @@ use Rattle.definitions.specs.Rules.{good_bellatrix}
 use Rattle.definitions_electra.specs.declared.Electra.{Electra}
 use Rattle.definitions_electra.specs.declared.ElectraRules.{ElectraRules}
 use Rattle.definitions_electra.specs.declared.PendingDeposit.{PendingDeposit}
-use Rattle.definitions_electra.specs.Record.{PendingConsolidation, decode_deposits, decode_consolidations}
+use Rattle.definitions_electra.specs.Record.{decode_deposits, decode_consolidations}
 
 -- Test 1
 

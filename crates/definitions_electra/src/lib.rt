@@ -32,13 +32,6 @@ pub struct ExitChurn {
     pub earliest_exit_epoch: u64,
 }
 
-// The two after an exit, or a refusal's number.
-#[derive(Clone, Copy)]
-pub enum ChurnAnswer {
-    Value(ExitChurn),
-    Refused(u64),
-}
-
 // A deposit of the queue, in the order in which its five numbers are lent. compounding is 1 where its credentials begin with 0x02, valid where its
 // signature is valid, and else 0.
 #[repr(C)]
@@ -61,6 +54,7 @@ pub struct DepositNumbers {
 }
 
 // 0 or a refusal's number, and the record's two numbers of the exit queue afterwards: on refusal those that were handed in.
+// The C interface needs the number beside the value.
 #[repr(C)]
 #[derive(Clone, Copy)]
 pub struct ExitChurnAnswer {
@@ -70,6 +64,7 @@ pub struct ExitChurnAnswer {
 
 // 0 or a refusal's number; what the next close may process more, how many validators there are, and how many deposits are left in the queue. On
 // refusal: as the opening has them.
+// The C interface needs the number beside the value.
 #[repr(C)]
 #[derive(Clone, Copy)]
 pub struct DepositsAnswer {
@@ -80,6 +75,7 @@ pub struct DepositsAnswer {
 }
 
 // 0 or a refusal's number, and how many consolidations are left in the queue: on refusal all.
+// The C interface needs the number beside the value.
 #[repr(C)]
 #[derive(Clone, Copy)]
 pub struct ConsolidationsAnswer {

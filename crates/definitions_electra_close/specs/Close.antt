@@ -1,5 +1,5 @@
 -- The whole close under Electra: what it is handed, its tests, what it hands back and what every lent list holds. Document 03, F-2 and F-3.
-use Rattle.std.specs.Prelude.{Bool, List, [], ◌∷◌, ◌++◌, ℕ, ◌+◌, ◌*◌, ◌/◌, length, replicate}
+use Rattle.std.specs.Prelude.{Bool, List, [], ◌∷◌, ◌++◌, ℕ, ◌+◌, ◌*◌, length, replicate}
 use Rattle.definitions.specs.declared.Finality.{Finality}
 use Rattle.definitions.specs.Record.{decode}
 use Rattle.definitions.specs.Checked.{Checked, value, refused, number_of, bind}

@@ -6,6 +6,7 @@ use definitions_electra::ExitChurn;
 
 // 0 or a refusal's number, the finality, the three raised totals (R-7) and the test that last set the checkpoint (R-4); how many validators there
 // are then, how many deposits and consolidations are left, and the queues' three numbers. On refusal: as the opening has them, none raised, 0.
+// The C interface needs the number beside the value.
 #[repr(C)]
 #[derive(Clone, Copy)]
 pub struct ElectraAnswer {

@@ -1,15 +1,12 @@
 -- Figures at the edges, by computing: each is a file, a shelf or a close at which a program that is nearly right gives another answer
 -- (docs/PROOFS.md, "Wrong programs"). The files are those of FileFigures.
-use mathlib.Core.Bool.{true, false}
 use mathlib.Core.List.{List, [], ◌∷◌, ◌++◌}
 use mathlib.Core.Path.{◌≡◌, refl}
 use Prim.Native.Nat.{ℕ, ◌+◌, ◌^◌}
 use lib.ListN.{replicate}
-use Rattle.definitions.specs.declared.Finality.{Finality}
-use Rattle.definitions.specs.declared.ExitQueue.{ExitQueue}
 use Rattle.definitions.specs.Lists.{all, every, filter, maximum, sum}
 use Rattle.definitions.specs.Record.{decode, decode_first}
-use Rattle.definitions.specs.Checked.{value, refused, bad_record, wrong_queue, code_of, bind}
+use Rattle.definitions.specs.Checked.{code_of, bind}
 use Rattle.definitions.specs.Mainnet.{mainnet_bellatrix}
 use Rattle.definitions.specs.Refusals.{in_order, after_tests, settings_from, settings_numbers, settings_shaped, registry_shaped, good_settings, good_finality, good_validator, good_registry}
 use Rattle.definitions.specs.Rules.{good_rules, good_bellatrix, altair_rules}
@@ -20,7 +17,7 @@ use Rattle.definitions.specs.Document.Phase0.Helpers.{is_active_validator, compu
 use Rattle.definitions.specs.Document.Phase0.EpochProcessing.{is_eligible}
 use Rattle.definitions_file.specs.Decimal.{digits, decimal, signed_decimal}
 use Rattle.definitions_file.specs.Lines.{ascii, lines, close_text, accepted_text, close_printed}
-use Rattle.definitions_file.specs.File.{Contents, no_checkpoint, little_endian, from_little_endian, numbers_to_bytes, numbers_from_bytes, finality_to_bytes, header, file_of, version_of, contents_of, queue_in, same_numbers, good_header, file_shaped, read_tests, read_file, write_tests}
+use Rattle.definitions_file.specs.File.{Contents, little_endian, from_little_endian, numbers_to_bytes, numbers_from_bytes, finality_to_bytes, header, file_of, version_of, contents_of, queue_in, same_numbers, good_header, file_shaped, read_tests, read_file, write_tests}
 use Rattle.definitions_file.specs.ClosedFile.{file_tests, answer_for}
 use Rattle.definitions_file.specs.Shelf.{shelf_of, shelf_shaped, shelf_refusal, answers_for}
 use Rattle.definitions_file.proofs.FileFigures.{finality, validator, contents, pair}

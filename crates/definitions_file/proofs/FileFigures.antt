@@ -1,6 +1,5 @@
 -- Figures of where reading stops, and of the order of what is printed, by computing. A file of one validator, one root and one slashings number.
-use mathlib.Core.Bool.{cond}
-use mathlib.Core.List.{List, [], ◌∷◌, ◌++◌}
+use mathlib.Core.List.{List, [], ◌∷◌}
 use mathlib.Core.Path.{◌≡◌, refl}
 use Prim.Native.Nat.{ℕ}
 use lib.ListN.{drop, replicate}

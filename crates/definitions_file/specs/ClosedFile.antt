@@ -3,7 +3,8 @@ use Rattle.std.specs.Prelude.{cond, ◌&&◌, List, [], ◌∷◌, ℕ, leb, eqb
 use Rattle.definitions.specs.declared.Bellatrix.{Bellatrix}
 use Rattle.definitions.specs.declared.Rules.{Rules}
 use Rattle.definitions.specs.Record.{BeaconState, encode, decode}
-use Rattle.definitions.specs.Checked.{Checked, refused, bad_file, bind, code_of}
+use Rattle.definitions.specs.Checked.{Checked, refused, bind, code_of}
+use Rattle.definitions.specs.declared.Refusal.TheVariants.{BadFile}
 use Rattle.definitions.specs.Refusals.{in_order, good_finality, good_registry, after_tests, closing_buffer}
 use Rattle.definitions.specs.Rules.{«BELLATRIX», settings_under, good_rules}
 use Rattle.definitions.specs.ExitQueue.{queue_of, queue_test}
@@ -25,7 +26,7 @@ file_tests fork pair file =
     let c = contents_of file in
     let shaped = file_shaped file c.registry c.slashings ∷ leb fork «BELLATRIX» ∷ [] in
     let others = in_order shaped (good_rules (rules_in fork pair file) ∷ []) (good_finality c.finality ∷ good_registry c.registry ∷ []) in
-    cond (good_header file && eqb (version_of file) 2) (bind others (λ _. queue_test (queue_in file) (decode c.registry))) (refused bad_file)
+    cond (good_header file && eqb (version_of file) 2) (bind others (λ _. queue_test (queue_in file) (decode c.registry))) (refused BadFile)
 
 -- the eight steps, as in every close
 abbrev pub work : ℕ → Bellatrix → List ℕ → Checked BeaconState

@@ -1,12 +1,13 @@
 -- Reading and writing a record file. Document 01, "Record file", and document 02, R-8: bytes as a list of numbers below 256.
-use Rattle.std.specs.Prelude.{Bool, true, false, cond, ◌&&◌, not, List, [], ◌∷◌, ◌++◌, ℕ, zero, suc, ◌+◌, ◌*◌, ◌-◌, ◌/◌, ◌%◌, ◌^◌, leb, ltb, eqb, length, get_or, take, drop, replicate}
+use Rattle.std.specs.Prelude.{Bool, true, false, cond, ◌&&◌, not, List, [], ◌∷◌, ◌++◌, ℕ, zero, suc, ◌+◌, ◌*◌, ◌-◌, ◌/◌, ◌%◌, ◌^◌, leb, ltb, eqb, length, take, drop, replicate}
 use Rattle.definitions.specs.declared.Settings.{Settings}
 use Rattle.definitions.specs.declared.Checkpoint.{Checkpoint}
 use Rattle.definitions.specs.declared.Finality.{Finality}
 use Rattle.definitions.specs.declared.ExitQueue.{ExitQueue}
 use Rattle.definitions_file.specs.declared.Header.{Header}
 use Rattle.definitions.specs.Record.{Validator, decode}
-use Rattle.definitions.specs.Checked.{Checked, value, refused, bad_file, number_of, bind, code_of, settle}
+use Rattle.definitions.specs.Checked.{Checked, value, refused, number_of, bind, code_of, settle}
+use Rattle.definitions.specs.declared.Refusal.TheVariants.{BadFile}
 use Rattle.definitions.specs.Refusals.{in_order, is_vector_length, settings_shaped, registry_shaped, roots_shaped, slashings_shaped, length_is, settings_numbers, settings_from, good_settings, good_finality, good_validator, good_registry}
 use Rattle.definitions.specs.ExitQueue.{queue_of, is_queue_of, queue_test}
 use Rattle.definitions.specs.Lists.{every}
@@ -212,7 +213,7 @@ read_tests bytes registry slashings =
     let c = contents_of bytes in
     let recorded = good_finality c.finality ∷ good_registry c.registry ∷ [] in
     let others = in_order (file_shaped bytes registry slashings ∷ []) (good_settings c.settings ∷ []) recorded in
-    cond (good_header bytes) (bind others (λ _. queue_test (queue_in bytes) (decode c.registry))) (refused bad_file)
+    cond (good_header bytes) (bind others (λ _. queue_test (queue_in bytes) (decode c.registry))) (refused BadFile)
 
 -- what is read, or the refusal; `registry` and `slashings` are the lent buffers
 unfoldable pub read_file : List ℕ → List ℕ → List ℕ → Checked Contents
@@ -292,7 +293,7 @@ contents_with s f registry roots slashings =
 
 -- test 6 alone: N, S and L, or refusal 6 and zeros
 abbrev pub no_header : Header
-no_header = record { refusal = number_of bad_file; validators = 0; roots = 0; slashings = 0 }
+no_header = record { refusal = number_of BadFile; validators = 0; roots = 0; slashings = 0 }
 
 unfoldable pub header_read : List ℕ → Header
 header_read bytes =

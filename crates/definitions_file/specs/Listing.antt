@@ -1,6 +1,7 @@
 -- The listing of a record file. Document 01, "The listing program reads a record file (at most 65536 bytes) ..".
 use Rattle.std.specs.Prelude.{cond, List, ℕ, ◌*◌, ltb, length, replicate}
-use Rattle.definitions.specs.Checked.{number_of, bad_file}
+use Rattle.definitions.specs.Checked.{number_of}
+use Rattle.definitions.specs.declared.Refusal.TheVariants.{BadFile}
 use Rattle.definitions_file.specs.File.{Contents, ReadOutcome, count_of, slashing_count_of, read}
 use Rattle.definitions.specs.Rules.{altair_rules}
 use Rattle.definitions.specs.Close.{Call, close}
@@ -33,4 +34,4 @@ printed opening call = or_refused opening.refusal (close_printed call (close cal
 -- "longer input prints `refused 6`"
 unfoldable pub listing : List ℕ → List ℕ
 listing bytes =
-    cond (ltb 65536 (length bytes)) (refused_line (number_of bad_file)) (printed (opened bytes) (closing (opened bytes).contents))
+    cond (ltb 65536 (length bytes)) (refused_line (number_of BadFile)) (printed (opened bytes) (closing (opened bytes).contents))

@@ -1,7 +1,8 @@
 -- All that the program prints. Document 02, R-12.
 use Rattle.std.specs.Prelude.{cond, List, ◌++◌, ℕ, ltb, length}
 use Rattle.definitions.specs.Record.{decode}
-use Rattle.definitions.specs.Checked.{code_of, number_of, bad_shape, bad_file}
+use Rattle.definitions.specs.Checked.{code_of, number_of}
+use Rattle.definitions.specs.declared.Refusal.TheVariants.{BadShape, BadFile}
 use Rattle.definitions_file.specs.File.{Contents, count_of}
 use Rattle.definitions.specs.NetChange.{change_tests}
 use Rattle.definitions_file.specs.Lines.{lines, refused_line, or_refused}
@@ -25,8 +26,8 @@ text_of file tail =
     let n = count_of file in
     let c = (opened file).contents in
     let tried = run (plan_from n tail) (epochs_in tail) c in
-    or_refused (opened file).refusal (cond (good_tail n tail) (run_text c tried) (refused_line (number_of bad_shape)))
+    or_refused (opened file).refusal (cond (good_tail n tail) (run_text c tried) (refused_line (number_of BadShape)))
 
 -- "A longer input prints `refused 6`"
 unfoldable pub outage : List ℕ → List ℕ
-outage input = cond (ltb 65536 (length input)) (refused_line (number_of bad_file)) (text_of (file_in input) (tail_in input))
+outage input = cond (ltb 65536 (length input)) (refused_line (number_of BadFile)) (text_of (file_in input) (tail_in input))

@@ -3,7 +3,8 @@
 use Rattle.std.specs.Prelude.{◌≡◌, Bool, cond, List, [], ◌∷◌, ◌++◌, ℕ, ◌*◌, leb, eqb, length, take, drop}
 use Rattle.definitions.specs.declared.Bellatrix.{Bellatrix}
 use Rattle.definitions.specs.Lists.{sum, maximum, every}
-use Rattle.definitions.specs.Checked.{number_of, bad_shape}
+use Rattle.definitions.specs.Checked.{number_of}
+use Rattle.definitions.specs.declared.Refusal.TheVariants.{BadShape}
 use Rattle.definitions.specs.Refusals.{length_is}
 use Rattle.definitions_file.specs.ClosedFile.{answer_for, part_for}
 
@@ -34,7 +35,7 @@ shelf_shaped s =
     )
 
 unfoldable pub shelf_refusal : Shelf → ℕ
-shelf_refusal s = cond (shelf_shaped s) 0 (number_of bad_shape)
+shelf_refusal s = cond (shelf_shaped s) 0 (number_of BadShape)
 
 -- Each file by itself: "neighbours change nothing"
 

@@ -23,6 +23,7 @@ pub const LONGEST_OUTAGE: usize = 964000;
 // What reading a record file answers.
 
 // How long the buffers of a read must be: ten numbers a validator, one a slashing. Or refusal 6, and zeros.
+// The C interface needs the number beside the value.
 #[repr(C)]
 #[derive(Clone, Copy)]
 pub struct Header {
@@ -33,6 +34,7 @@ pub struct Header {
 }
 
 // What a read answers by value: 0 or the refusal's number, where it stopped, and zeros where it is refused.
+// The C interface needs the number beside the value.
 #[repr(C)]
 #[derive(Clone, Copy)]
 pub struct ReadAnswer {
@@ -46,6 +48,7 @@ pub struct ReadAnswer {
 // What the lines of a listing tell, by value.
 
 // Of the first line, or a refusal's number and zeros.
+// The C interface needs the number beside the value.
 #[repr(C)]
 #[derive(Clone, Copy)]
 pub struct Head {
@@ -59,6 +62,7 @@ pub struct Head {
 }
 
 // Of one validator's line, or a refusal's number and zeros.
+// The C interface needs the number beside the value.
 #[repr(C)]
 #[derive(Clone, Copy)]
 pub struct Line {

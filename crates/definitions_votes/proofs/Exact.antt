@@ -8,7 +8,8 @@ use native.Mathlib.Omega.{arith}
 use borrow.Author.Tests.{le-leb, lt-leb, ne_eqb}
 use Rattle.definitions.specs.declared.Finality.{Finality}
 use Rattle.definitions.specs.Lists.{sum}
-use Rattle.definitions.specs.Checked.{Checked, value, refused, overflow, bind}
+use Rattle.definitions.specs.Checked.{Checked, value, refused, bind}
+use Rattle.definitions.specs.declared.Refusal.TheVariants.{Overflow}
 use Rattle.definitions.specs.Document.Phase0.EpochProcessing.{weighed}
 use Rattle.definitions.specs.Rust.Phase0.Helpers.{is_active_validator, get_previous_epoch, get_block_root}
 use Rattle.definitions.specs.Rust.Altair.Helpers.{is_unslashed_participating}
@@ -88,14 +89,14 @@ module _ (b : Ballot) (l : 1 < current_of b) (r : roots_found b ≡ true) where
 
   -- with all set an evaluation overflows
   pub record Over : Type 0 where
-    pub step : step_of b all_set ≡ refused overflow
-    pub work : weighed_votes b ≡ refused overflow
+    pub step : step_of b all_set ≡ refused Overflow
+    pub work : weighed_votes b ≡ refused Overflow
 
-  previous-over : test_of b (previous_of b) all_set ≡ refused overflow → Over
+  previous-over : test_of b (previous_of b) all_set ≡ refused Overflow → Over
   unfolding weighed_votes bind
   previous-over e = record { step = step-tests all_set ∙ rw e; work = rw e }
 
-  current-over : {x : Bool} → test_of b (previous_of b) all_set ≡ value x → test_of b (current_of b) all_set ≡ refused overflow → Over
+  current-over : {x : Bool} → test_of b (previous_of b) all_set ≡ value x → test_of b (current_of b) all_set ≡ refused Overflow → Over
   unfolding weighed_votes bind
   current-over p e = record { step = step-tests all_set ∙ rw (p, e); work = rw (p, e) }
 
@@ -124,7 +125,7 @@ module _ (b : Ballot) (l : 1 < current_of b) (r : roots_found b ≡ true) where
     unfolding weighed_votes bind
     work-is = rw (g.pm, g.cm, g.pf, g.cf)
 
-    pub never-over : (f : Filling) → step_of b f ≡ refused overflow → ⊥
+    pub never-over : (f : Filling) → step_of b f ≡ refused Overflow → ⊥
     never-over f e =
         let p = previous-between f in
         let q = current-between f in
@@ -195,21 +196,21 @@ module _ (b : Ballot) (l : 1 < current_of b) (r : roots_found b ≡ true) where
   unfolding votes
   later = rw (lt-leb _ _ l, r)
 
-  pub exact-over : (f : Filling) → step_of b f ≡ refused overflow → votes b ≡ refused overflow
+  pub exact-over : (f : Filling) → step_of b f ≡ refused Overflow → votes b ≡ refused Overflow
   exact-over f e = go either
     where
-      go : Given ⊎ Over → votes b ≡ refused overflow
+      go : Given ⊎ Over → votes b ≡ refused Overflow
       go (inl g) = absurd (never-over g f e)
       go (inr o) = later ∙ o.work
 
-  pub exact_over_only : votes b ≡ refused overflow → (f : Filling) × (step_of b f ≡ refused overflow)
+  pub exact_over_only : votes b ≡ refused Overflow → (f : Filling) × (step_of b f ≡ refused Overflow)
   exact_over_only e = go either
     where
-      go : Given ⊎ Over → (f : Filling) × (step_of b f ≡ refused overflow)
+      go : Given ⊎ Over → (f : Filling) × (step_of b f ≡ refused Overflow)
       go (inl g) = absurd (not_value (sym e ∙ later ∙ work-is g))
       go (inr o) = (all_set, o.step)
 
-  pub exact-told : ((f : Filling) → step_of b f ≡ refused overflow → ⊥) → Told b (votes b)
+  pub exact-told : ((f : Filling) → step_of b f ≡ refused Overflow → ⊥) → Told b (votes b)
   exact-told h = go either
     where
       go : Given ⊎ Over → Told b (votes b)

@@ -8,7 +8,8 @@ use Rattle.definitions.specs.declared.Checkpoint.{Checkpoint}
 use Rattle.definitions.specs.declared.Finality.{Finality}
 use Rattle.definitions.specs.Lists.{filter, sum, all}
 use Rattle.definitions.specs.Record.{Validator, FAR_FUTURE_EPOCH}
-use Rattle.definitions.specs.Checked.{Checked, value, refused, no_root, overflow, bind, add64, mul64, sum64}
+use Rattle.definitions.specs.Checked.{Checked, value, refused, bind, add64, mul64, sum64}
+use Rattle.definitions.specs.declared.Refusal.TheVariants.{NoRoot, Overflow}
 use Rattle.definitions.specs.Mainnet.{mainnet}
 use Rattle.definitions.specs.Refusals.{settings_numbers, settings_from}
 use Rattle.definitions.specs.Document.Phase0.Helpers as document
@@ -89,11 +90,11 @@ pub record Figures : Type 0 where
   -- up to epoch 1: the finalized epoch alone, though the roots cannot be looked up
   pub early : votes (ballot (standing 8 3 1 2 5) (five 7 7) (marked 3)) ≡ told (5 ∷ []) none none
   -- at the first slot of an epoch its root cannot be looked up, though no vote wants it
-  pub four : votes (ballot (standing 24 3 1 2 1) (five 0 0) (marked 0)) ≡ refused no_root
+  pub four : votes (ballot (standing 24 3 1 2 1) (five 0 0) (marked 0)) ≡ refused NoRoot
   -- and that comes before 5
-  pub four-first : votes (ballot (standing 24 3 1 2 1) (replicate 5 (validator 18446744073709551615 7 7)) (marked 0)) ≡ refused no_root
+  pub four-first : votes (ballot (standing 24 3 1 2 1) (replicate 5 (validator 18446744073709551615 7 7)) (marked 0)) ≡ refused NoRoot
   -- 3 times the target overflows in one filling alone
-  pub five-unknown : votes (ballot (standing 31 3 1 2 1) (validator 9000000000000000000 0 0 ∷ []) (2 ∷ [])) ≡ refused overflow
+  pub five-unknown : votes (ballot (standing 31 3 1 2 1) (validator 9000000000000000000 0 0 ∷ []) (2 ∷ [])) ≡ refused Overflow
   pub five-known : votes (ballot (standing 31 3 1 2 1) (validator 9000000000000000000 0 0 ∷ []) (0 ∷ [])) ≡ told (1 ∷ []) none none
 
 pub figures : Figures

@@ -10,7 +10,8 @@ use Rattle.definitions.specs.declared.Settings.{Settings}
 use Rattle.definitions.specs.declared.Finality.{Finality}
 use Rattle.definitions.specs.Lists.{sum}
 use Rattle.definitions.specs.Record.{Validator}
-use Rattle.definitions.specs.Checked.{Checked, value, refused, overflow, bind, mul64, sum64}
+use Rattle.definitions.specs.Checked.{Checked, value, refused, bind, mul64, sum64}
+use Rattle.definitions.specs.declared.Refusal.TheVariants.{Overflow}
 use Rattle.definitions.specs.Document.Phase0.EpochProcessing.{weighed}
 use Rattle.definitions.specs.Rust.Phase0.Helpers.{is_active_validator, get_current_epoch, get_previous_epoch, get_block_root, get_active_validator_indices, get_total_balance, get_total_active_balance}
 use Rattle.definitions.specs.Rust.Phase0.EpochProcessing.{is_justified, root_where, weigh_justification_and_finalization}
@@ -24,9 +25,9 @@ use Rattle.definitions_votes.proofs.Filled.{weight}
 -- How an evaluation ends that only overflow can refuse
 pub data Ends {A : Type 0} (m : Checked A) : Type 0 where
   gave : (a : A) → m ≡ value a → Ends m
-  over : m ≡ refused overflow → Ends m
+  over : m ≡ refused Overflow → Ends m
 
-ends-cond : {A : Type 0} (t : Bool) (a : A) → Ends (cond t (value a) (refused overflow))
+ends-cond : {A : Type 0} (t : Bool) (a : A) → Ends (cond t (value a) (refused Overflow))
 ends-cond true a = gave a refl
 ends-cond false a = over refl
 
@@ -54,7 +55,7 @@ ends-justified target total = ends-bind _ _ (ends-mul64 target 3) (λ l. ends-bi
 -- The test by its plain sums
 
 abbrev total_of : ℕ → ℕ → Checked ℕ
-total_of increment plain = bind (cond (ltb plain (2 ^ 64)) (value plain) (refused overflow)) (λ t. value (max increment t))
+total_of increment plain = bind (cond (ltb plain (2 ^ 64)) (value plain) (refused Overflow)) (λ t. value (max increment t))
 
 unfoldable pub test_by : ℕ → ℕ → ℕ → Checked Bool
 test_by increment active target = bind (total_of increment active) (λ total. bind (total_of increment target) (λ t. is_justified t total))
@@ -66,16 +67,16 @@ abbrev passes_by : ℕ → ℕ → ℕ → Bool
 passes_by increment active target = leb (max increment active * 2) (max increment target * 3)
 
 module _ (increment active target : ℕ) where
-  test-is : test_by increment active target ≡ cond (fits_by increment active target) (value (passes_by increment active target)) (refused overflow)
+  test-is : test_by increment active target ≡ cond (fits_by increment active target) (value (passes_by increment active target)) (refused Overflow)
   unfolding test_by fits_by bind is_justified mul64
   test-is = sums (ltb active (2 ^ 64)) (ltb target (2 ^ 64))
     where
-      products : (c d : Bool) → bind (cond c (value (max increment target * 3)) (refused overflow)) (λ l. bind (cond d (value (max increment active * 2)) (refused overflow)) (λ r. value (leb r l))) ≡ cond (c && d) (value (passes_by increment active target)) (refused overflow)
+      products : (c d : Bool) → bind (cond c (value (max increment target * 3)) (refused Overflow)) (λ l. bind (cond d (value (max increment active * 2)) (refused Overflow)) (λ r. value (leb r l))) ≡ cond (c && d) (value (passes_by increment active target)) (refused Overflow)
       products true true = refl
       products true false = refl
       products false d = refl
 
-      sums : (a b : Bool) → bind (bind (cond a (value active) (refused overflow)) (λ t. value (max increment t))) (λ total. bind (bind (cond b (value target) (refused overflow)) (λ t. value (max increment t))) (λ t. is_justified t total)) ≡ cond (a && (b && (ltb (max increment target * 3) (2 ^ 64) && ltb (max increment active * 2) (2 ^ 64)))) (value (passes_by increment active target)) (refused overflow)
+      sums : (a b : Bool) → bind (bind (cond a (value active) (refused Overflow)) (λ t. value (max increment t))) (λ total. bind (bind (cond b (value target) (refused Overflow)) (λ t. value (max increment t))) (λ t. is_justified t total)) ≡ cond (a && (b && (ltb (max increment target * 3) (2 ^ 64) && ltb (max increment active * 2) (2 ^ 64)))) (value (passes_by increment active target)) (refused Overflow)
       sums true true = products (ltb (max increment target * 3) (2 ^ 64)) (ltb (max increment active * 2) (2 ^ 64))
       sums true false = refl
       sums false b = refl
@@ -93,7 +94,7 @@ module _ (increment active target : ℕ) where
   unfolding fits_by
   test_fits {y} e = go (ltb active (2 ^ 64)) refl (ltb target (2 ^ 64)) refl (sym test-is ∙ e)
     where
-      go : (a : Bool) → ltb active (2 ^ 64) ≡ a → (b : Bool) → ltb target (2 ^ 64) ≡ b → cond (a && (b && (ltb (max increment target * 3) (2 ^ 64) && ltb (max increment active * 2) (2 ^ 64)))) (value (passes_by increment active target)) (refused overflow) ≡ value y → (active < 2 ^ 64) × (target < 2 ^ 64)
+      go : (a : Bool) → ltb active (2 ^ 64) ≡ a → (b : Bool) → ltb target (2 ^ 64) ≡ b → cond (a && (b && (ltb (max increment target * 3) (2 ^ 64) && ltb (max increment active * 2) (2 ^ 64)))) (value (passes_by increment active target)) (refused Overflow) ≡ value y → (active < 2 ^ 64) × (target < 2 ^ 64)
       go true p true q e = (ltb-true _ _ p, ltb-true _ _ q)
       go true p false q e = absurd (not_value e)
       go false p b q e = absurd (not_value e)
@@ -102,10 +103,10 @@ module _ (increment active target : ℕ) where
 pub record Rises (lo hi : Checked Bool) : Type 0 where
   pub given : (y : Bool) → hi ≡ value y → (x : Bool) × (lo ≡ value x) × (x ≡ true → y ≡ true)
 
-cond-given : {t b y : Bool} → cond t (value b) (refused overflow) ≡ value y → (t ≡ true) × (b ≡ y)
+cond-given : {t b y : Bool} → cond t (value b) (refused Overflow) ≡ value y → (t ≡ true) × (b ≡ y)
 cond-given {t} {b} {y} e = go t e
   where
-    go : (t : Bool) → cond t (value b) (refused overflow) ≡ value y → (t ≡ true) × (b ≡ y)
+    go : (t : Bool) → cond t (value b) (refused Overflow) ≡ value y → (t ≡ true) × (b ≡ y)
     go true e = (refl, value_same e)
     go false e = absurd (not_value e)
 
@@ -129,7 +130,7 @@ test_rises increment active x y l =
       given =
           λ t e.
           let g = cond-given {t = fits_by increment active y} (sym (test-is increment active y) ∙ e) in
-          (passes_by increment active x, test-is increment active x ∙ ap (λ (t : Bool). cond t (value (passes_by increment active x)) (refused overflow)) (fits_down increment active x y l g.0), λ p. sym g.1 ∙ le-leb _ _ (more (leb-true _ _ p)));
+          (passes_by increment active x, test-is increment active x ∙ ap (λ (t : Bool). cond t (value (passes_by increment active x)) (refused Overflow)) (fits_down increment active x y l g.0), λ p. sym g.1 ∙ le-leb _ _ (more (leb-true _ _ p)));
     }
   where
     more : max increment active * 2 ≤ max increment x * 3 → max increment active * 2 ≤ max increment y * 3
@@ -156,7 +157,7 @@ module _ (J : ℕ → ℕ → Checked Bool) (ends : (x y : ℕ) → Ends (J x y)
   by_tests (value a) (refused q) C e = refl
   by_tests (value a) (value p) C (over e) = rw e (go (J p a) (ends p a))
     where
-      go : (m : Checked Bool) → Ends m → refused overflow ≡ bind {B = Finality} m (λ x. refused overflow)
+      go : (m : Checked Bool) → Ends m → refused Overflow ≡ bind {B = Finality} m (λ x. refused Overflow)
       go m (gave x e) = rw e
       go m (over e) = rw e
   by_tests (value a) (value p) C (gave c e) = rw e (go (J p a))

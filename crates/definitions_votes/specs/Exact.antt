@@ -4,7 +4,8 @@ use Rattle.definitions.specs.declared.Settings.{Settings}
 use Rattle.definitions.specs.declared.Finality.{Finality}
 use Rattle.definitions.specs.Lists.{all}
 use Rattle.definitions.specs.Record.{Validator}
-use Rattle.definitions.specs.Checked.{Checked, value, refused, no_root, overflow, bind}
+use Rattle.definitions.specs.Checked.{Checked, value, refused, bind}
+use Rattle.definitions.specs.declared.Refusal.TheVariants.{NoRoot, Overflow}
 use Rattle.definitions.specs.Rust.Phase0.Helpers.{get_current_epoch, get_previous_epoch, get_block_root, get_total_balance, get_total_active_balance}
 use Rattle.definitions.specs.Rust.Phase0.EpochProcessing.{is_justified}
 use Rattle.definitions.specs.Rust.Altair.Helpers.{TIMELY_TARGET_FLAG_INDEX, get_unslashed_participating_indices}
@@ -104,9 +105,9 @@ pub record Exact (b : Ballot) (m : Checked Outcome) : Type 0 where
   -- up to epoch 1
   pub early : current_of b ≤ 1 → m ≡ value (nothing_open b)
   -- 4 where either root cannot be looked up, wanted or not
-  pub missing : 1 < current_of b → roots_found b ≡ false → m ≡ refused no_root
+  pub missing : 1 < current_of b → roots_found b ≡ false → m ≡ refused NoRoot
   -- then 5 where some filling overflows, and only there
-  pub over : 1 < current_of b → roots_found b ≡ true → (f : Filling) → step_of b f ≡ refused overflow → m ≡ refused overflow
-  pub over-only : 1 < current_of b → roots_found b ≡ true → m ≡ refused overflow → (f : Filling) × (step_of b f ≡ refused overflow)
+  pub over : 1 < current_of b → roots_found b ≡ true → (f : Filling) → step_of b f ≡ refused Overflow → m ≡ refused Overflow
+  pub over-only : 1 < current_of b → roots_found b ≡ true → m ≡ refused Overflow → (f : Filling) × (step_of b f ≡ refused Overflow)
   -- and else the list and both verdicts
-  pub told : 1 < current_of b → roots_found b ≡ true → ((f : Filling) → step_of b f ≡ refused overflow → ⊥) → Told b m
+  pub told : 1 < current_of b → roots_found b ≡ true → ((f : Filling) → step_of b f ≡ refused Overflow → ⊥) → Told b m

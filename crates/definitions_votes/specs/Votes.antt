@@ -4,7 +4,8 @@ use Rattle.definitions.specs.declared.Settings.{Settings}
 use Rattle.definitions.specs.declared.Finality.{Finality}
 use Rattle.definitions.specs.Lists.{all}
 use Rattle.definitions.specs.Record.{GENESIS_EPOCH, decode}
-use Rattle.definitions.specs.Checked.{Checked, value, refused, no_root, bind}
+use Rattle.definitions.specs.Checked.{Checked, value, refused, bind}
+use Rattle.definitions.specs.declared.Refusal.TheVariants.{NoRoot}
 use Rattle.definitions.specs.Refusals.{in_order, settings_shaped, roots_shaped, registry_shaped, length_is, good_settings, good_finality, good_registry}
 use Rattle.definitions.specs.Document.Phase0.EpochProcessing.{justified_bits, finalized_by}
 use Rattle.definitions_votes.specs.Filling.{good_mark, none_set, all_set}
@@ -49,7 +50,7 @@ weighed_votes b =
 unfoldable pub votes : Ballot → Checked Outcome
 votes b =
     cond (leb (current_of b) (GENESIS_EPOCH + 1)) (value (nothing_open b))
-    (cond (roots_found b) (weighed_votes b) (refused no_root))
+    (cond (roots_found b) (weighed_votes b) (refused NoRoot))
 
 -- Tests 1, 2 and 3: justification's, one mark a validator, and no mark over 3
 unfoldable pub votes_tests : Settings → List ℕ → Finality → List ℕ → List ℕ → Checked (Unit {0})

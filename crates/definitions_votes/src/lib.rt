@@ -3,6 +3,7 @@
 
 // The epochs that some filling finalizes, rising: the first `count` of finalized_epochs, zeros behind them. Then for each target epoch
 // whether its two-thirds test passes: 0 in no filling, 1 in some, 2 in all. On refusal all but the number is 0.
+// The C interface needs the number beside the value.
 #[repr(C)]
 #[derive(Clone, Copy)]
 pub struct VotesAnswer {

@@ -1,8 +1,8 @@
--- The registry step: its tests as the code makes them, by the settings, the rules and the limit. `x` is the number that they gave.
+-- The registry step: its tests as the code makes them, by the settings, the rules and the limit. `x` is what they answered.
 use mathlib.Core.Path.{◌≡◌, refl, sym, ap, ◌∙◌}
 use mathlib.Core.Bool.{Bool, true}
 use mathlib.Core.List.{List, [], ◌∷◌}
-use Prim.Native.Nat.{ℕ, ◌*◌, ◌/◌}
+use Prim.Native.Nat.{ℕ, ◌/◌}
 use native.Mathlib.Omega.{arith}
 use borrow.Author.Tests.{le-leb}
 use lib.Dec.{leb}
@@ -11,16 +11,18 @@ use Rattle.definitions.specs.declared.ExitQueue.{ExitQueue}
 use Rattle.definitions.specs.declared.QueueAnswer.{QueueAnswer}
 use Rattle.definitions.specs.Lists.{every}
 use Rattle.definitions.specs.Record.{encode, decode}
-use Rattle.definitions.specs.Checked.{Checked, code_of}
-use Rattle.definitions.specs.Refusals.{in_order, is_small, settings_shaped, registry_shaped, same_length, good_settings, good_registry}
+use Rattle.definitions.specs.declared.Refusal.{Refusal}
+use Rattle.definitions.specs.Checked.{Checked, value, refused, number_of}
+use Rattle.definitions.specs.Refusals.{in_order, is_small, settings_shaped, registry_shaped, same_length, good_settings}
 use Rattle.definitions.specs.Rules.{rules_shaped, good_bellatrix, good_rules}
 use Rattle.definitions.specs.RegisterOrder.{limited_updates_to, registry_to_tests}
 use Rattle.definitions_close.specs.QueueCalls.{registry_to_queue_tests, QueueCloses}
 use Rattle.definitions_deneb.specs.declared.DenebRules.{DenebRules}
 use Rattle.definitions_deneb.specs.Calls.{under_bellatrix, limit_of, registry_tests, registry_work}
 use Rattle.laws.proofs.ActivationQueue.Stopped.{stopped}
+use Rattle.laws.proofs.Checked.{number_not_zero}
 use Rattle.laws.proofs.Encode.{length-decode}
-use Rattle.laws.proofs.Tests.{InOrder, in_order_lem, both, and_true}
+use Rattle.laws.proofs.Tests.{InOrder, in_order-value, both, and_true}
 use Rattle.refusals.specs.Refusal.{rules_refusal, limit_refusal}
 use Rattle.refusals.proofs.Laws.{registry-shaped}
 use Rattle.refusals.proofs.buffers.Closes.{closes-refused}
@@ -51,27 +53,27 @@ module _ (r : DenebRules) (state_slot finalized_epoch : ℕ) (queue : ExitQueue)
   unfolding rules_shaped in_order every
   same-shapes = rw (and_true (settings_shaped r.settings), le-leb n n (omega arith))
 
-  pub first-tested : {x y z : ℕ} → x ≡ code_of (first_tests n r.settings state_slot finalized_epoch opening closing) → y ≡ rules_refusal (under_bellatrix r) x → z ≡ limit_refusal (limit_of r) y → z ≡ code_of first
+  pub first-tested : {x y z : Checked (Unit {0})} → x ≡ first_tests n r.settings state_slot finalized_epoch opening closing → y ≡ rules_refusal (under_bellatrix r) x → z ≡ limit_refusal (limit_of r) y → z ≡ first
   first-tested e f g =
-      limit-tested (limit_of r) _ (good_rules (under_bellatrix r) ∷ []) slots g (rules-tested (under_bellatrix r) _ [] slots f e) ∙ ap code_of same-shapes
+      limit-tested (limit_of r) _ (good_rules (under_bellatrix r) ∷ []) slots g (rules-tested (under_bellatrix r) _ [] slots f e) ∙ same-shapes
 
-  module _ {x : ℕ} (e : x ≡ code_of first) where
-    pub step-refused : (x ≡ 0 → ⊥) → QueueCloses (registry_tests r state_slot finalized_epoch queue opening closing) (registry_work r state_slot finalized_epoch opening) queue opening closing closing (record { refusal = x; queue = queue })
+  module _ {x : Checked (Unit {0})} (e : x ≡ first) where
+    pub step-refused : {p : Refusal} {k : ℕ} → x ≡ refused p → k ≡ number_of p → QueueCloses (registry_tests r state_slot finalized_epoch queue opening closing) (registry_work r state_slot finalized_epoch opening) queue opening closing closing (record { refusal = k; queue = queue })
     unfolding registry_tests
-    step-refused z =
+    step-refused {p} z number =
         let tests = registry_tests r state_slot finalized_epoch queue opening closing in
         let work = registry_work r state_slot finalized_epoch opening in
-        queue-closes tests work (closes-refused encode tests (early-refused shapes setting_tests slots queue opening e z) work z) (λ n. absurd (z n)) (λ _. refl)
+        queue-closes tests work (rw number (closes-refused encode tests refl work (early-refused shapes setting_tests slots queue opening e z))) (λ n. absurd (number_not_zero p (sym number ∙ n))) (λ _. refl)
 
-    module _ (z : x ≡ 0) where
+    module _ (z : x ≡ value tt) where
       passed : InOrder shapes setting_tests slots
-      passed = in_order_lem shapes setting_tests slots (sym e ∙ z)
+      passed = in_order-value shapes setting_tests slots (sym e ∙ z)
 
       good : good_settings r.settings ≡ true
       unfolding good_rules
       good = (both (good_settings r.settings) (good_bellatrix r.bellatrix) (passed.settings 0)).0
 
-      pub first-passed : code_of (first_tests n r.settings state_slot finalized_epoch opening closing) ≡ 0
+      pub first-passed : first_tests n r.settings state_slot finalized_epoch opening closing ≡ value tt
       unfolding in_order every
       first-passed = rw (passed.shaped 0, passed.shaped 1, passed.shaped 2, le-leb n n (omega arith), good, passed.recorded 0, passed.recorded 1)
 

@@ -51,10 +51,9 @@ pub fn process_registry_updates(
     let limit = limit_of(rules);
     let by_settings = step_tests(n, s, state_slot, finalized_epoch, opening, &closing[..]);
     let by_rules = rules_refusal(under, by_settings);
-    let refusal = limit_refusal(limit, by_rules);
-    if refusal != 0 {
+    if let Err(refusal) = limit_refusal(limit, by_rules) {
         return QueueAnswer {
-            refusal: refusal,
+            refusal: refusal.number(),
             queue: queue,
         };
     }

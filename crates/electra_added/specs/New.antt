@@ -1,7 +1,7 @@
 -- Step 8 at those whom the deposits add, who stand behind the n of the opening.
 use Rattle.std.specs.Prelude.{◌≡◌, List, ℕ, drop}
 use Rattle.definitions.specs.Record.{Validator}
-use Rattle.definitions.specs.Checked.{Checked, value, code_of}
+use Rattle.definitions.specs.Checked.{Checked, value, done}
 use Rattle.definitions_electra.specs.declared.ElectraRules.{ElectraRules}
 use Rattle.definitions_electra.specs.Record.{ElectraState}
 use Rattle.definitions_electra.specs.Evaluated.Electra.EpochProcessing.{update_effective_balances}
@@ -12,6 +12,6 @@ abbrev pub new_updates : ElectraRules → ℕ → Six → Checked (List Validato
 new_updates r n x = update_effective_balances r (drop n x.processing.registry.compounding) (drop n x.processing.registry.validators)
 
 -- of every state that the deposits may be lent of, where they are not refused
-pub record NewRefusal (r : ElectraRules) (n : ℕ) (deposits : List ℕ) (index : ℕ) (code : ℕ) : Type 0 where
+pub record NewRefusal (r : ElectraRules) (n : ℕ) (deposits : List ℕ) (index : ℕ) (answer : Checked (Unit {0})) : Type 0 where
   pub tests : (st : ElectraState) → Finds n deposits st → (x : Six) → six_by r st ≡ value x → index ≡ x.processing.next_deposit_index →
-      code ≡ code_of (new_updates r n x)
+      answer ≡ done (new_updates r n x)

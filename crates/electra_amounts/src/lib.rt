@@ -29,39 +29,37 @@ pub fn spread(amounts: &mut [u64])
     }
 }
 
-// What a is more than b.
-fn more(a: u64, b: u64) -> u64
-    ensures { result ≡ a - b }
-{
-    if a < b {
-        return 0;
-    }
-    a - b
+// What a column is booked with.
+#[derive(Clone, Copy)]
+pub enum Amount {
+    // the balance
+    Balance,
+    // what it is less than the one that was kept
+    Less,
+    // what it is more
+    More,
 }
 
-// 0: the balance. 1: what it is less than the one that was kept. 2: what it is more.
-fn booked(op: u64, kept: u64, balance: u64) -> u64
-    ensures { result ≡ booked_by op kept balance }
+fn booked(amount: Amount, kept: u64, balance: u64) -> u64
+    ensures { result ≡ booked_by amount kept balance }
 {
-    if op == 0 {
-        return balance;
+    match amount {
+        Amount::Balance => balance,
+        Amount::Less => kept.saturating_sub(balance),
+        Amount::More => balance.saturating_sub(kept),
     }
-    if op == 1 {
-        return more(kept, balance);
-    }
-    more(balance, kept)
 }
 
 // Of every validator, in one column.
-pub fn book(op: u64, column: usize, registry: &[u64], amounts: &mut [u64])
+pub fn book(amount: Amount, column: usize, registry: &[u64], amounts: &mut [u64])
     requires { (length registry.now ≡ 10 * (length registry.now / 10)) × (length amounts.old ≡ 12 * (length registry.now / 10)) × (column < 12) }
-    ensures { Booked op column registry.now amounts.old amounts.new }
+    ensures { Booked amount column registry.now amounts.old amounts.new }
 {
     let n = registry.len() / 10;
     for i in 0..n {
         let balance = registry[10 * i + BALANCE];
         let p = 12 * i + column;
-        let x = booked(op, amounts[p], balance);
+        let x = booked(amount, amounts[p], balance);
         amounts[p] = x;
     }
 }

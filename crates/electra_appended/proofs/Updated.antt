@@ -5,6 +5,7 @@ use Prim.Native.Nat.{ℕ, ◌-◌, ◌*◌, ◌≤◌}
 use native.Mathlib.Omega.{arith}
 use lib.ListN.{length, take, drop}
 use lib.Seq.{take_at, drop_at}
+use Rattle.definitions.specs.Checked.{Checked}
 use Rattle.definitions.specs.Record.{encode, decode}
 use Rattle.laws.specs.Ran.{Ran}
 use Rattle.laws.proofs.Encode.{length-encode, decode-encode}
@@ -12,7 +13,7 @@ use Rattle.definitions_electra.specs.declared.ElectraRules.{ElectraRules}
 use Rattle.definitions_electra.specs.Evaluated.Electra.EpochProcessing.{update_effective_balances}
 use Rattle.electra_appended.specs.Appended.{Updates}
 
-pub updated : (r : ElectraRules) (n count : ℕ) (cs before : List ℕ) {e : List ℕ} {code : ℕ} → n ≤ count → Ran (update_effective_balances r (take (count - n) (drop n cs)) (decode (take (10 * count - 10 * n) (drop (10 * n) before)))) e code → Updates r n count cs before (take (10 * n) before ++ (e ++ drop (10 * count - 10 * n) (drop (10 * n) before)))
+pub updated : (r : ElectraRules) (n count : ℕ) (cs before : List ℕ) {e : List ℕ} {code : Checked (Unit {0})} → n ≤ count → Ran (update_effective_balances r (take (count - n) (drop n cs)) (decode (take (10 * count - 10 * n) (drop (10 * n) before)))) e code → Updates r n count cs before (take (10 * n) before ++ (e ++ drop (10 * count - 10 * n) (drop (10 * n) before)))
 updated r n count cs before l h =
     record {
       updates = λ us ws rest lu lw is xs u. (

@@ -15,7 +15,6 @@ use electra_deposits::adding::add_deposits;
 use electra_deposits::closing::copy_front;
 use electra_deposits::step::new_numbers;
 use electra_last::append_amounts;
-use refusals::buffers::clear;
 
 // As the deposits leave them. Answers how many validators there are then.
 fn add_behind(
@@ -39,7 +38,7 @@ fn add_behind(
     ensures lower_bound { (n ≤ result) × (result ≤ n + length deposits.now / 5) }
 {
     copy_front(compounding, closing_compounding);
-    clear(places);
+    places.fill(0);
     let k = new_numbers(rules);
     add_deposits(
         closing_registry,
@@ -52,7 +51,7 @@ fn add_behind(
     )
 }
 
-// Effective balances of those added.
+// Effective balances of those added. Whether they are refused is asked before anything is written: nobody asks it here.
 fn update_added(
     rules: ElectraRules,
     n: usize,
@@ -66,7 +65,7 @@ fn update_added(
 {
     let a = 10 * n;
     let b = 10 * count;
-    effective_balances_core(rules, &compounding[n..count], &mut registry[a..b]);
+    let _ = effective_balances_core(rules, &compounding[n..count], &mut registry[a..b]);
 }
 
 // The first `index` deposits are done, and n validators stand in front. Their amounts before their effective balances, which no amount reads.

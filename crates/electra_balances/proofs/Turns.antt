@@ -8,7 +8,8 @@ use lib.Seq.{get_or-append_seam, set-append_seam}
 use Rattle.definitions.specs.declared.Settings.{Settings}
 use Rattle.definitions.specs.Lists.{range}
 use Rattle.definitions.specs.Record.{Validator, decode_one, decode, nobody}
-use Rattle.definitions.specs.Checked.{Checked, value, refused, overflow, bind, fold_checked}
+use Rattle.definitions.specs.Checked.{Checked, value, refused, bind, fold_checked}
+use Rattle.definitions.specs.declared.Refusal.{Refusal}
 use Rattle.definitions.specs.Document.Phase0.EpochProcessing.{rounded_balance}
 use Rattle.definitions.specs.Rust.Phase0.EpochProcessing as altair
 use Rattle.laws.proofs.Checked.{bind-bind}
@@ -42,11 +43,11 @@ module _ (r : ElectraRules) where
     unfolding bind
     turn_is compounding v = by-thresholds compounding v ∙ rw h
 
-    pub settles-own : (compounding : ℕ) {before after : List ℕ} {x : ℕ} → Settles (altair.update_effective_balance (own_settings r compounding) t.downward t.upward) before after x → Settles (update_effective_balance r compounding) before after x
-    settles-own compounding {before} g = record { code = rw (turn_is compounding (decode_one before)) g.code; held = rw (turn_is compounding (decode_one before)) g.held }
+    pub settles-own : (compounding : ℕ) {before after : List ℕ} {x : Checked (Unit {0})} → Settles (altair.update_effective_balance (own_settings r compounding) t.downward t.upward) before after x → Settles (update_effective_balance r compounding) before after x
+    settles-own compounding {before} g = record { is = rw (turn_is compounding (decode_one before)) g.is; held = rw (turn_is compounding (decode_one before)) g.held }
 
-  -- thresholds that leave 64 bits, with a validator to be looked at
-  pub none-updated : thresholds_of s ≡ refused overflow → (cs : List ℕ) (vs : List Validator) → 0 < length cs → length cs ≡ length vs → update_effective_balances r cs vs ≡ refused overflow
+  -- thresholds that are refused, with a validator to be looked at
+  pub none-updated : {p : Refusal} → thresholds_of s ≡ refused p → (cs : List ℕ) (vs : List Validator) → 0 < length cs → length cs ≡ length vs → update_effective_balances r cs vs ≡ refused p
   unfolding update_effective_balances bind
   none-updated h [] vs p e = absurd (omega arith)
   none-updated h (c ∷ cs) [] p e = absurd (omega arith)
@@ -90,28 +91,28 @@ pub none_yet : (r : ElectraRules) {cs xs₀ : List ℕ} → length xs₀ ≡ 10 
 none_yet r h = record { turns = iterated-none _ h }
 
 module _ {r : ElectraRules} {cs xs₀ : List ℕ} {i : ℕ} {xs : List ℕ} (g : Updating r cs xs₀ i xs) where
-  loop-ran : {ys : List ℕ} {x : ℕ} → Ran (fold_checked (turn_at r cs) (decode xs₀) (range 0 (length (decode xs₀)))) ys x → Ran (update_effective_balances r cs (decode xs₀)) ys x
+  loop-ran : {ys : List ℕ} {x : Checked (Unit {0})} → Ran (fold_checked (turn_at r cs) (decode xs₀) (range 0 (length (decode xs₀)))) ys x → Ran (update_effective_balances r cs (decode xs₀)) ys x
   loop-ran h = rw (loop-is r cs (decode xs₀) (sym (length-decode (length cs) xs₀ g.turns.begun))) at h
 
-  pub all-updated : length cs ≤ i → Ran (update_effective_balances r cs (decode xs₀)) xs 0
+  pub all-updated : length cs ≤ i → Ran (update_effective_balances r cs (decode xs₀)) xs (value tt)
   all-updated l = loop-ran (iterated-all g.turns l)
 
   pub next-ten : i < length cs → length (entry_at xs i) ≡ 10
   next-ten l = entry-ten (length cs) xs i g.turns.long l
 
-  module _ (l : i < length cs) {e : List ℕ} {x : ℕ} (h : Settles (update_effective_balance r (get_or cs i 0)) (entry_at xs i) e x) where
+  module _ (l : i < length cs) {e : List ℕ} {x : Checked (Unit {0})} (h : Settles (update_effective_balance r (get_or cs i 0)) (entry_at xs i) e x) where
     ran : Ran (turn_at r cs (decode xs) i) (put_at xs i e) x
     ran = ran-entry (update_effective_balance r (get_or cs i 0)) (length cs) xs i g.turns.long l h
 
     ten-back : length e ≡ 10
     ten-back = rw h.held
 
-    pub one-updated : x ≡ 0 → Updating r cs xs₀ (i + 1) (put_at xs i e)
+    pub one-updated : x ≡ value tt → Updating r cs xs₀ (i + 1) (put_at xs i e)
     one-updated z =
         let long = g.turns.long in
         record { turns = iterated-more g.turns l ran z (simp (length-append, length-take, length-drop) (omega (arith, ten-back))) }
 
-    pub one-refused : {ys : List ℕ} → (x ≡ 0 → ⊥) → Ran (update_effective_balances r cs (decode xs₀)) ys x
+    pub one-refused : {ys : List ℕ} {p : Refusal} → x ≡ refused p → Ran (update_effective_balances r cs (decode xs₀)) ys (refused p)
     one-refused z = loop-ran (iterated-stop g.turns l ran z)
 
 -- What the step is lent, as a state

@@ -3,7 +3,7 @@
 
 ghost use Rattle.std.specs.Prelude.{◌≡◌, true, ◌*◌, ◌/◌, ◌<◌, length};
 ghost use Rattle.definitions.specs.Record.{decode};
-ghost use Rattle.definitions.specs.Checked.{value};
+ghost use Rattle.definitions.specs.Checked.{code_of, value};
 ghost use Rattle.definitions.specs.Refusals.{good_settings};
 ghost use Rattle.definitions.specs.Closes.{Closes};
 ghost use Rattle.laws.specs.Ran.{Settles, Ran};
@@ -13,11 +13,11 @@ ghost use Rattle.definitions_electra.specs.Refusals.{effective_balance_tests};
 ghost use Rattle.definitions_electra.specs.Calls.{effective_balances_work, registry_in};
 ghost use Rattle.electra_balances.specs.Own.{within, own_settings};
 
-use balances::effective_balances::{ThresholdsAnswer, entry_update, hysteresis};
-use definitions::Settings;
+use balances::effective_balances::{entry_update, hysteresis};
+use definitions::{Refusal, Settings};
 use definitions_electra::ElectraRules;
 use electra_refusals::step_tests::effective_balance_tests;
-use refusals::buffers::{copy, put_back};
+use refusals::buffers::put_back;
 
 // The settings with another maximum.
 fn within(s: Settings, most: u64) -> Settings
@@ -62,7 +62,7 @@ fn entry_update_own(
     upward: u64,
     compounding: u64,
     entry: &mut [u64],
-) -> u64
+) -> Result<(), Refusal>
     requires len { (length entry.old ≡ 10) × (0 < rules.settings.effective_balance_increment) }
     requires settings_value { thresholds_of rules.settings ≡ value (record { downward = downward; upward = upward }) }
     ensures { Settles (update_effective_balance rules compounding) entry.old entry.new result }
@@ -77,7 +77,7 @@ fn update_all(
     upward: u64,
     compounding: &[u64],
     registry: &mut [u64],
-) -> u64
+) -> Result<(), Refusal>
     requires registry_len { (length registry.old ≡ 10 * length compounding.now) × (0 < rules.settings.effective_balance_increment) }
     requires settings_value { thresholds_of rules.settings ≡ value (record { downward = downward; upward = upward }) }
     ensures { Ran (update_effective_balances rules compounding.now (decode registry.old)) registry.new result }
@@ -86,18 +86,9 @@ fn update_all(
     for i in 0..n {
         let a = 10 * i;
         let b = a + 10;
-        let refusal = entry_update_own(
-            rules,
-            downward,
-            upward,
-            compounding[i],
-            &mut registry[a..b],
-        );
-        if refusal != 0 {
-            return refusal;
-        }
+        entry_update_own(rules, downward, upward, compounding[i], &mut registry[a..b])?;
     }
-    0
+    Ok(())
 }
 
 // The step in place. With no validators the thresholds are not evaluated.
@@ -105,16 +96,14 @@ pub fn effective_balances_core(
     rules: ElectraRules,
     compounding: &[u64],
     registry: &mut [u64],
-) -> u64
+) -> Result<(), Refusal>
     requires { (length registry.old ≡ 10 * length compounding.now) × (good_settings rules.settings ≡ true) }
     ensures { Ran (update_effective_balances rules compounding.now (decode registry.old)) registry.new result }
 {
     if compounding.len() == 0 {
-        return 0;
+        return Ok(());
     }
-    let ThresholdsAnswer::Value(thresholds) = hysteresis(rules.settings) else {
-        return 5;
-    };
+    let thresholds = hysteresis(rules.settings)?;
     update_all(
         rules,
         thresholds.downward,
@@ -129,16 +118,13 @@ pub fn process_effective_balance_updates(
     compounding: &[u64],
     opening: &[u64],
     closing: &mut [u64],
-) -> u64
+) -> Result<(), Refusal>
     ensures { Closes registry_in (effective_balance_tests rules compounding.now opening.now closing.old)
         (effective_balances_work rules compounding.now opening.now)
-        opening.now closing.old closing.new result }
+        opening.now closing.old closing.new (code_of result) }
 {
-    let refusal = effective_balance_tests(rules, compounding, opening, closing);
-    if refusal != 0 {
-        return refusal;
-    }
-    copy(opening, closing);
+    effective_balance_tests(rules, compounding, opening, closing)?;
+    closing.copy_from_slice(opening);
     let done = effective_balances_core(rules, compounding, closing);
     put_back(done, opening, closing);
     done

@@ -6,7 +6,9 @@ use native.Mathlib.Omega.{arith}
 use lib.ListN.{length, get_or, take, drop, replicate, length-drop, length-replicate, take-append-drop, get_or-replicate, get_or-append}
 use lib.Seq.{ext_get_or, get_or-take, get_or-drop, length-take-le, take-append_seam, drop-append-add, drop-drop}
 use Rattle.definitions.specs.Record.{encode}
-use Rattle.definitions.specs.Checked.{value, bind, code_of}
+use Rattle.definitions.specs.Checked.{Checked, value, refused, done, number_of, bind}
+use Rattle.definitions.specs.declared.Refusal.{Refusal}
+use Rattle.laws.proofs.Loops.Ran.{done-refused}
 use Rattle.definitions.specs.Refusals.{after_tests, closing_buffer}
 use Rattle.laws.proofs.Encode.{length-encode, length-decode}
 use Rattle.definitions_electra.specs.Record.{ElectraState, encode_deposits, encode_consolidations}
@@ -53,7 +55,7 @@ same_outcome a r k s d p m = rw (a, r, k, s, d, p, m)
 same_answer : {a b : ElectraAnswer} → a.refusal ≡ b.refusal → a.finality ≡ b.finality → a.raised ≡ b.raised → a.test ≡ b.test → a.validators ≡ b.validators → a.deposits ≡ b.deposits → a.consolidations ≡ b.consolidations → a.deposit_balance_to_consume ≡ b.deposit_balance_to_consume → a.churn ≡ b.churn → a ≡ b
 same_answer z f r t v d k l h = rw (z, f, r, t, v, d, k, l, h)
 
-module _ (c : ElectraCall) (t : electra_tests c ≡ value tt) (p : ElectraPassed c) {f : Front} {registry₁ amounts₁ : List ℕ} (s : StepsRan c.rules (electra_state_of c) (length c.compounding) c.deposits c.consolidations c.closing_registry registry₁ c.amounts amounts₁ f) where
+module _ (c : ElectraCall) (t : electra_tests c ≡ value tt) (p : ElectraPassed c) {r : Checked Front} {registry₁ amounts₁ : List ℕ} (s : StepsRan c.rules (electra_state_of c) (length c.compounding) c.deposits c.consolidations c.closing_registry registry₁ c.amounts amounts₁ r) where
   abbrev n : ℕ
   n = length c.compounding
 
@@ -71,21 +73,21 @@ module _ (c : ElectraCall) (t : electra_tests c ≡ value tt) (p : ElectraPassed
   behind-amounts m l = rw s.amounts (behind (12 * n) m s.rows c.amounts s.wide l)
 
   -- refused: the opening put back
-  steps-refused : {x : ℕ} → (f.refusal ≡ 0 → ⊥) → x ≡ f.refusal → electra_outcome (as_opened x c.finality c.churn c.numbers c.registry c.deposits c.consolidations) (over c.registry registry₁) (over c.compounding c.closing_compounding) c.slashings c.deposits c.consolidations (over (replicate (12 * (length c.registry / 10)) 0) amounts₁) ≡ electra_close c
-  steps-refused {x} z e =
-      let r = over-registry c.registry (omega (arith, tens)) in
+  steps-refused : {q : Refusal} → r ≡ refused q → electra_outcome (as_opened (number_of q) c.finality c.churn c.numbers c.registry c.deposits c.consolidations) (over c.registry registry₁) (over c.compounding c.closing_compounding) c.slashings c.deposits c.consolidations (over (replicate (12 * (length c.registry / 10)) 0) amounts₁) ≡ electra_close c
+  steps-refused z =
+      let o = over-registry c.registry (omega (arith, tens)) in
       let k : length c.registry / 10 ≡ n = omega (arith, tens) in
       let l : length (replicate {A = ℕ} (12 * (length c.registry / 10)) 0) ≡ 12 * n = length-replicate (12 * (length c.registry / 10)) 0 ∙ ap (λ (j : ℕ). 12 * j) k in
       let a = ap (λ (zs : List ℕ). replicate (12 * (length c.registry / 10)) 0 ++ zs) (behind-amounts (length (replicate {A = ℕ} (12 * (length c.registry / 10)) 0)) (omega (arith, l))) in
-      rw (r, a) (work-refused c t (e ∙ s.ran.code) (λ w. z (sym e ∙ w)) p.same_deposits p.same_consolidations)
+      rw (o, a) (work-refused c t (done-refused _ (sym s.ran.is ∙ ap done z)) p.same_deposits p.same_consolidations)
 
   -- as the lists come back
-  pub put_back : {a : ElectraAnswer} {r₂ k₂ s₂ d₂ p₂ m₂ : List ℕ} → (f.refusal ≡ 0 → ⊥) → a ≡ as_opened f.refusal c.finality c.churn c.numbers c.registry c.deposits c.consolidations → r₂ ≡ over c.registry registry₁ → k₂ ≡ over c.compounding c.closing_compounding → s₂ ≡ c.slashings → d₂ ≡ c.deposits → p₂ ≡ c.consolidations → m₂ ≡ over (replicate (12 * (length c.registry / 10)) 0) amounts₁ → electra_outcome a r₂ k₂ s₂ d₂ p₂ m₂ ≡ electra_close c
-  put_back z a r k u d q m = same_outcome a r k u d q m ∙ steps-refused z refl
+  pub put_back : {a : ElectraAnswer} {r₂ k₂ s₂ d₂ p₂ m₂ : List ℕ} {x : Refusal} → r ≡ refused x → a ≡ as_opened (number_of x) c.finality c.churn c.numbers c.registry c.deposits c.consolidations → r₂ ≡ over c.registry registry₁ → k₂ ≡ over c.compounding c.closing_compounding → s₂ ≡ c.slashings → d₂ ≡ c.deposits → p₂ ≡ c.consolidations → m₂ ≡ over (replicate (12 * (length c.registry / 10)) 0) amounts₁ → electra_outcome a r₂ k₂ s₂ d₂ p₂ m₂ ≡ electra_close c
+  put_back z a o k u d q m = same_outcome a o k u d q m ∙ steps-refused z
 
-  module _ (z : f.refusal ≡ 0) where
+  module _ {f : Front} (z : r ≡ value f) where
     held : FrontHeld c.rules (electra_state_of c) n c.deposits c.consolidations s.front s.rows f
-    held = s.ran.held z
+    held = s.ran.held f z
 
     abbrev closed : ElectraState
     closed = after_ten c.rules (after_eight (after_six (after_five (electra_state_of c) held.v) held.x) held.y)
@@ -159,5 +161,5 @@ module _ (c : ElectraCall) (t : electra_tests c ≡ value tt) (p : ElectraPassed
           ∙ defined c t held.closes are
 
 -- a test refused
-pub untouched : (c : ElectraCall) {x : ℕ} {a : ElectraAnswer} → a ≡ as_opened x c.finality c.churn c.numbers c.registry c.deposits c.consolidations → x ≡ code_of (electra_tests c) → (x ≡ 0 → ⊥) → electra_outcome a c.closing_registry c.closing_compounding c.closing_slashings c.closing_deposits c.closing_consolidations c.amounts ≡ electra_close c
+pub untouched : (c : ElectraCall) {x : Checked (Unit {0})} {q : Refusal} {a : ElectraAnswer} → a ≡ as_opened (number_of q) c.finality c.churn c.numbers c.registry c.deposits c.consolidations → x ≡ electra_tests c → x ≡ refused q → electra_outcome a c.closing_registry c.closing_compounding c.closing_slashings c.closing_deposits c.closing_consolidations c.amounts ≡ electra_close c
 untouched c a e z = same_outcome a refl refl refl refl refl refl ∙ tests-refused c e z

@@ -6,9 +6,8 @@ use Prim.Native.Nat.{ℕ, ◌*◌, ◌^◌}
 use borrow.Author.Tests.{lt-ltb}
 use native.Mathlib.Omega.{arith}
 use lib.ListN.{length}
-use Rattle.definitions.specs.Checked.{Checked, value, refused, code_of}
+use Rattle.definitions.specs.Checked.{Checked, value}
 use Rattle.definitions.specs.Refusals.{settings_shaped}
-use Rattle.laws.proofs.Checked.{number_not_zero}
 use Rattle.refusals.proofs.Laws.{good-finality}
 use Rattle.definitions_electra.specs.Refusals.{count_of, keys_shaped}
 use Rattle.definitions_electra_close.specs.Close.{ElectraCall, electra_state_of}
@@ -18,10 +17,6 @@ use Rattle.electra_close_tests.proofs.Passed.{ElectraPassed, in_place-good, just
 use Rattle.electra_front.specs.declared.Front.{Front}
 use Rattle.electra_close.specs.Finish.{FinishLent}
 use Rattle.electra_close.specs.Steps.{StepsLent, StepsRan}
-
-pub tests-are : (m : Checked (Unit {0})) → code_of m ≡ 0 → m ≡ value tt
-tests-are (value u) e = refl
-tests-are (refused p) e = absurd (number_not_zero p e)
 
 module _ (c : ElectraCall) (p : ElectraPassed c) where
   tens : length c.registry ≡ 10 * length c.compounding
@@ -51,10 +46,10 @@ module _ (c : ElectraCall) (p : ElectraPassed c) where
         table = p.places;
       }
 
-  pub finish-lent : {f : Front} {registry₁ amounts₁ places₁ : List ℕ} → StepsRan c.rules (electra_state_of c) (length c.compounding) c.deposits c.consolidations c.closing_registry registry₁ c.amounts amounts₁ f → f.refusal ≡ 0 → length registry₁ ≡ length c.closing_registry → length amounts₁ ≡ length c.amounts → length places₁ ≡ length c.places → FinishLent c.rules c.finality.slot f.index f.done c.compounding c.slashings c.deposits c.consolidations registry₁ c.closing_compounding c.closing_slashings c.closing_deposits c.closing_consolidations amounts₁ places₁
+  pub finish-lent : {r : Checked Front} {f : Front} {registry₁ amounts₁ places₁ : List ℕ} → StepsRan c.rules (electra_state_of c) (length c.compounding) c.deposits c.consolidations c.closing_registry registry₁ c.amounts amounts₁ r → r ≡ value f → length registry₁ ≡ length c.closing_registry → length amounts₁ ≡ length c.amounts → length places₁ ≡ length c.places → FinishLent c.rules c.finality.slot f.index f.done c.compounding c.slashings c.deposits c.consolidations registry₁ c.closing_compounding c.closing_slashings c.closing_deposits c.closing_consolidations amounts₁ places₁
   unfolding settings_shaped
   finish-lent s z a b e =
-      let h = s.ran.held z in
+      let h = s.ran.held _ z in
       record {
         good = p.good;
         passed = record { shaped = p.shaped; good = in_place-good c.rules p.good; small = lt-ltb c.finality.slot (2 ^ 48) (good-finality _ p.finality).slot };

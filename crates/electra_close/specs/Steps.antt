@@ -1,7 +1,7 @@
 -- The steps on the validators of the opening, at the front of the closing lists, and what the close answers where nothing is refused.
 use Rattle.std.specs.Prelude.{◌≡◌, true, List, ◌++◌, ℕ, ◌*◌, ◌/◌, ◌≤◌, length, drop}
 use Rattle.definitions.specs.declared.Finality.{Finality}
-use Rattle.definitions.specs.Checked.{value}
+use Rattle.definitions.specs.Checked.{Checked, value}
 use Rattle.definitions.specs.Refusals.{good_finality, justification_tests}
 use Rattle.definitions_electra.specs.declared.ElectraRules.{ElectraRules}
 use Rattle.definitions_electra.specs.Record.{ElectraState}
@@ -29,14 +29,14 @@ pub record StepsLent (r : ElectraRules) (f : Finality) (registry compounding roo
   pub table : length places ≡ length deposits / 5
 
 -- in front of what stands behind
-pub record StepsRan (r : ElectraRules) (st : ElectraState) (n : ℕ) (deposits pairs registry₀ registry₁ amounts₀ amounts₁ : List ℕ) (f : Front) : Type 0 where
+pub record StepsRan (r : ElectraRules) (st : ElectraState) (n : ℕ) (deposits pairs registry₀ registry₁ amounts₀ amounts₁ : List ℕ) (answer : Checked Front) : Type 0 where
   pub front : List ℕ
   pub rows : List ℕ
   pub long : length front ≡ 10 * n
   pub wide : length rows ≡ 12 * n
   pub registry : registry₁ ≡ front ++ drop (10 * n) registry₀
   pub amounts : amounts₁ ≡ rows ++ drop (12 * n) amounts₀
-  pub ran : FrontRan r st n deposits pairs front rows f
+  pub ran : FrontRan r st n deposits pairs front rows answer
 
 abbrev pub closed_answer : Front → Counts → ElectraAnswer
 closed_answer f c =

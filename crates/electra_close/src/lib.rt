@@ -13,7 +13,7 @@ ghost use Rattle.definitions.specs.Checked.{value};
 ghost use Rattle.electra_close.specs.Finish.{rotated_to, FinishLent, Finishes};
 ghost use Rattle.electra_close.specs.Steps.{StepsLent, StepsRan, closed_answer};
 
-use definitions::Finality;
+use definitions::{Finality, Refusal};
 use definitions_electra::{DepositNumbers, ElectraRules, ExitChurn};
 use definitions_electra_close::ElectraAnswer;
 use electra_appended::write_added;
@@ -167,7 +167,7 @@ fn steps_in_front(
     closing_registry: &mut [u64],
     amounts: &mut [u64],
     places: &mut [u64],
-) -> Front
+) -> Result<Front, Refusal>
     requires { StepsLent rules finality registry.now compounding.now roots.now deposits.now pairs.now closing_registry.old amounts.old
         places.old }
     ensures { StepsRan rules
@@ -249,7 +249,7 @@ fn closed(
         closing_slashings.old closing_deposits.old closing_consolidations.old amounts.old
         places.old) }
 {
-    let front = steps_in_front(
+    let ran = steps_in_front(
         rules,
         finality,
         churn,
@@ -264,51 +264,55 @@ fn closed(
         amounts,
         places,
     );
-    if front.refusal != 0 {
-        open_registry(
-            registry,
-            compounding,
-            closing_registry,
-            closing_compounding,
-            amounts,
-        );
-        open_queues(
-            slashings,
-            deposits,
-            consolidations,
-            closing_slashings,
-            closing_deposits,
-            closing_consolidations,
-        );
-        return opening_answer(
-            front.refusal,
-            finality,
-            churn,
-            numbers,
-            registry,
-            deposits,
-            consolidations,
-        );
+    match ran {
+        Ok(front) => {
+            let counts = finish(
+                rules,
+                finality.slot,
+                front.next_epoch,
+                front.index,
+                front.done,
+                compounding,
+                slashings,
+                deposits,
+                consolidations,
+                closing_registry,
+                closing_compounding,
+                closing_slashings,
+                closing_deposits,
+                closing_consolidations,
+                amounts,
+                places,
+            );
+            closed_answer(front, counts)
+        }
+        Err(refusal) => {
+            open_registry(
+                registry,
+                compounding,
+                closing_registry,
+                closing_compounding,
+                amounts,
+            );
+            open_queues(
+                slashings,
+                deposits,
+                consolidations,
+                closing_slashings,
+                closing_deposits,
+                closing_consolidations,
+            );
+            opening_answer(
+                refusal,
+                finality,
+                churn,
+                numbers,
+                registry,
+                deposits,
+                consolidations,
+            )
+        }
     }
-    let counts = finish(
-        rules,
-        finality.slot,
-        front.next_epoch,
-        front.index,
-        front.done,
-        compounding,
-        slashings,
-        deposits,
-        consolidations,
-        closing_registry,
-        closing_compounding,
-        closing_slashings,
-        closing_deposits,
-        closing_consolidations,
-        amounts,
-        places,
-    );
-    closed_answer(front, counts)
 }
 
 // `places` is the working list of the keys: any contents before and afterwards.
@@ -339,7 +343,7 @@ pub fn electra_close(
         closing_slashings.old closing_deposits.old closing_consolidations.old amounts.old
         places.old) }
 {
-    let refusal = close_tests(
+    if let Err(refusal) = close_tests(
         rules,
         finality,
         churn,
@@ -357,8 +361,7 @@ pub fn electra_close(
         closing_consolidations,
         amounts,
         places,
-    );
-    if refusal != 0 {
+    ) {
         return opening_answer(
             refusal,
             finality,

@@ -1,9 +1,8 @@
 -- Two lists of tests one after the other.
 use mathlib.Core.Bool.{Bool, true, false, ◌&&◌}
-use mathlib.Core.Path.{◌≡◌, refl, sym, ap, ◌∙◌}
+use mathlib.Core.Path.{◌≡◌, refl}
 use mathlib.Core.List.{List, [], ◌∷◌, ◌++◌}
 use Rattle.definitions.specs.Lists.{every}
-use Rattle.definitions.specs.Checked.{Checked}
 use Rattle.definitions.specs.Refusals.{in_order}
 
 every_append : (xs ys : List Bool) → every (every xs ∷ every ys ∷ []) ≡ every (xs ++ ys)

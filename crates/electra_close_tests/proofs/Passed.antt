@@ -1,18 +1,14 @@
--- What the tests of the close give once passed. `x` is the number that their code gave.
-use mathlib.Core.Bool.{true, false, ◌&&◌, ◌||◌}
-use mathlib.Core.List.{List}
-use mathlib.Core.Path.{◌≡◌, refl, sym, ◌∙◌}
-use Prim.Native.Nat.{ℕ, ◌+◌, ◌*◌, ◌/◌}
+-- What the tests of the close give once passed. `x` is what their code answered.
+use mathlib.Core.Bool.{true}
+use mathlib.Core.Path.{◌≡◌, sym, ◌∙◌}
+use Prim.Native.Nat.{◌+◌, ◌*◌}
 use borrow.Author.Tests.{eqb-true}
 use lib.ListN.{length}
-use Rattle.definitions.specs.declared.Settings.{Settings}
-use Rattle.definitions.specs.declared.Rules.{Rules}
 use Rattle.definitions.specs.Lists.{every}
-use Rattle.definitions.specs.Checked.{value, code_of}
+use Rattle.definitions.specs.Checked.{Checked, value}
 use Rattle.definitions.specs.Refusals.{in_order, settings_shaped, registry_shaped, roots_shaped, good_settings, good_finality, good_registry, justification_tests}
-use Rattle.definitions.specs.Rules.{in_place, settings_under, good_bellatrix, good_rules}
-use Rattle.laws.specs.Bounds.{Passed}
-use Rattle.laws.proofs.Tests.{in_order_lem}
+use Rattle.definitions.specs.Rules.{in_place, settings_under, good_rules}
+use Rattle.laws.proofs.Tests.{in_order-value}
 use Rattle.laws.proofs.Rules.{good-under}
 use Rattle.refusals.proofs.Laws.{RegistryShape, registry-shaped}
 use Rattle.definitions_electra.specs.declared.ElectraRules.{ElectraRules}
@@ -51,10 +47,10 @@ pub record ElectraPassed (c : ElectraCall) : Type 0 where
   pub good_compounding : good_compounding c.compounding ≡ true
   pub good_deposits : good_deposits c.deposits ≡ true
 
-pub electra-passed : (c : ElectraCall) {x : ℕ} → x ≡ code_of (electra_tests c) → x ≡ 0 → ElectraPassed c
+pub electra-passed : (c : ElectraCall) {x : Checked (Unit {0})} → x ≡ electra_tests c → x ≡ value tt → ElectraPassed c
 unfolding electra_tests
 electra-passed c e z =
-    let p = in_order_lem _ _ _ (sym e ∙ z) in
+    let p = in_order-value _ _ _ (sym e ∙ z) in
     record {
       good = p.settings 0;
       shaped = p.shaped 0;

@@ -1,14 +1,13 @@
-// Tests 1, 2 and 3 of the whole close under Electra: 0, or the number of the first test that failed.
+// Tests 1, 2 and 3 of the whole close under Electra: the refusal of the first that failed.
 #![tactic(auto)]
 
 ghost use Rattle.std.specs.Prelude.{◌≡◌};
-ghost use Rattle.definitions.specs.Checked.{code_of};
 ghost use Rattle.definitions.specs.Lists.{every};
 ghost use Rattle.definitions_electra_close.specs.Close.{electra_tests};
 ghost use Rattle.definitions_electra_close.specs.Calls.{electra_called};
 ghost use Rattle.electra_close_tests.specs.Shaped.{lent_tests, room_for, closing_tests};
 
-use definitions::Finality;
+use definitions::{Finality, Refusal};
 use definitions_electra::{DepositNumbers, ElectraRules, ExitChurn};
 use electra_refusals::{
     consolidations_shaped, deposits_shaped, good_compounding, good_deposits, good_electra,
@@ -115,13 +114,13 @@ pub fn close_tests(
     closing_consolidations: &[u64],
     amounts: &[u64],
     places: &[u64],
-) -> u64
+) -> Result<(), Refusal>
     ensures { result
-        ≡ code_of (electra_tests
+        ≡ electra_tests
         (electra_called rules finality churn numbers registry.now compounding.now slashings.now roots.now
         deposits.now consolidations.now closing_registry.now closing_compounding.now
         closing_slashings.now closing_deposits.now closing_consolidations.now amounts.now
-        places.now)) }
+        places.now) }
 {
     let shaped = lent_shaped(
         rules,

@@ -1,14 +1,15 @@
 -- What the call leaves in both closing buffers, and answers.
-use Rattle.std.proofs.Common.{◌≡◌, ℕ, zero, suc, ◌+◌, ◌-◌, ◌*◌, ◌/◌, ◌≤◌, true, cond, eqb, List, [], ◌∷◌, ◌++◌, length, take, drop, sym, refl, ap, ◌∙◌, arith, length-drop, take_all, eq-eqb, ne_eqb}
-use Rattle.definitions.specs.Record.{decode}
-use Rattle.definitions.specs.Checked.{Checked, value, refused, number_of, bind, code_of}
+use Rattle.std.proofs.Common.{◌≡◌, ℕ, zero, suc, ◌+◌, ◌-◌, ◌*◌, ◌/◌, ◌≤◌, true, List, [], ◌∷◌, ◌++◌, length, take, drop, sym, refl, ap, ◌∙◌, arith, length-drop, take_all}
+use Rattle.definitions.specs.Record.{encode, decode}
+use Rattle.definitions.specs.declared.Refusal.{Refusal}
+use Rattle.definitions.specs.Checked.{Checked, value, refused, number_of, bind}
 use Rattle.definitions.specs.Document.Phase0.Helpers.{get_current_epoch}
 use Rattle.definitions.specs.Refusals.{after_tests, closing_buffer}
 use Rattle.laws.specs.Bounds.{Passed}
 use Rattle.laws.proofs.Bounds.{bounds}
-use Rattle.laws.proofs.Checked.{number_not_zero}
+use Rattle.laws.proofs.Checked.{not_value, value_same, refused_same}
 use Rattle.laws.proofs.Fits.{add64-fits}
-use Rattle.refusals.proofs.Answers.{passed, after-refused, closing-untouched}
+use Rattle.refusals.proofs.Answers.{after-refused, closing-untouched}
 use Rattle.definitions_electra.specs.declared.ElectraRules.{ElectraRules}
 use Rattle.definitions_electra.specs.Record.{ElectraState, encode_consolidations, decode_consolidations, first_consolidations, with_consolidations}
 use Rattle.definitions_electra.specs.Document.Electra.EpochProcessing.{Consolidating}
@@ -16,7 +17,6 @@ use Rattle.definitions_electra.specs.Evaluated.Electra.EpochProcessing.{process_
 use Rattle.definitions_electra.specs.Refusals.{indices_shaped}
 use Rattle.definitions_electra.specs.Calls.{lent_finality, lent_state, no_churn, no_deposit_numbers, over, registry_in, consolidations_work, consolidations_answer, ConsolidationsClose}
 use Rattle.laws_electra.proofs.Consolidations.{dropped, length_pairs}
-use Rattle.electra_consolidations.specs.declared.Done.{Done}
 use Rattle.electra_consolidations.specs.Consolidations.{placed, consolidations, Consolidates}
 
 -- The rest of the queue, as numbers
@@ -68,41 +68,41 @@ module _ (r : ElectraRules) (state_slot : ℕ) (registry queue : List ℕ) where
   unfolding consolidations_work process_pending_consolidations consolidations bind
   work-is p = rw (add64-fits (get_current_epoch r.settings state_slot) 1 (bounds r.settings state_slot p).next_epoch)
 
-  module _ (tests : Checked (Unit {0})) {before queue_before : List ℕ} {x : ℕ} (e : x ≡ code_of tests) where
+  module _ (tests : Checked (Unit {0})) {before queue_before : List ℕ} {x : Checked (Unit {0})} (e : x ≡ tests) where
     -- a test refused
-    pub call-refused : (x ≡ 0 → ⊥) → ConsolidationsClose tests (consolidations_work r state_slot registry queue) registry queue before before queue_before queue_before (record { refusal = x; consolidations = length queue / 2 })
+    pub call-refused : {p : Refusal} → x ≡ refused p → ConsolidationsClose tests (consolidations_work r state_slot registry queue) registry queue before before queue_before queue_before (record { refusal = number_of p; consolidations = length queue / 2 })
     unfolding consolidations_answer
     call-refused z =
         let w = consolidations_work r state_slot registry queue in
-        let f = after-refused tests w e z in
         record {
-          answer = rw (f.is, ← f.number, length_pairs queue);
+          answer = rw (after-refused tests w e z, length_pairs queue);
           validators = sym (closing-untouched registry_in tests w registry before e z);
           queue = sym (closing-untouched _ tests w _ queue_before e z);
         }
 
-    -- the loop ran on a copy, which is put back where it refused, and the rest of the queue was kept
-    module _ (z : x ≡ 0) (s : Passed r.settings state_slot) (twos : length queue ≡ 2 * (length queue / 2)) {xs after queue_after : List ℕ} {done : Done} (h : Consolidates (consolidations next_epoch (decode registry) queue) (length queue / 2) xs done) where
-      pub call-done : after ≡ cond (eqb done.refusal 0) xs registry → queue_after ≡ over (drop (2 * done.count) queue) queue_before → ConsolidationsClose tests (consolidations_work r state_slot registry queue) registry queue before after queue_before queue_after (record { refusal = done.refusal; consolidations = length queue / 2 - done.count })
+    -- the loop ran on a copy
+    module _ (z : x ≡ value tt) (s : Passed r.settings state_slot) {xs queue_after : List ℕ} {done : Checked ℕ} (h : Consolidates (consolidations next_epoch (decode registry) queue) (length queue / 2) xs done) where
+      -- the rest of the queue was kept
+      pub call-done : {count : ℕ} → length queue ≡ 2 * (length queue / 2) → done ≡ value count → queue_after ≡ over (drop (2 * count) queue) queue_before → ConsolidationsClose tests (consolidations_work r state_slot registry queue) registry queue before xs queue_before queue_after (record { refusal = 0; consolidations = length queue / 2 - count })
       unfolding after_tests bind closing_buffer consolidations_answer
-      call-done back rest = rw (passed tests e z, work-is s) (go (consolidations next_epoch (decode registry) queue) refl)
+      call-done {count} twos d rest = rw (sym e ∙ z, work-is s) (go (consolidations next_epoch (decode registry) queue) (sym h.is ∙ d) h.held)
         where
-          go : (m : Checked Consolidating) → consolidations next_epoch (decode registry) queue ≡ m → ConsolidationsClose (value tt) (bind m (λ p. value (closed p))) registry queue before after queue_before queue_after (record { refusal = done.refusal; consolidations = length queue / 2 - done.count })
-          go (value p) q =
-              let ok = h.code ∙ ap code_of q in
-              let k = (h.held p q).1 in
+          go : (m : Checked Consolidating) → bind m (λ p. value p.next_pending_consolidation) ≡ value count → ((p : Consolidating) → m ≡ value p → xs ≡ encode p.validators) → ConsolidationsClose (value tt) (bind m (λ p. value (closed p))) registry queue before xs queue_before queue_after (record { refusal = 0; consolidations = length queue / 2 - count })
+          go (refused p) q held = absurd (not_value q)
+          go (value p) q held =
+              let k = value_same q in
               let many = length-drop p.next_pending_consolidation (decode_consolidations queue) in
               record {
-                answer = rw (ok, many, length_pairs queue, k);
-                validators = (rw (eq-eqb done.refusal 0 ok) at back) ∙ (h.held p q).0;
-                queue = rest ∙ rw (← rest-encoded done.count queue twos h.most) (ap (λ (i : ℕ). over (encode_consolidations (drop i (decode_consolidations queue))) queue_before) k);
+                answer = rw (many, length_pairs queue, k);
+                validators = held p refl;
+                queue = rest ∙ rw (← rest-encoded count queue twos (h.most count d)) (ap (λ (i : ℕ). over (encode_consolidations (drop i (decode_consolidations queue))) queue_before) (sym k));
               }
-          go (refused p) q =
-              let no : done.refusal ≡ number_of p = h.code ∙ ap code_of q in
-              let k = h.none p q in
-              let all : length queue / 2 - 0 ≡ length queue / 2 = omega arith in
-              record {
-                answer = rw (no, length_pairs queue, k, all);
-                validators = rw (ne_eqb done.refusal 0 (λ u. number_not_zero p (sym no ∙ u))) at back;
-                queue = rw k at rest;
-              }
+
+      -- it refused: the opening is put back, and the whole queue kept
+      pub call-undone : {p : Refusal} {after : List ℕ} → done ≡ refused p → after ≡ registry → queue_after ≡ over (drop 0 queue) queue_before → ConsolidationsClose tests (consolidations_work r state_slot registry queue) registry queue before after queue_before queue_after (record { refusal = number_of p; consolidations = length queue / 2 })
+      unfolding after_tests bind closing_buffer consolidations_answer
+      call-undone {p} {after} d back rest = rw (sym e ∙ z, work-is s) (go (consolidations next_epoch (decode registry) queue) (sym h.is ∙ d))
+        where
+          go : (m : Checked Consolidating) → bind m (λ p. value p.next_pending_consolidation) ≡ refused p → ConsolidationsClose (value tt) (bind m (λ p. value (closed p))) registry queue before after queue_before queue_after (record { refusal = number_of p; consolidations = length queue / 2 })
+          go (value q) d = absurd (not_value (sym d))
+          go (refused q) d = let same = refused_same d in rw same (record { answer = rw (length_pairs queue); validators = back; queue = rest })

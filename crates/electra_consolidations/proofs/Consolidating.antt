@@ -1,21 +1,22 @@
 -- The turn of a consolidation, and the loop.
-use Rattle.std.proofs.Common.{◌≡◌, ℕ, ◌+◌, ◌*◌, ◌/◌, ◌<◌, ◌≤◌, min, Bool, true, false, cond, not, ◌&&◌, ltb, List, length, get_or, set, sym, refl, ap, ◌∙◌, arith, length-set, ltb-true, eq-eqb, ne_eqb}
+use Rattle.std.proofs.Common.{◌≡◌, ℕ, ◌+◌, ◌*◌, ◌/◌, ◌<◌, ◌≤◌, min, Bool, true, false, cond, not, ◌&&◌, ltb, List, length, get_or, set, sym, ap, ◌∙◌, arith, length-set, ltb-true, eq-eqb, ne_eqb}
 use Rattle.definitions.specs.Record.{Validator, is_slashed, decode_one, encode_one, encode, decode, nobody}
-use Rattle.definitions.specs.Checked.{Checked, value, bind, code_of}
+use Rattle.definitions.specs.Checked.{Checked, value, refused, bind}
+use Rattle.definitions.specs.declared.Refusal.{Refusal}
 use Rattle.definitions.specs.Rust.Phase0.Helpers.{increase_balance, decrease_balance}
 use Rattle.laws.proofs.Checked.{not_value, value_same}
 use Rattle.laws.proofs.Encode.{length-encode, length-decode, encode-decode, decode-encode}
 use Rattle.laws.proofs.Tests.{both, all-at}
 use Rattle.laws.specs.Ran.{Settles, Ran}
 use Rattle.laws.proofs.Loops.Entry.{entry_at, put_at, entry-is, entry-back, number-at}
-use Rattle.laws.proofs.Loops.Ran.{ran-value, ran-gave, ran-entry}
+use Rattle.laws.proofs.Loops.Ran.{ran-value, ran-gave, ran-by, ran-entry}
 use Rattle.definitions_electra.specs.Record.{PendingConsolidation, decode_consolidations}
 use Rattle.definitions_electra.specs.Document.Electra.EpochProcessing.{Consolidating, consolidations_stop, consolidated_balance, next_consolidation}
 use Rattle.definitions_electra.specs.Evaluated.Electra.EpochProcessing.{consolidate, process_consolidation}
 use Rattle.arithmetic.proofs.Laws.{bind-refused}
 use Rattle.laws_electra.specs.Consolidations.{pair, within}
 use Rattle.laws_electra.proofs.Consolidations.{none, length_pairs, pair-at}
-use Rattle.laws_electra.proofs.Cases.{test_or, refuses}
+use Rattle.laws_electra.proofs.Cases.{test_or}
 use Rattle.laws_electra.proofs.Until.{Resumed, resumed-none, resumed-all, resumed-left, resumed-refused, resumed-more}
 use Rattle.electra_consolidations.specs.Consolidations.{turned, reached, placed, consolidations, Consolidates}
 
@@ -38,7 +39,7 @@ module _ (n : ℕ) (ps : List ℕ) (i : ℕ) (l : i < length ps / 2) (h : placed
 pub balance-moved : (n : ℕ) (xs : List ℕ) (source : ℕ) {moved : ℕ} → length xs ≡ 10 * n → source < n → moved ≡ min (get_or xs (10 * source + 6) 0) (get_or xs (10 * source + 0) 0) → moved ≡ consolidated_balance (get_or (decode xs) source nobody)
 balance-moved n xs source long ls m = m ∙ rw (number-at n xs source long ls 6 (omega arith), number-at n xs source long ls 0 (omega arith))
 
-pub moved-ran : (n : ℕ) (xs : List ℕ) (source target : ℕ) {e g : List ℕ} {moved r : ℕ} → length xs ≡ 10 * n → source < n → target < n → moved ≡ consolidated_balance (get_or (decode xs) source nobody) → e ≡ encode_one (decrease_balance (decode_one (entry_at xs source)) moved) → Settles (λ v. increase_balance v moved) (entry_at (put_at xs source e) target) g r → Ran (consolidate (decode xs) (pair source target)) (put_at (put_at xs source e) target g) r
+pub moved-ran : (n : ℕ) (xs : List ℕ) (source target : ℕ) {e g : List ℕ} {moved : ℕ} {r : Checked (Unit {0})} → length xs ≡ 10 * n → source < n → target < n → moved ≡ consolidated_balance (get_or (decode xs) source nobody) → e ≡ encode_one (decrease_balance (decode_one (entry_at xs source)) moved) → Settles (λ v. increase_balance v moved) (entry_at (put_at xs source e) target) g r → Ran (consolidate (decode xs) (pair source target)) (put_at (put_at xs source e) target g) r
 unfolding consolidate
 moved-ran n xs source target {e} {g} {moved} {r} long ls lt a h k =
     let v = get_or (decode xs) source nobody in
@@ -58,11 +59,11 @@ module _ (n : ℕ) (xs : List ℕ) (source target : ℕ) (long : length xs ≡ 1
   slashed-at : get_or xs (10 * source + 1) 0 ≡ v.slashed
   slashed-at = number-at n xs source long l 1 (omega arith)
 
-  pub turn-slashed : get_or xs (10 * source + 1) 0 ≡ 1 → Ran (turned (decode xs) (pair source target)) xs 0
+  pub turn-slashed : get_or xs (10 * source + 1) 0 ≡ 1 → Ran (turned (decode xs) (pair source target)) xs (value tt)
   unfolding turned
   turn-slashed e = rw (eq-eqb v.slashed 1 (sym slashed-at ∙ e)) (ran-value (sym (encode-decode n xs long)))
 
-  pub turn_moved : {ys : List ℕ} {r : ℕ} → (get_or xs (10 * source + 1) 0 ≡ 1 → ⊥) → Ran (consolidate (decode xs) (pair source target)) ys r → Ran (turned (decode xs) (pair source target)) ys r
+  pub turn_moved : {ys : List ℕ} {r : Checked (Unit {0})} → (get_or xs (10 * source + 1) 0 ≡ 1 → ⊥) → Ran (consolidate (decode xs) (pair source target)) ys r → Ran (turned (decode xs) (pair source target)) ys r
   unfolding turned
   turn_moved f h = rw (ne_eqb v.slashed 1 (λ e. f (slashed-at ∙ e))) h
 
@@ -92,20 +93,20 @@ pub record Going (next n : ℕ) (xs₀ ps : List ℕ) (i : ℕ) (xs : List ℕ) 
 pub going_none : (next : ℕ) {n : ℕ} {xs₀ : List ℕ} (ps : List ℕ) → length xs₀ ≡ 10 * n → Going next n xs₀ ps 0 xs₀
 going_none next ps h = record { long = h; resumed = resumed-none _ _ _ _ }
 
-done : {m : Checked Consolidating} {p : Consolidating} {many : ℕ} {xs : List ℕ} → m ≡ value p → p.next_pending_consolidation ≤ many → xs ≡ encode p.validators → Consolidates m many xs (record { refusal = 0; count = p.next_pending_consolidation })
-done {p = p} e l h =
+done : {m : Checked Consolidating} {p : Consolidating} {many : ℕ} {xs : List ℕ} → m ≡ value p → p.next_pending_consolidation ≤ many → xs ≡ encode p.validators → Consolidates m many xs (value p.next_pending_consolidation)
+unfolding bind
+done {m} {p} {many} e l h =
     record {
-      code = rw e;
-      most = l;
-      held = λ q f. (let z : p ≡ q = value_same (sym e ∙ f) in rw (← z) (h, refl));
-      none = λ q f. absurd (not_value (sym f ∙ e));
+      is = rw e;
+      most = λ count f. (let z = value_same f in rw (← z) l);
+      held = λ q f. (let z : p ≡ q = value_same (sym e ∙ f) in rw (← z) h);
     }
 
 module _ {next n : ℕ} {xs₀ ps : List ℕ} {i : ℕ} {xs : List ℕ} (g : Going next n xs₀ ps i xs) where
   now-encoded : xs ≡ encode (decode xs)
   now-encoded = sym (encode-decode n xs g.long)
 
-  pub going_all : length ps / 2 ≤ i → Consolidates (consolidations next (decode xs₀) ps) (length ps / 2) xs (record { refusal = 0; count = length ps / 2 })
+  pub going_all : length ps / 2 ≤ i → Consolidates (consolidations next (decode xs₀) ps) (length ps / 2) xs (value (length ps / 2))
   unfolding consolidations
   going_all l =
       let e : i ≡ length ps / 2 = omega (arith, g.resumed.below, length_pairs ps) in
@@ -124,22 +125,21 @@ module _ {next n : ℕ} {xs₀ ps : List ℕ} {i : ℕ} {xs : List ℕ} (g : Goi
       unfolding consolidations_stop
       stops = rw is-pair (sym e)
 
-      pub going_left : b ≡ true → Consolidates (consolidations next (decode xs₀) ps) (length ps / 2) xs (record { refusal = 0; count = i })
+      pub going_left : b ≡ true → Consolidates (consolidations next (decode xs₀) ps) (length ps / 2) xs (value i)
       unfolding consolidations
       going_left h = done (resumed-left g.resumed none inside-pairs (stops ∙ h)) (omega arith) now-encoded
 
-      module _ (f : b ≡ false) {ys : List ℕ} {r : ℕ} (h : Ran (turned (decode xs) (pair source target)) ys r) where
+      module _ (f : b ≡ false) {ys : List ℕ} {r : Checked (Unit {0})} (h : Ran (turned (decode xs) (pair source target)) ys r) where
         pub turn : process_consolidation (reached (decode xs) i) (get_or (decode_consolidations ps) i none) ≡ bind (turned (decode xs) (pair source target)) (λ vs. value (next_consolidation (reached (decode xs) i) vs))
         turn = rw is-pair (turn_is (reached (decode xs) i) (pair source target))
 
-        pub going_stop : (r ≡ 0 → ⊥) → Consolidates (consolidations next (decode xs₀) ps) (length ps / 2) ys (record { refusal = r; count = 0 })
+        pub going_stop : {p : Refusal} → r ≡ refused p → Consolidates (consolidations next (decode xs₀) ps) (length ps / 2) ys (refused p)
         unfolding consolidations bind
         going_stop z =
-            let o = refuses (turned (decode xs) (pair source target)) (λ y. z (h.code ∙ y)) in
-            let w = resumed-refused g.resumed none inside-pairs (stops ∙ f) {p = o.why} (turn ∙ bind-refused _ o.is) in
-            record { code = h.code ∙ ap code_of o.is ∙ sym (ap code_of w); most = omega arith; held = λ o u. absurd (not_value (sym w ∙ u)); none = λ o u. refl }
+            let w = resumed-refused g.resumed none inside-pairs (stops ∙ f) (turn ∙ bind-refused _ (ran-by h z)) in
+            record { is = rw w; most = λ count u. absurd (not_value u); held = λ o u. absurd (not_value (sym w ∙ u)) }
 
-        pub going_more : r ≡ 0 → length ys ≡ length xs → Going next n xs₀ ps (i + 1) ys
+        pub going_more : r ≡ value tt → length ys ≡ length xs → Going next n xs₀ ps (i + 1) ys
         unfolding bind
         going_more z k =
             record {

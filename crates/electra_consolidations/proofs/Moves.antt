@@ -1,7 +1,9 @@
 -- What a move books: the two columns of the rows, and nothing else.
 use Rattle.std.proofs.Common.{◌≡◌, ℕ, zero, suc, ◌+◌, ◌*◌, ◌/◌, ◌%◌, ◌^◌, ◌<◌, ◌≤◌, Bool, true, false, cond, not, ◌&&◌, ltb, ◌≢◌, List, length, get_or, drop, sym, refl, ap, ◌∙◌, arith, length-set, get_or-drop, get_or-set_other, get_or-set_same, ext_get_or, le-ltb, lt-ltb}
 use Rattle.definitions.specs.Record.{Validator, decode, is_slashed, nobody}
-use Rattle.definitions.specs.Checked.{value, bind}
+use Rattle.definitions.specs.declared.Refusal.{Refusal}
+use Rattle.definitions.specs.Checked.{Checked, value, refused, bind}
+use Rattle.laws.proofs.Checked.{not_value, value_same}
 use Rattle.laws.specs.Ran.{Ran}
 use Rattle.laws.proofs.Loops.Ran.{ran-gave}
 use Rattle.arithmetic.proofs.Laws.{bind-value}
@@ -122,11 +124,11 @@ pub booking_none : (next n : ℕ) (xs₀ ps rows₀ : List ℕ) → Booking next
 booking_none next n xs₀ ps rows₀ = record { framed = framed-same n rows₀; resumed = λ l. resumed-none _ _ _ _ }
 
 module _ {next n : ℕ} {xs₀ ps rows₀ : List ℕ} {i : ℕ} {xs rows : List ℕ} (g : Going next n xs₀ ps i xs) (b : Booking next n xs₀ ps rows₀ i xs rows) where
-  pub booking_all : length ps / 2 ≤ i → MovesBooked next n xs₀ xs ps rows₀ rows (record { refusal = 0; count = length ps / 2 })
+  pub booking_all : length ps / 2 ≤ i → MovesBooked next n xs₀ xs ps rows₀ rows (value (length ps / 2))
   unfolding movements
   booking_all l =
       let e : i ≡ length ps / 2 = omega (arith, g.resumed.below, length_pairs ps) in
-      rw (← e) (record { framed = b.framed; booked = λ z k. resumed-all (b.resumed k) (omega (arith, length_pairs ps)) })
+      rw (← e) (record { framed = b.framed; booked = λ count z k. (let same = value_same z in rw (← same) (resumed-all (b.resumed k) (omega (arith, length_pairs ps)))) })
 
   module _ (l : i < length ps / 2) {source target : ℕ} (s : source ≡ get_or ps (2 * i) 0) (t : target ≡ get_or ps (2 * i + 1) 0) where
     abbrev at_source : Validator
@@ -134,25 +136,25 @@ module _ {next n : ℕ} {xs₀ ps rows₀ : List ℕ} {i : ℕ} {xs rows : List 
 
     -- the test of the source is stop
     module _ {stop : Bool} (e : stop ≡ (not (is_slashed at_source) && ltb next at_source.withdrawable_epoch)) where
-      pub booking_left : stop ≡ true → MovesBooked next n xs₀ xs ps rows₀ rows (record { refusal = 0; count = i })
+      pub booking_left : stop ≡ true → MovesBooked next n xs₀ xs ps rows₀ rows (value i)
       unfolding movements
-      booking_left h = record { framed = b.framed; booked = λ z k. resumed-left (b.resumed k) none (inside-pairs g l s t) (stops g l s t e ∙ h) }
+      booking_left h = record { framed = b.framed; booked = λ count z k. (let same = value_same z in rw (← same) (resumed-left (b.resumed k) none (inside-pairs g l s t) (stops g l s t e ∙ h))) }
 
       -- what it moves is booked, and the turn gave ys
-      module _ (f : stop ≡ false) (ls : source < n) (lt : target < n) {moved : ℕ} (m : moved ≡ cond (is_slashed at_source) 0 (consolidated_balance at_source)) {rows' : List ℕ} (h : rows' ≡ booked_move n source target moved rows) {ys : List ℕ} {r : ℕ} (ran : Ran (turned (decode xs) (pair source target)) ys r) where
+      module _ (f : stop ≡ false) (ls : source < n) (lt : target < n) {moved : ℕ} (m : moved ≡ cond (is_slashed at_source) 0 (consolidated_balance at_source)) {rows' : List ℕ} (h : rows' ≡ booked_move n source target moved rows) {ys : List ℕ} {r : Checked (Unit {0})} (ran : Ran (turned (decode xs) (pair source target)) ys r) where
         framed-now : Framed n rows₀ rows'
         framed-now = rw h (framed_then b.framed (booked-framed n source target moved rows ls lt))
 
-        pub booking_stop : (r ≡ 0 → ⊥) → MovesBooked next n xs₀ ys ps rows₀ rows' (record { refusal = r; count = 0 })
-        booking_stop q = record { framed = framed-now; booked = λ z. absurd (q z) }
+        pub booking_stop : {p : Refusal} → MovesBooked next n xs₀ ys ps rows₀ rows' (refused p)
+        booking_stop = record { framed = framed-now; booked = λ count z. absurd (not_value z) }
 
-        turn-done : r ≡ 0 → process_consolidation (reached (decode xs) i) (get_or (decode_consolidations ps) i none) ≡ value (reached (decode ys) (i + 1))
+        turn-done : r ≡ value tt → process_consolidation (reached (decode xs) i) (get_or (decode_consolidations ps) i none) ≡ value (reached (decode ys) (i + 1))
         unfolding bind
         turn-done z = turn g l s t e f ran ∙ rw (ran-gave ran z)
 
-        moves : r ≡ 0 → 12 * n ≤ length rows → move_consolidation (moved_to n (decode xs) i rows) (get_or (decode_consolidations ps) i none) ≡ value (moved_to n (decode ys) (i + 1) rows')
+        moves : r ≡ value tt → 12 * n ≤ length rows → move_consolidation (moved_to n (decode xs) i rows) (get_or (decode_consolidations ps) i none) ≡ value (moved_to n (decode ys) (i + 1) rows')
         unfolding move_consolidation
         moves z k = bind-value _ (turn-done z) ∙ rw (is-pair g l s t, h, booked-out n source target moved rows ls lt k, booked-into n source target moved rows ls lt k, m)
 
-        pub booking_more : r ≡ 0 → Booking next n xs₀ ps rows₀ (i + 1) ys rows'
+        pub booking_more : r ≡ value tt → Booking next n xs₀ ps rows₀ (i + 1) ys rows'
         booking_more z = record { framed = framed-now; resumed = λ k. resumed-more (b.resumed k) none (inside-pairs g l s t) (stops g l s t e ∙ f) (moves z (omega (arith, k, b.framed.long))) }

@@ -2,13 +2,12 @@
 use Rattle.std.specs.Prelude.{◌≡◌, ℕ, ◌≤◌, Bool, cond, List, slice_index_or}
 use Rattle.definitions.specs.Lists.{all}
 use Rattle.definitions.specs.Record.{Validator, is_slashed, encode, nobody}
-use Rattle.definitions.specs.Checked.{Checked, value, refused, Refusal, code_of}
+use Rattle.definitions.specs.Checked.{Checked, value, bind}
 use Rattle.definitions_electra.specs.Loops.{fold_until_checked}
 use Rattle.definitions_electra.specs.Record.{PendingConsolidation, decode_consolidations}
 use Rattle.definitions_electra.specs.Document.Electra.EpochProcessing.{Consolidating, consolidations_stop}
 use Rattle.definitions_electra.specs.Evaluated.Electra.EpochProcessing.{consolidate, process_consolidation}
 use Rattle.laws_electra.specs.Consolidations.{within}
-use Rattle.electra_consolidations.specs.declared.Done.{Done}
 
 -- a slashed source is passed over
 unfoldable pub turned : List Validator → PendingConsolidation → Checked (List Validator)
@@ -25,9 +24,8 @@ placed n pairs = all (within n) (decode_consolidations pairs)
 unfoldable pub consolidations : ℕ → List Validator → List ℕ → Checked Consolidating
 consolidations next vs pairs = fold_until_checked (consolidations_stop next) process_consolidation (reached vs 0) (decode_consolidations pairs)
 
--- of `many` in the queue: 0 or the refusal's number; the registry and how many are done where it is not refused, and none where it is
-pub record Consolidates (m : Checked Consolidating) (many : ℕ) (xs : List ℕ) (r : Done) : Type 0 where
-  pub code : r.refusal ≡ code_of m
-  pub most : r.count ≤ many
-  pub held : (p : Consolidating) → m ≡ value p → (xs ≡ encode p.validators) × (r.count ≡ p.next_pending_consolidation)
-  pub none : (p : Refusal) → m ≡ refused p → r.count ≡ 0
+-- of `many` in the queue: how many are done, and the registry where it is not refused
+pub record Consolidates (m : Checked Consolidating) (many : ℕ) (xs : List ℕ) (r : Checked ℕ) : Type 0 where
+  pub is : r ≡ bind m (λ p. value p.next_pending_consolidation)
+  pub most : (count : ℕ) → r ≡ value count → count ≤ many
+  pub held : (p : Consolidating) → m ≡ value p → xs ≡ encode p.validators

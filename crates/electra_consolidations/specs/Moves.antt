@@ -6,7 +6,6 @@ use Rattle.definitions_electra.specs.Loops.{fold_until_checked}
 use Rattle.definitions_electra.specs.Record.{decode_consolidations}
 use Rattle.definitions_electra.specs.Document.Electra.EpochProcessing.{consolidations_stop}
 use Rattle.definitions_electra_close.specs.Amounts.{Moved, add_at, move_consolidation}
-use Rattle.electra_consolidations.specs.declared.Done.{Done}
 use Rattle.electra_consolidations.specs.Consolidations.{reached}
 
 -- one move, where n rows are lent
@@ -35,6 +34,6 @@ pub record Framed (n : ℕ) (before after : List ℕ) : Type 0 where
   pub behind : (j : ℕ) → 12 * n ≤ j → slice_index after j ≡ slice_index before j
 
 -- where nothing is refused, the two columns are the loop's
-pub record MovesBooked (next n : ℕ) (opening closing pairs before after : List ℕ) (r : Done) : Type 0 where
+pub record MovesBooked (next n : ℕ) (opening closing pairs before after : List ℕ) (r : Checked ℕ) : Type 0 where
   pub framed : Framed n before after
-  pub booked : r.refusal ≡ 0 → 12 * n ≤ length before → movements next n (decode opening) pairs before ≡ value (moved_to n (decode closing) r.count after)
+  pub booked : (count : ℕ) → r ≡ value count → 12 * n ≤ length before → movements next n (decode opening) pairs before ≡ value (moved_to n (decode closing) count after)

@@ -15,11 +15,10 @@ ghost use Rattle.electra_consolidations.specs.Moves.{booked_move, MovesBooked};
 
 use arithmetic::min;
 use balances::{entry_decrease_balance, entry_increase_balance};
-use definitions::{BALANCE, EFFECTIVE_BALANCE, SLASHED, WITHDRAWABLE_EPOCH};
+use definitions::{BALANCE, EFFECTIVE_BALANCE, Refusal, SLASHED, WITHDRAWABLE_EPOCH};
 use definitions_electra::{ConsolidationsAnswer, ElectraRules};
 use electra_refusals::step_tests::consolidations_tests;
 use epochs::current_epoch;
-use refusals::buffers::{copy, put_back};
 use std::num::wrapping_add_u64;
 
 // Places in a row of twelve amounts.
@@ -37,8 +36,8 @@ fn consolidated_balance(registry: &[u64], n: usize, source: usize) -> u64
     )
 }
 
-// Taken from the source, then given to the target: 0 or 5.
-fn consolidate(registry: &mut [u64], n: usize, source: usize, target: usize) -> u64
+// Taken from the source, then given to the target.
+fn consolidate(registry: &mut [u64], n: usize, source: usize, target: usize) -> Result<(), Refusal>
     requires { (length registry.old ≡ 10 * n) × (source < n) × (target < n) }
     ensures { Ran (consolidate (decode registry.old) (pair source target)) registry.new result }
 {
@@ -52,12 +51,17 @@ fn consolidate(registry: &mut [u64], n: usize, source: usize, target: usize) -> 
 }
 
 // A slashed source is passed over.
-fn consolidation_turn(registry: &mut [u64], n: usize, source: usize, target: usize) -> u64
+fn consolidation_turn(
+    registry: &mut [u64],
+    n: usize,
+    source: usize,
+    target: usize,
+) -> Result<(), Refusal>
     requires { (length registry.old ≡ 10 * n) × (source < n) × (target < n) }
     ensures { Ran (turned (decode registry.old) (pair source target)) registry.new result }
 {
     if registry[10 * source + SLASHED] == 1 {
-        return 0;
+        return Ok(());
     }
     consolidate(registry, n, source, target)
 }
@@ -109,21 +113,14 @@ fn stops_at(registry: &[u64], n: usize, source: usize, next_epoch: u64) -> bool
     next_epoch < registry[10 * source + WITHDRAWABLE_EPOCH]
 }
 
-// 0 or a refusal's number, and how many of the queue are done: on refusal none.
-#[derive(Clone, Copy)]
-pub struct Done {
-    pub refusal: u64,
-    pub count: usize,
-}
-
-// On refusal the registry and the amounts are left half done: the caller puts the opening back.
+// How many of the queue are done. On refusal the registry and the amounts are left half done: the caller puts the opening back.
 pub fn consolidate_all(
     registry: &mut [u64],
     n: usize,
     pairs: &[u64],
     next_epoch: u64,
     amounts: &mut [u64],
-) -> Done
+) -> Result<usize, Refusal>
     requires registry_len { (length registry.old ≡ 10 * n) × (length pairs.now ≡ 2 * (length pairs.now / 2)) }
     requires pairs_value { placed n pairs.now ≡ true }
     ensures consolidates { Consolidates (consolidations next_epoch (decode registry.old) pairs.now) (length pairs.now / 2)
@@ -135,25 +132,13 @@ pub fn consolidate_all(
         let source = pairs[2 * i] as usize;
         let target = pairs[2 * i + 1] as usize;
         if stops_at(&registry[..], n, source, next_epoch) {
-            return Done {
-                refusal: 0,
-                count: i,
-            };
+            return Ok(i);
         }
         let moved = moved_from(&registry[..], n, source);
         book_move(amounts, n, source, target, moved);
-        let refusal = consolidation_turn(registry, n, source, target);
-        if refusal != 0 {
-            return Done {
-                refusal: refusal,
-                count: 0,
-            };
-        }
+        consolidation_turn(registry, n, source, target)?;
     }
-    Done {
-        refusal: 0,
-        count: m,
-    }
+    Ok(m)
 }
 
 // The rest of the queue at the front of the closing one.
@@ -163,7 +148,7 @@ pub fn keep_rest(queue: &[u64], from: usize, closing: &mut [u64])
 {
     let long = queue.len();
     let left = long - from;
-    copy(&queue[from..long], &mut closing[0..left]);
+    closing[0..left].copy_from_slice(&queue[from..long]);
 }
 
 pub fn process_pending_consolidations(
@@ -182,21 +167,20 @@ pub fn process_pending_consolidations(
         closing_consolidations.old closing_consolidations.new result }
 {
     let many = consolidations.len() / 2;
-    let refusal = consolidations_tests(
+    if let Err(refusal) = consolidations_tests(
         rules,
         state_slot,
         registry,
         consolidations,
         closing_registry,
         closing_consolidations,
-    );
-    if refusal != 0 {
+    ) {
         return ConsolidationsAnswer {
-            refusal: refusal,
+            refusal: refusal.number(),
             consolidations: many as u64,
         };
     }
-    copy(registry, closing_registry);
+    closing_registry.copy_from_slice(registry);
     let n = registry.len() / 10;
     let next_epoch = current_epoch(rules.settings, state_slot) + 1;
     let mut unbooked = [0u64; 1];
@@ -207,10 +191,21 @@ pub fn process_pending_consolidations(
         next_epoch,
         &mut unbooked[0..0],
     );
-    put_back(done.refusal, registry, closing_registry);
-    keep_rest(consolidations, 2 * done.count, closing_consolidations);
-    ConsolidationsAnswer {
-        refusal: done.refusal,
-        consolidations: (many - done.count) as u64,
+    match done {
+        Ok(count) => {
+            keep_rest(consolidations, 2 * count, closing_consolidations);
+            ConsolidationsAnswer {
+                refusal: 0,
+                consolidations: (many - count) as u64,
+            }
+        }
+        Err(refusal) => {
+            closing_registry.copy_from_slice(registry);
+            keep_rest(consolidations, 0, closing_consolidations);
+            ConsolidationsAnswer {
+                refusal: refusal.number(),
+                consolidations: many as u64,
+            }
+        }
     }
 }

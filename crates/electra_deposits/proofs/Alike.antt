@@ -1,11 +1,11 @@
 -- Two computations that give values that are alike, or the same refusal.
-use mathlib.Core.Path.{◌≡◌, refl, sym, ap}
+use mathlib.Core.Path.{◌≡◌, refl, sym, ap, ◌∙◌}
 use mathlib.Core.Bool.{Bool, true, false, cond}
 use Prim.Native.Nat.{ℕ}
 use native.Mathlib.Omega.{arith}
-use Rattle.definitions.specs.Checked.{Checked, value, refused, number_of, bind, code_of}
-use Rattle.laws.proofs.Checked.{number_not_zero}
-use Rattle.laws_electra.proofs.Cases.{Gives}
+use Rattle.definitions.specs.Checked.{Checked, value, refused, bind}
+use Rattle.definitions.specs.declared.Refusal.{Refusal}
+use Rattle.laws.proofs.Checked.{not_value, value_same, refused_same}
 
 abbrev AlikeBy : {A B : Type 0} → (A → B → Type 0) → Checked A → Checked B → Type 0
 AlikeBy R (value a) (value b) = R a b
@@ -41,19 +41,25 @@ alike-cond false false e h g = g
 alike-cond true false e h g = absurd (apart e)
 alike-cond false true e h g = absurd (apart (sym e))
 
--- by the number of a refusal
-pub record Both {A B : Type 0} (R : A → B → Type 0) (m : Checked A) (n : Checked B) : Type 0 where
-  pub left : Gives m
-  pub right : Gives n
-  pub alike : R left.first right.first
+-- the other's value, or the same refusal
 
-pub both-gave : {A B : Type 0} {R : A → B → Type 0} {m : Checked A} {n : Checked B} → Alike R m n → code_of m ≡ 0 → Both R m n
-both-gave {m = value a} {n = value b} h z = record { left = record { first = a; gave = refl }; right = record { first = b; gave = refl }; alike = h.is }
-both-gave {m = value a} {n = refused q} h z = absurd h.is
-both-gave {m = refused p} {n = n} h z = absurd (number_not_zero p z)
+pub record Met {A B : Type 0} (R : A → B → Type 0) (a : A) (n : Checked B) : Type 0 where
+  pub other : B
+  pub gave : n ≡ value other
+  pub alike : R a other
 
-pub same_code : {A B : Type 0} {R : A → B → Type 0} {m : Checked A} {n : Checked B} → Alike R m n → code_of m ≡ code_of n
-same_code {m = value a} {n = value b} h = refl
-same_code {m = value a} {n = refused q} h = absurd h.is
-same_code {m = refused p} {n = value b} h = absurd h.is
-same_code {m = refused p} {n = refused q} h = ap number_of h.is
+pub met : {A B : Type 0} {R : A → B → Type 0} {m : Checked A} {n : Checked B} {a : A} → Alike R m n → m ≡ value a → Met R a n
+met {m = value b} {n = value c} h e = let s = value_same e in rw (← s) (record { other = c; gave = refl; alike = h.is })
+met {m = value b} {n = refused q} h e = absurd h.is
+met {m = refused p} {n = n} h e = absurd (not_value e)
+
+pub alike-refused : {A B : Type 0} {R : A → B → Type 0} {m : Checked A} {n : Checked B} {p : Refusal} → Alike R m n → m ≡ refused p → n ≡ refused p
+alike-refused {m = value a} {n = n} h e = absurd (not_value (sym e))
+alike-refused {m = refused q} {n = value b} h e = absurd h.is
+alike-refused {m = refused q} {n = refused s} h e = ap refused (sym h.is ∙ refused_same e)
+
+-- what was worked out of a value was refused, so the value was
+pub first-refused : {A B : Type 0} (m : Checked A) (g : A → B) {p : Refusal} → bind m (λ a. value (g a)) ≡ refused p → m ≡ refused p
+unfolding bind
+first-refused (value a) g e = absurd (not_value (sym e))
+first-refused (refused q) g e = ap refused (refused_same e)

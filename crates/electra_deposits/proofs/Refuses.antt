@@ -10,7 +10,9 @@ use lib.ListN.{length, get_or, take, drop, length-drop}
 use lib.Seq.{get_or-drop, length-take-le}
 use Rattle.definitions.specs.Record.{Validator, nobody}
 use Rattle.definitions.specs.Updates.{with_effective_balance}
-use Rattle.definitions.specs.Checked.{Checked, value, refused, Refusal, overflow, bind, add64, mul64}
+use Rattle.definitions.specs.Checked.{Checked, value, refused, bind, add64, mul64}
+use Rattle.definitions.specs.declared.Refusal.{Refusal}
+use Rattle.definitions.specs.declared.Refusal.TheVariants.{Overflow}
 use Rattle.arithmetic.proofs.Operations.{OnlyOverflow, only-value, only-add64, only-mul64, only-bind}
 use Rattle.electra_registry.proofs.Turns.{only-either}
 use Rattle.definitions_electra.specs.declared.ElectraRules.{ElectraRules}
@@ -38,7 +40,7 @@ module _ (r : ElectraRules) {downward upward : ℕ} (low : mul64 (r.settings.eff
       rw (low, high, lt-ltb (v.balance + downward) (2 ^ 64) g.low, lt-ltb (v.effective_balance + upward) (2 ^ 64) g.high)
       (test_or (ltb (v.balance + downward) v.effective_balance) (λ t. rw t (record { first = updated c v; gave = refl })) (λ t. rw t (record { first = y; gave = refl })))
 
-  bad-one : (c : ℕ) (v : Validator) → Bad downward upward v → update_effective_balance r c v ≡ refused overflow
+  bad-one : (c : ℕ) (v : Validator) → Bad downward upward v → update_effective_balance r c v ≡ refused Overflow
   unfolding update_effective_balance bind add64
   bad-one c v g =
       rw (low, high) (less_or (v.balance + downward) (2 ^ 64)
@@ -59,14 +61,14 @@ module _ (r : ElectraRules) {downward upward : ℕ} (low : mul64 (r.settings.eff
       let y = all-good cs vs (λ j l. g (suc j) (omega (arith, l))) in
       record { first = x.first ∷ y.first; gave = rw (x.gave, y.gave) }
 
-  pub some-bad : (cs : List ℕ) (vs : List Validator) → length cs ≡ length vs → (j : ℕ) → j < length vs → Bad downward upward (get_or vs j nobody) → update_effective_balances r cs vs ≡ refused overflow
+  pub some-bad : (cs : List ℕ) (vs : List Validator) → length cs ≡ length vs → (j : ℕ) → j < length vs → Bad downward upward (get_or vs j nobody) → update_effective_balances r cs vs ≡ refused Overflow
   unfolding update_effective_balances bind
   some-bad cs [] e j l g = absurd (omega arith)
   some-bad [] (v ∷ vs) e j l g = absurd (omega (arith, e))
   some-bad (c ∷ cs) (v ∷ vs) e zero l g = rw (bad-one c v g)
   some-bad (c ∷ cs) (v ∷ vs) e (suc j) l g = go (update_effective_balance r c v) refl (some-bad cs vs (omega (arith, e)) j (omega (arith, l)) g)
     where
-      go : (m : Checked Validator) → update_effective_balance r c v ≡ m → update_effective_balances r cs vs ≡ refused overflow → bind m (λ w. bind (update_effective_balances r cs vs) (λ ws. value (w ∷ ws))) ≡ refused overflow
+      go : (m : Checked Validator) → update_effective_balance r c v ≡ m → update_effective_balances r cs vs ≡ refused Overflow → bind m (λ w. bind (update_effective_balances r cs vs) (λ ws. value (w ∷ ws))) ≡ refused Overflow
       go (value w) z rest = rw rest
       go (refused p) z rest = ap (λ (x : Refusal). refused x) ((only_one c v).why p z)
 
@@ -97,7 +99,7 @@ module _ (k : NewNumbers) (q : QueueNumbers) (registry compounding deposits : Li
           all-good r low high (drop n p.registry.compounding) (drop n p.registry.validators)
           (λ j l. rw (get_or-drop n p.registry.validators j nobody) (tested.good f (n + j) (omega arith) (omega (arith, l, length-drop n p.registry.validators))))
 
-      pub new-refused : t.fits ≡ false → update_effective_balances r (drop n p.registry.compounding) (drop n p.registry.validators) ≡ refused overflow
+      pub new-refused : t.fits ≡ false → update_effective_balances r (drop n p.registry.compounding) (drop n p.registry.validators) ≡ refused Overflow
       new-refused f =
           let b = tested.bad f in
           let d = done k q registry compounding deposits tens credentials z in

@@ -9,7 +9,9 @@ use lib.Dec.{ltb}
 use lib.ListN.{length, get_or, take, drop, replicate, take-append-drop}
 use lib.Seq.{get_or-take, length-take-le}
 use Rattle.definitions.specs.Record.{encode, decode}
-use Rattle.laws.proofs.Checked.{not_value, value_same}
+use Rattle.definitions.specs.Checked.{Checked, value, refused}
+use Rattle.definitions.specs.declared.Refusal.{Refusal}
+use Rattle.laws.proofs.Checked.{not_value, value_same, bound}
 use Rattle.laws.proofs.Encode.{length-decode, encode-decode, decode-encode}
 use Rattle.laws.proofs.Tests.{all-at}
 use Rattle.definitions_electra.specs.declared.PendingDeposit.{PendingDeposit}
@@ -19,11 +21,10 @@ use Rattle.definitions_electra.specs.Document.Electra.EpochProcessing.{get_valid
 use Rattle.laws_electra.proofs.Deposits.{length-deposits}
 use Rattle.laws_electra.proofs.Until.{Resumed, resumed-none, resumed-all, resumed-refused, resumed-more}
 use Rattle.electra_deposits.specs.declared.adding.NewNumbers.{NewNumbers}
-use Rattle.electra_deposits.specs.declared.adding.Applied.{Applied}
 use Rattle.electra_deposits.specs.Alone.{none}
 use Rattle.electra_deposits.specs.Room.{Room, place_by, appended, apply_at, join_at, new_by, room_of, Held, Applies, rules_by, keyed, opening, joins, joined, Added}
-use Rattle.laws_electra.proofs.Cases.{refuses, less_or}
-use Rattle.electra_deposits.proofs.Alike.{Alike, both-gave, same_code}
+use Rattle.laws_electra.proofs.Cases.{less_or}
+use Rattle.electra_deposits.proofs.Alike.{Alike, met, alike-refused, first-refused}
 use Rattle.electra_deposits.proofs.Keys.{length-range, finds-none}
 use Rattle.electra_deposits.proofs.Simulated.{Roomy, Grown, join-alike}
 
@@ -83,10 +84,10 @@ unfolding join_at apply_at appended get_validator_from_deposit get_max_effective
 join-same k n m d = refl
 
 -- a room, from what the lent lists hold
-same-room : (a : Room) {xs cs ps : List ℕ} {c : ℕ} → Held a xs cs ps c → a ≡ room_of xs cs ps c
-same-room a h =
+same-room : (a : Room) {xs cs ps : List ℕ} {c : ℕ} → Held a xs cs ps → c ≡ a.count → a ≡ room_of xs cs ps c
+same-room a h many =
     let b : decode _ ≡ a.buffer = ap decode h.buffer ∙ decode-encode a.buffer in
-    rw (b, h.compounding, h.places, h.count)
+    rw (b, h.compounding, h.places, many)
 
 module _ {k : NewNumbers} {n : ℕ} {xs₀ cs₀ ds : List ℕ} {index i : ℕ} {xs cs ps : List ℕ} {count : ℕ} (g : Adding k n xs₀ cs₀ ds index i xs cs ps count) (within : index ≤ length ds / 5) where
   pub adding_within : (n ≤ count) × (count ≤ n + length ds / 5)
@@ -124,27 +125,29 @@ module _ {k : NewNumbers} {n : ℕ} {xs₀ cs₀ ds : List ℕ} {index i : ℕ} 
         (λ e. below key e b)
 
     module _ {d : PendingDeposit} (is : d ≡ get_or (decode_deposits ds) i none) (keys : keyed n ds ≡ true) where
-      module _ {ys es qs : List ℕ} {r : Applied} (h : Applies (join_at (new_by k) n (room_of xs cs ps count) d) ys es qs r) where
+      module _ {ys es qs : List ℕ} {r : Checked ℕ} (h : Applies (join_at (new_by k) n (room_of xs cs ps count) d) ys es qs r) where
         both : Alike (Grown n (length ds / 5) (decode xs₀) cs₀ count) (join_at (new_by k) n (room_of xs cs ps count) d) (joins (rules_by k 0) n g.text d)
         both = rw (← join-same k n (room_of xs cs ps count) d) (join-alike g.room d (key_here ds index within l is n keys) (rules_by k 0) (omega (arith, g.fits, l, within)))
 
-        pub adding_stop : (r.refusal ≡ 0 → ⊥) → {many : ℕ} → Added (joined (rules_by k 0) n (opening n xs₀ cs₀) (take index (decode_deposits ds))) xs₀ cs₀ ys es many
+        pub adding_stop : {p : Refusal} → r ≡ refused p → {many : ℕ} → Added (joined (rules_by k 0) n (opening n xs₀ cs₀) (take index (decode_deposits ds))) xs₀ cs₀ ys es many
         unfolding joined
-        adding_stop z =
-            let o = refuses (joins (rules_by k 0) n g.text d) (λ y. z (h.code ∙ same_code both ∙ y)) in
-            let x = resumed-refused g.resumed none (here ds index within l) refl {p = o.why} (rw (← at-queue ds index within l is) o.is) in
+        adding_stop {p} z =
+            let o = alike-refused both (first-refused (join_at (new_by k) n (room_of xs cs ps count) d) (λ a. a.count) (sym h.is ∙ z)) in
+            let x = resumed-refused g.resumed none (here ds index within l) refl {p = p} (rw (← at-queue ds index within l is) o) in
             record { holds = λ reg y. absurd (not_value (sym x ∙ y)) }
 
-        pub adding_more : r.refusal ≡ 0 → length ys ≡ length xs → length es ≡ length cs → Adding k n xs₀ cs₀ ds index (i + 1) ys es qs r.count
-        adding_more z lx lc =
-            let o = both-gave both (sym h.code ∙ z) in
-            let e = h.held o.left.first o.left.gave in
+        pub adding_more : {c : ℕ} → r ≡ value c → length ys ≡ length xs → length es ≡ length cs → Adding k n xs₀ cs₀ ds index (i + 1) ys es qs c
+        adding_more {c} z lx lc =
+            let b = bound (join_at (new_by k) n (room_of xs cs ps count) d) (λ a. value a.count) (sym h.is ∙ z) in
+            let many : c ≡ b.first.count = value_same (sym b.then) in
+            let o = met both b.gave in
+            let e = h.held b.first b.gave in
             record {
-              text = o.right.first;
-              room = rw (← same-room o.left.first e) o.alike.roomy;
+              text = o.other;
+              room = rw (← same-room b.first e many) o.alike.roomy;
               begun = omega (arith, l);
-              least = omega (arith, e.count, o.alike.least, g.least);
-              fits = omega (arith, e.count, o.alike.most, g.fits);
-              resumed = resumed-more g.resumed none (here ds index within l) refl (rw (← at-queue ds index within l is) o.right.gave);
+              least = omega (arith, many, o.alike.least, g.least);
+              fits = omega (arith, many, o.alike.most, g.fits);
+              resumed = resumed-more g.resumed none (here ds index within l) refl (rw (← at-queue ds index within l is) o.gave);
               long = omega (arith, lx, lc, g.long);
             }

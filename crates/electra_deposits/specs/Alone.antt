@@ -2,7 +2,8 @@
 -- where the text's loop is, and else leaves them and the loop's numbers as the text does: proofs/Twin.antt.
 use Rattle.std.specs.Prelude.{◌≡◌, Bool, true, false, cond, ◌&&◌, ◌||◌, not, List, ℕ, ◌+◌, ltb, leb, length, get_or, set}
 use Rattle.definitions.specs.Record.{Validator, FAR_FUTURE_EPOCH, encode, decode, nobody}
-use Rattle.definitions.specs.Checked.{Checked, value, bind, add64, code_of}
+use Rattle.definitions.specs.Checked.{Checked, value, refused, bind, add64}
+use Rattle.definitions.specs.declared.Refusal.{Refusal}
 use Rattle.definitions.specs.Rust.Phase0.Helpers.{increase_balance}
 use Rattle.definitions_electra.specs.declared.PendingDeposit.{PendingDeposit}
 use Rattle.definitions_electra.specs.Record.{decode_deposits, GENESIS_SLOT}
@@ -83,23 +84,20 @@ turn_by q xs processed d i = turn (queueing_of q) (running (decode xs) processed
 abbrev pub after_turn : List ℕ → DepositTurn → ℕ → Running
 after_turn xs r i = record { validators = decode xs; processed = r.processed; index = cond r.reached i (i + 1); reached = r.reached }
 
--- 0 or the refusal's number, and where it is not refused the registry and the numbers, whatever the turn's number
-pub record Turns (m : ℕ → Checked Running) (xs : List ℕ) (r : DepositTurn) : Type 0 where
-  pub code : (i : ℕ) → r.refusal ≡ code_of (m i)
-  pub gives : r.refusal ≡ 0 → (i : ℕ) → m i ≡ value (after_turn xs r i)
+-- the numbers, and the registry with them, or the refusal, whatever the turn's number
+pub record Turns (m : ℕ → Checked Running) (xs : List ℕ) (r : Checked DepositTurn) : Type 0 where
+  pub gives : (t : DepositTurn) → r ≡ value t → (i : ℕ) → m i ≡ value (after_turn xs t i)
+  pub refuses : (p : Refusal) → r ≡ refused p → (i : ℕ) → m i ≡ refused p
 
 -- the loop, of a lent registry and queue
 unfoldable pub alone : QueueNumbers → List ℕ → List ℕ → Checked Running
 alone q registry deposits =
     fold_until_checked (stops q.most (queueing_of q)) (turn (queueing_of q)) (running (decode registry) 0 0) (decode_deposits deposits)
 
-pub record Stands (a : Running) (xs : List ℕ) (r : Deposited) : Type 0 where
-  pub registry : xs ≡ encode a.validators
-  pub index : r.index ≡ a.index
-  pub processed : r.processed ≡ a.processed
-  pub reached : r.reached ≡ a.reached
+abbrev pub ended : Running → Deposited
+ended a = record { index = a.index; processed = a.processed; reached = a.reached }
 
--- 0 or the refusal's number, and where it is not refused registry and numbers
-pub record Deposits (m : Checked Running) (xs : List ℕ) (r : Deposited) : Type 0 where
-  pub code : r.refusal ≡ code_of m
-  pub held : (a : Running) → m ≡ value a → Stands a xs r
+-- the numbers, or why it is refused, and the registry where it is not
+pub record Deposits (m : Checked Running) (xs : List ℕ) (r : Checked Deposited) : Type 0 where
+  pub is : r ≡ bind m (λ a. value (ended a))
+  pub held : (a : Running) → m ≡ value a → xs ≡ encode a.validators

@@ -3,7 +3,7 @@
 use Rattle.std.specs.Prelude.{◌≡◌, Bool, false, cond, List, [], ◌∷◌, ◌++◌, ℕ, ◌+◌, ◌-◌, ◌/◌, ◌%◌, min, ltb, eqb, length, get_or, take, drop, set}
 use Rattle.definitions.specs.Lists.{all, range}
 use Rattle.definitions.specs.Record.{Validator, FAR_FUTURE_EPOCH, encode, decode, nobody}
-use Rattle.definitions.specs.Checked.{Checked, value, bind, code_of}
+use Rattle.definitions.specs.Checked.{Checked, value, bind}
 use Rattle.definitions.specs.Refusals.{settings_from}
 use Rattle.definitions.specs.Rust.Phase0.Helpers.{increase_balance}
 use Rattle.definitions_electra.specs.declared.ElectraRules.{ElectraRules}
@@ -12,7 +12,6 @@ use Rattle.definitions_electra.specs.Record.{Registry, decode_deposits}
 use Rattle.definitions_electra.specs.Loops.{fold_until_checked}
 use Rattle.definitions_electra.specs.Evaluated.Electra.EpochProcessing.{apply_pending_deposit}
 use Rattle.electra_deposits.specs.declared.adding.NewNumbers.{NewNumbers}
-use Rattle.electra_deposits.specs.declared.adding.Applied.{Applied}
 
 -- N + D places, of which the first `count` are validators; and D numbers, for each key from N on: 0, or one more than its validator's place
 pub record Room : Type 0 where
@@ -76,16 +75,15 @@ new_by k d = new_validator (effective_by k d) d.amount
 abbrev pub room_of : List ℕ → List ℕ → List ℕ → ℕ → Room
 room_of xs cs ps count = record { buffer = decode xs; compounding = cs; places = ps; count = count }
 
-pub record Held (m : Room) (xs cs ps : List ℕ) (many : ℕ) : Type 0 where
+pub record Held (m : Room) (xs cs ps : List ℕ) : Type 0 where
   pub buffer : xs ≡ encode m.buffer
   pub compounding : cs ≡ m.compounding
   pub places : ps ≡ m.places
-  pub count : many ≡ m.count
 
--- 0 or the refusal's number, and where it is not refused the lent lists
-pub record Applies (m : Checked Room) (xs cs ps : List ℕ) (r : Applied) : Type 0 where
-  pub code : r.refusal ≡ code_of m
-  pub held : (a : Room) → m ≡ value a → Held a xs cs ps r.count
+-- how many there are, or why it is refused, and where it is not the lent lists
+pub record Applies (m : Checked Room) (xs cs ps : List ℕ) (r : Checked ℕ) : Type 0 where
+  pub is : r ≡ bind m (λ a. value a.count)
+  pub held : (a : Room) → m ≡ value a → Held a xs cs ps
 
 -- rules with the numbers that the loop reads, and zeros
 abbrev pub rules_by : NewNumbers → ℕ → ElectraRules

@@ -2,7 +2,8 @@
 use Rattle.std.specs.Prelude.{◌≡◌, true, List, [], ◌++◌, ℕ, ◌+◌, ◌*◌, ◌/◌, length, take, drop}
 use Rattle.definitions.specs.Lists.{range}
 use Rattle.definitions.specs.Record.{encode, decode}
-use Rattle.definitions.specs.Checked.{Checked, value, refused, bind, number_of, code_of}
+use Rattle.definitions.specs.Checked.{Checked, value, refused, bind, number_of}
+use Rattle.definitions.specs.declared.Refusal.{Refusal}
 use Rattle.definitions_electra.specs.declared.ElectraRules.{ElectraRules}
 use Rattle.definitions_electra.specs.declared.DepositNumbers.{DepositNumbers}
 use Rattle.definitions_electra.specs.declared.DepositsAnswer.{DepositsAnswer}
@@ -14,25 +15,22 @@ use Rattle.definitions_electra.specs.Document.Electra.EpochProcessing.{Queueing,
 use Rattle.definitions_electra.specs.Evaluated.Electra.EpochProcessing.{process_deposit, queueing, left_to_consume}
 use Rattle.electra_deposits.specs.declared.adding.NewNumbers.{NewNumbers}
 use Rattle.electra_deposits.specs.declared.Deposited.{Deposited}
-use Rattle.electra_deposits.specs.declared.step.QueueAnswer.{QueueAnswer}
-use Rattle.electra_deposits.specs.declared.step.QueueAnswer.TheVariants.{Value as QueueValue, Refused as QueueRefused}
+use Rattle.electra_deposits.specs.declared.QueueNumbers.{QueueNumbers}
 use Rattle.electra_deposits.specs.Alone.{Running, Deposits}
 use Rattle.electra_deposits.specs.Room.{keyed, opening, rules_by, joined, Added}
 use Rattle.electra_deposits.specs.Written.{closing_queue, Queued}
 
 -- What the loop goes by
 
-abbrev pub queue_answer_for : ℕ → Checked Queueing → QueueAnswer
-queue_answer_for most (value q) =
-    QueueValue
-    (record {
+abbrev pub numbers_by : ℕ → Queueing → QueueNumbers
+numbers_by most q =
+    record {
       next_epoch = q.next_epoch;
       available = q.available;
       finalized_slot = q.finalized_slot;
       most = most;
       bridge_open = q.bridge_open;
-    })
-queue_answer_for most (refused p) = QueueRefused (number_of p)
+    }
 
 -- what a new validator is made by
 abbrev pub new_of : ElectraRules → NewNumbers
@@ -68,7 +66,7 @@ unfoldable pub text_by : ElectraRules → Queueing → Registry → List Pending
 text_by r q reg ds = fold_until_checked (deposits_stop r q) (process_deposit r q) (started reg) ds
 
 -- the loop over the opening's validators, at the front of a buffer
-pub record Fronted (m : Checked Running) (long : ℕ) (xs₀ xs : List ℕ) (r : Deposited) : Type 0 where
+pub record Fronted (m : Checked Running) (long : ℕ) (xs₀ xs : List ℕ) (r : Checked Deposited) : Type 0 where
   pub front : List ℕ
   pub is-long : length front ≡ long
   pub is : xs ≡ over front xs₀
@@ -104,12 +102,11 @@ answer_of l =
       deposits = length l.queue;
     }
 
--- what the buffers hold, and what is answered
-pub record Ends (l : Left) (xs₀ cs₀ ds₀ xs cs ds : List ℕ) (r : DepositsAnswer) : Type 0 where
+-- what the buffers hold
+pub record Ends (l : Left) (xs₀ cs₀ ds₀ xs cs ds : List ℕ) : Type 0 where
   pub registry : xs ≡ over (encode l.registry.validators) xs₀
   pub compounding : cs ≡ over l.registry.compounding cs₀
   pub queue : ds ≡ over (encode_deposits l.queue) ds₀
-  pub answer : r ≡ answer_of l
 
 -- those added behind what stands in front, and the closing queue
 pub record Finished (next : ℕ) (k : NewNumbers) (registry deposits : List ℕ) (index carried : ℕ) (xs₀ cs₀ ds₀ xs cs ds : List ℕ) (r : DepositsAnswer)
@@ -122,18 +119,18 @@ pub record Finished (next : ℕ) (k : NewNumbers) (registry deposits : List ℕ)
   pub answer : r ≡ record { refusal = 0; deposit_balance_to_consume = carried; validators = count; deposits = left }
 
 -- on refusal
-abbrev pub as_opened : ℕ → DepositNumbers → List ℕ → List ℕ → DepositsAnswer
+abbrev pub as_opened : Refusal → DepositNumbers → List ℕ → List ℕ → DepositsAnswer
 as_opened refusal numbers registry deposits =
     record {
-      refusal = refusal;
+      refusal = number_of refusal;
       deposit_balance_to_consume = numbers.deposit_balance_to_consume;
       validators = length registry / 10;
       deposits = length deposits / 5;
     }
 
--- 0 or the refusal's number; and where it is refused, the opening may be put back in front of what stands behind
-pub record Runs (m : Checked Left) (registry compounding xs₀ cs₀ ds₀ xs cs ds : List ℕ) (r : DepositsAnswer) : Type 0 where
-  pub code : r.refusal ≡ code_of m
-  pub ends : (l : Left) → m ≡ value l → Ends l xs₀ cs₀ ds₀ xs cs ds r
-  pub back : (r.refusal ≡ 0 → ⊥) → over registry xs ≡ over registry xs₀
-  pub back_too : (r.refusal ≡ 0 → ⊥) → over compounding cs ≡ over compounding cs₀
+-- what is answered; and where it is refused, the opening may be put back in front of what stands behind
+pub record Runs (m : Checked Left) (registry compounding xs₀ cs₀ ds₀ xs cs ds : List ℕ) (r : Checked DepositsAnswer) : Type 0 where
+  pub is : r ≡ bind m (λ l. value (answer_of l))
+  pub ends : (l : Left) → m ≡ value l → Ends l xs₀ cs₀ ds₀ xs cs ds
+  pub back : (p : Refusal) → r ≡ refused p → over registry xs ≡ over registry xs₀
+  pub back_too : (p : Refusal) → r ≡ refused p → over compounding cs ≡ over compounding cs₀

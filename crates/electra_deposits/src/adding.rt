@@ -8,7 +8,7 @@ ghost use Rattle.electra_deposits.specs.Room.{Applies, Added};
 use crate::deposit_at;
 use arithmetic::min;
 use balances::entry_increase_balance;
-use definitions::FAR_FUTURE_EPOCH;
+use definitions::{FAR_FUTURE_EPOCH, Refusal};
 use definitions_electra::PendingDeposit;
 
 fn write_validator(entry: &mut [u64], effective: u64, amount: u64)
@@ -68,14 +68,7 @@ fn append(
     places[at] = count as u64 + 1;
 }
 
-// 0 or a refusal's number, and how many validators there are.
-#[derive(Clone, Copy)]
-pub struct Applied {
-    pub refusal: u64,
-    pub count: usize,
-}
-
-// apply_pending_deposit. A key of those in front is done.
+// apply_pending_deposit. A key of those in front is done. Answers how many validators there are then.
 fn join(
     registry: &mut [u64],
     compounding: &mut [u64],
@@ -84,17 +77,14 @@ fn join(
     count: usize,
     k: NewNumbers,
     d: PendingDeposit,
-) -> Applied
+) -> Result<usize, Refusal>
     requires registry_len { (length registry.old ≡ 10 * length compounding.old) × (count < length compounding.old) × (0 < k.increment) }
     requires pubkey_bound { (d.pubkey < n + length places.old) × (place_by n places.old d.pubkey ≤ count) }
     ensures { Applies (join_at (new_by k) n (room_of registry.old compounding.old places.old count) d)
         registry.new compounding.new places.new result }
 {
     if d.pubkey < n {
-        return Applied {
-            refusal: 0,
-            count: count,
-        };
+        return Ok(count);
     }
     let at = (d.pubkey - n) as usize;
     let place = places[at];
@@ -102,24 +92,15 @@ fn join(
         let i = (place - 1) as usize;
         let a = 10 * i;
         let b = a + 10;
-        let refusal = entry_increase_balance(&mut registry[a..b], d.amount);
-        return Applied {
-            refusal: refusal,
-            count: count,
-        };
+        entry_increase_balance(&mut registry[a..b], d.amount)?;
+        return Ok(count);
     }
     if d.valid != 1 {
-        return Applied {
-            refusal: 0,
-            count: count,
-        };
+        return Ok(count);
     }
     let effective = new_effective(k, d);
     append(registry, compounding, places, count, at, effective, d);
-    Applied {
-        refusal: 0,
-        count: count + 1,
-    }
+    Ok(count + 1)
 }
 
 // Of the first `index` deposits those with keys from `n` on. The buffers hold the `n` at their front, `places` zeros. Answers how many there are then.
@@ -141,11 +122,10 @@ pub fn add_deposits(
     let mut count = n as usize;
     for i in 0..index {
         let d = deposit_at(deposits, i);
-        let applied = join(registry, compounding, places, n, count, k, d);
-        if applied.refusal != 0 {
+        let Ok(joined) = join(registry, compounding, places, n, count, k, d) else {
             return count;
-        }
-        count = applied.count;
+        };
+        count = joined;
     }
     count
 }

@@ -15,7 +15,7 @@ pub mod testing;
 
 use arithmetic::add64;
 use balances::entry_increase_balance;
-use definitions::{EXIT_EPOCH, FAR_FUTURE_EPOCH, Number, WITHDRAWABLE_EPOCH};
+use definitions::{EXIT_EPOCH, FAR_FUTURE_EPOCH, Refusal, WITHDRAWABLE_EPOCH};
 use definitions_electra::PendingDeposit;
 
 pub fn withdrawn_at(registry: &[u64], key: u64, next_epoch: u64) -> bool
@@ -43,13 +43,13 @@ pub fn exited_at(registry: &[u64], key: u64) -> bool
 }
 
 // apply_pending_deposit, where nobody is added.
-fn raise(registry: &mut [u64], d: PendingDeposit) -> u64
+fn raise(registry: &mut [u64], d: PendingDeposit) -> Result<(), Refusal>
     requires { length registry.old ≡ 10 * (length registry.old / 10) }
     ensures { Ran (raised (decode registry.old) d) registry.new result }
 {
     let n = registry.len() / 10;
     if n as u64 <= d.pubkey {
-        return 0;
+        return Ok(());
     }
     let i = d.pubkey as usize;
     let a = 10 * i;
@@ -57,22 +57,11 @@ fn raise(registry: &mut [u64], d: PendingDeposit) -> u64
     entry_increase_balance(&mut registry[a..b], d.amount)
 }
 
-// After a turn: 0 or a refusal's number, what was processed, and whether the churn limit is reached.
+// After a turn: what was processed, and whether the churn limit is reached.
 #[derive(Clone, Copy)]
 pub struct DepositTurn {
-    pub refusal: u64,
     pub processed: u64,
     pub reached: bool,
-}
-
-fn turn_of(refusal: u64, processed: u64, reached: bool) -> DepositTurn
-    ensures { result ≡ record { refusal = refusal; processed = processed; reached = reached } }
-{
-    DepositTurn {
-        refusal: refusal,
-        processed: processed,
-        reached: reached,
-    }
 }
 
 // What the loop reads besides: `most` deposits are looked at; the bridge is open while eth1_deposit_index is below deposit_requests_start_index.
@@ -91,25 +80,35 @@ fn deposit_turn(
     processed: u64,
     q: QueueNumbers,
     d: PendingDeposit,
-) -> DepositTurn
+) -> Result<DepositTurn, Refusal>
     requires { length registry.old ≡ 10 * (length registry.old / 10) }
     ensures { Turns (turn_by q registry.old processed d) registry.new result }
 {
     if withdrawn_at(&registry[..], d.pubkey, q.next_epoch) {
-        let refusal = raise(registry, d);
-        return turn_of(refusal, processed, false);
+        raise(registry, d)?;
+        return Ok(DepositTurn {
+            processed: processed,
+            reached: false,
+        });
     }
     if exited_at(&registry[..], d.pubkey) {
-        return turn_of(0, processed, false);
+        return Ok(DepositTurn {
+            processed: processed,
+            reached: false,
+        });
     }
-    let Number::Value(sum) = add64(processed, d.amount) else {
-        return turn_of(5, processed, false);
-    };
+    let sum = add64(processed, d.amount)?;
     if q.available < sum {
-        return turn_of(0, processed, true);
+        return Ok(DepositTurn {
+            processed: processed,
+            reached: true,
+        });
     }
-    let refusal = raise(registry, d);
-    turn_of(refusal, sum, false)
+    raise(registry, d)?;
+    Ok(DepositTurn {
+        processed: sum,
+        reached: false,
+    })
 }
 
 // The three tests that stop before a deposit, number i of the queue, is looked at.
@@ -142,28 +141,20 @@ pub fn deposit_at(deposits: &[u64], i: usize) -> PendingDeposit
     }
 }
 
-// 0 or a refusal's number; how many of the queue are done, what was processed, whether the limit is reached.
+// How many of the queue are done, what was processed, whether the limit is reached.
 #[derive(Clone, Copy)]
 pub struct Deposited {
-    pub refusal: u64,
     pub index: usize,
     pub processed: u64,
     pub reached: bool,
 }
 
-fn deposited_of(refusal: u64, index: usize, processed: u64, reached: bool) -> Deposited
-    ensures { result ≡ record { refusal = refusal; index = index; processed = processed; reached = reached } }
-{
-    Deposited {
-        refusal: refusal,
-        index: index,
-        processed: processed,
-        reached: reached,
-    }
-}
-
 // The queue from its front. On refusal the registry is left half done: the caller puts the opening back.
-pub fn apply_deposits(registry: &mut [u64], deposits: &[u64], q: QueueNumbers) -> Deposited
+pub fn apply_deposits(
+    registry: &mut [u64],
+    deposits: &[u64],
+    q: QueueNumbers,
+) -> Result<Deposited, Refusal>
     requires { length registry.old ≡ 10 * (length registry.old / 10) }
     ensures { Deposits (alone q registry.old deposits.now) registry.new result }
 {
@@ -172,17 +163,25 @@ pub fn apply_deposits(registry: &mut [u64], deposits: &[u64], q: QueueNumbers) -
     for i in 0..total {
         let d = deposit_at(deposits, i);
         if stops_before(q, i as u64, d.slot) {
-            return deposited_of(0, i, processed, false);
+            return Ok(Deposited {
+                index: i,
+                processed: processed,
+                reached: false,
+            });
         }
-        let turn = deposit_turn(registry, processed, q, d);
-        let refusal = turn.refusal;
-        if refusal != 0 {
-            return deposited_of(refusal, i, processed, false);
-        }
+        let turn = deposit_turn(registry, processed, q, d)?;
         if turn.reached {
-            return deposited_of(0, i, turn.processed, true);
+            return Ok(Deposited {
+                index: i,
+                processed: turn.processed,
+                reached: true,
+            });
         }
         processed = turn.processed;
     }
-    deposited_of(0, total, processed, false)
+    Ok(Deposited {
+        index: total,
+        processed: processed,
+        reached: false,
+    })
 }

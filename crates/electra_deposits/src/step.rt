@@ -2,8 +2,7 @@
 // the loop, of the deposits that it did.
 ghost use Rattle.std.specs.Prelude.{◌≡◌, true, cond, ◌*◌, ◌/◌, ◌≤◌, ◌<◌, length};
 ghost use Rattle.definitions.specs.Record.{decode, FAR_FUTURE_EPOCH};
-ghost use Rattle.definitions.specs.Checked.{value, sub64};
-ghost use Rattle.definitions.specs.Answers.{Answers, Says};
+ghost use Rattle.definitions.specs.Checked.{value, bind, sub64};
 ghost use Rattle.definitions.specs.Refusals.{good_settings};
 ghost use Rattle.definitions_electra.specs.Record.{decode_deposits};
 ghost use Rattle.definitions_electra.specs.Refusals.{deposits_tests};
@@ -11,25 +10,17 @@ ghost use Rattle.definitions_electra.specs.Calls.{over, deposits_work, DepositsC
 ghost use Rattle.definitions_electra.specs.Evaluated.Electra.EpochProcessing.{queueing};
 ghost use Rattle.electra_deposits.specs.Alone.{queueing_of, alone};
 ghost use Rattle.electra_deposits.specs.Room.{rules_by};
-ghost use Rattle.electra_deposits.specs.Step.{queue_answer_for, new_of, lent_for, lent_registry, Lent, Fronted, Finished, left_by, step_by, Runs, as_opened};
+ghost use Rattle.electra_deposits.specs.Step.{numbers_by, new_of, lent_for, lent_registry, Lent, Fronted, Finished, left_by, step_by, Runs, as_opened};
 
 use crate::adding::{NewNumbers, add_deposits};
 use crate::closing::{copy_front, write_queue};
 use crate::{Deposited, QueueNumbers, apply_deposits};
 use arithmetic::{add64, mul64, sub64};
-use definitions::Number;
+use definitions::Refusal;
 use definitions_electra::{DepositNumbers, DepositsAnswer, ElectraRules};
 use electra_refusals::step_tests::deposits_tests;
 use electra_registry::activation_exit_churn;
 use epochs::current_epoch;
-use refusals::buffers::clear;
-
-// What the loop goes by, or a refusal's number.
-#[derive(Clone, Copy)]
-pub enum QueueAnswer {
-    Value(QueueNumbers),
-    Refused(u64),
-}
 
 // Next epoch, limit, what is available, finalized slot: also where the queue is empty.
 pub fn queue_numbers(
@@ -38,26 +29,18 @@ pub fn queue_numbers(
     finalized_epoch: u64,
     numbers: DepositNumbers,
     registry: &[u64],
-) -> QueueAnswer
+) -> Result<QueueNumbers, Refusal>
     requires { (length registry.now ≡ 10 * (length registry.now / 10)) × (good_settings rules.settings ≡ true) }
-    ensures { Answers (queue_answer_for rules.electra.max_pending_deposits_per_epoch)
-        (queueing rules (lent_for state_slot finalized_epoch numbers registry.now)) result }
+    ensures { result ≡ bind (queueing rules (lent_for state_slot finalized_epoch numbers registry.now))
+        (λ q. value (numbers_by rules.electra.max_pending_deposits_per_epoch q)) }
 {
     let s = rules.settings;
     let e = rules.electra;
-    let Number::Value(next_epoch) = add64(current_epoch(s, state_slot), 1) else {
-        return QueueAnswer::Refused(5);
-    };
-    let Number::Value(limit) = activation_exit_churn(rules, state_slot, registry) else {
-        return QueueAnswer::Refused(5);
-    };
-    let Number::Value(available) = add64(numbers.deposit_balance_to_consume, limit) else {
-        return QueueAnswer::Refused(5);
-    };
-    let Number::Value(finalized_slot) = mul64(finalized_epoch, s.slots_per_epoch) else {
-        return QueueAnswer::Refused(5);
-    };
-    QueueAnswer::Value(QueueNumbers {
+    let next_epoch = add64(current_epoch(s, state_slot), 1)?;
+    let limit = activation_exit_churn(rules, state_slot, registry)?;
+    let available = add64(numbers.deposit_balance_to_consume, limit)?;
+    let finalized_slot = mul64(finalized_epoch, s.slots_per_epoch)?;
+    Ok(QueueNumbers {
         next_epoch: next_epoch,
         available: available,
         finalized_slot: finalized_slot,
@@ -79,13 +62,13 @@ pub fn new_numbers(rules: ElectraRules) -> NewNumbers
 }
 
 // What is carried to the next close.
-pub fn left_to_consume(available: u64, processed: u64, reached: bool) -> Number
-    ensures { Says (cond reached (sub64 available processed) (value 0)) result }
+pub fn left_to_consume(available: u64, processed: u64, reached: bool) -> Result<u64, Refusal>
+    ensures { result ≡ cond reached (sub64 available processed) (value 0) }
 {
     if reached {
         return sub64(available, processed);
     }
-    Number::Value(0)
+    Ok(0)
 }
 
 fn answer_of(refusal: u64, to_consume: u64, validators: u64, deposits: u64) -> DepositsAnswer
@@ -101,7 +84,7 @@ fn answer_of(refusal: u64, to_consume: u64, validators: u64, deposits: u64) -> D
 
 // As the opening has them.
 fn opening_answer(
-    refusal: u64,
+    refusal: Refusal,
     numbers: DepositNumbers,
     registry: &[u64],
     deposits: &[u64],
@@ -111,7 +94,7 @@ fn opening_answer(
     let n = registry.len() / 10;
     let d = deposits.len() / 5;
     answer_of(
-        refusal,
+        refusal.number(),
         numbers.deposit_balance_to_consume,
         n as u64,
         d as u64,
@@ -124,7 +107,7 @@ fn run_alone(
     registry: &[u64],
     deposits: &[u64],
     closing_registry: &mut [u64],
-) -> Deposited
+) -> Result<Deposited, Refusal>
     requires { (length registry.now ≡ 10 * (length registry.now / 10)) × (length registry.now ≤ length closing_registry.old) }
     ensures { Fronted (alone q registry.now deposits.now) (length registry.now) closing_registry.old
         closing_registry.new result }
@@ -155,7 +138,7 @@ fn finish(
         closing_registry.new closing_compounding.new closing_deposits.new result }
 {
     copy_front(compounding, closing_compounding);
-    clear(places);
+    places.fill(0);
     let n = (registry.len() / 10) as u64;
     let count = add_deposits(
         closing_registry,
@@ -181,7 +164,7 @@ fn run_queue(
     closing_compounding: &mut [u64],
     closing_deposits: &mut [u64],
     places: &mut [u64],
-) -> DepositsAnswer
+) -> Result<DepositsAnswer, Refusal>
     requires lent { Lent registry.now compounding.now deposits.now closing_registry.old closing_compounding.old places.old }
     requires increment_nonzero { (0 < k.increment) × (length closing_deposits.old ≡ length deposits.now) × (q.next_epoch ≤ FAR_FUTURE_EPOCH) }
     ensures { Runs (left_by (rules_by k q.most) (queueing_of q) (lent_registry registry.now compounding.now)
@@ -190,15 +173,9 @@ fn run_queue(
         closing_deposits.old
         closing_registry.new closing_compounding.new closing_deposits.new result }
 {
-    let done = run_alone(q, registry, deposits, closing_registry);
-    let refusal = done.refusal;
-    if refusal != 0 {
-        return answer_of(refusal, 0, 0, 0);
-    }
-    let Number::Value(carried) = left_to_consume(q.available, done.processed, done.reached) else {
-        return answer_of(5, 0, 0, 0);
-    };
-    finish(
+    let done = run_alone(q, registry, deposits, closing_registry)?;
+    let carried = left_to_consume(q.available, done.processed, done.reached)?;
+    Ok(finish(
         q.next_epoch,
         k,
         registry,
@@ -210,7 +187,7 @@ fn run_queue(
         places,
         done.index,
         carried,
-    )
+    ))
 }
 
 fn run_deposits(
@@ -225,7 +202,7 @@ fn run_deposits(
     closing_compounding: &mut [u64],
     closing_deposits: &mut [u64],
     places: &mut [u64],
-) -> DepositsAnswer
+) -> Result<DepositsAnswer, Refusal>
     requires lent { Lent registry.now compounding.now deposits.now closing_registry.old closing_compounding.old places.old }
     requires settings_value { (good_settings rules.settings ≡ true) × (length closing_deposits.old ≡ length deposits.now) }
     ensures { Runs (step_by rules state_slot finalized_epoch numbers registry.now compounding.now deposits.now)
@@ -233,10 +210,7 @@ fn run_deposits(
         closing_deposits.old
         closing_registry.new closing_compounding.new closing_deposits.new result }
 {
-    let QueueAnswer::Value(q) = queue_numbers(rules, state_slot, finalized_epoch, numbers, registry)
-    else {
-        return answer_of(5, 0, 0, 0);
-    };
+    let q = queue_numbers(rules, state_slot, finalized_epoch, numbers, registry)?;
     let k = new_numbers(rules);
     run_queue(
         q,
@@ -272,7 +246,7 @@ pub fn deposits_core(
         registry.now compounding.now deposits.now closing_registry.old closing_registry.new
         closing_compounding.old closing_compounding.new closing_deposits.old closing_deposits.new result }
 {
-    let done = run_deposits(
+    let refusal = match run_deposits(
         rules,
         state_slot,
         finalized_epoch,
@@ -284,11 +258,10 @@ pub fn deposits_core(
         closing_compounding,
         closing_deposits,
         places,
-    );
-    let refusal = done.refusal;
-    if refusal == 0 {
-        return done;
-    }
+    ) {
+        Ok(answer) => return answer,
+        Err(refusal) => refusal,
+    };
     copy_front(registry, closing_registry);
     copy_front(compounding, closing_compounding);
     copy_front(deposits, closing_deposits);
@@ -316,7 +289,7 @@ pub fn process_pending_deposits(
         registry.now compounding.now deposits.now closing_registry.old closing_registry.new
         closing_compounding.old closing_compounding.new closing_deposits.old closing_deposits.new result }
 {
-    let refusal = deposits_tests(
+    if let Err(refusal) = deposits_tests(
         rules,
         state_slot,
         finalized_epoch,
@@ -327,8 +300,7 @@ pub fn process_pending_deposits(
         closing_compounding,
         closing_deposits,
         places,
-    );
-    if refusal != 0 {
+    ) {
         return opening_answer(refusal, numbers, registry, deposits);
     }
     deposits_core(

@@ -6,17 +6,18 @@ use Prim.Native.Nat.{ℕ}
 use native.Mathlib.Omega.{arith}
 use Rattle.definitions.specs.declared.Settings.{Settings}
 use Rattle.definitions.specs.Record.{Validator, decode}
-use Rattle.definitions.specs.Checked.{Checked, value, refused, overflow, code_of}
+use Rattle.definitions.specs.Checked.{Checked, value, refused}
+use Rattle.definitions.specs.declared.Refusal.TheVariants.{Overflow}
 use Rattle.definitions.specs.Rules.{in_place}
 use Rattle.definitions.specs.Rust.Phase0.Helpers.{is_active_validator, get_current_epoch, get_previous_epoch, get_total_active_balance, get_active_validator_indices}
-use Rattle.laws.proofs.Checked.{value_same, bound, number_not_zero}
+use Rattle.laws.proofs.Checked.{not_value, value_same, bound}
 use Rattle.arithmetic.proofs.Operations.{OnlyOverflow, only-value, only-bind}
+use Rattle.arithmetic.proofs.Laws.{bind-refused}
 use Rattle.slashings.specs.Adjusted.{adjusted_balance}
 use Rattle.slashings.proofs.Adjusted.{only-adjusted}
 use Rattle.registry.proofs.Epochs.{Epochs}
 use Rattle.definitions_electra.specs.declared.ElectraRules.{ElectraRules}
 use Rattle.definitions_electra.specs.declared.ExitChurn.{ExitChurn}
-use Rattle.definitions_electra.specs.declared.ExitChurnAnswer.{ExitChurnAnswer}
 use Rattle.definitions_electra.specs.Refusals.{good_electra}
 use Rattle.electra_registry.specs.Updates.{numbers_of, Exiting}
 use Rattle.electra_slashings.specs.Slashed.{slashed_registry}
@@ -76,12 +77,14 @@ module _ (r : ElectraRules) (s : Settings) (slot fin : ℕ) (slashings : List �
         adjusted = λ other. adjusted-any r.bellatrix.proportional_slashing_multiplier_bellatrix total.first other slashings adjusted.gave;
       }
 
-  not_accepted : (Accepted r s slot fin slashings vs → ⊥) → four_by r s slot fin slashings churn vs ≡ refused overflow
+  not_accepted : (Accepted r s slot fin slashings vs → ⊥) → four_by r s slot fin slashings churn vs ≡ refused Overflow
   not_accepted n = go (four_by r s slot fin slashings churn vs) refl
     where
-      go : (m : Checked Four) → four_by r s slot fin slashings churn vs ≡ m → m ≡ refused overflow
+      go : (m : Checked Four) → four_by r s slot fin slashings churn vs ≡ m → m ≡ refused Overflow
       go (value f) e = absurd (n (accepted e))
       go (refused q) e = ap refused (only-four.why q e)
 
-  pub four-refused : (Accepted r s slot fin slashings vs → ⊥) → {after amounts : List ℕ} {u : ExitChurnAnswer} → u.refusal ≡ 5 → FourRan s slot fin (four_by r s slot fin slashings churn vs) after amounts u
-  four-refused n {after} {amounts} {u} z = rw (not_accepted n) (record { code = z; held = λ f e. absurd (number_not_zero overflow (ap code_of e)); moved = λ f e. absurd (number_not_zero overflow (ap code_of e)); books = λ f e. absurd (number_not_zero overflow (ap code_of e)) })
+  pub four-refused : (Accepted r s slot fin slashings vs → ⊥) → {after amounts : List ℕ} {x : Checked ExitChurn} → x ≡ refused Overflow → FourRan s slot fin (four_by r s slot fin slashings churn vs) after amounts x
+  four-refused n h =
+      let e = not_accepted n in
+      record { is = h ∙ sym (bind-refused _ e); held = λ f q. absurd (not_value (sym e ∙ q)); books = λ f q. absurd (not_value (sym e ∙ q)) }

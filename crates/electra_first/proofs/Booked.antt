@@ -1,19 +1,18 @@
 -- The pass ran: the four, and what they book.
-use mathlib.Core.Path.{◌≡◌, sym, ap, subst, ◌∙◌}
+use mathlib.Core.Path.{◌≡◌, refl, sym, ap, subst, ◌∙◌}
 use mathlib.Core.Bool.{Bool, true}
 use mathlib.Core.List.{List, [], ◌∷◌, ◌++◌, map}
 use Prim.Native.Nat.{ℕ, ◌+◌, ◌-◌, ◌*◌, ◌/◌, ◌<◌}
 use native.Mathlib.Omega.{arith}
 use lib.ListN.{length, get_or, length-map}
 use Rattle.definitions.specs.declared.Settings.{Settings}
-use Rattle.definitions.specs.declared.Number.{Number}
 use Rattle.definitions.specs.Record.{Validator, encode, decode, nobody}
-use Rattle.definitions.specs.Checked.{Checked, value, refused, bind, code_of, map_checked}
+use Rattle.definitions.specs.Checked.{Checked, value, refused, bind, map_checked}
 use Rattle.definitions.specs.Rules.{in_place}
 use Rattle.definitions.specs.Rust.Phase0.Helpers.{get_current_epoch, get_previous_epoch}
 use Rattle.definitions.specs.Rust.Altair.EpochProcessing.{process_inactivity_updates, process_rewards_and_penalties}
 use Rattle.definitions_close.specs.Amounts.{booked_by_rewards}
-use Rattle.laws.proofs.Checked.{value_same, bound}
+use Rattle.laws.proofs.Checked.{not_value, value_same, bound}
 use Rattle.laws.proofs.Encode.{decode-encode, length-decode, length-encode}
 use Rattle.arithmetic.proofs.Laws.{bind-value}
 use Rattle.laws_close.proofs.Amounts.Lists.{each-length, each_at, at_map}
@@ -23,7 +22,7 @@ use Rattle.slashings.specs.Adjusted.{adjusted_balance}
 use Rattle.registry.proofs.Epochs.{Epochs}
 use Rattle.definitions_electra.specs.declared.ElectraRules.{ElectraRules}
 use Rattle.definitions_electra.specs.declared.ExitChurn.{ExitChurn}
-use Rattle.definitions_electra.specs.declared.ExitChurnAnswer.{ExitChurnAnswer}
+use Rattle.definitions.specs.declared.Refusal.{Refusal}
 use Rattle.definitions_electra.specs.Refusals.{good_electra}
 use Rattle.electra_registry.specs.declared.updates.RegistryNumbers.{RegistryNumbers}
 use Rattle.electra_registry.specs.Updates.{numbers_of, Exiting}
@@ -32,7 +31,7 @@ use Rattle.electra_amounts.specs.Columns.{Spread}
 use Rattle.survey.specs.declared.Totals.{Totals}
 use Rattle.survey.specs.Sums.{TotalsOf}
 use Rattle.write_turn.specs.Sweep.{sweep}
-use Rattle.write_turn.specs.Steps.{Swept}
+use Rattle.write_turn.specs.Steps.{Swept, carry_of}
 use Rattle.write_turn.specs.declared.Plan.{Plan}
 use Rattle.write_turn.specs.Written.{pay_of, churn_with, later_with}
 use Rattle.write_pass.specs.Filled.{nine_by, Filled}
@@ -67,7 +66,7 @@ ways r s slot fin slashings churn vs {f} e =
     made : (p : Paid) (t : Taken) → record { paid = p; taken = t } ≡ f → {scored paid ws : List Validator} {e : Exiting} → process_inactivity_updates s slot fin vs ≡ value scored → process_rewards_and_penalties s s.inactivity_penalty_quotient_altair slot fin scored ≡ value paid → record { scored = scored; paid = paid } ≡ p → exits_of r slot fin churn p.paid ≡ value e → slashed_registry r.settings r.bellatrix.proportional_slashing_multiplier_bellatrix slot slashings e.validators ≡ value ws → record { updated = e; lessened = ws } ≡ t → Ways r s slot fin slashings churn vs f
     made p t is scores rewards paid exits slashes taken = rw (← is, ← paid, ← taken) (record { scores = scores; rewards = rewards; exits = rw (← paid) at exits; slashes = slashes })
 
-module _ (r : ElectraRules) (s : Settings) (slot fin : ℕ) (slashings : List ℕ) (churn : ExitChurn) (is : s ≡ in_place r.bellatrix r.settings) (good : good_electra r ≡ true) (ep : Epochs r.settings slot) (eps : Epochs s slot) (opening : List ℕ) {t : Totals} (totals : TotalsOf s (get_current_epoch s slot) (get_previous_epoch s slot) (decode opening) t) (leaking : Bool) (leak : leak_of s slot fin ≡ value leaking) (adjusted : ℕ) (times : adjusted_balance r.bellatrix.proportional_slashing_multiplier_bellatrix t.active slashings ≡ value adjusted) (a b c : Number) where
+module _ (r : ElectraRules) (s : Settings) (slot fin : ℕ) (slashings : List ℕ) (churn : ExitChurn) (is : s ≡ in_place r.bellatrix r.settings) (good : good_electra r ≡ true) (ep : Epochs r.settings slot) (eps : Epochs s slot) (opening : List ℕ) {t : Totals} (totals : TotalsOf s (get_current_epoch s slot) (get_previous_epoch s slot) (decode opening) t) (leaking : Bool) (leak : leak_of s slot fin ≡ value leaking) (adjusted : ℕ) (times : adjusted_balance r.bellatrix.proportional_slashing_multiplier_bellatrix t.active slashings ≡ value adjusted) (a b c : Checked ℕ) where
   abbrev vs : List Validator
   vs = decode opening
 
@@ -77,26 +76,23 @@ module _ (r : ElectraRules) (s : Settings) (slot fin : ℕ) (slashings : List �
   abbrev four : Checked Four
   four = four_by r s slot fin slashings churn (decode opening)
 
-  module _ {closing : List ℕ} {u : ExitChurnAnswer} (w : Swept (sweep (later_with s p (numbers r s slot fin slashings churn is good ep eps (decode opening) totals leaking leak adjusted times a b c)) churn (decode opening)) closing u.refusal u.churn) where
-    whole : Swept (bind (four_by r s slot fin slashings churn (decode opening)) out) closing u.refusal u.churn
+  module _ {closing : List ℕ} {u : Checked ExitChurn} (w : Swept (sweep (later_with s p (numbers r s slot fin slashings churn is good ep eps (decode opening) totals leaking leak adjusted times a b c)) churn (decode opening)) closing u) where
+    whole : Swept (bind (four_by r s slot fin slashings churn (decode opening)) out) closing u
     whole = rw (four_swept r s slot fin slashings churn is good ep eps (decode opening) totals leaking leak adjusted times a b c) w
 
-    code : u.refusal ≡ code_of four
+    is_four : u ≡ bind (four_by r s slot fin slashings churn (decode opening)) (λ f. value f.taken.updated.churn)
     unfolding bind
-    code = go four whole.code
+    is_four = whole.is ∙ go four
       where
-        go : (m : Checked Four) → u.refusal ≡ code_of (bind m out) → u.refusal ≡ code_of m
-        go (value f) e = e
-        go (refused q) e = e
+        go : (m : Checked Four) → carry_of (bind m out) ≡ bind m (λ f. value f.taken.updated.churn)
+        go (value f) = refl
+        go (refused q) = refl
 
     closed : {f : Four} → four ≡ value f → closing ≡ encode f.taken.lessened
     closed e = whole.held _ (bind-value out e)
 
-    moved : {f : Four} → four ≡ value f → u.churn ≡ f.taken.updated.churn
-    moved e = whole.carried _ (bind-value out e)
-
-    pub pass_refused : {amounts : List ℕ} → (u.refusal ≡ 0 → ⊥) → FourRan s slot fin (four_by r s slot fin slashings churn (decode opening)) closing amounts u
-    pass_refused z = record { code = code; held = λ f e. closed e; moved = λ f e. moved e; books = λ f e. absurd (z (code ∙ ap code_of e)) }
+    pub pass_refused : {p : Refusal} {x : Checked ExitChurn} {amounts : List ℕ} → u ≡ refused p → x ≡ refused p → FourRan s slot fin (four_by r s slot fin slashings churn (decode opening)) closing amounts x
+    pass_refused z h = record { is = h ∙ sym z ∙ is_four; held = λ f e. closed e; books = λ f e. absurd (not_value (sym z ∙ is_four ∙ bind-value _ e)) }
 
     module _ (long : length opening ≡ 10 * (length opening / 10)) (same : length closing ≡ length opening) {nine : List ℕ} (rest : List ℕ) {lent xs : List ℕ} (h : Filled s p opening closing nine) (front-is : lent ≡ nine ++ rest) (sp : Spread lent xs) (twelves : length lent ≡ 12 * (length opening / 10)) where
       module _ {f : Four} (e : four ≡ value f) where
@@ -164,19 +160,19 @@ module _ (r : ElectraRules) (s : Settings) (slot fin : ℕ) (slashings : List �
                   ∙ ap (λ (k : ℕ). get_or (get_or es i [] ++ ((balance_at f.taken.updated.validators i - balance_at f.taken.lessened i) ∷ [])) k 0) (sym (eight-long i j))
                   ∙ last (get_or es i []) _
 
-      pub pass_ran : FourRan s slot fin (four_by r s slot fin slashings churn (decode opening)) closing xs u
-      pass_ran = record { code = code; held = λ f e. closed e; moved = λ f e. moved e; books = λ f e. record { columns = λ es k. columns e k } }
+      pub pass_ran : {x : Checked ExitChurn} → u ≡ x → FourRan s slot fin (four_by r s slot fin slashings churn (decode opening)) closing xs x
+      pass_ran same-answer = record { is = sym same-answer ∙ is_four; held = λ f e. closed e; books = λ f e. record { columns = λ es k. columns e k } }
 
 -- By a plan and numbers as the code has them
-module _ (r : ElectraRules) (s : Settings) (slot fin : ℕ) (slashings : List ℕ) (churn : ExitChurn) (is : s ≡ in_place r.bellatrix r.settings) (good : good_electra r ≡ true) (ep : Epochs r.settings slot) (eps : Epochs s slot) (opening : List ℕ) {t : Totals} (totals : TotalsOf s (get_current_epoch s slot) (get_previous_epoch s slot) (decode opening) t) (leaking : Bool) (leak : leak_of s slot fin ≡ value leaking) (adjusted : ℕ) (times : adjusted_balance r.bellatrix.proportional_slashing_multiplier_bellatrix t.active slashings ≡ value adjusted) {now was : ℕ} (current : now ≡ get_current_epoch s slot) (previous : was ≡ get_previous_epoch s slot) {k : Plan} (made : Makes s now was leaking t (adjusted / (t.active / s.effective_balance_increment)) 0 0 k) {n : RegistryNumbers} (n-is : n ≡ numbers_by r now fin t.active) {closing : List ℕ} {u : ExitChurnAnswer} (w : Swept (sweep (later_with s k n) churn (decode opening)) closing u.refusal u.churn) where
+module _ (r : ElectraRules) (s : Settings) (slot fin : ℕ) (slashings : List ℕ) (churn : ExitChurn) (is : s ≡ in_place r.bellatrix r.settings) (good : good_electra r ≡ true) (ep : Epochs r.settings slot) (eps : Epochs s slot) (opening : List ℕ) {t : Totals} (totals : TotalsOf s (get_current_epoch s slot) (get_previous_epoch s slot) (decode opening) t) (leaking : Bool) (leak : leak_of s slot fin ≡ value leaking) (adjusted : ℕ) (times : adjusted_balance r.bellatrix.proportional_slashing_multiplier_bellatrix t.active slashings ≡ value adjusted) {now was : ℕ} (current : now ≡ get_current_epoch s slot) (previous : was ≡ get_previous_epoch s slot) {k : Plan} (made : Makes s now was leaking t (adjusted / (t.active / s.effective_balance_increment)) 0 0 k) {n : RegistryNumbers} (n-is : n ≡ numbers_by r now fin t.active) {closing : List ℕ} {u : Checked ExitChurn} (w : Swept (sweep (later_with s k n) churn (decode opening)) closing u) where
   makes : Makes s (get_current_epoch s slot) (get_previous_epoch s slot) leaking t (adjusted / (t.active / s.effective_balance_increment)) 0 0 k
   makes = rw (current, previous) at made
 
-  by-plan : Swept (sweep (later_with s (plan_of s (get_current_epoch s slot) (get_previous_epoch s slot) leaking t k.shared.per_increment k.shared.denominator k.product (adjusted / (t.active / s.effective_balance_increment)) 0 0) (numbers_by r (get_current_epoch s slot) fin t.active)) churn (decode opening)) closing u.refusal u.churn
-  by-plan = subst (λ (q : Plan). Swept (sweep (later_with s q (numbers_by r (get_current_epoch s slot) fin t.active)) churn (decode opening)) closing u.refusal u.churn) makes.is (rw (n-is ∙ ap (λ (e : ℕ). numbers_by r e fin t.active) current) at w)
+  by-plan : Swept (sweep (later_with s (plan_of s (get_current_epoch s slot) (get_previous_epoch s slot) leaking t k.shared.per_increment k.shared.denominator k.product (adjusted / (t.active / s.effective_balance_increment)) 0 0) (numbers_by r (get_current_epoch s slot) fin t.active)) churn (decode opening)) closing u
+  by-plan = subst (λ (q : Plan). Swept (sweep (later_with s q (numbers_by r (get_current_epoch s slot) fin t.active)) churn (decode opening)) closing u) makes.is (rw (n-is ∙ ap (λ (e : ℕ). numbers_by r e fin t.active) current) at w)
 
-  pub by-refused : {amounts : List ℕ} → (u.refusal ≡ 0 → ⊥) → FourRan s slot fin (four_by r s slot fin slashings churn (decode opening)) closing amounts u
-  by-refused z = pass_refused r s slot fin slashings churn is good ep eps opening totals leaking leak adjusted times k.shared.per_increment k.shared.denominator k.product by-plan z
+  pub by-refused : {p : Refusal} {x : Checked ExitChurn} {amounts : List ℕ} → u ≡ refused p → x ≡ refused p → FourRan s slot fin (four_by r s slot fin slashings churn (decode opening)) closing amounts x
+  by-refused z h = pass_refused r s slot fin slashings churn is good ep eps opening totals leaking leak adjusted times k.shared.per_increment k.shared.denominator k.product by-plan z h
 
-  pub by-ran : length opening ≡ 10 * (length opening / 10) → length closing ≡ length opening → {nine : List ℕ} (rest : List ℕ) {lent xs : List ℕ} → Filled s k opening closing nine → lent ≡ nine ++ rest → Spread lent xs → length lent ≡ 12 * (length opening / 10) → FourRan s slot fin (four_by r s slot fin slashings churn (decode opening)) closing xs u
+  pub by-ran : length opening ≡ 10 * (length opening / 10) → length closing ≡ length opening → {nine : List ℕ} (rest : List ℕ) {lent xs : List ℕ} → Filled s k opening closing nine → lent ≡ nine ++ rest → Spread lent xs → length lent ≡ 12 * (length opening / 10) → {x : Checked ExitChurn} → u ≡ x → FourRan s slot fin (four_by r s slot fin slashings churn (decode opening)) closing xs x
   by-ran long same {nine} rest h front-is sp twelves = pass_ran r s slot fin slashings churn is good ep eps opening totals leaking leak adjusted times k.shared.per_increment k.shared.denominator k.product by-plan long same rest (subst (λ (q : Plan). Filled s q opening closing nine) makes.is h) front-is sp twelves

@@ -5,7 +5,6 @@ use mathlib.Core.List.{List}
 use Prim.Native.Nat.{ℕ, ◌/◌}
 use native.Mathlib.Omega.{arith}
 use Rattle.definitions.specs.declared.Settings.{Settings}
-use Rattle.definitions.specs.declared.Number.{Number}
 use Rattle.definitions.specs.Record.{Validator, encode}
 use Rattle.definitions.specs.Checked.{Checked, value, refused, bind, map_checked}
 use Rattle.definitions.specs.Rules.{in_place}
@@ -112,7 +111,7 @@ module _ (r : ElectraRules) (s : Settings) (slot fin : ℕ) (slashings : List �
   unfolding four_by paid_by
   grouped vs = paid-out (paid_by s slot fin vs) ∙ scores-out (process_inactivity_updates s slot fin vs)
 
-  module _ (is : s ≡ in_place r.bellatrix r.settings) (good : good_electra r ≡ true) (ep : Epochs r.settings slot) (eps : Epochs s slot) (vs : List Validator) {t : Totals} (totals : TotalsOf s (get_current_epoch s slot) (get_previous_epoch s slot) vs t) (leaking : Bool) (leak : leak_of s slot fin ≡ value leaking) (adjusted : ℕ) (times : adjusted_balance multiplier t.active slashings ≡ value adjusted) (a b c : Number) where
+  module _ (is : s ≡ in_place r.bellatrix r.settings) (good : good_electra r ≡ true) (ep : Epochs r.settings slot) (eps : Epochs s slot) (vs : List Validator) {t : Totals} (totals : TotalsOf s (get_current_epoch s slot) (get_previous_epoch s slot) vs t) (leaking : Bool) (leak : leak_of s slot fin ≡ value leaking) (adjusted : ℕ) (times : adjusted_balance multiplier t.active slashings ≡ value adjusted) (a b c : Checked ℕ) where
     abbrev current : ℕ
     current = get_current_epoch s slot
 

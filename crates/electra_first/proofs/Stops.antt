@@ -1,22 +1,15 @@
 -- A refusal on the way is the whole's.
-use mathlib.Core.Path.{◌≡◌}
-use Prim.Native.Nat.{ℕ}
-use Rattle.definitions.specs.Checked.{Checked, value, refused, bind, code_of}
-use Rattle.laws.proofs.Checked.{not_value}
+use mathlib.Core.Path.{◌≡◌, sym, ap, ◌∙◌}
+use Rattle.definitions.specs.Checked.{Checked, value, refused, bind}
+use Rattle.definitions.specs.declared.Refusal.{Refusal}
+use Rattle.laws.proofs.Checked.{not_value, refused_same}
 
-module _ {A B : Type 0} (m : Checked A) (k : A → Checked B) {x : ℕ} (e : x ≡ code_of m) (z : x ≡ 0 → ⊥) where
-  pub stop-code : x ≡ code_of (bind m k)
-  unfolding bind
-  stop-code = go m e
-    where
-      go : (m : Checked A) → x ≡ code_of m → x ≡ code_of (bind m k)
-      go (value a) e = absurd (z e)
-      go (refused p) e = e
+-- what is worked out of a value is refused only where there is none
+pub first-lost : {A B : Type 0} (m : Checked A) (g : A → B) {p : Refusal} → bind m (λ a. value (g a)) ≡ refused p → m ≡ refused p
+unfolding bind
+first-lost (value a) g e = absurd (not_value (sym e))
+first-lost (refused q) g e = ap refused (refused_same e)
 
-  pub stop-value : {b : B} → bind m k ≡ value b → ⊥
-  unfolding bind
-  stop-value {b} = go m e
-    where
-      go : (m : Checked A) → x ≡ code_of m → bind m k ≡ value b → ⊥
-      go (value a) e q = z e
-      go (refused p) e q = not_value q
+-- the chain's refusal is not a value
+pub not_given : {A : Type 0} {m : Checked A} {p : Refusal} {a : A} → m ≡ refused p → m ≡ value a → ⊥
+not_given e f = not_value (sym e ∙ f)

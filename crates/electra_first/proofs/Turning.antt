@@ -89,7 +89,7 @@ turn-balance n churn v {t} e =
     Is : Turned → Type 0
     Is u = u.validator.balance ≡ v.balance
 
-    told : {u w : Turned} → value u ≡ value w → w.validator.balance ≡ u.validator.balance
+    told : {u w : Turned} → ◌≡◌ {A = Checked Turned} (value u) (value w) → w.validator.balance ≡ u.validator.balance
     told e = ap (λ (x : Turned). x.validator.balance) (sym (value_same e))
 
     exits : bind (churn_by n.least n.limit churn v.effective_balance) (λ after. bind (add64 after.earliest_exit_epoch n.delay) (λ withdrawable. value (kept after (with_exit after.earliest_exit_epoch withdrawable v)))) ≡ value t → t.validator.balance ≡ v.balance

@@ -3,14 +3,13 @@ use Rattle.std.specs.Prelude.{◌≡◌, List, [], ℕ, ◌+◌, ◌-◌, ◌*�
 use Rattle.definitions.specs.declared.Settings.{Settings}
 use Rattle.definitions.specs.declared.Finality.{Finality}
 use Rattle.definitions.specs.Record.{Validator, encode}
-use Rattle.definitions.specs.Checked.{Checked, value, bind, code_of}
+use Rattle.definitions.specs.Checked.{Checked, value, bind}
 use Rattle.definitions.specs.Raised.{raised_totals}
 use Rattle.definitions.specs.Rust.Altair.EpochProcessing.{process_justification_and_finalization}
 use Rattle.definitions_close.specs.Amounts.{booked_by_rewards}
 use Rattle.definitions_close.specs.FinalizingTest.{finalizing_test}
 use Rattle.definitions_electra.specs.declared.ElectraRules.{ElectraRules}
 use Rattle.definitions_electra.specs.declared.ExitChurn.{ExitChurn}
-use Rattle.definitions_electra.specs.declared.ExitChurnAnswer.{ExitChurnAnswer}
 use Rattle.definitions_electra.specs.Record.{ElectraState, with_altair, with_churn}
 use Rattle.electra_first.specs.declared.First.{First}
 use Rattle.electra_first.specs.Paid.{Paid, paid_by}
@@ -39,10 +38,10 @@ pub record Nine (s : Settings) (state_slot finalized_epoch : ℕ) (f : Four) (am
   pub columns : (es : List (List ℕ)) → booked_by_rewards s s.inactivity_penalty_quotient_altair state_slot finalized_epoch f.paid.scored ≡ value es
       → NineColumns es f.taken amounts
 
-pub record FourRan (s : Settings) (state_slot finalized_epoch : ℕ) (m : Checked Four) (after amounts : List ℕ) (r : ExitChurnAnswer) : Type 0 where
-  pub code : r.refusal ≡ code_of m
+-- the exit queue's two numbers, or why the four are refused; and where they are not the registry and the amounts
+pub record FourRan (s : Settings) (state_slot finalized_epoch : ℕ) (m : Checked Four) (after amounts : List ℕ) (r : Checked ExitChurn) : Type 0 where
+  pub is : r ≡ bind m (λ f. value f.taken.updated.churn)
   pub held : (f : Four) → m ≡ value f → after ≡ encode f.taken.lessened
-  pub moved : (f : Four) → m ≡ value f → r.churn ≡ f.taken.updated.churn
   pub books : (f : Four) → m ≡ value f → Nine s state_slot finalized_epoch f amounts
 
 -- and justification before them
@@ -70,14 +69,15 @@ after_five st v =
     })
     st)
 
-pub record FirstHeld (s : Settings) (f : Finality) (vs : List Validator) (v : Five) (after amounts : List ℕ) (r : First) : Type 0 where
+-- what is answered by value
+abbrev pub first_of : Settings → Finality → List Validator → Five → First
+first_of s f vs v =
+    record { finality = v.finality; raised = raised_totals s f.slot vs; test = finalizing_test s f (value v.finality); churn = v.four.taken.updated.churn }
+
+pub record FirstHeld (s : Settings) (v : Five) (after amounts : List ℕ) : Type 0 where
   pub registry : after ≡ encode v.four.taken.lessened
-  pub finality : r.finality ≡ v.finality
-  pub churn : r.churn ≡ v.four.taken.updated.churn
-  pub raised : r.raised ≡ raised_totals s f.slot vs
-  pub test : r.test ≡ finalizing_test s f (value v.finality)
   pub nine : Nine s v.finality.slot v.finality.finalized_checkpoint.epoch v.four amounts
 
-pub record FirstRan (s : Settings) (f : Finality) (vs : List Validator) (m : Checked Five) (after amounts : List ℕ) (r : First) : Type 0 where
-  pub code : r.refusal ≡ code_of m
-  pub held : (v : Five) → m ≡ value v → FirstHeld s f vs v after amounts r
+pub record FirstRan (s : Settings) (f : Finality) (vs : List Validator) (m : Checked Five) (after amounts : List ℕ) (r : Checked First) : Type 0 where
+  pub is : r ≡ bind m (λ v. value (first_of s f vs v))
+  pub held : (v : Five) → m ≡ value v → FirstHeld s v after amounts

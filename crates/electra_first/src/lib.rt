@@ -5,7 +5,7 @@
 
 ghost use Rattle.std.specs.Prelude.{◌≡◌, true, ◌*◌, ◌/◌, ◌^◌, ◌<◌, length};
 ghost use Rattle.definitions.specs.Record.{decode};
-ghost use Rattle.definitions.specs.Checked.{value, code_of};
+ghost use Rattle.definitions.specs.Checked.{value};
 ghost use Rattle.definitions.specs.Rules.{in_place};
 ghost use Rattle.definitions.specs.LeafRefusals.{weigh_tests};
 ghost use Rattle.definitions.specs.Refusals.{good_settings, good_finality, justification_tests};
@@ -17,14 +17,14 @@ ghost use Rattle.survey.specs.Found.{Finds};
 ghost use Rattle.electra_first.specs.Numbers.{numbers_by};
 ghost use Rattle.electra_first.specs.First.{four_by, FourRan, five_by, FirstRan};
 
-use definitions::{FAR_FUTURE_EPOCH, Finality, Number, Raised, Settings, Truth};
-use definitions_electra::{ElectraRules, ExitChurn, ExitChurnAnswer};
+use definitions::{FAR_FUTURE_EPOCH, Finality, Raised, Refusal, Settings};
+use definitions_electra::{ElectraRules, ExitChurn};
 use electra_amounts::spread;
 use electra_registry::churn_limit;
 use electra_registry::updates::RegistryNumbers;
 use epochs::{current_epoch, previous_epoch};
 use finality::finalizing::finalizing_test;
-use justification::justification_core;
+use justification::justify;
 use registry_close::total_of;
 use slashings::adjusted_balance;
 use survey::{Findings, Totals, all_fit, raised_totals, survey_registry};
@@ -50,7 +50,7 @@ fn numbers_by(rules: ElectraRules, epoch: u64, finalized_epoch: u64, total: u64)
     }
 }
 
-// The four over the registry in one pass, from the opening's totals.
+// The four over the registry in one pass, from the opening's totals: the exit queue's two numbers then.
 fn four_steps(
     rules: ElectraRules,
     s: Settings,
@@ -62,7 +62,7 @@ fn four_steps(
     opening: &[u64],
     closing: &mut [u64],
     amounts: &mut [u64],
-) -> ExitChurnAnswer
+) -> Result<ExitChurn, Refusal>
     requires rules_value { (good_electra rules ≡ true) × (state_slot < 2 ^ 48) × (good_settings s ≡ true) × (s ≡ in_place rules.bellatrix rules.settings) }
     requires opening_len { (length opening.now ≡ 10 * (length opening.now / 10))
         × (length closing.old ≡ length opening.now)
@@ -74,19 +74,9 @@ fn four_steps(
 {
     let current = current_epoch(s, state_slot);
     let previous = previous_epoch(s, state_slot);
-    let Truth::Value(leaking) = leak_of(s, current, state_slot, finalized_epoch) else {
-        return ExitChurnAnswer {
-            refusal: 5,
-            churn: churn,
-        };
-    };
+    let leaking = leak_of(s, current, state_slot, finalized_epoch)?;
     let multiplier = rules.bellatrix.proportional_slashing_multiplier_bellatrix;
-    let Number::Value(adjusted) = adjusted_balance(multiplier, totals.active, slashings) else {
-        return ExitChurnAnswer {
-            refusal: 5,
-            churn: churn,
-        };
-    };
+    let adjusted = adjusted_balance(multiplier, totals.active, slashings)?;
     let increments = totals.active / s.effective_balance_increment;
     let p = make_plan(
         s,
@@ -100,19 +90,14 @@ fn four_steps(
     );
     let n = numbers_by(rules, current, finalized_epoch, totals.active);
     let nines = 9 * (opening.len() / 10);
-    let done = write_later(s, p, n, churn, opening, closing, &mut amounts[0..nines]);
-    if done.refusal != 0 {
-        return done;
-    }
+    let after = write_later(s, p, n, churn, opening, closing, &mut amounts[0..nines])?;
     spread(amounts);
-    done
+    Ok(after)
 }
 
-// What the first five answer by value: 0 or a refusal's number, and where it is 0 the finality, the raised totals, the finality test's number and
-// the exit queue's two numbers.
+// What the first five answer by value: the finality, the raised totals, the finality test's number and the exit queue's two numbers.
 #[derive(Clone, Copy)]
 pub struct First {
-    pub refusal: u64,
     pub finality: Finality,
     pub raised: Raised,
     pub test: u64,
@@ -132,9 +117,12 @@ fn five_surveyed(
     closing: &mut [u64],
     amounts: &mut [u64],
     kept: &[u64],
-) -> First
-    requires rules_value { (good_electra rules ≡ true) × (good_settings s ≡ true) × (s ≡ in_place rules.bellatrix rules.settings) × (good_finality finality ≡ true) }
-    requires finality_value { code_of (weigh_tests s roots.now finality) ≡ 0 }
+) -> Result<First, Refusal>
+    requires rules_value { (good_electra rules ≡ true)
+        × (good_settings s ≡ true)
+        × (s ≡ in_place rules.bellatrix rules.settings)
+        × (good_finality finality ≡ true) }
+    requires finality_value { weigh_tests s roots.now finality ≡ value tt }
     requires registry_len { (length registry.now ≡ 10 * (length registry.now / 10))
         × (length closing.old ≡ length registry.now)
         × (length amounts.old ≡ 12 * (length registry.now / 10)) }
@@ -149,30 +137,14 @@ fn five_surveyed(
     let active = total_of(sums.active, over.active, increment);
     let target = total_of(sums.target, over.target, increment);
     let current_target = total_of(sums.current_target, over.current_target, increment);
-    let justified = justification_core(s, roots, finality, active, target, current_target);
-    let raised = justified.raised;
-    if justified.refusal != 0 {
-        return First {
-            refusal: justified.refusal,
-            finality: finality,
-            raised: raised,
-            test: 0,
-            churn: churn,
-        };
+    let justified = justify(s, roots, finality, active, target, current_target)?;
+    if !all_fit(over) {
+        return Err(Refusal::Overflow);
     }
     let after = justified.finality;
-    if !all_fit(over) {
-        return First {
-            refusal: 5,
-            finality: finality,
-            raised: raised,
-            test: 0,
-            churn: churn,
-        };
-    }
     let test = finalizing_test(s, finality, after);
     let finalized = after.finalized_checkpoint;
-    let done = four_steps(
+    let moved = four_steps(
         rules,
         s,
         after.slot,
@@ -183,15 +155,13 @@ fn five_surveyed(
         registry,
         closing,
         amounts,
-    );
-    let moved = done.churn;
-    First {
-        refusal: done.refusal,
+    )?;
+    Ok(First {
         finality: after,
-        raised: raised,
+        raised: justified.raised,
         test: test,
         churn: moved,
-    }
+    })
 }
 
 // `kept` has room for what a survey keeps of Altair's activation queue; here nobody reads it.
@@ -206,9 +176,12 @@ fn five_kept(
     closing: &mut [u64],
     amounts: &mut [u64],
     kept: &mut [u64],
-) -> First
-    requires rules_value { (good_electra rules ≡ true) × (good_settings s ≡ true) × (s ≡ in_place rules.bellatrix rules.settings) × (good_finality finality ≡ true) }
-    requires finality_value { code_of (weigh_tests s roots.now finality) ≡ 0 }
+) -> Result<First, Refusal>
+    requires rules_value { (good_electra rules ≡ true)
+        × (good_settings s ≡ true)
+        × (s ≡ in_place rules.bellatrix rules.settings)
+        × (good_finality finality ≡ true) }
+    requires finality_value { weigh_tests s roots.now finality ≡ value tt }
     requires registry_len { (length registry.now ≡ 10 * (length registry.now / 10))
         × (length closing.old ≡ length registry.now)
         × (length amounts.old ≡ 12 * (length registry.now / 10)) }
@@ -236,8 +209,11 @@ pub fn first_five(
     roots: &[u8],
     closing: &mut [u64],
     amounts: &mut [u64],
-) -> First
-    requires rules_value { (good_electra rules ≡ true) × (good_settings s ≡ true) × (s ≡ in_place rules.bellatrix rules.settings) × (good_finality finality ≡ true) }
+) -> Result<First, Refusal>
+    requires rules_value { (good_electra rules ≡ true)
+        × (good_settings s ≡ true)
+        × (s ≡ in_place rules.bellatrix rules.settings)
+        × (good_finality finality ≡ true) }
     requires registry_value { justification_tests s roots.now finality registry.now ≡ value tt }
     requires registry_len { (length registry.now ≡ 10 * (length registry.now / 10))
         × (length closing.old ≡ length registry.now)

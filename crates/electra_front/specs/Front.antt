@@ -2,7 +2,7 @@
 use Rattle.std.specs.Prelude.{◌≡◌, true, List, [], ℕ, ◌+◌, ◌-◌, ◌*◌, ◌/◌, ◌≤◌, ◌<◌, length, get_or, take, replicate}
 use Rattle.definitions.specs.declared.Finality.{Finality}
 use Rattle.definitions.specs.Record.{encode, decode}
-use Rattle.definitions.specs.Checked.{value, code_of}
+use Rattle.definitions.specs.Checked.{Checked, value, done as without_value}
 use Rattle.definitions.specs.Refusals.{good_finality, justification_tests}
 use Rattle.definitions.specs.Raised.{raised_totals}
 use Rattle.definitions_close.specs.Amounts.{booked_by_rewards}
@@ -78,6 +78,6 @@ pub record FrontHeld (r : ElectraRules) (st : ElectraState) (n : ℕ) (deposits 
   pub moves : movements x.queueing.next_epoch n (take n x.processing.registry.validators) pairs (replicate (12 * n) 0)
       ≡ value (moved_to n y.moved.validators f.done amounts)
 
-pub record FrontRan (r : ElectraRules) (st : ElectraState) (n : ℕ) (deposits pairs after amounts : List ℕ) (f : Front) : Type 0 where
-  pub code : f.refusal ≡ code_of (process_epoch r st)
-  pub held : f.refusal ≡ 0 → FrontHeld r st n deposits pairs after amounts f
+pub record FrontRan (r : ElectraRules) (st : ElectraState) (n : ℕ) (deposits pairs after amounts : List ℕ) (answer : Checked Front) : Type 0 where
+  pub is : without_value answer ≡ without_value (process_epoch r st)
+  pub held : (f : Front) → answer ≡ value f → FrontHeld r st n deposits pairs after amounts f

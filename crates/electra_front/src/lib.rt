@@ -9,7 +9,7 @@ ghost use Rattle.electra_sixth.specs.Named.{NoneYet};
 ghost use Rattle.electra_front.specs.Later.{LaterLent, LaterRan};
 ghost use Rattle.electra_front.specs.Front.{opening_of, FrontLent, FrontRan};
 
-use definitions::{Finality, Raised, Rules, Settings};
+use definitions::{Finality, Raised, Refusal, Rules, Settings};
 use definitions_electra::{DepositNumbers, ElectraRules, ExitChurn};
 use electra_added::new_refusal;
 use electra_first::first_five;
@@ -17,27 +17,13 @@ use electra_last::moves_and_balances;
 use electra_sixth::deposits_in_front;
 use refusals::rules::settings_under;
 
-// What steps 6 to 8 answer by value: 0 or a refusal's number, and where it is 0 the next epoch, how many deposits are done, what is carried, and how
-// many consolidations are done.
+// What steps 6 to 8 answer by value: the next epoch, how many deposits are done, what is carried, and how many consolidations are done.
 #[derive(Clone, Copy)]
 pub struct Later {
-    pub refusal: u64,
     pub next_epoch: u64,
     pub index: usize,
     pub left: u64,
     pub done: usize,
-}
-
-fn later_refused(refusal: u64) -> Later
-    ensures { result.refusal ≡ refusal }
-{
-    Later {
-        refusal: refusal,
-        next_epoch: 0,
-        index: 0,
-        left: 0,
-        done: 0,
-    }
 }
 
 // Pending deposits and consolidations with what they book, and effective balances, those of the validators to be added too. On refusal all is left
@@ -53,7 +39,7 @@ pub fn later_three(
     registry: &mut [u64],
     amounts: &mut [u64],
     places: &mut [u64],
-) -> Later
+) -> Result<Later, Refusal>
     requires rules_value { good_electra rules ≡ true }
     requires later_lent { LaterLent compounding.now deposits.now pairs.now registry.old amounts.old places.old }
     requires none_yet { NoneYet (length compounding.now) amounts.old }
@@ -68,22 +54,15 @@ pub fn later_three(
         deposits,
         registry,
         amounts,
-    );
-    if six.refusal != 0 {
-        return later_refused(six.refusal);
-    }
-    let moved = moves_and_balances(rules, compounding, pairs, six.next_epoch, registry, amounts);
-    if moved.refusal != 0 {
-        return later_refused(moved.refusal);
-    }
-    let refusal = new_refusal(rules, compounding.len(), deposits, six.index, places);
-    Later {
-        refusal: refusal,
+    )?;
+    let done = moves_and_balances(rules, compounding, pairs, six.next_epoch, registry, amounts)?;
+    new_refusal(rules, compounding.len(), deposits, six.index, places)?;
+    Ok(Later {
         next_epoch: six.next_epoch,
         index: six.index,
         left: six.left,
-        done: moved.count,
-    }
+        done: done,
+    })
 }
 
 // The settings with the pair in place.
@@ -99,10 +78,9 @@ pub fn under(rules: ElectraRules) -> Settings
     })
 }
 
-// What the eight answer by value: 0 or a refusal's number, and where it is 0 what the first five and the later three do.
+// What the eight answer by value: what the first five and the later three do.
 #[derive(Clone, Copy)]
 pub struct Front {
-    pub refusal: u64,
     pub finality: Finality,
     pub raised: Raised,
     pub test: u64,
@@ -128,7 +106,7 @@ pub fn eight_steps(
     closing: &mut [u64],
     amounts: &mut [u64],
     places: &mut [u64],
-) -> Front
+) -> Result<Front, Refusal>
     requires { FrontLent rules finality registry.now compounding.now roots.now deposits.now pairs.now closing.old amounts.old places.old }
     ensures { FrontRan rules
         (opening_of finality churn numbers registry.now compounding.now slashings.now roots.now
@@ -138,21 +116,7 @@ pub fn eight_steps(
     let s = under(rules);
     let first = first_five(
         rules, s, finality, churn, registry, slashings, roots, closing, amounts,
-    );
-    let raised = first.raised;
-    if first.refusal != 0 {
-        return Front {
-            refusal: first.refusal,
-            finality: finality,
-            raised: raised,
-            test: 0,
-            churn: churn,
-            next_epoch: 0,
-            index: 0,
-            left: 0,
-            done: 0,
-        };
-    }
+    )?;
     let after = first.finality;
     let finalized = after.finalized_checkpoint;
     let later = later_three(
@@ -166,17 +130,15 @@ pub fn eight_steps(
         closing,
         amounts,
         places,
-    );
-    let moved = first.churn;
-    Front {
-        refusal: later.refusal,
+    )?;
+    Ok(Front {
         finality: after,
-        raised: raised,
+        raised: first.raised,
         test: first.test,
-        churn: moved,
+        churn: first.churn,
         next_epoch: later.next_epoch,
         index: later.index,
         left: later.left,
         done: later.done,
-    }
+    })
 }

@@ -8,12 +8,13 @@ ghost use Rattle.electra_consolidations.specs.Consolidations.{placed};
 ghost use Rattle.electra_last.specs.Moved.{moved_by, MovedRan};
 ghost use Rattle.electra_last.specs.Added.{added_at, Added};
 
-use definitions::BALANCE;
+use definitions::{BALANCE, Refusal};
 use definitions_electra::ElectraRules;
 use electra_balances::effective_balances_core;
-use electra_consolidations::{Done, consolidate_all};
+use electra_consolidations::consolidate_all;
 
-// Pending consolidations with the amounts that they book, and effective balances, in place. On refusal all is left half done.
+// Pending consolidations with the amounts that they book, and effective balances, in place: how many consolidations are done. On refusal
+// all is left half done.
 pub fn moves_and_balances(
     rules: ElectraRules,
     compounding: &[u64],
@@ -21,7 +22,7 @@ pub fn moves_and_balances(
     next_epoch: u64,
     registry: &mut [u64],
     amounts: &mut [u64],
-) -> Done
+) -> Result<usize, Refusal>
     requires registry_len { (length registry.old ≡ 10 * length compounding.now) × (length pairs.now ≡ 2 * (length pairs.now / 2)) }
     requires pairs_value { placed (length compounding.now) pairs.now ≡ true }
     requires settings_value { good_settings rules.settings ≡ true }
@@ -30,15 +31,9 @@ pub fn moves_and_balances(
         registry.new amounts.old amounts.new result }
 {
     let n = compounding.len();
-    let moved = consolidate_all(registry, n, pairs, next_epoch, amounts);
-    if moved.refusal != 0 {
-        return moved;
-    }
-    let refusal = effective_balances_core(rules, compounding, registry);
-    Done {
-        refusal: refusal,
-        count: moved.count,
-    }
+    let count = consolidate_all(registry, n, pairs, next_epoch, amounts)?;
+    effective_balances_core(rules, compounding, registry)?;
+    Ok(count)
 }
 
 fn added_value(registry: &[u64], p: usize) -> u64

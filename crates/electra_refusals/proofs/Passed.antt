@@ -1,4 +1,4 @@
--- What the tests of the Electra calls give once passed. `x` is the number that their code gave.
+-- What the tests of the Electra calls give once passed. `x` is what their code answered.
 use mathlib.Core.Bool.{true}
 use mathlib.Core.List.{List}
 use mathlib.Core.Path.{◌≡◌, sym, ◌∙◌}
@@ -7,14 +7,14 @@ use native.Mathlib.Omega.{arith}
 use borrow.Author.Tests.{ltb-true, leb-true, eqb-true, eqb-false, not-true}
 use lib.Dec.{leb, eqb}
 use lib.ListN.{length}
-use Rattle.definitions.specs.Checked.{code_of}
+use Rattle.definitions.specs.Checked.{Checked, value}
 use Rattle.definitions.specs.Refusals.{good_settings}
 use Rattle.definitions.specs.Rules.{good_bellatrix}
 use Rattle.definitions_electra.specs.declared.ElectraRules.{ElectraRules}
 use Rattle.definitions_electra.specs.Refusals.{count_of, deposits_of, deposits_shaped, consolidations_shaped, keys_shaped, indices_shaped, good_electra}
 use Rattle.definitions_electra.specs.Refusals.{registry_tests, slashings_tests, deposits_tests, consolidations_tests, effective_balance_tests, slot_registry_tests, exit_tests}
 use Rattle.laws.specs.Bounds.{Passed}
-use Rattle.laws.proofs.Tests.{both, test, in_order_lem}
+use Rattle.laws.proofs.Tests.{both, test, in_order-value}
 use Rattle.refusals.proofs.Laws.{PositiveDivisors, good-settings, RegistryShape, registry-shaped}
 
 -- Test 1
@@ -71,10 +71,10 @@ pub record RegistryPassed (r : ElectraRules) (state_slot finalized_epoch : ℕ) 
   pub shape : RegistryShape opening
   pub same : length closing ≡ length opening
 
-pub registry-passed : (r : ElectraRules) (state_slot finalized_epoch : ℕ) (opening closing : List ℕ) {x : ℕ} → x ≡ code_of (registry_tests r state_slot finalized_epoch opening closing) → x ≡ 0 → RegistryPassed r state_slot finalized_epoch opening closing
+pub registry-passed : (r : ElectraRules) (state_slot finalized_epoch : ℕ) (opening closing : List ℕ) {x : Checked (Unit {0})} → x ≡ registry_tests r state_slot finalized_epoch opening closing → x ≡ value tt → RegistryPassed r state_slot finalized_epoch opening closing
 unfolding registry_tests
 registry-passed r state_slot finalized_epoch opening closing e z =
-    let p = in_order_lem _ _ _ (sym e ∙ z) in
+    let p = in_order-value _ _ _ (sym e ∙ z) in
     let good = p.settings 0 in
     record {
       settings = record { shaped = p.shaped 0; good = (good-electra r good).settings; small = p.recorded 0 };
@@ -88,10 +88,10 @@ pub record SlashingsPassed (r : ElectraRules) (state_slot : ℕ) (slashings open
   pub shape : RegistryShape opening
   pub same : length closing ≡ length opening
 
-pub slashings-passed : (r : ElectraRules) (state_slot : ℕ) (slashings opening closing : List ℕ) {x : ℕ} → x ≡ code_of (slashings_tests r state_slot slashings opening closing) → x ≡ 0 → SlashingsPassed r state_slot slashings opening closing
+pub slashings-passed : (r : ElectraRules) (state_slot : ℕ) (slashings opening closing : List ℕ) {x : Checked (Unit {0})} → x ≡ slashings_tests r state_slot slashings opening closing → x ≡ value tt → SlashingsPassed r state_slot slashings opening closing
 unfolding slashings_tests
 slashings-passed r state_slot slashings opening closing e z =
-    let p = in_order_lem _ _ _ (sym e ∙ z) in
+    let p = in_order-value _ _ _ (sym e ∙ z) in
     record {
       good = p.settings 0;
       shape = registry-shaped opening (p.shaped 2);
@@ -109,10 +109,10 @@ pub record DepositsPassed (r : ElectraRules) (state_slot finalized_epoch : ℕ) 
   pub same : length closing_deposits ≡ length deposits
   pub places : length work ≡ deposits_of deposits
 
-pub deposits-passed : (r : ElectraRules) (state_slot finalized_epoch : ℕ) (registry compounding deposits closing_registry closing_compounding closing_deposits work : List ℕ) {x : ℕ} → x ≡ code_of (deposits_tests r state_slot finalized_epoch registry compounding deposits closing_registry closing_compounding closing_deposits work) → x ≡ 0 → DepositsPassed r state_slot finalized_epoch registry compounding deposits closing_registry closing_compounding closing_deposits work
+pub deposits-passed : (r : ElectraRules) (state_slot finalized_epoch : ℕ) (registry compounding deposits closing_registry closing_compounding closing_deposits work : List ℕ) {x : Checked (Unit {0})} → x ≡ deposits_tests r state_slot finalized_epoch registry compounding deposits closing_registry closing_compounding closing_deposits work → x ≡ value tt → DepositsPassed r state_slot finalized_epoch registry compounding deposits closing_registry closing_compounding closing_deposits work
 unfolding deposits_tests
 deposits-passed r state_slot finalized_epoch registry compounding deposits closing_registry closing_compounding closing_deposits work e z =
-    let p = in_order_lem _ _ _ (sym e ∙ z) in
+    let p = in_order-value _ _ _ (sym e ∙ z) in
     record {
       good = p.settings 0;
       shape = registry-shaped registry (p.shaped 1);
@@ -133,10 +133,10 @@ pub record ConsolidationsPassed (r : ElectraRules) (state_slot : ℕ) (registry 
   pub same : length closing_registry ≡ length registry
   pub same_queue : length closing_consolidations ≡ length consolidations
 
-pub consolidations-passed : (r : ElectraRules) (state_slot : ℕ) (registry consolidations closing_registry closing_consolidations : List ℕ) {x : ℕ} → x ≡ code_of (consolidations_tests r state_slot registry consolidations closing_registry closing_consolidations) → x ≡ 0 → ConsolidationsPassed r state_slot registry consolidations closing_registry closing_consolidations
+pub consolidations-passed : (r : ElectraRules) (state_slot : ℕ) (registry consolidations closing_registry closing_consolidations : List ℕ) {x : Checked (Unit {0})} → x ≡ consolidations_tests r state_slot registry consolidations closing_registry closing_consolidations → x ≡ value tt → ConsolidationsPassed r state_slot registry consolidations closing_registry closing_consolidations
 unfolding consolidations_tests
 consolidations-passed r state_slot registry consolidations closing_registry closing_consolidations e z =
-    let p = in_order_lem _ _ _ (sym e ∙ z) in
+    let p = in_order-value _ _ _ (sym e ∙ z) in
     record {
       settings = record { shaped = p.shaped 0; good = (good-electra r (p.settings 0)).settings; small = p.recorded 0 };
       shape = registry-shaped registry (p.shaped 1);
@@ -152,10 +152,10 @@ pub record BalancesPassed (r : ElectraRules) (compounding opening closing : List
   pub credentials : length compounding ≡ count_of opening
   pub same : length closing ≡ length opening
 
-pub balances-passed : (r : ElectraRules) (compounding opening closing : List ℕ) {x : ℕ} → x ≡ code_of (effective_balance_tests r compounding opening closing) → x ≡ 0 → BalancesPassed r compounding opening closing
+pub balances-passed : (r : ElectraRules) (compounding opening closing : List ℕ) {x : Checked (Unit {0})} → x ≡ effective_balance_tests r compounding opening closing → x ≡ value tt → BalancesPassed r compounding opening closing
 unfolding effective_balance_tests
 balances-passed r compounding opening closing e z =
-    let p = in_order_lem _ _ _ (sym e ∙ z) in
+    let p = in_order-value _ _ _ (sym e ∙ z) in
     record {
       good = p.settings 0;
       shape = registry-shaped opening (p.shaped 1);
@@ -170,10 +170,10 @@ pub record SlotRegistryPassed (r : ElectraRules) (state_slot : ℕ) (registry : 
   pub good : good_electra r ≡ true
   pub shape : RegistryShape registry
 
-pub slot_registry_passed : (r : ElectraRules) (state_slot : ℕ) (registry : List ℕ) {x : ℕ} → x ≡ code_of (slot_registry_tests r state_slot registry) → x ≡ 0 → SlotRegistryPassed r state_slot registry
+pub slot_registry_passed : (r : ElectraRules) (state_slot : ℕ) (registry : List ℕ) {x : Checked (Unit {0})} → x ≡ slot_registry_tests r state_slot registry → x ≡ value tt → SlotRegistryPassed r state_slot registry
 unfolding slot_registry_tests
 slot_registry_passed r state_slot registry e z =
-    let p = in_order_lem _ _ _ (sym e ∙ z) in
+    let p = in_order-value _ _ _ (sym e ∙ z) in
     let good = p.settings 0 in
     record {
       settings = record { shaped = p.shaped 0; good = (good-electra r good).settings; small = p.recorded 0 };
@@ -187,10 +187,10 @@ pub record ExitPassed (r : ElectraRules) (state_slot index : ℕ) (registry : Li
   pub shape : RegistryShape registry
   pub inside : index < count_of registry
 
-pub exit-passed : (r : ElectraRules) (state_slot index : ℕ) (registry : List ℕ) {x : ℕ} → x ≡ code_of (exit_tests r state_slot index registry) → x ≡ 0 → ExitPassed r state_slot index registry
+pub exit-passed : (r : ElectraRules) (state_slot index : ℕ) (registry : List ℕ) {x : Checked (Unit {0})} → x ≡ exit_tests r state_slot index registry → x ≡ value tt → ExitPassed r state_slot index registry
 unfolding exit_tests
 exit-passed r state_slot index registry e z =
-    let p = in_order_lem _ _ _ (sym e ∙ z) in
+    let p = in_order-value _ _ _ (sym e ∙ z) in
     let good = p.settings 0 in
     record {
       settings = record { shaped = p.shaped 0; good = (good-electra r good).settings; small = p.recorded 0 };

@@ -24,7 +24,7 @@ fn good_pair(settings: Settings, pair: Bellatrix) -> bool
         fork: 1,
         bellatrix: pair,
     };
-    rules_refusal(rules, 0) == 0
+    rules_refusal(rules, Ok(())).is_ok()
 }
 
 pub fn good_electra(rules: ElectraRules) -> bool
@@ -104,8 +104,8 @@ pub fn indices_shaped(registry: &[u64], consolidations: &[u64]) -> bool
 pub fn good_compounding(compounding: &[u64]) -> bool
     ensures { result ≡ good_compounding compounding.now }
 {
-    for i in 0..compounding.len() {
-        if 1 < compounding[i] {
+    for &credential in compounding {
+        if 1 < credential {
             return false;
         }
     }

@@ -1,12 +1,12 @@
-// Tests 1, 2 and 3 of Electra's five steps: 0, or the number of the first test that failed.
+// Tests 1, 2 and 3 of Electra's five steps: the refusal of the first test that failed.
 ghost use Rattle.std.specs.Prelude.{◌≡◌};
-ghost use Rattle.definitions.specs.Checked.{code_of};
 ghost use Rattle.definitions_electra.specs.Refusals.{registry_tests, slashings_tests, deposits_tests, consolidations_tests, effective_balance_tests};
 
 use crate::{
     consolidations_shaped, deposits_shaped, good_compounding, good_deposits, good_electra,
     indices_shaped, keys_shaped,
 };
+use definitions::Refusal;
 use definitions_electra::ElectraRules;
 use refusals::{good_registry, in_order, is_small, registry_shaped, settings_shaped};
 
@@ -16,8 +16,8 @@ pub fn registry_tests(
     finalized_epoch: u64,
     opening: &[u64],
     closing: &[u64],
-) -> u64
-    ensures { result ≡ code_of (registry_tests rules state_slot finalized_epoch opening.now closing.now) }
+) -> Result<(), Refusal>
+    ensures { result ≡ registry_tests rules state_slot finalized_epoch opening.now closing.now }
 {
     in_order(
         &[
@@ -40,8 +40,8 @@ pub fn slashings_tests(
     slashings: &[u64],
     opening: &[u64],
     closing: &[u64],
-) -> u64
-    ensures { result ≡ code_of (slashings_tests rules state_slot slashings.now opening.now closing.now) }
+) -> Result<(), Refusal>
+    ensures { result ≡ slashings_tests rules state_slot slashings.now opening.now closing.now }
 {
     let s = rules.settings;
     in_order(
@@ -68,10 +68,10 @@ pub fn deposits_tests(
     closing_compounding: &[u64],
     closing_deposits: &[u64],
     places: &[u64],
-) -> u64
+) -> Result<(), Refusal>
     ensures { result
-        ≡ code_of (deposits_tests rules state_slot finalized_epoch registry.now compounding.now deposits.now
-        closing_registry.now closing_compounding.now closing_deposits.now places.now) }
+        ≡ deposits_tests rules state_slot finalized_epoch registry.now compounding.now deposits.now closing_registry.now
+        closing_compounding.now closing_deposits.now places.now }
 {
     let n = registry.len() / 10;
     let d = deposits.len() / 5;
@@ -105,10 +105,10 @@ pub fn consolidations_tests(
     consolidations: &[u64],
     closing_registry: &[u64],
     closing_consolidations: &[u64],
-) -> u64
+) -> Result<(), Refusal>
     ensures { result
-        ≡ code_of (consolidations_tests rules state_slot registry.now consolidations.now closing_registry.now
-        closing_consolidations.now) }
+        ≡ consolidations_tests rules state_slot registry.now consolidations.now closing_registry.now
+        closing_consolidations.now }
 {
     in_order(
         &[
@@ -129,8 +129,8 @@ pub fn effective_balance_tests(
     compounding: &[u64],
     opening: &[u64],
     closing: &[u64],
-) -> u64
-    ensures { result ≡ code_of (effective_balance_tests rules compounding.now opening.now closing.now) }
+) -> Result<(), Refusal>
+    ensures { result ≡ effective_balance_tests rules compounding.now opening.now closing.now }
 {
     in_order(
         &[

@@ -4,10 +4,10 @@ use mathlib.Core.List.{List, [], ◌∷◌, ◌++◌}
 use Prim.Native.Nat.{ℕ, ◌*◌, ◌-◌, ◌≤◌}
 use native.Mathlib.Omega.{arith}
 use lib.ListN.{length, take, drop, replicate, length-take, length-replicate}
-use Rattle.definitions.specs.Checked.{Checked, value, refused, Refusal, number_of, bind, code_of}
+use Rattle.definitions.specs.Checked.{Checked, value, refused, number_of, bind}
+use Rattle.definitions.specs.declared.Refusal.{Refusal}
 use Rattle.definitions.specs.Refusals.{after_tests, closing_buffer}
 use Rattle.laws_electra.proofs.Consolidations.{length_pairs}
-use Rattle.definitions_electra.specs.Record.{ElectraState}
 use Rattle.definitions_electra.specs.Refusals.{count_of}
 use Rattle.definitions_electra.specs.Calls.{over}
 use Rattle.definitions_electra.specs.Evaluated.Electra.EpochProcessing.{process_epoch}
@@ -37,31 +37,20 @@ module _ (c : ElectraCall) where
   opened p = rw (length_pairs c.consolidations)
 
   -- a test refused: nothing is written
-  pub tests-refused : {x : ℕ} → x ≡ code_of (electra_tests c) → (x ≡ 0 → ⊥) → electra_outcome (as_opened x c.finality c.churn c.numbers c.registry c.deposits c.consolidations) c.closing_registry c.closing_compounding c.closing_slashings c.closing_deposits c.closing_consolidations c.amounts ≡ electra_close c
+  pub tests-refused : {x : Checked (Unit {0})} {p : Refusal} → x ≡ electra_tests c → x ≡ refused p → electra_outcome (as_opened (number_of p) c.finality c.churn c.numbers c.registry c.deposits c.consolidations) c.closing_registry c.closing_compounding c.closing_slashings c.closing_deposits c.closing_consolidations c.amounts ≡ electra_close c
   unfolding electra_close electra_closed after_tests closing_buffer bind
-  tests-refused {x} e z = go (electra_tests c) refl e
+  tests-refused {p = p} e z = rw (sym e ∙ z) (ap untouched (sym (opened p)))
     where
       untouched : ElectraAnswer → ElectraOutcome
       untouched a = electra_outcome a c.closing_registry c.closing_compounding c.closing_slashings c.closing_deposits c.closing_consolidations c.amounts
 
-      go : (t : Checked (Unit {0})) → electra_tests c ≡ t → x ≡ code_of t → untouched (as_opened x c.finality c.churn c.numbers c.registry c.deposits c.consolidations) ≡ electra_close c
-      go (value u) q e = absurd (z e)
-      go (refused p) q e = rw q (ap untouched (ap (λ (y : ℕ). as_opened y c.finality c.churn c.numbers c.registry c.deposits c.consolidations) e ∙ sym (opened p)))
-
   -- the work refused: the opening in front
-  pub work-refused : {x : ℕ} → electra_tests c ≡ value tt → x ≡ code_of (process_epoch c.rules (electra_state_of c)) → (x ≡ 0 → ⊥) → length c.closing_deposits ≡ length c.deposits → length c.closing_consolidations ≡ length c.consolidations → electra_outcome (as_opened x c.finality c.churn c.numbers c.registry c.deposits c.consolidations) (over c.registry c.closing_registry) (over c.compounding c.closing_compounding) c.slashings c.deposits c.consolidations (over (replicate (12 * count_of c.registry) 0) c.amounts) ≡ electra_close c
+  pub work-refused : {p : Refusal} → electra_tests c ≡ value tt → process_epoch c.rules (electra_state_of c) ≡ refused p → length c.closing_deposits ≡ length c.deposits → length c.closing_consolidations ≡ length c.consolidations → electra_outcome (as_opened (number_of p) c.finality c.churn c.numbers c.registry c.deposits c.consolidations) (over c.registry c.closing_registry) (over c.compounding c.closing_compounding) c.slashings c.deposits c.consolidations (over (replicate (12 * count_of c.registry) 0) c.amounts) ≡ electra_close c
   unfolding electra_close electra_closed after_tests closing_buffer bind
-  work-refused {x} t e z d k = go (process_epoch c.rules (electra_state_of c)) refl e
+  work-refused {p} t e d k =
+      rw (t, e)
+      (ap (λ (a : ElectraAnswer). opening a c.deposits c.consolidations) (sym (opened p))
+      ∙ ap₂ (opening (electra_answer c (refused p))) (over-whole c.deposits c.closing_deposits (sym d)) (over-whole c.consolidations c.closing_consolidations (sym k)))
     where
       opening : ElectraAnswer → List ℕ → List ℕ → ElectraOutcome
       opening a ds cs = electra_outcome a (over c.registry c.closing_registry) (over c.compounding c.closing_compounding) c.slashings ds cs (over (replicate (12 * count_of c.registry) 0) c.amounts)
-
-      told : (p : Refusal) → x ≡ number_of p → as_opened x c.finality c.churn c.numbers c.registry c.deposits c.consolidations ≡ electra_answer c (refused p)
-      told p e = ap (λ (y : ℕ). as_opened y c.finality c.churn c.numbers c.registry c.deposits c.consolidations) e ∙ sym (opened p)
-
-      go : (w : Checked ElectraState) → process_epoch c.rules (electra_state_of c) ≡ w → x ≡ code_of w → opening (as_opened x c.finality c.churn c.numbers c.registry c.deposits c.consolidations) c.deposits c.consolidations ≡ electra_close c
-      go (value st) q e = absurd (z e)
-      go (refused p) q e =
-          rw (t, q)
-          (ap (λ (a : ElectraAnswer). opening a c.deposits c.consolidations) (told p e)
-          ∙ ap₂ (opening (electra_answer c (refused p))) (over-whole c.deposits c.closing_deposits (sym d)) (over-whole c.consolidations c.closing_consolidations (sym k)))

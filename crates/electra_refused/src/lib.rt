@@ -2,19 +2,19 @@
 #![tactic(auto)]
 
 ghost use Rattle.std.specs.Prelude.{◌≡◌, ◌*◌, ◌/◌, ◌≤◌, length, replicate};
+ghost use Rattle.definitions.specs.Checked.{number_of};
 ghost use Rattle.definitions_electra.specs.Calls.{over};
 ghost use Rattle.electra_refused.specs.Outcome.{as_opened};
 
-use definitions::Finality;
+use definitions::{Finality, Refusal};
 use definitions_electra::{DepositNumbers, ExitChurn};
 use definitions_electra_close::ElectraAnswer;
 use electra_deposits::closing::copy_front;
-use refusals::buffers::{clear, copy};
 use totals::raising::none_raised;
 
 // As the opening has them, none raised.
 pub fn opening_answer(
-    refusal: u64,
+    refusal: Refusal,
     finality: Finality,
     churn: ExitChurn,
     numbers: DepositNumbers,
@@ -22,13 +22,13 @@ pub fn opening_answer(
     deposits: &[u64],
     consolidations: &[u64],
 ) -> ElectraAnswer
-    ensures { result ≡ as_opened refusal finality churn numbers registry.now deposits.now consolidations.now }
+    ensures { result ≡ as_opened (number_of refusal) finality churn numbers registry.now deposits.now consolidations.now }
 {
     let n = registry.len() / 10;
     let d = deposits.len() / 5;
     let m = consolidations.len() / 2;
     ElectraAnswer {
-        refusal: refusal,
+        refusal: refusal.number(),
         finality: finality,
         raised: none_raised(),
         test: 0,
@@ -44,7 +44,7 @@ fn clear_front(list: &mut [u64], n: usize)
     requires { n ≤ length list.old }
     ensures { list.new ≡ over (replicate n 0) list.old }
 {
-    clear(&mut list[0..n]);
+    list[0..n].fill(0);
 }
 
 // What was worked on in place.
@@ -84,7 +84,7 @@ pub fn open_queues(
     ensures closing_deposits_after { closing_deposits.new ≡ deposits.now }
     ensures closing_consolidations_after { closing_consolidations.new ≡ consolidations.now }
 {
-    copy(slashings, closing_slashings);
-    copy(deposits, closing_deposits);
-    copy(consolidations, closing_consolidations);
+    closing_slashings.copy_from_slice(slashings);
+    closing_deposits.copy_from_slice(deposits);
+    closing_consolidations.copy_from_slice(consolidations);
 }

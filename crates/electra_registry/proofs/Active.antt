@@ -66,7 +66,7 @@ module _ (epoch : ℕ) (v : Validator) (small : epoch < 2 ^ 48) where
   unfolding is_active_validator
   eligible-weight to = refl
 
-  was : {t u : Turned} → weight epoch u.validator ≡ weight epoch v → value u ≡ value t → weight epoch t.validator ≡ weight epoch v
+  was : {t u : Turned} → weight epoch u.validator ≡ weight epoch v → ◌≡◌ {A = Checked Turned} (value u) (value t) → weight epoch t.validator ≡ weight epoch v
   was h e = ap (λ (x : Turned). weight epoch x.validator) (sym (value_same e)) ∙ h
 
   exit-weight : (least limit delay : ℕ) (churn : ExitChurn) {t : Turned} → epoch < least → exit_with least limit delay churn v ≡ value t → weight epoch t.validator ≡ weight epoch v
@@ -88,7 +88,7 @@ turn-weight n churn v {t} small late p =
     either P (is_queued n v) (was n.epoch v small (eligible-weight n.epoch v small _))
     (either P (is_ejected_by n v) (exit-weight n.epoch v small n.least n.limit n.delay churn late) (go (is_activated n v) refl)) p
   where
-    go : (b : Bool) → is_activated n v ≡ b → cond b (value (kept churn (with_activation n.least v))) (value (kept churn v)) ≡ value t → weight n.epoch t.validator ≡ weight n.epoch v
+    go : (b : Bool) → is_activated n v ≡ b → cond {A = Checked Turned} b (value (kept churn (with_activation n.least v))) (value (kept churn v)) ≡ value t → weight n.epoch t.validator ≡ weight n.epoch v
     go true q e =
         let f = (both (leb v.activation_eligibility_epoch n.finalized_epoch) (eqb v.activation_epoch FAR_FUTURE_EPOCH) q).1 in
         was n.epoch v small (activated-weight n.epoch v small n.least (eqb-true _ _ f) late) e

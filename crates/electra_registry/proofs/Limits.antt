@@ -7,15 +7,15 @@ use Prim.Native.Nat.{ℕ, ◌-◌, ◌/◌, ◌%◌, ◌≤◌, ◌<◌, max}
 use native.Mathlib.Omega.{arith}
 use native.Mathlib.Nat.{mod-lt}
 use borrow.Author.Tests.{ne_eqb}
-use Rattle.definitions.specs.declared.Number.{Number}
-use Rattle.definitions.specs.declared.Number.TheVariants.{Value, Refused}
+use Rattle.std.specs.Prelude.{IsErr, IsErrAnd}
 use Rattle.definitions.specs.declared.Settings.{Settings}
 use Rattle.definitions.specs.Record.{Validator}
-use Rattle.definitions.specs.Checked.{Checked, value, refused, Refusal, overflow, bind, settle}
-use Rattle.definitions.specs.Answers.{Says}
+use Rattle.definitions.specs.Checked.{Checked, value, refused, bind, settle}
+use Rattle.definitions.specs.declared.Refusal.{Refusal}
+use Rattle.definitions.specs.declared.Refusal.TheVariants.{Overflow}
 use Rattle.definitions.specs.Rust.Phase0.Helpers.{get_current_epoch, get_active_validator_indices, get_total_balance, get_total_active_balance}
 use Rattle.arithmetic.proofs.Operations.{OnlyOverflow, only-value, only-bind}
-use Rattle.arithmetic.proofs.Laws.{said-value, next, stop}
+use Rattle.arithmetic.proofs.Laws.{next, passes-on}
 use Rattle.totals.proofs.Sums.{only-total}
 use Rattle.electra_refusals.proofs.Passed.{good-electra}
 use Rattle.definitions_electra.specs.declared.ElectraRules.{ElectraRules}
@@ -25,17 +25,16 @@ use Rattle.definitions_electra.specs.Evaluated.Electra.Helpers.{get_activation_e
 use Rattle.electra_registry.specs.Turns.{limit_of}
 
 -- A limit k from the total active balance, which answered t
-module _ (s : Settings) (state_slot : ℕ) (vs : List Validator) (k : ℕ → ℕ) {epoch : ℕ} (now : epoch ≡ get_current_epoch s state_slot) {t : Number} (h : Says (get_total_balance s (get_active_validator_indices vs epoch)) t) where
-  total : Says (get_total_active_balance s state_slot vs) t
+module _ (s : Settings) (state_slot : ℕ) (vs : List Validator) (k : ℕ → ℕ) {epoch : ℕ} (now : epoch ≡ get_current_epoch s state_slot) {t : Checked ℕ} (h : t ≡ get_total_balance s (get_active_validator_indices vs epoch)) where
+  total : t ≡ get_total_active_balance s state_slot vs
   unfolding get_total_active_balance
   total = rw now at h
 
-  pub limit-told : {x : ℕ} → t ≡ Value x → {y : ℕ} → y ≡ k x → Says (bind (get_total_active_balance s state_slot vs) (λ total. value (k total))) (Value y)
-  limit-told e {y} i = next _ total e (said-value (ap value (sym i)))
+  pub limit-told : {x : ℕ} → t ≡ value x → {y : ℕ} → y ≡ k x → value y ≡ bind (get_total_active_balance s state_slot vs) (λ total. value (k total))
+  limit-told e {y} i = next _ total e (ap value i)
 
-  pub limit-over : {q : ℕ} → t ≡ Refused q → Says (bind (get_total_active_balance s state_slot vs) (λ total. value (k total))) (Refused 5)
-  unfolding get_total_active_balance
-  limit-over e = stop _ (only-total s _) total e refl
+  pub limit-over : {p : Refusal} {r : Checked ℕ} → t ≡ refused p → IsErr r × IsErrAnd r (λ q. q ≡ p) → r ≡ bind (get_total_active_balance s state_slot vs) (λ total. value (k total))
+  limit-over e i = passes-on _ total e i
 
 -- at least the increment, rounded down to it, is not 0
 rounded : (a inc : ℕ) → 0 < inc → inc ≤ a → 0 < a - a % inc
@@ -57,7 +56,7 @@ pub limit-good : (r : ElectraRules) (state_slot : ℕ) (vs : List Validator) →
 unfolding get_activation_exit_churn_limit bind limit_of
 limit-good r state_slot vs good = go (get_total_active_balance r.settings state_slot vs) (only-limit r state_slot vs).why
   where
-    go : (t : Checked ℕ) → ((q : Refusal) → bind t (λ total. value (activation_exit_churn_limit r total)) ≡ refused q → q ≡ overflow) → limit_of (settle (bind t (λ total. value (activation_exit_churn_limit r total))) 0) ≡ bind t (λ total. value (activation_exit_churn_limit r total))
+    go : (t : Checked ℕ) → ((q : Refusal) → bind t (λ total. value (activation_exit_churn_limit r total)) ≡ refused q → q ≡ Overflow) → limit_of (settle (bind t (λ total. value (activation_exit_churn_limit r total))) 0) ≡ bind t (λ total. value (activation_exit_churn_limit r total))
     go (value total) o =
         let g = good-electra r good in
         rw (ne_eqb (activation_exit_churn_limit r total) 0 (λ z. omega (arith, limit_not_zero r total g.positive.effective_balance_increment g.least g.most, z)))

@@ -62,7 +62,7 @@ module _ (r : ElectraRules) (st : ElectraState) (least limit : ℕ) (a : compute
   abbrev pub put : Turned → ElectraState
   put t = with_churn t.churn (with_vs (set st.altair.validators i t.validator) st)
 
-  stays : value st ≡ value (put (kept st.churn v))
+  stays : ◌≡◌ {A = Checked ElectraState} (value st) (value (put (kept st.churn v)))
   stays = rw (set-get_or st.altair.validators i nobody)
 
   pub exit-text : initiate_validator_exit r st i ≡ bind (exit_with least limit r.settings.min_validator_withdrawability_delay st.churn v) (λ t. value (put t))

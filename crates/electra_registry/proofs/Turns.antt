@@ -1,29 +1,23 @@
 -- The ways through an exit by balance and through a turn.
-use mathlib.Core.Path.{◌≡◌, refl}
+use mathlib.Core.Path.{◌≡◌}
 use mathlib.Core.Bool.{Bool, true, false, cond}
 use mathlib.Core.List.{List}
 use Prim.Native.Nat.{ℕ, ◌+◌, ◌-◌, ◌≤◌, ◌<◌, max}
-use native.Mathlib.Omega.{arith}
 use borrow.Author.Tests.{eq-eqb, ne_eqb, lt-ltb, le-ltb}
 use lib.Dec.{ltb, eqb}
 use lib.ListN.{length, get_or, set}
 use Rattle.definitions.specs.Record.{Validator, FAR_FUTURE_EPOCH, decode_one, encode_one}
 use Rattle.definitions.specs.Updates.{with_eligibility, with_activation, with_exit}
-use Rattle.definitions.specs.Checked.{Checked, value, refused, Refusal, overflow, number_of, bind, add64}
+use Rattle.definitions.specs.Checked.{Checked, value, refused, bind, add64}
+use Rattle.definitions.specs.declared.Refusal.{Refusal}
+use Rattle.definitions.specs.declared.Refusal.TheVariants.{Overflow}
 use Rattle.laws.proofs.Encode.{ten}
 use Rattle.arithmetic.proofs.Operations.{OnlyOverflow, only-value, only-bind, only-add64, only-sub64, only-mul64, sub64-given}
-use Rattle.arithmetic.proofs.Answers.{Tells}
 use Rattle.definitions_electra.specs.declared.ExitChurn.{ExitChurn}
-use Rattle.definitions_electra.specs.declared.ExitChurnAnswer.{ExitChurnAnswer}
-use Rattle.definitions_electra.specs.declared.ChurnAnswer.TheVariants.{Value as ChurnValue, Refused as ChurnRefused}
-use Rattle.definitions_electra.specs.Answers.{churn_answer_for, SaysChurn}
 use Rattle.definitions_electra.specs.Document.Electra.Helpers.{to_consume}
 use Rattle.definitions_electra.specs.Evaluated.Electra.Helpers.{further_epochs, churned}
 use Rattle.electra_registry.specs.declared.updates.RegistryNumbers.{RegistryNumbers}
 use Rattle.electra_registry.specs.Turns.{limit_of, churn_by, Turned, kept, exit_with, is_queued, is_ejected_by, is_activated, turn_by, Turns}
-
-pub tells_churn : Tells churn_answer_for ChurnValue ChurnRefused
-tells_churn = record { of-value = λ x. refl; of-refused = λ p. refl; one_value = λ x y e. cc; one_number = λ p q e. cc; apart = λ x q e. (let z : ◌≡◌ {A = ℕ} 0 1 = cc in omega arith) }
 
 -- No refusal but overflow
 
@@ -50,67 +44,69 @@ only-churn least limit churn balance =
 -- The three ways through the exit's churn
 
 module _ (least limit : ℕ) (churn : ExitChurn) (balance : ℕ) where
-  pub churn-none : limit ≡ 0 → SaysChurn (churn_by least limit churn balance) (ChurnRefused 5)
+  pub churn-none : limit ≡ 0 → ◌≡◌ {A = Checked ExitChurn} (refused Overflow) (churn_by least limit churn balance)
   unfolding churn_by limit_of bind
-  churn-none z = record { is = rw (eq-eqb limit 0 z) }
+  churn-none z = rw (eq-eqb limit 0 z)
 
   module _ (n : limit ≡ 0 → ⊥) {earliest available : ℕ} (a : earliest ≡ max churn.earliest_exit_epoch least) (b : available ≡ to_consume earliest limit churn) where
-    pub churn-further : {r : _} → available < balance → SaysChurn (further_epochs earliest available limit balance) r → SaysChurn (churn_by least limit churn balance) r
+    pub churn-further : {r : Checked ExitChurn} → available < balance → r ≡ further_epochs earliest available limit balance → r ≡ churn_by least limit churn balance
     unfolding churn_by limit_of bind churned
     churn-further l h = rw (ne_eqb limit 0 n, ← a, ← b, lt-ltb available balance l) h
 
-    pub churn-fits : balance ≤ available → SaysChurn (churn_by least limit churn balance) (ChurnValue (record { exit_balance_to_consume = available - balance; earliest_exit_epoch = earliest }))
+    pub churn-fits : balance ≤ available → ◌≡◌ {A = Checked ExitChurn} (value (record { exit_balance_to_consume = available - balance; earliest_exit_epoch = earliest })) (churn_by least limit churn balance)
     unfolding churn_by limit_of bind churned
-    churn-fits l = record { is = rw (ne_eqb limit 0 n, ← a, ← b, le-ltb available balance l, sub64-given available balance l) }
+    churn-fits l = rw (ne_eqb limit 0 n, ← a, ← b, le-ltb available balance l, sub64-given available balance l)
 
 -- A turn that gave a value, or was refused
 
-pub turns-value : (f : Validator → Checked Turned) {churn : ExitChurn} {before after : List ℕ} (t : Turned) → f (decode_one before) ≡ value t → after ≡ encode_one t.validator → Turns f churn before after (record { refusal = 0; churn = t.churn })
-turns-value f t h e = record { code = rw h; held = rw h e; moved = rw h }
+pub turns-value : (f : Validator → Checked Turned) {churn : ExitChurn} {before after : List ℕ} (t : Turned) → f (decode_one before) ≡ value t → after ≡ encode_one t.validator → Turns f churn before after (value t.churn)
+unfolding bind
+turns-value f t h e = record { is = rw h; held = rw h e }
 
-pub turns-refused : (f : Validator → Checked Turned) {churn : ExitChurn} {before : List ℕ} {p : Refusal} → length before ≡ 10 → f (decode_one before) ≡ refused p → Turns f churn before before (record { refusal = number_of p; churn = churn })
-turns-refused f {before = before} l h = record { code = rw h; held = rw h (ten before l); moved = rw h }
+pub turns-refused : (f : Validator → Checked Turned) {churn : ExitChurn} {before : List ℕ} {p : Refusal} {r : Checked ExitChurn} → length before ≡ 10 → f (decode_one before) ≡ refused p → r ≡ refused p → Turns f churn before before r
+unfolding bind
+turns-refused f {before = before} l h e = record { is = rw h e; held = rw h (ten before l) }
 
 -- The four ways through an exit
 module _ (least limit delay : ℕ) (churn : ExitChurn) (before : List ℕ) (l : length before ≡ 10) where
   abbrev v : Validator
   v = decode_one before
 
-  pub exit-known : (get_or before 4 0 ≡ FAR_FUTURE_EPOCH → ⊥) → Turns (exit_with least limit delay churn) churn before before (record { refusal = 0; churn = churn })
+  pub exit-known : (get_or before 4 0 ≡ FAR_FUTURE_EPOCH → ⊥) → Turns (exit_with least limit delay churn) churn before before (value churn)
   unfolding exit_with
   exit-known f = turns-value (exit_with least limit delay churn) (kept churn v) (rw (ne_eqb (get_or before 4 0) FAR_FUTURE_EPOCH f)) (ten before l)
 
   module _ (f : get_or before 4 0 ≡ FAR_FUTURE_EPOCH) where
-    pub exit-full : churn_by least limit churn (get_or before 0 0) ≡ refused overflow → Turns (exit_with least limit delay churn) churn before before (record { refusal = 5; churn = churn })
+    pub exit-full : {p : Refusal} {r : Checked ExitChurn} → churn_by least limit churn (get_or before 0 0) ≡ refused p → r ≡ refused p → Turns (exit_with least limit delay churn) churn before before r
     unfolding exit_with bind
-    exit-full h = turns-refused (exit_with least limit delay churn) {p = overflow} l (rw (eq-eqb (get_or before 4 0) FAR_FUTURE_EPOCH f, h))
+    exit-full h e = turns-refused (exit_with least limit delay churn) l (rw (eq-eqb (get_or before 4 0) FAR_FUTURE_EPOCH f, h)) e
 
     module _ {after : ExitChurn} (h : churn_by least limit churn (get_or before 0 0) ≡ value after) where
-      pub exit-over : add64 after.earliest_exit_epoch delay ≡ refused overflow → Turns (exit_with least limit delay churn) churn before before (record { refusal = 5; churn = churn })
+      pub exit-over : {p : Refusal} {r : Checked ExitChurn} → add64 after.earliest_exit_epoch delay ≡ refused p → r ≡ refused p → Turns (exit_with least limit delay churn) churn before before r
       unfolding exit_with bind
-      exit-over k = turns-refused (exit_with least limit delay churn) {p = overflow} l (rw (eq-eqb (get_or before 4 0) FAR_FUTURE_EPOCH f, h, k))
+      exit-over k e = turns-refused (exit_with least limit delay churn) l (rw (eq-eqb (get_or before 4 0) FAR_FUTURE_EPOCH f, h, k)) e
 
-      pub exit-written : {w : ℕ} {ys : List ℕ} → add64 after.earliest_exit_epoch delay ≡ value w → ys ≡ encode_one (with_exit after.earliest_exit_epoch w (decode_one before)) → Turns (exit_with least limit delay churn) churn before ys (record { refusal = 0; churn = after })
+      pub exit-written : {w : ℕ} {ys : List ℕ} → add64 after.earliest_exit_epoch delay ≡ value w → ys ≡ encode_one (with_exit after.earliest_exit_epoch w (decode_one before)) → Turns (exit_with least limit delay churn) churn before ys (value after)
       unfolding exit_with bind
       exit-written {w} k e =
           turns-value (exit_with least limit delay churn) (kept after (with_exit after.earliest_exit_epoch w v)) (rw (eq-eqb (get_or before 4 0) FAR_FUTURE_EPOCH f, h, k)) e
 
 -- The four ways through a turn
 module _ (n : RegistryNumbers) (churn : ExitChurn) (before : List ℕ) (l : length before ≡ 10) where
-  pub turn-queued : is_queued n (decode_one before) ≡ true → Turns (turn_by n churn) churn before (set before 2 (n.epoch + 1)) (record { refusal = 0; churn = churn })
+  pub turn-queued : is_queued n (decode_one before) ≡ true → Turns (turn_by n churn) churn before (set before 2 (n.epoch + 1)) (value churn)
   unfolding turn_by
   turn-queued q = turns-value (turn_by n churn) (kept churn (with_eligibility (n.epoch + 1) (decode_one before))) (rw q) (rw (ten before l))
 
   module _ (q : is_queued n (decode_one before) ≡ false) where
-    pub turn-ejected : {ys : List ℕ} {r : ExitChurnAnswer} → is_ejected_by n (decode_one before) ≡ true → Turns (exit_with n.least n.limit n.delay churn) churn before ys r → Turns (turn_by n churn) churn before ys r
+    pub turn-ejected : {ys : List ℕ} {r : Checked ExitChurn} → is_ejected_by n (decode_one before) ≡ true → Turns (exit_with n.least n.limit n.delay churn) churn before ys r → Turns (turn_by n churn) churn before ys r
     unfolding turn_by
-    turn-ejected e h = record { code = rw (q, e) h.code; held = rw (q, e) h.held; moved = rw (q, e) h.moved }
+    turn-ejected e h = record { is = rw (q, e) h.is; held = rw (q, e) h.held }
 
     module _ (e : is_ejected_by n (decode_one before) ≡ false) where
-      pub turn-activated : is_activated n (decode_one before) ≡ true → Turns (turn_by n churn) churn before (set before 3 n.least) (record { refusal = 0; churn = churn })
+      pub turn-activated : is_activated n (decode_one before) ≡ true → Turns (turn_by n churn) churn before (set before 3 n.least) (value churn)
       unfolding turn_by
       turn-activated a = turns-value (turn_by n churn) (kept churn (with_activation n.least (decode_one before))) (rw (q, e, a)) (rw (ten before l))
 
-      pub turn-stays : is_activated n (decode_one before) ≡ false → Turns (turn_by n churn) churn before before (record { refusal = 0; churn = churn })
+      pub turn-stays : is_activated n (decode_one before) ≡ false → Turns (turn_by n churn) churn before before (value churn)
       unfolding turn_by
       turn-stays a = turns-value (turn_by n churn) (kept churn (decode_one before)) (rw (q, e, a)) (ten before l)

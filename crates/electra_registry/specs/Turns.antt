@@ -2,16 +2,16 @@
 use Rattle.std.specs.Prelude.{◌≡◌, Bool, cond, ◌&&◌, List, ℕ, ◌+◌, leb, eqb}
 use Rattle.definitions.specs.Record.{Validator, FAR_FUTURE_EPOCH, decode_one, encode_one}
 use Rattle.definitions.specs.Updates.{with_eligibility, with_activation, with_exit}
-use Rattle.definitions.specs.Checked.{Checked, value, refused, overflow, bind, add64, code_of, settle}
+use Rattle.definitions.specs.Checked.{Checked, value, refused, bind, add64, settle}
+use Rattle.definitions.specs.declared.Refusal.TheVariants.{Overflow}
 use Rattle.definitions.specs.Document.Phase0.Helpers.{is_active_validator, is_eligible_for_activation}
 use Rattle.definitions_electra.specs.declared.ExitChurn.{ExitChurn}
-use Rattle.definitions_electra.specs.declared.ExitChurnAnswer.{ExitChurnAnswer}
 use Rattle.definitions_electra.specs.Evaluated.Electra.Helpers.{churned}
 use Rattle.electra_registry.specs.declared.updates.RegistryNumbers.{RegistryNumbers}
 
 -- a limit as one number: 0 where the total active balance left 64 bits
 unfoldable pub limit_of : ℕ → Checked ℕ
-limit_of limit = cond (eqb limit 0) (refused overflow) (value limit)
+limit_of limit = cond (eqb limit 0) (refused Overflow) (value limit)
 
 unfoldable pub churn_by : ℕ → ℕ → ExitChurn → ℕ → Checked ExitChurn
 churn_by least limit churn balance = bind (limit_of limit) (λ l. churned least l churn balance)
@@ -49,9 +49,8 @@ turn_by n churn v =
     (cond (is_ejected_by n v) (exit_with n.least n.limit n.delay churn v)
     (cond (is_activated n v) (value (kept churn (with_activation n.least v))) (value (kept churn v))))
 
--- What a function on one validator's ten numbers and the churn promises: 0 or the refusal's number, the ten numbers and the two, all left as
--- lent where f is refused
-pub record Turns (f : Validator → Checked Turned) (churn : ExitChurn) (before after : List ℕ) (r : ExitChurnAnswer) : Type 0 where
-  pub code : r.refusal ≡ code_of (f (decode_one before))
+-- What a function on one validator's ten numbers and the churn promises: the two numbers, or why f is refused, and the ten numbers, left as lent where
+-- it is
+pub record Turns (f : Validator → Checked Turned) (churn : ExitChurn) (before after : List ℕ) (r : Checked ExitChurn) : Type 0 where
+  pub is : r ≡ bind (f (decode_one before)) (λ t. value t.churn)
   pub held : after ≡ encode_one (settle (f (decode_one before)) (kept churn (decode_one before))).validator
-  pub moved : r.churn ≡ (settle (f (decode_one before)) (kept churn (decode_one before))).churn

@@ -7,10 +7,8 @@ use Rattle.definitions.specs.Checked.{Checked, value, bind, settle, fold_checked
 use Rattle.definitions.specs.Document.Phase0.Helpers.{get_current_epoch}
 use Rattle.definitions_electra.specs.declared.ElectraRules.{ElectraRules}
 use Rattle.definitions_electra.specs.declared.ExitChurn.{ExitChurn}
-use Rattle.definitions_electra.specs.declared.ExitChurnAnswer.{ExitChurnAnswer}
 use Rattle.definitions_electra.specs.Record.{ElectraState}
 use Rattle.definitions_electra.specs.Evaluated.Electra.Helpers.{get_activation_exit_churn_limit}
-use Rattle.definitions_electra.specs.Calls.{exit_churn_answer}
 use Rattle.electra_registry.specs.declared.updates.RegistryNumbers.{RegistryNumbers}
 use Rattle.electra_registry.specs.Turns.{Turned, turn_by}
 
@@ -45,8 +43,7 @@ updates_by n e = fold_checked (turn_at (turn_by n)) e (range 0 (length e.validat
 abbrev pub exiting_in : Checked ElectraState → Checked Exiting
 exiting_in m = bind m (λ st. value (exiting st.altair.validators st.churn))
 
--- What a function on a lent registry and the churn promises: 0 or the refusal's number, the two numbers, those handed in where it is refused, and
--- the registry where it is not
-pub record Moves (m : Checked Exiting) (churn : ExitChurn) (xs : List ℕ) (r : ExitChurnAnswer) : Type 0 where
-  pub answer : r ≡ exit_churn_answer (bind m (λ e. value e.churn)) churn
+-- What a function on a lent registry and the churn promises: the two numbers, or why it is refused, and the registry where it is not
+pub record Moves (m : Checked Exiting) (xs : List ℕ) (r : Checked ExitChurn) : Type 0 where
+  pub is : r ≡ bind m (λ e. value e.churn)
   pub held : (e : Exiting) → m ≡ value e → xs ≡ encode e.validators

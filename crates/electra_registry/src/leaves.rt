@@ -3,27 +3,27 @@
 ghost use Rattle.std.specs.Prelude.{◌≡◌};
 ghost use Rattle.definitions.specs.Record.{decode};
 ghost use Rattle.definitions.specs.Checked.{value};
-ghost use Rattle.definitions.specs.Answers.{Says};
 ghost use Rattle.definitions.specs.Refusals.{after_tests};
 ghost use Rattle.definitions_electra.specs.Refusals.{credential_tests, slot_registry_tests, exit_tests};
 ghost use Rattle.definitions_electra.specs.Document.Electra.Helpers.{get_max_effective_balance};
 ghost use Rattle.definitions_electra.specs.Evaluated.Electra.Helpers.{get_balance_churn_limit, get_activation_exit_churn_limit, compute_exit_epoch_and_update_churn};
 ghost use Rattle.definitions_electra.specs.Calls.{exit_work, exit_churn_answer, ChurnCloses};
 
-use crate::exits::{exit_by_balance, exit_churn};
+use crate::exits::{exit_by_balance, exit_churn, exit_churn_answer};
 use crate::{activation_exit_churn, balance_churn, registry_numbers};
-use definitions::Number;
-use definitions_electra::{ChurnAnswer, ElectraRules, ExitChurn, ExitChurnAnswer};
+use definitions::Refusal;
+use definitions_electra::{ElectraRules, ExitChurn, ExitChurnAnswer};
 use electra_refusals::leaf_tests::{credential_tests, exit_tests, slot_registry_tests};
 
-pub fn get_balance_churn_limit(rules: ElectraRules, state_slot: u64, registry: &[u64]) -> Number
-    ensures { Says (after_tests (slot_registry_tests rules state_slot registry.now)
-        (get_balance_churn_limit rules state_slot (decode registry.now))) result }
+pub fn get_balance_churn_limit(
+    rules: ElectraRules,
+    state_slot: u64,
+    registry: &[u64],
+) -> Result<u64, Refusal>
+    ensures { result ≡ after_tests (slot_registry_tests rules state_slot registry.now)
+        (get_balance_churn_limit rules state_slot (decode registry.now)) }
 {
-    let refusal = slot_registry_tests(rules, state_slot, registry);
-    if refusal != 0 {
-        return Number::Refused(refusal);
-    }
+    slot_registry_tests(rules, state_slot, registry)?;
     balance_churn(rules, state_slot, registry)
 }
 
@@ -31,29 +31,23 @@ pub fn get_activation_exit_churn_limit(
     rules: ElectraRules,
     state_slot: u64,
     registry: &[u64],
-) -> Number
-    ensures { Says (after_tests (slot_registry_tests rules state_slot registry.now)
-        (get_activation_exit_churn_limit rules state_slot (decode registry.now))) result }
+) -> Result<u64, Refusal>
+    ensures { result ≡ after_tests (slot_registry_tests rules state_slot registry.now)
+        (get_activation_exit_churn_limit rules state_slot (decode registry.now)) }
 {
-    let refusal = slot_registry_tests(rules, state_slot, registry);
-    if refusal != 0 {
-        return Number::Refused(refusal);
-    }
+    slot_registry_tests(rules, state_slot, registry)?;
     activation_exit_churn(rules, state_slot, registry)
 }
 
-pub fn get_max_effective_balance(rules: ElectraRules, compounding: u64) -> Number
-    ensures { Says (after_tests (credential_tests rules compounding) (value (get_max_effective_balance rules.electra compounding))) result }
+pub fn get_max_effective_balance(rules: ElectraRules, compounding: u64) -> Result<u64, Refusal>
+    ensures { result ≡ after_tests (credential_tests rules compounding) (value (get_max_effective_balance rules.electra compounding)) }
 {
-    let refusal = credential_tests(rules, compounding);
-    if refusal != 0 {
-        return Number::Refused(refusal);
-    }
+    credential_tests(rules, compounding)?;
     let e = rules.electra;
     if compounding == 1 {
-        return Number::Value(e.max_effective_balance_electra);
+        return Ok(e.max_effective_balance_electra);
     }
-    Number::Value(e.min_activation_balance)
+    Ok(e.min_activation_balance)
 }
 
 // The two numbers after an exit of this balance: the registry is only read, for the limit.
@@ -68,24 +62,12 @@ pub fn compute_exit_epoch_and_update_churn(
         ≡ exit_churn_answer (after_tests (slot_registry_tests rules state_slot registry.now)
         (compute_exit_epoch_and_update_churn rules state_slot (decode registry.now) churn exit_balance)) churn }
 {
-    let refusal = slot_registry_tests(rules, state_slot, registry);
-    if refusal != 0 {
-        return ExitChurnAnswer {
-            refusal: refusal,
-            churn: churn,
-        };
+    if let Err(refusal) = slot_registry_tests(rules, state_slot, registry) {
+        return exit_churn_answer(Err(refusal), churn);
     }
     let n = registry_numbers(rules, state_slot, 0, registry);
-    let ChurnAnswer::Value(after) = exit_churn(churn, n.least, n.limit, exit_balance) else {
-        return ExitChurnAnswer {
-            refusal: 5,
-            churn: churn,
-        };
-    };
-    ExitChurnAnswer {
-        refusal: 0,
-        churn: after,
-    }
+    let after = exit_churn(churn, n.least, n.limit, exit_balance);
+    exit_churn_answer(after, churn)
 }
 
 // The registry is left as lent on every refusal.
@@ -99,16 +81,13 @@ pub fn initiate_validator_exit(
     ensures { ChurnCloses (exit_tests rules state_slot index registry.old) (exit_work rules state_slot index churn registry.old)
         churn registry.old registry.old registry.new result }
 {
-    let refusal = exit_tests(rules, state_slot, index, &registry[..]);
-    if refusal != 0 {
-        return ExitChurnAnswer {
-            refusal: refusal,
-            churn: churn,
-        };
+    if let Err(refusal) = exit_tests(rules, state_slot, index, &registry[..]) {
+        return exit_churn_answer(Err(refusal), churn);
     }
     let n = registry_numbers(rules, state_slot, 0, &registry[..]);
     let at = index as usize;
     let a = 10 * at;
     let b = a + 10;
-    exit_by_balance(&mut registry[a..b], churn, n.least, n.limit, n.delay)
+    let after = exit_by_balance(&mut registry[a..b], churn, n.least, n.limit, n.delay);
+    exit_churn_answer(after, churn)
 }

@@ -5,7 +5,6 @@
 ghost use Rattle.std.specs.Prelude.{◌≡◌, true, ◌*◌, ◌/◌, ◌^◌, ◌<◌, length};
 ghost use Rattle.definitions.specs.Record.{decode};
 ghost use Rattle.definitions.specs.Checked.{settle};
-ghost use Rattle.definitions.specs.Answers.{Says};
 ghost use Rattle.definitions.specs.Refusals.{good_settings};
 ghost use Rattle.definitions_electra.specs.Refusals.{good_electra, registry_tests};
 ghost use Rattle.definitions_electra.specs.Document.Electra.Helpers.{balance_churn_limit, activation_exit_churn_limit};
@@ -17,13 +16,13 @@ pub mod exits;
 pub mod leaves;
 pub mod updates;
 
+use crate::exits::exit_churn_answer;
 use crate::updates::{RegistryNumbers, update_all};
 use arithmetic::{max, min};
-use definitions::Number;
+use definitions::Refusal;
 use definitions_electra::{ElectraRules, ExitChurn, ExitChurnAnswer};
 use electra_refusals::step_tests::registry_tests;
 use epochs::current_epoch;
-use refusals::buffers::{copy, put_back};
 use totals::total_active;
 
 // The churn limits by the total active balance.
@@ -53,30 +52,30 @@ pub fn churn_limit(r: ElectraRules, total: u64) -> u64
 
 // And of a record.
 
-pub fn balance_churn(r: ElectraRules, state_slot: u64, registry: &[u64]) -> Number
+pub fn balance_churn(r: ElectraRules, state_slot: u64, registry: &[u64]) -> Result<u64, Refusal>
     requires { (length registry.now ≡ 10 * (length registry.now / 10)) × (good_settings r.settings ≡ true) }
-    ensures { Says (get_balance_churn_limit r state_slot (decode registry.now)) result }
+    ensures { result ≡ get_balance_churn_limit r state_slot (decode registry.now) }
 {
     let s = r.settings;
     let epoch = current_epoch(s, state_slot);
-    let Number::Value(total) = total_active(s, epoch, registry) else {
-        return Number::Refused(5);
-    };
+    let total = total_active(s, epoch, registry)?;
     let limit = balance_limit(r, total);
-    Number::Value(limit)
+    Ok(limit)
 }
 
-pub fn activation_exit_churn(r: ElectraRules, state_slot: u64, registry: &[u64]) -> Number
+pub fn activation_exit_churn(
+    r: ElectraRules,
+    state_slot: u64,
+    registry: &[u64],
+) -> Result<u64, Refusal>
     requires { (length registry.now ≡ 10 * (length registry.now / 10)) × (good_settings r.settings ≡ true) }
-    ensures { Says (get_activation_exit_churn_limit r state_slot (decode registry.now)) result }
+    ensures { result ≡ get_activation_exit_churn_limit r state_slot (decode registry.now) }
 {
     let s = r.settings;
     let epoch = current_epoch(s, state_slot);
-    let Number::Value(total) = total_active(s, epoch, registry) else {
-        return Number::Refused(5);
-    };
+    let total = total_active(s, epoch, registry)?;
     let limit = churn_limit(r, total);
-    Number::Value(limit)
+    Ok(limit)
 }
 
 // As one number: 0, which no accepted rules have, says that the total active balance left 64 bits. That refuses only where somebody leaves.
@@ -84,7 +83,7 @@ pub fn limit_number(r: ElectraRules, state_slot: u64, registry: &[u64]) -> u64
     requires { (length registry.now ≡ 10 * (length registry.now / 10)) × (good_settings r.settings ≡ true) }
     ensures { result ≡ settle (get_activation_exit_churn_limit r state_slot (decode registry.now)) 0 }
 {
-    let Number::Value(limit) = activation_exit_churn(r, state_slot, registry) else {
+    let Ok(limit) = activation_exit_churn(r, state_slot, registry) else {
         return 0;
     };
     limit
@@ -122,9 +121,9 @@ pub fn update_registry(
     finalized_epoch: u64,
     churn: ExitChurn,
     registry: &mut [u64],
-) -> ExitChurnAnswer
+) -> Result<ExitChurn, Refusal>
     requires { (length registry.old ≡ 10 * (length registry.old / 10)) × (good_electra rules ≡ true) × (state_slot < 2 ^ 48) }
-    ensures { Moves (exiting_in (registry_work rules state_slot finalized_epoch churn registry.old)) churn registry.new result }
+    ensures { Moves (exiting_in (registry_work rules state_slot finalized_epoch churn registry.old)) registry.new result }
 {
     let count = registry.len() / 10;
     let n = registry_numbers(rules, state_slot, finalized_epoch, &registry[..]);
@@ -143,15 +142,19 @@ pub fn process_registry_updates(
         (registry_work rules state_slot finalized_epoch churn opening.now)
         churn opening.now closing.old closing.new result }
 {
-    let refusal = registry_tests(rules, state_slot, finalized_epoch, opening, &closing[..]);
-    if refusal != 0 {
-        return ExitChurnAnswer {
-            refusal: refusal,
-            churn: churn,
-        };
+    if let Err(refusal) = registry_tests(
+        rules,
+        state_slot,
+        finalized_epoch,
+        opening,
+        &closing[..],
+    ) {
+        return exit_churn_answer(Err(refusal), churn);
     }
-    copy(opening, closing);
+    closing.copy_from_slice(opening);
     let done = update_registry(rules, state_slot, finalized_epoch, churn, closing);
-    put_back(done.refusal, opening, closing);
-    done
+    if done.is_err() {
+        closing.copy_from_slice(opening);
+    }
+    exit_churn_answer(done, churn)
 }

@@ -6,9 +6,9 @@ ghost use Rattle.electra_registry.specs.Updates.{exiting, updates_by, Moves};
 
 use crate::exits::exit_by_balance;
 use definitions::{
-    ACTIVATION_ELIGIBILITY_EPOCH, ACTIVATION_EPOCH, EFFECTIVE_BALANCE, FAR_FUTURE_EPOCH,
+    ACTIVATION_ELIGIBILITY_EPOCH, ACTIVATION_EPOCH, EFFECTIVE_BALANCE, FAR_FUTURE_EPOCH, Refusal,
 };
-use definitions_electra::{ExitChurn, ExitChurnAnswer};
+use definitions_electra::ExitChurn;
 use entries::{entry_is_active, entry_is_eligible_for_activation};
 
 // What a turn reads besides the validator and the churn: `least` is the activation exit epoch of the present epoch.
@@ -44,16 +44,17 @@ fn entry_is_ejected(n: RegistryNumbers, entry: &[u64]) -> bool
 }
 
 // One validator's turn: the first of the three cases that holds.
-pub fn update_entry(entry: &mut [u64], n: RegistryNumbers, churn: ExitChurn) -> ExitChurnAnswer
+pub fn update_entry(
+    entry: &mut [u64],
+    n: RegistryNumbers,
+    churn: ExitChurn,
+) -> Result<ExitChurn, Refusal>
     requires { (length entry.old ≡ 10) × (n.epoch < 2 ^ 48) }
     ensures { Turns (turn_by n churn) churn entry.old entry.new result }
 {
     if entry_is_queued(n, &entry[..]) {
         entry[ACTIVATION_ELIGIBILITY_EPOCH] = n.epoch + 1;
-        return ExitChurnAnswer {
-            refusal: 0,
-            churn: churn,
-        };
+        return Ok(churn);
     }
     if entry_is_ejected(n, &entry[..]) {
         return exit_by_balance(entry, churn, n.least, n.limit, n.delay);
@@ -61,10 +62,7 @@ pub fn update_entry(entry: &mut [u64], n: RegistryNumbers, churn: ExitChurn) -> 
     if entry_is_eligible_for_activation(n.finalized_epoch, &entry[..]) {
         entry[ACTIVATION_EPOCH] = n.least;
     }
-    ExitChurnAnswer {
-        refusal: 0,
-        churn: churn,
-    }
+    Ok(churn)
 }
 
 // In register order, carrying the two numbers of the exit queue. On refusal the registry is left half done.
@@ -73,26 +71,15 @@ pub fn update_all(
     first: ExitChurn,
     registry: &mut [u64],
     count: usize,
-) -> ExitChurnAnswer
+) -> Result<ExitChurn, Refusal>
     requires { (length registry.old ≡ 10 * count) × (n.epoch < 2 ^ 48) }
-    ensures { Moves (updates_by n (exiting (decode registry.old) first)) first registry.new result }
+    ensures { Moves (updates_by n (exiting (decode registry.old) first)) registry.new result }
 {
     let mut churn = first;
     for i in 0..count {
         let a = 10 * i;
         let b = a + 10;
-        let turn = update_entry(&mut registry[a..b], n, churn);
-        let refusal = turn.refusal;
-        if refusal != 0 {
-            return ExitChurnAnswer {
-                refusal: refusal,
-                churn: first,
-            };
-        }
-        churn = turn.churn;
+        churn = update_entry(&mut registry[a..b], n, churn)?;
     }
-    ExitChurnAnswer {
-        refusal: 0,
-        churn: churn,
-    }
+    Ok(churn)
 }

@@ -10,7 +10,7 @@ use lib.Dec.{ltb, eqb}
 use lib.ListN.{length, get_or, set, length-set}
 use lib.Seq.{get_or-set_same, get_or-set_other}
 use Rattle.definitions.specs.Record.{Validator, decode, nobody}
-use Rattle.definitions.specs.Checked.{value, bind, add64}
+use Rattle.definitions.specs.Checked.{Checked, value, bind, add64}
 use Rattle.definitions.specs.Rust.Phase0.Helpers.{increase_balance}
 use Rattle.laws.proofs.Checked.{bound, value_same as value-same-as}
 use Rattle.laws.proofs.Tests.{either}
@@ -141,7 +141,7 @@ module _ (most : ℕ) (q : Queueing) (i : ℕ) where
       Is : Running → Type 0
       Is u = get_or u.validators i nobody ≡ get_or p.validators i nobody
 
-      stays : {u : Running} → value u ≡ value r → get_or r.validators i nobody ≡ get_or u.validators i nobody
+      stays : {u : Running} → ◌≡◌ {A = Checked Running} (value u) (value r) → get_or r.validators i nobody ≡ get_or u.validators i nobody
       stays e = ap (λ (x : Running). get_or x.validators i nobody) (sym (value-same-as e))
 
       raises : (processed : ℕ) → bind (raised p.validators d) (λ ws. value (onward ws processed p)) ≡ value r → get_or r.validators i nobody ≡ get_or p.validators i nobody

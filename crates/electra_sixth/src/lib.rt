@@ -7,29 +7,17 @@ ghost use Rattle.definitions_electra.specs.Refusals.{good_electra};
 ghost use Rattle.electra_sixth.specs.Named.{place_by, value_by, one_by, Naming, NoneYet};
 ghost use Rattle.electra_sixth.specs.Sixth.{SixthRan};
 
-use definitions::{BALANCE, Number};
+use definitions::{BALANCE, Refusal};
 use definitions_electra::{DepositNumbers, ElectraRules};
 use electra_deposits::apply_deposits;
-use electra_deposits::step::{QueueAnswer, left_to_consume, queue_numbers};
+use electra_deposits::step::{left_to_consume, queue_numbers};
 
-// 0 or a refusal's number; where it is 0 the next epoch, how many deposits are done, and what is left to consume.
+// The next epoch, how many deposits are done, and what is left to consume.
 #[derive(Clone, Copy)]
 pub struct Sixth {
-    pub refusal: u64,
     pub next_epoch: u64,
     pub index: usize,
     pub left: u64,
-}
-
-fn refused_by(refusal: u64) -> Sixth
-    ensures { result.refusal ≡ refusal }
-{
-    Sixth {
-        refusal: refusal,
-        next_epoch: 0,
-        index: 0,
-        left: 0,
-    }
 }
 
 // 0 keeps the balance before the deposits in the eleventh number, 1 books what it has grown by in the tenth, 2 clears the eleventh again: so that only
@@ -94,37 +82,22 @@ pub fn deposits_in_front(
     deposits: &[u64],
     registry: &mut [u64],
     amounts: &mut [u64],
-) -> Sixth
+) -> Result<Sixth, Refusal>
     requires rules_value { good_electra rules ≡ true }
     requires registry_len { (length registry.old ≡ 10 * (length registry.old / 10)) × (length amounts.old ≡ 12 * (length registry.old / 10)) }
     requires none_yet { NoneYet (length registry.old / 10) amounts.old }
     ensures { SixthRan rules state_slot finalized_epoch numbers deposits.now registry.old registry.new
         amounts.old amounts.new result }
 {
-    let QueueAnswer::Value(q) = queue_numbers(
-        rules,
-        state_slot,
-        finalized_epoch,
-        numbers,
-        &registry[..],
-    ) else {
-        return refused_by(5);
-    };
+    let q = queue_numbers(rules, state_slot, finalized_epoch, numbers, &registry[..])?;
     book_named(0, deposits, &registry[..], amounts);
-    let done = apply_deposits(registry, deposits, q);
-    let refusal = done.refusal;
-    if refusal != 0 {
-        return refused_by(refusal);
-    }
-    let Number::Value(left) = left_to_consume(q.available, done.processed, done.reached) else {
-        return refused_by(5);
-    };
+    let done = apply_deposits(registry, deposits, q)?;
+    let left = left_to_consume(q.available, done.processed, done.reached)?;
     book_named(1, deposits, &registry[..], amounts);
     book_named(2, deposits, &registry[..], amounts);
-    Sixth {
-        refusal: 0,
+    Ok(Sixth {
         next_epoch: q.next_epoch,
         index: done.index,
         left: left,
-    }
+    })
 }

@@ -3,7 +3,7 @@
 
 ghost use Rattle.std.specs.Prelude.{◌≡◌, true, ◌*◌, ◌/◌, ◌<◌, length};
 ghost use Rattle.definitions.specs.Record.{decode};
-ghost use Rattle.definitions.specs.Checked.{map_checked};
+ghost use Rattle.definitions.specs.Checked.{code_of, map_checked};
 ghost use Rattle.definitions.specs.Refusals.{good_settings};
 ghost use Rattle.definitions.specs.Closes.{Closes};
 ghost use Rattle.laws.specs.Ran.{Settles, Ran};
@@ -14,50 +14,51 @@ ghost use Rattle.electra_slashings.specs.Slashed.{slashed_registry};
 
 use arithmetic::{add64, mul64};
 use balances::entry_decrease_balance;
-use definitions::{EFFECTIVE_BALANCE, Number, SLASHED, Settings, WITHDRAWABLE_EPOCH};
+use definitions::{EFFECTIVE_BALANCE, Refusal, SLASHED, Settings, WITHDRAWABLE_EPOCH};
 use definitions_electra::ElectraRules;
 use electra_refusals::step_tests::slashings_tests;
 use epochs::current_epoch;
-use refusals::buffers::{copy, put_back};
+use over_entries::each_entry;
+use refusals::buffers::put_back;
 use slashings::adjusted_balance;
 use totals::total_active;
 
 // The epoch is compared only where the validator is slashed, and the penalty worked out only where it is due.
-pub fn entry_slash(s: Settings, epoch: u64, per_increment: u64, entry: &mut [u64]) -> u64
+pub fn entry_slash(
+    s: Settings,
+    epoch: u64,
+    per_increment: u64,
+    entry: &mut [u64],
+) -> Result<(), Refusal>
     requires { (length entry.old ≡ 10) × (0 < s.effective_balance_increment) }
     ensures { Settles (slash s epoch per_increment) entry.old entry.new result }
 {
     if entry[SLASHED] != 1 {
-        return 0;
+        return Ok(());
     }
-    let Number::Value(due) = add64(epoch, s.epochs_per_slashings_vector / 2) else {
-        return 5;
-    };
+    let due = add64(epoch, s.epochs_per_slashings_vector / 2)?;
     if due != entry[WITHDRAWABLE_EPOCH] {
-        return 0;
+        return Ok(());
     }
     let increments = entry[EFFECTIVE_BALANCE] / s.effective_balance_increment;
-    let Number::Value(penalty) = mul64(per_increment, increments) else {
-        return 5;
-    };
+    let penalty = mul64(per_increment, increments)?;
     entry_decrease_balance(entry, penalty);
-    0
+    Ok(())
 }
 
-fn slash_all(s: Settings, epoch: u64, per_increment: u64, registry: &mut [u64]) -> u64
+fn slash_all(
+    s: Settings,
+    epoch: u64,
+    per_increment: u64,
+    registry: &mut [u64],
+) -> Result<(), Refusal>
     requires { (length registry.old ≡ 10 * (length registry.old / 10)) × (0 < s.effective_balance_increment) }
     ensures { Ran (map_checked (slash s epoch per_increment) (decode registry.old)) registry.new result }
 {
-    let n = registry.len() / 10;
-    for i in 0..n {
-        let a = 10 * i;
-        let b = a + 10;
-        let refusal = entry_slash(s, epoch, per_increment, &mut registry[a..b]);
-        if refusal != 0 {
-            return refusal;
-        }
-    }
-    0
+    each_entry(
+        |entry| entry_slash(s, epoch, per_increment, entry),
+        registry,
+    )
 }
 
 // The step in place. Total, sum and product are evaluated also where nobody is due.
@@ -67,17 +68,13 @@ pub fn slashings_core(
     state_slot: u64,
     slashings: &[u64],
     registry: &mut [u64],
-) -> u64
+) -> Result<(), Refusal>
     requires { (length registry.old ≡ 10 * (length registry.old / 10)) × (good_settings s ≡ true) }
     ensures { Ran (slashed_registry s multiplier state_slot slashings.now (decode registry.old)) registry.new result }
 {
     let epoch = current_epoch(s, state_slot);
-    let Number::Value(total) = total_active(s, epoch, registry) else {
-        return 5;
-    };
-    let Number::Value(adjusted) = adjusted_balance(multiplier, total, slashings) else {
-        return 5;
-    };
+    let total = total_active(s, epoch, registry)?;
+    let adjusted = adjusted_balance(multiplier, total, slashings)?;
     let increments = total / s.effective_balance_increment;
     slash_all(s, epoch, adjusted / increments, registry)
 }
@@ -88,16 +85,13 @@ pub fn process_slashings(
     slashings: &[u64],
     opening: &[u64],
     closing: &mut [u64],
-) -> u64
+) -> Result<(), Refusal>
     ensures { Closes registry_in (slashings_tests rules state_slot slashings.now opening.now closing.old)
         (slashings_work rules state_slot slashings.now opening.now)
-        opening.now closing.old closing.new result }
+        opening.now closing.old closing.new (code_of result) }
 {
-    let refusal = slashings_tests(rules, state_slot, slashings, opening, closing);
-    if refusal != 0 {
-        return refusal;
-    }
-    copy(opening, closing);
+    slashings_tests(rules, state_slot, slashings, opening, closing)?;
+    closing.copy_from_slice(opening);
     let multiplier = rules.bellatrix.proportional_slashing_multiplier_bellatrix;
     let done = slashings_core(rules.settings, multiplier, state_slot, slashings, closing);
     put_back(done, opening, closing);

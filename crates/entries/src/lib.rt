@@ -4,7 +4,6 @@
 ghost use Rattle.std.specs.Prelude.{◌≡◌, cond, ◌&&◌, not, ◌≤◌, leb, ltb, eqb, length};
 ghost use Rattle.definitions.specs.Record.{decode_one};
 ghost use Rattle.definitions.specs.Checked.{value};
-ghost use Rattle.definitions.specs.Answers.{truth_for, number_for};
 ghost use Rattle.definitions.specs.Refusals.{after_tests};
 ghost use Rattle.definitions.specs.LeafRefusals.{flag_tests, entry_tests, finalized_entry_tests, settings_entry_tests, slot_entry_tests, participation_entry_tests};
 ghost use Rattle.definitions.specs.Document.Phase0.Helpers.{is_active_validator, is_eligible_for_activation_queue, is_eligible_for_activation, get_current_epoch, get_previous_epoch};
@@ -13,7 +12,7 @@ ghost use Rattle.definitions.specs.Document.Altair.Helpers.{has_flag, add_flag, 
 
 use definitions::{
     ACTIVATION_ELIGIBILITY_EPOCH, ACTIVATION_EPOCH, CURRENT_EPOCH_PARTICIPATION, EFFECTIVE_BALANCE,
-    EXIT_EPOCH, FAR_FUTURE_EPOCH, Number, PREVIOUS_EPOCH_PARTICIPATION, SLASHED, Settings, Truth,
+    EXIT_EPOCH, FAR_FUTURE_EPOCH, PREVIOUS_EPOCH_PARTICIPATION, Refusal, SLASHED, Settings,
     WITHDRAWABLE_EPOCH,
 };
 use epochs::{current_epoch, previous_epoch};
@@ -39,15 +38,12 @@ pub fn entry_is_active(entry: &[u64], epoch: u64) -> bool
     is_active(entry[ACTIVATION_EPOCH], entry[EXIT_EPOCH], epoch)
 }
 
-pub fn is_active_validator(entry: &[u64], epoch: u64) -> Truth
-    ensures { result ≡ truth_for (after_tests (entry_tests entry.now) (value (is_active_validator (decode_one entry.now) epoch))) }
+pub fn is_active_validator(entry: &[u64], epoch: u64) -> Result<bool, Refusal>
+    ensures { result ≡ after_tests (entry_tests entry.now) (value (is_active_validator (decode_one entry.now) epoch)) }
 {
-    let refusal = entry_tests(entry);
-    if refusal != 0 {
-        return Truth::Refused(refusal);
-    }
+    entry_tests(entry)?;
     let active = entry_is_active(entry, epoch);
-    Truth::Value(active)
+    Ok(active)
 }
 
 pub fn becomes_eligible(
@@ -74,16 +70,13 @@ pub fn entry_is_eligible_for_activation_queue(s: Settings, entry: &[u64]) -> boo
     )
 }
 
-pub fn is_eligible_for_activation_queue(s: Settings, entry: &[u64]) -> Truth
+pub fn is_eligible_for_activation_queue(s: Settings, entry: &[u64]) -> Result<bool, Refusal>
     ensures { result
-        ≡ truth_for (after_tests (settings_entry_tests s entry.now) (value (is_eligible_for_activation_queue s (decode_one entry.now)))) }
+        ≡ after_tests (settings_entry_tests s entry.now) (value (is_eligible_for_activation_queue s (decode_one entry.now))) }
 {
-    let refusal = settings_entry_tests(s, entry);
-    if refusal != 0 {
-        return Truth::Refused(refusal);
-    }
+    settings_entry_tests(s, entry)?;
     let eligible = entry_is_eligible_for_activation_queue(s, entry);
-    Truth::Value(eligible)
+    Ok(eligible)
 }
 
 pub fn entry_is_eligible_for_activation(finalized_epoch: u64, entry: &[u64]) -> bool
@@ -96,17 +89,14 @@ pub fn entry_is_eligible_for_activation(finalized_epoch: u64, entry: &[u64]) -> 
     entry[ACTIVATION_EPOCH] == FAR_FUTURE_EPOCH
 }
 
-pub fn is_eligible_for_activation(finalized_epoch: u64, entry: &[u64]) -> Truth
+pub fn is_eligible_for_activation(finalized_epoch: u64, entry: &[u64]) -> Result<bool, Refusal>
     ensures { result
-        ≡ truth_for (after_tests (finalized_entry_tests finalized_epoch entry.now)
-        (value (is_eligible_for_activation finalized_epoch (decode_one entry.now)))) }
+        ≡ after_tests (finalized_entry_tests finalized_epoch entry.now)
+        (value (is_eligible_for_activation finalized_epoch (decode_one entry.now))) }
 {
-    let refusal = finalized_entry_tests(finalized_epoch, entry);
-    if refusal != 0 {
-        return Truth::Refused(refusal);
-    }
+    finalized_entry_tests(finalized_epoch, entry)?;
     let eligible = entry_is_eligible_for_activation(finalized_epoch, entry);
-    Truth::Value(eligible)
+    Ok(eligible)
 }
 
 // The test of get_eligible_validator_indices.
@@ -127,18 +117,15 @@ pub fn entry_is_eligible(previous_epoch: u64, entry: &[u64]) -> bool
     previous_epoch < entry[WITHDRAWABLE_EPOCH] - 1
 }
 
-pub fn is_eligible(s: Settings, state_slot: u64, entry: &[u64]) -> Truth
+pub fn is_eligible(s: Settings, state_slot: u64, entry: &[u64]) -> Result<bool, Refusal>
     ensures { result
-        ≡ truth_for (after_tests (slot_entry_tests s state_slot entry.now)
-        (value (is_eligible (get_previous_epoch s state_slot) (decode_one entry.now)))) }
+        ≡ after_tests (slot_entry_tests s state_slot entry.now)
+        (value (is_eligible (get_previous_epoch s state_slot) (decode_one entry.now))) }
 {
-    let refusal = slot_entry_tests(s, state_slot, entry);
-    if refusal != 0 {
-        return Truth::Refused(refusal);
-    }
+    slot_entry_tests(s, state_slot, entry)?;
     let previous = previous_epoch(s, state_slot);
     let eligible = entry_is_eligible(previous, entry);
-    Truth::Value(eligible)
+    Ok(eligible)
 }
 
 pub fn flag_is_set(flags: u64, flag_index: u64) -> bool
@@ -148,29 +135,29 @@ pub fn flag_is_set(flags: u64, flag_index: u64) -> bool
     (flags >> flag_index) % 2 == 1
 }
 
-pub fn has_flag(flags: u8, flag_index: u64) -> Truth
-    ensures { result ≡ truth_for (after_tests (flag_tests flag_index) (value (has_flag flags flag_index))) }
+pub fn has_flag(flags: u8, flag_index: u64) -> Result<bool, Refusal>
+    ensures { result ≡ after_tests (flag_tests flag_index) (value (has_flag flags flag_index)) }
 {
     if 7 < flag_index {
-        return Truth::Refused(1);
+        return Err(Refusal::BadShape);
     }
     let set = flag_is_set(flags as u64, flag_index);
-    Truth::Value(set)
+    Ok(set)
 }
 
-pub fn add_flag(flags: u8, flag_index: u64) -> Number
-    ensures { result ≡ number_for (after_tests (flag_tests flag_index) (value (add_flag flags flag_index))) }
+pub fn add_flag(flags: u8, flag_index: u64) -> Result<u64, Refusal>
+    ensures { result ≡ after_tests (flag_tests flag_index) (value (add_flag flags flag_index)) }
 {
     if 7 < flag_index {
-        return Number::Refused(1);
+        return Err(Refusal::BadShape);
     }
     let before = flags as u64;
     if flag_is_set(before, flag_index) {
-        return Number::Value(before);
+        return Ok(before);
     }
     let flag = 1u64 << flag_index;
     let after = before + flag;
-    Number::Value(after)
+    Ok(after)
 }
 
 // The flags that count for an epoch, the present or the previous one: at the genesis epoch, which is both, the current ones.
@@ -223,16 +210,13 @@ pub fn is_unslashed_participating(
     flag_index: u64,
     epoch: u64,
     entry: &[u64],
-) -> Truth
+) -> Result<bool, Refusal>
     ensures { result
-        ≡ truth_for (after_tests (participation_entry_tests s state_slot flag_index epoch entry.now)
-        (value (is_unslashed_participating (get_current_epoch s state_slot) flag_index epoch (decode_one entry.now)))) }
+        ≡ after_tests (participation_entry_tests s state_slot flag_index epoch entry.now)
+        (value (is_unslashed_participating (get_current_epoch s state_slot) flag_index epoch (decode_one entry.now))) }
 {
-    let refusal = participation_entry_tests(s, state_slot, flag_index, epoch, entry);
-    if refusal != 0 {
-        return Truth::Refused(refusal);
-    }
+    participation_entry_tests(s, state_slot, flag_index, epoch, entry)?;
     let current = current_epoch(s, state_slot);
     let participating = entry_is_participating(current, flag_index, epoch, entry);
-    Truth::Value(participating)
+    Ok(participating)
 }

@@ -1,3 +1,2 @@
--- Laws of the epochs, and of what a leaf answers after its tests.
-pub mod Answers
+-- What the tests of settings and slot give.
 pub mod Passed

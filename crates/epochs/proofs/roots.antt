@@ -1,4 +1,3 @@
 -- Laws of the lookups.
-pub mod Codes
-pub mod Lookups
 pub mod Passed
+pub mod Lookups

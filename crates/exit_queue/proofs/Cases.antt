@@ -5,7 +5,8 @@ use native.Mathlib.Omega.{arith}
 use borrow.Author.Tests.{le-leb, eq-eqb}
 use Rattle.definitions.specs.Record.{Validator, FAR_FUTURE_EPOCH}
 use Rattle.definitions.specs.Updates.{with_exit}
-use Rattle.definitions.specs.Checked.{value, refused, overflow, bind, add64}
+use Rattle.definitions.specs.Checked.{value, refused, bind, add64}
+use Rattle.definitions.specs.declared.Refusal.TheVariants.{Overflow}
 use Rattle.definitions.specs.declared.ExitQueue.{ExitQueue}
 use Rattle.exit_queue.specs.Queue.{last_after, number_after, joined, next_epoch, exit_by, moved}
 
@@ -34,6 +35,6 @@ module _ (limit number : ℕ) (full : limit ≤ number) (v : Validator) (far : v
   stays-far = rw (eq-eqb v.exit_epoch FAR_FUTURE_EPOCH far)
 
   -- with delay 1 it is refused
-  pub refused-far : exit_by limit 1 largest v ≡ refused overflow
+  pub refused-far : exit_by limit 1 largest v ≡ refused Overflow
   unfolding exit_by next_epoch bind add64
   refused-far = rw (eq-eqb v.exit_epoch FAR_FUTURE_EPOCH far, le-leb limit number full)

@@ -4,7 +4,8 @@ use Rattle.std.specs.Prelude.{◌≡◌, cond, List, ℕ, leb, eqb, get_or, set}
 use Rattle.definitions.specs.Lists.{maximum}
 use Rattle.definitions.specs.Record.{Validator, FAR_FUTURE_EPOCH, nobody}
 use Rattle.definitions.specs.Updates.{with_exit}
-use Rattle.definitions.specs.Checked.{Checked, value, refused, Refusal, bind, add64}
+use Rattle.definitions.specs.Checked.{Checked, value, refused, bind, add64}
+use Rattle.definitions.specs.declared.Refusal.{Refusal}
 use Rattle.definitions.specs.Document.Phase0.Helpers.{exit_epochs, exit_queue_churn}
 use Rattle.laws.specs.Ran.{Ran}
 
@@ -23,7 +24,7 @@ exit_at least limit delay vs index =
     value (set vs index (with_exit exit withdrawable validator)))))
     (value vs)
 
--- 0 or the refusal's number, and the registry, left as lent where m is refused
-pub record Leaves (m : Checked (List Validator)) (before after : List ℕ) (r : ℕ) : Type 0 where
+-- Whether it is refused, and the registry, left as lent where it is
+pub record Leaves (m : Checked (List Validator)) (before after : List ℕ) (r : Checked (Unit {0})) : Type 0 where
   pub ran : Ran m after r
   pub kept : (p : Refusal) → m ≡ refused p → after ≡ before

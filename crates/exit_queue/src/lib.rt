@@ -5,7 +5,6 @@
 ghost use Rattle.std.specs.Prelude.{◌≡◌, ◌*◌, ◌/◌, ◌<◌, length};
 ghost use Rattle.definitions.specs.Record.{decode};
 ghost use Rattle.definitions.specs.ExitQueue.{queue_of};
-ghost use Rattle.definitions.specs.Answers.{Says};
 ghost use Rattle.exit_queue.specs.Queue.{last_after, number_after, joined, start_pair, next_epoch, exit_by, same_queue};
 ghost use Rattle.exit_queue.specs.Turns.{Exits};
 
@@ -13,7 +12,7 @@ pub mod exits;
 
 use crate::exits::write_exit;
 use arithmetic::add64;
-use definitions::{EXIT_EPOCH, ExitQueue, FAR_FUTURE_EPOCH, Number};
+use definitions::{EXIT_EPOCH, ExitQueue, FAR_FUTURE_EPOCH, Refusal};
 
 pub fn same_queue(a: ExitQueue, b: ExitQueue) -> bool
     ensures { result ≡ same_queue a b }
@@ -103,49 +102,30 @@ pub fn start_pair(queue: ExitQueue, least: u64) -> ExitQueue
     queue
 }
 
-fn next_epoch(queue: ExitQueue, limit: u64) -> Number
-    ensures { Says (next_epoch limit queue) result }
+fn next_epoch(queue: ExitQueue, limit: u64) -> Result<u64, Refusal>
+    ensures { result ≡ next_epoch limit queue }
 {
     if queue.number < limit {
-        return Number::Value(queue.last_epoch);
+        return Ok(queue.last_epoch);
     }
     add64(queue.last_epoch, 1)
 }
 
-// 0 or a refusal's number, and the pair afterwards.
-#[derive(Clone, Copy)]
-pub struct Turn {
-    pub refusal: u64,
-    pub queue: ExitQueue,
-}
-
-// One validator's exit, on its ten numbers.
-pub fn exit_entry(entry: &mut [u64], queue: ExitQueue, limit: u64, delay: u64) -> Turn
+// One validator's exit, on its ten numbers: the pair afterwards.
+pub fn exit_entry(
+    entry: &mut [u64],
+    queue: ExitQueue,
+    limit: u64,
+    delay: u64,
+) -> Result<ExitQueue, Refusal>
     requires { (length entry.old ≡ 10) × (queue.number < 18446744073709551615) }
     ensures { Exits (exit_by limit delay queue) queue entry.old entry.new result }
 {
     if entry[EXIT_EPOCH] != FAR_FUTURE_EPOCH {
-        return Turn {
-            refusal: 0,
-            queue: queue,
-        };
+        return Ok(queue);
     }
-    let Number::Value(exit) = next_epoch(queue, limit) else {
-        return Turn {
-            refusal: 5,
-            queue: queue,
-        };
-    };
-    let Number::Value(withdrawable) = add64(exit, delay) else {
-        return Turn {
-            refusal: 5,
-            queue: queue,
-        };
-    };
+    let exit = next_epoch(queue, limit)?;
+    let withdrawable = add64(exit, delay)?;
     write_exit(entry, exit, withdrawable);
-    let after = exited(queue, exit);
-    Turn {
-        refusal: 0,
-        queue: after,
-    }
+    Ok(exited(queue, exit))
 }

@@ -11,7 +11,7 @@ use Rattle.definitions.specs.Record.{Validator, BeaconState, decode}
 use Rattle.definitions.specs.Close.{finalized_epoch_of}
 use Rattle.definitions_close.specs.Calls.{full_outcome}
 use Rattle.definitions_close.specs.FullClose.{FullOutcome}
-use Rattle.definitions_deneb.specs.Calls.{DenebCall, deneb_called, deneb_close}
+use Rattle.definitions_deneb.specs.Calls.{DenebCall, deneb_called}
 use Rattle.history.specs.Events.{Event, Least, Premises, Claim}
 use Rattle.history.specs.Demand3 as demand3
 use Rattle.history.specs.ExitEpochs as exits

@@ -1,6 +1,5 @@
 -- Demands 1 and 2 of every Electra call; `Learnt` is the function's own contract. `st` is any state that has what the step was lent.
 use mathlib.Core.Path.{◌≡◌}
-use Prim.Native.Nat.{ℕ}
 use lib.ListN.{length}
 use contract.Lifetimes.{Lfts}
 use borrow.Fn.Kinds.{Dens, res_t, ended_of}

@@ -1,6 +1,5 @@
--- From what the library's functions answer to what is answered for C; demands 2 and 3 of the calls, Electra's close with its deposits and exits, R-4's test,
+-- Demands 2 and 3 of the calls, Electra's close with its deposits and exits, R-4's test,
 -- R-8's pair, R-10's reading and R-14.
-pub mod Roots
 pub mod Closes
 pub mod StepCalls
 pub mod ShelfCalls

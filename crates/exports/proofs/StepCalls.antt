@@ -11,7 +11,8 @@ use contract.Lifetimes.{Lfts}
 use borrow.Fn.Kinds.{Dens, res_t, ended_of}
 use denote.Triple.Clauses.{AtExit}
 use Rattle.definitions.specs.declared.Rules.{Rules}
-use Rattle.definitions.specs.Checked.{bad_shape, value}
+use Rattle.definitions.specs.Checked.{value}
+use Rattle.definitions.specs.declared.Refusal.TheVariants.{BadShape}
 use Rattle.definitions.specs.Rules.{settings_under}
 use Rattle.definitions_close.specs.CloseBySteps.{StepOutcome, has_ended, says_ended, turned_away, unwritten}
 use Rattle.definitions_close.specs.Orders.{OrderCall, OrderOutcome, take_order, NinthOutcome, untried}
@@ -163,7 +164,7 @@ no-turn c d =
     let early : eqb 0 (d.running.done + 1) ≡ false = ne_eqb 0 (d.running.done + 1) (λ e. omega (arith, e)) in
     rw early (go (has_ended d.running))
   where
-    go : (t : Bool) → after_step d (cond t (unwritten (says_ended d.running) (step_called (step_call c d 0))) (unwritten (turned_away bad_shape d.running) (step_called (step_call c d 0)))) ≡ d
+    go : (t : Bool) → after_step d (cond t (unwritten (says_ended d.running) (step_called (step_call c d 0))) (unwritten (turned_away BadShape d.running) (step_called (step_call c d 0)))) ≡ d
     go true = refl
     go false = refl
 

@@ -2,8 +2,7 @@
 ghost use Rattle.std.specs.Prelude.{◌≡◌, get_or};
 ghost use Rattle.definitions.specs.Record.{decode_one, decode, nobody};
 ghost use Rattle.definitions.specs.Checked.{value};
-ghost use Rattle.definitions.specs.Answers.{number_for, truth_for, deltas_answer_for};
-ghost use Rattle.definitions.specs.Raised.{total_with_raised, total_answer_for};
+ghost use Rattle.definitions.specs.Raised.{total_with_raised};
 ghost use Rattle.definitions.specs.Refusals.{after_tests};
 ghost use Rattle.definitions.specs.LeafRefusals.{flag_tests, participation_entry_tests, participation_tests, total_tests, total_entry_tests, flag_deltas_tests};
 ghost use Rattle.definitions.specs.Rules.{settings_under, inactivity_penalty_tests};
@@ -19,14 +18,14 @@ use plain::{plain_deltas, plain_number, plain_total, plain_truth};
 
 #[unsafe(no_mangle)]
 pub extern "C" fn altair_has_flag(flags: u8, flag_index: u64) -> PlainTruth
-    ensures { result ≡ plain_truth (truth_for (after_tests (flag_tests flag_index) (value (has_flag flags flag_index)))) }
+    ensures { result ≡ plain_truth (after_tests (flag_tests flag_index) (value (has_flag flags flag_index))) }
 {
     plain_truth(entries::has_flag(flags, flag_index))
 }
 
 #[unsafe(no_mangle)]
 pub extern "C" fn altair_add_flag(flags: u8, flag_index: u64) -> PlainNumber
-    ensures { result ≡ plain_number (number_for (after_tests (flag_tests flag_index) (value (add_flag flags flag_index)))) }
+    ensures { result ≡ plain_number (after_tests (flag_tests flag_index) (value (add_flag flags flag_index))) }
 {
     plain_number(entries::add_flag(flags, flag_index))
 }
@@ -40,8 +39,8 @@ pub extern "C" fn altair_is_unslashed_participating(
     entry: &[u64],
 ) -> PlainTruth
     ensures { result
-        ≡ plain_truth (truth_for (after_tests (participation_entry_tests s state_slot flag_index epoch entry.now)
-        (value (is_unslashed_participating (get_current_epoch s state_slot) flag_index epoch (decode_one entry.now))))) }
+        ≡ plain_truth (after_tests (participation_entry_tests s state_slot flag_index epoch entry.now)
+        (value (is_unslashed_participating (get_current_epoch s state_slot) flag_index epoch (decode_one entry.now)))) }
 {
     plain_truth(entries::is_unslashed_participating(s, state_slot, flag_index, epoch, entry))
 }
@@ -56,8 +55,8 @@ pub extern "C" fn altair_get_participating_balance(
     registry: &[u64],
 ) -> PlainTotal
     ensures { result
-        ≡ plain_total (total_answer_for (after_tests (participation_tests s state_slot flag_index epoch registry.now)
-        (total_with_raised s (get_unslashed_participating_indices s state_slot (decode registry.now) flag_index epoch)))) }
+        ≡ plain_total (after_tests (participation_tests s state_slot flag_index epoch registry.now)
+        (total_with_raised s (get_unslashed_participating_indices s state_slot (decode registry.now) flag_index epoch))) }
 {
     plain_total(totals::get_participating_balance(s, state_slot, flag_index, epoch, registry))
 }
@@ -66,7 +65,7 @@ pub extern "C" fn altair_get_participating_balance(
 
 #[unsafe(no_mangle)]
 pub extern "C" fn altair_get_base_reward_per_increment(s: Settings, total: u64) -> PlainNumber
-    ensures { result ≡ plain_number (number_for (after_tests (total_tests s total) (get_base_reward_per_increment s total))) }
+    ensures { result ≡ plain_number (after_tests (total_tests s total) (get_base_reward_per_increment s total)) }
 {
     plain_number(rewards::base_rewards::get_base_reward_per_increment(s, total))
 }
@@ -74,7 +73,7 @@ pub extern "C" fn altair_get_base_reward_per_increment(s: Settings, total: u64) 
 #[unsafe(no_mangle)]
 pub extern "C" fn altair_get_base_reward(s: Settings, total: u64, entry: &[u64]) -> PlainNumber
     ensures { result
-        ≡ plain_number (number_for (after_tests (total_entry_tests s total entry.now) (get_base_reward s total (decode_one entry.now)))) }
+        ≡ plain_number (after_tests (total_entry_tests s total entry.now) (get_base_reward s total (decode_one entry.now))) }
 {
     plain_number(rewards::base_rewards::get_base_reward(s, total, entry))
 }
@@ -91,9 +90,9 @@ pub extern "C" fn altair_get_flag_index_deltas(
     registry: &[u64],
 ) -> PlainDeltas
     ensures { result
-        ≡ plain_deltas (deltas_answer_for (after_tests (flag_deltas_tests s state_slot finalized_epoch flag_index index registry.now)
+        ≡ plain_deltas (after_tests (flag_deltas_tests s state_slot finalized_epoch flag_index index registry.now)
         (get_flag_index_deltas s state_slot finalized_epoch (decode registry.now) flag_index
-        (get_or (decode registry.now) index nobody)))) }
+        (get_or (decode registry.now) index nobody))) }
 {
     plain_deltas(rewards_step::flag_rewards::get_flag_index_deltas(
         s,
@@ -112,9 +111,9 @@ pub extern "C" fn altair_get_inactivity_penalty_deltas(
     entry: &[u64],
 ) -> PlainDeltas
     ensures { result
-        ≡ plain_deltas (deltas_answer_for (after_tests (inactivity_penalty_tests rules state_slot entry.now)
+        ≡ plain_deltas (after_tests (inactivity_penalty_tests rules state_slot entry.now)
         (get_inactivity_penalty_deltas (settings_under rules) (settings_under rules).inactivity_penalty_quotient_altair state_slot
-        (decode_one entry.now)))) }
+        (decode_one entry.now))) }
 {
     plain_deltas(rewards::get_inactivity_penalty_deltas(rules, state_slot, entry))
 }

@@ -2,7 +2,6 @@
 ghost use Rattle.std.specs.Prelude.{◌≡◌};
 ghost use Rattle.definitions.specs.Record.{decode};
 ghost use Rattle.definitions.specs.Checked.{value};
-ghost use Rattle.definitions.specs.Answers.{number_for};
 ghost use Rattle.definitions.specs.Plain.{plain_number};
 ghost use Rattle.definitions.specs.Closes.{Closes};
 ghost use Rattle.definitions.specs.Refusals.{after_tests};
@@ -11,7 +10,7 @@ ghost use Rattle.definitions_electra.specs.Document.Electra.Helpers.{get_max_eff
 ghost use Rattle.definitions_electra.specs.Evaluated.Electra.Helpers.{get_balance_churn_limit, get_activation_exit_churn_limit, compute_exit_epoch_and_update_churn};
 ghost use Rattle.definitions_electra.specs.Calls.{registry_work, exit_work, slashings_work, deposits_work, consolidations_work, effective_balances_work, registry_in, exit_churn_answer, ChurnCloses, DepositsClose, ConsolidationsClose};
 
-use definitions::PlainNumber;
+use definitions::{PlainNumber, code};
 use definitions_electra::{
     ConsolidationsAnswer, DepositNumbers, DepositsAnswer, ElectraRules, ExitChurn, ExitChurnAnswer,
 };
@@ -54,7 +53,7 @@ pub extern "C" fn electra_process_slashings(
         (slashings_work rules state_slot slashings.now opening.now)
         opening.now closing.old closing.new result }
 {
-    electra_slashings::process_slashings(rules, state_slot, slashings, opening, closing)
+    code(electra_slashings::process_slashings(rules, state_slot, slashings, opening, closing))
 }
 
 #[unsafe(no_mangle)]
@@ -131,7 +130,7 @@ pub extern "C" fn electra_process_effective_balance_updates(
         (effective_balances_work rules compounding.now opening.now)
         opening.now closing.old closing.new result }
 {
-    electra_balances::process_effective_balance_updates(rules, compounding, opening, closing)
+    code(electra_balances::process_effective_balance_updates(rules, compounding, opening, closing))
 }
 
 // The leaves
@@ -143,8 +142,8 @@ pub extern "C" fn electra_get_balance_churn_limit(
     registry: &[u64],
 ) -> PlainNumber
     ensures { result
-        ≡ plain_number (number_for (after_tests (slot_registry_tests rules state_slot registry.now)
-        (get_balance_churn_limit rules state_slot (decode registry.now)))) }
+        ≡ plain_number (after_tests (slot_registry_tests rules state_slot registry.now)
+        (get_balance_churn_limit rules state_slot (decode registry.now))) }
 {
     plain_number(electra_registry::leaves::get_balance_churn_limit(rules, state_slot, registry))
 }
@@ -156,8 +155,8 @@ pub extern "C" fn electra_get_activation_exit_churn_limit(
     registry: &[u64],
 ) -> PlainNumber
     ensures { result
-        ≡ plain_number (number_for (after_tests (slot_registry_tests rules state_slot registry.now)
-        (get_activation_exit_churn_limit rules state_slot (decode registry.now)))) }
+        ≡ plain_number (after_tests (slot_registry_tests rules state_slot registry.now)
+        (get_activation_exit_churn_limit rules state_slot (decode registry.now))) }
 {
     plain_number(electra_registry::leaves::get_activation_exit_churn_limit(
         rules, state_slot, registry,
@@ -169,7 +168,7 @@ pub extern "C" fn electra_get_max_effective_balance(
     rules: ElectraRules,
     compounding: u64,
 ) -> PlainNumber
-    ensures { result ≡ plain_number (number_for (after_tests (credential_tests rules compounding) (value (get_max_effective_balance rules.electra compounding)))) }
+    ensures { result ≡ plain_number (after_tests (credential_tests rules compounding) (value (get_max_effective_balance rules.electra compounding))) }
 {
     plain_number(electra_registry::leaves::get_max_effective_balance(rules, compounding))
 }

@@ -1,6 +1,6 @@
 // The leaves of phase0/epoch_processing.rs: finality delay and leak, and the weighing.
 ghost use Rattle.std.specs.Prelude.{◌≡◌};
-ghost use Rattle.definitions.specs.Answers.{number_for, truth_for, finality_answer_for};
+ghost use Rattle.definitions.specs.Answers.{finality_answer_for};
 ghost use Rattle.definitions.specs.Refusals.{after_tests};
 ghost use Rattle.definitions.specs.LeafRefusals.{finalized_tests, weigh_tests};
 ghost use Rattle.definitions.specs.Rust.Phase0.EpochProcessing.{get_finality_delay, is_in_inactivity_leak, weigh_justification_and_finalization};
@@ -16,7 +16,7 @@ pub extern "C" fn altair_get_finality_delay(
     finalized_epoch: u64,
 ) -> PlainNumber
     ensures { result
-        ≡ plain_number (number_for (after_tests (finalized_tests s state_slot finalized_epoch) (get_finality_delay s state_slot finalized_epoch))) }
+        ≡ plain_number (after_tests (finalized_tests s state_slot finalized_epoch) (get_finality_delay s state_slot finalized_epoch)) }
 {
     plain_number(finality::get_finality_delay(s, state_slot, finalized_epoch))
 }
@@ -28,7 +28,7 @@ pub extern "C" fn altair_is_in_inactivity_leak(
     finalized_epoch: u64,
 ) -> PlainTruth
     ensures { result
-        ≡ plain_truth (truth_for (after_tests (finalized_tests s state_slot finalized_epoch) (is_in_inactivity_leak s state_slot finalized_epoch))) }
+        ≡ plain_truth (after_tests (finalized_tests s state_slot finalized_epoch) (is_in_inactivity_leak s state_slot finalized_epoch)) }
 {
     plain_truth(finality::is_in_inactivity_leak(s, state_slot, finalized_epoch))
 }
@@ -47,5 +47,16 @@ pub extern "C" fn altair_weigh_justification_and_finalization(
         ≡ finality_answer_for (after_tests (weigh_tests s roots.now finality)
         (weigh_justification_and_finalization s roots.now finality total previous current)) finality }
 {
-    weighing::weigh_justification_and_finalization(s, roots, finality, total, previous, current)
+    match weighing::weigh_justification_and_finalization(
+        s, roots, finality, total, previous, current,
+    ) {
+        Ok(weighed) => FinalityAnswer {
+            refusal: 0,
+            finality: weighed,
+        },
+        Err(refusal) => FinalityAnswer {
+            refusal: refusal.number(),
+            finality,
+        },
+    }
 }

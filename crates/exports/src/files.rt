@@ -3,7 +3,7 @@ ghost use Rattle.std.specs.Prelude.{◌≡◌};
 ghost use Rattle.definitions.specs.Checked.{code_of};
 ghost use Rattle.definitions_file.specs.File.{read, write_tests, written, header_read, contents_with};
 
-use definitions::{ExitQueue, Finality, Settings};
+use definitions::{ExitQueue, Finality, Settings, code};
 use definitions_file::{Header, ReadAnswer};
 
 #[unsafe(no_mangle)]
@@ -46,5 +46,5 @@ pub extern "C" fn altair_write_file(
     ensures file_after { file.new
         ≡ written (contents_with settings finality registry.now roots.now slashings.now) queue file.old }
 {
-    record_file::write_file(settings, finality, queue, registry, roots, slashings, file)
+    code(record_file::write_file(settings, finality, queue, registry, roots, slashings, file))
 }

@@ -1,10 +1,11 @@
 // What the lines of a listing tell, as numbers.
 ghost use Rattle.std.specs.Prelude.{◌≡◌};
 ghost use Rattle.definitions_file.specs.ListingAnswers.{head_of, line_of};
-ghost use Rattle.definitions.specs.NetChange.{net_change, change_for, plain_change};
+ghost use Rattle.definitions.specs.NetChange.{net_change, plain_change};
 
-use definitions::{Change, Finality, PlainChange, Settings};
+use definitions::{Finality, PlainChange, Settings};
 use definitions_file::{Head, Line};
+use plain::plain_change;
 
 // Of the opening's slot and registry, and of the finality that the close gave.
 #[unsafe(no_mangle)]
@@ -29,10 +30,7 @@ pub extern "C" fn altair_listing_line(opening: &[u64], closing: &[u64], index: u
 // Closing minus opening, of any two balances.
 #[unsafe(no_mangle)]
 pub extern "C" fn altair_net_change(opening: u64, closing: u64) -> PlainChange
-    ensures { result ≡ plain_change (change_for (net_change opening closing)) }
+    ensures { result ≡ plain_change (net_change opening closing) }
 {
-    match arithmetic::signed::net_change(opening, closing) {
-        Change::Value(value) => PlainChange { refusal: 0, value },
-        Change::Refused(refusal) => PlainChange { refusal, value: 0 },
-    }
+    plain_change(arithmetic::signed::net_change(opening, closing))
 }

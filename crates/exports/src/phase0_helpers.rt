@@ -2,8 +2,7 @@
 ghost use Rattle.std.specs.Prelude.{◌≡◌};
 ghost use Rattle.definitions.specs.Record.{decode_one, encode_one, decode};
 ghost use Rattle.definitions.specs.Checked.{value};
-ghost use Rattle.definitions.specs.Answers.{number_for, truth_for};
-ghost use Rattle.definitions.specs.Raised.{total_with_raised, total_answer_for};
+ghost use Rattle.definitions.specs.Raised.{total_with_raised};
 ghost use Rattle.definitions.specs.Refusals.{after_tests};
 ghost use Rattle.definitions.specs.LeafRefusals.{settings_tests, slot_tests, entry_tests, finalized_entry_tests, settings_entry_tests, slot_entry_tests, root_tests, slot_registry_tests};
 ghost use Rattle.definitions.specs.Document.Phase0.EpochProcessing.{is_eligible};
@@ -14,7 +13,7 @@ ghost use Rattle.definitions.specs.Closes.{Closes};
 ghost use Rattle.definitions.specs.Plain.{plain_number, plain_truth, plain_root, plain_total};
 
 use definitions::{
-    ExitQueue, PlainNumber, PlainRoot, PlainTotal, PlainTruth, QueueAnswer, Settings,
+    ExitQueue, PlainNumber, PlainRoot, PlainTotal, PlainTruth, QueueAnswer, Settings, code,
 };
 use plain::{plain_number, plain_root, plain_total, plain_truth};
 
@@ -30,35 +29,35 @@ pub extern "C" fn altair_integer_sqrt(n: u64) -> u64
 
 #[unsafe(no_mangle)]
 pub extern "C" fn altair_compute_epoch_at_slot(s: Settings, slot: u64) -> PlainNumber
-    ensures { result ≡ plain_number (number_for (after_tests (settings_tests s) (value (compute_epoch_at_slot s slot)))) }
+    ensures { result ≡ plain_number (after_tests (settings_tests s) (value (compute_epoch_at_slot s slot))) }
 {
     plain_number(epochs::compute_epoch_at_slot(s, slot))
 }
 
 #[unsafe(no_mangle)]
 pub extern "C" fn altair_compute_start_slot_at_epoch(s: Settings, epoch: u64) -> PlainNumber
-    ensures { result ≡ plain_number (number_for (after_tests (settings_tests s) (compute_start_slot_at_epoch s epoch))) }
+    ensures { result ≡ plain_number (after_tests (settings_tests s) (compute_start_slot_at_epoch s epoch)) }
 {
     plain_number(epochs::compute_start_slot_at_epoch(s, epoch))
 }
 
 #[unsafe(no_mangle)]
 pub extern "C" fn altair_compute_activation_exit_epoch(s: Settings, epoch: u64) -> PlainNumber
-    ensures { result ≡ plain_number (number_for (after_tests (settings_tests s) (compute_activation_exit_epoch s epoch))) }
+    ensures { result ≡ plain_number (after_tests (settings_tests s) (compute_activation_exit_epoch s epoch)) }
 {
     plain_number(epochs::compute_activation_exit_epoch(s, epoch))
 }
 
 #[unsafe(no_mangle)]
 pub extern "C" fn altair_get_current_epoch(s: Settings, state_slot: u64) -> PlainNumber
-    ensures { result ≡ plain_number (number_for (after_tests (slot_tests s state_slot) (value (get_current_epoch s state_slot)))) }
+    ensures { result ≡ plain_number (after_tests (slot_tests s state_slot) (value (get_current_epoch s state_slot))) }
 {
     plain_number(epochs::get_current_epoch(s, state_slot))
 }
 
 #[unsafe(no_mangle)]
 pub extern "C" fn altair_get_previous_epoch(s: Settings, state_slot: u64) -> PlainNumber
-    ensures { result ≡ plain_number (number_for (after_tests (slot_tests s state_slot) (value (get_previous_epoch s state_slot)))) }
+    ensures { result ≡ plain_number (after_tests (slot_tests s state_slot) (value (get_previous_epoch s state_slot))) }
 {
     plain_number(epochs::get_previous_epoch(s, state_slot))
 }
@@ -68,7 +67,7 @@ pub extern "C" fn altair_get_previous_epoch(s: Settings, state_slot: u64) -> Pla
 #[unsafe(no_mangle)]
 pub extern "C" fn altair_is_active_validator(entry: &[u64], epoch: u64) -> PlainTruth
     ensures { result
-        ≡ plain_truth (truth_for (after_tests (entry_tests entry.now) (value (is_active_validator (decode_one entry.now) epoch)))) }
+        ≡ plain_truth (after_tests (entry_tests entry.now) (value (is_active_validator (decode_one entry.now) epoch))) }
 {
     plain_truth(entries::is_active_validator(entry, epoch))
 }
@@ -76,8 +75,7 @@ pub extern "C" fn altair_is_active_validator(entry: &[u64], epoch: u64) -> Plain
 #[unsafe(no_mangle)]
 pub extern "C" fn altair_is_eligible_for_activation_queue(s: Settings, entry: &[u64]) -> PlainTruth
     ensures { result
-        ≡ plain_truth (truth_for
-        (after_tests (settings_entry_tests s entry.now) (value (is_eligible_for_activation_queue s (decode_one entry.now))))) }
+        ≡ plain_truth (after_tests (settings_entry_tests s entry.now) (value (is_eligible_for_activation_queue s (decode_one entry.now)))) }
 {
     plain_truth(entries::is_eligible_for_activation_queue(s, entry))
 }
@@ -88,8 +86,8 @@ pub extern "C" fn altair_is_eligible_for_activation(
     entry: &[u64],
 ) -> PlainTruth
     ensures { result
-        ≡ plain_truth (truth_for (after_tests (finalized_entry_tests finalized_epoch entry.now)
-        (value (is_eligible_for_activation finalized_epoch (decode_one entry.now))))) }
+        ≡ plain_truth (after_tests (finalized_entry_tests finalized_epoch entry.now)
+        (value (is_eligible_for_activation finalized_epoch (decode_one entry.now)))) }
 {
     plain_truth(entries::is_eligible_for_activation(finalized_epoch, entry))
 }
@@ -98,8 +96,8 @@ pub extern "C" fn altair_is_eligible_for_activation(
 #[unsafe(no_mangle)]
 pub extern "C" fn altair_is_eligible(s: Settings, state_slot: u64, entry: &[u64]) -> PlainTruth
     ensures { result
-        ≡ plain_truth (truth_for (after_tests (slot_entry_tests s state_slot entry.now)
-        (value (is_eligible (get_previous_epoch s state_slot) (decode_one entry.now))))) }
+        ≡ plain_truth (after_tests (slot_entry_tests s state_slot entry.now)
+        (value (is_eligible (get_previous_epoch s state_slot) (decode_one entry.now)))) }
 {
     plain_truth(entries::is_eligible(s, state_slot, entry))
 }
@@ -109,7 +107,7 @@ pub extern "C" fn altair_increase_balance(entry: &mut [u64], delta: u64) -> u64
     ensures { Closes encode_one (entry_tests entry.old) (increase_balance (decode_one entry.old) delta) entry.old
         entry.old entry.new result }
 {
-    balances::increase_balance(entry, delta)
+    code(balances::increase_balance(entry, delta))
 }
 
 #[unsafe(no_mangle)]
@@ -117,7 +115,7 @@ pub extern "C" fn altair_decrease_balance(entry: &mut [u64], delta: u64) -> u64
     ensures { Closes encode_one (entry_tests entry.old) (value (decrease_balance (decode_one entry.old) delta)) entry.old
         entry.old entry.new result }
 {
-    balances::decrease_balance(entry, delta)
+    code(balances::decrease_balance(entry, delta))
 }
 
 // Block roots
@@ -132,11 +130,7 @@ pub extern "C" fn altair_get_block_root_at_slot(
     ensures { result
         ≡ plain_root (after_tests (root_tests s roots.now state_slot) (get_block_root_at_slot s roots.now state_slot slot)) }
 {
-    let refusal = epochs::roots::get_block_root_at_slot_refusal(s, roots, state_slot, slot);
-    plain_root(
-        refusal,
-        epochs::roots::get_block_root_at_slot(s, roots, state_slot, slot),
-    )
+    plain_root(epochs::roots::get_block_root_at_slot(s, roots, state_slot, slot))
 }
 
 #[unsafe(no_mangle)]
@@ -148,11 +142,7 @@ pub extern "C" fn altair_get_block_root(
 ) -> PlainRoot
     ensures { result ≡ plain_root (after_tests (root_tests s roots.now state_slot) (get_block_root s roots.now state_slot epoch)) }
 {
-    let refusal = epochs::roots::get_block_root_refusal(s, roots, state_slot, epoch);
-    plain_root(
-        refusal,
-        epochs::roots::get_block_root(s, roots, state_slot, epoch),
-    )
+    plain_root(epochs::roots::get_block_root(s, roots, state_slot, epoch))
 }
 
 // The registry
@@ -164,8 +154,8 @@ pub extern "C" fn altair_get_total_active_balance(
     registry: &[u64],
 ) -> PlainTotal
     ensures { result
-        ≡ plain_total (total_answer_for (after_tests (slot_registry_tests s state_slot registry.now)
-        (total_with_raised s (get_active_validator_indices (decode registry.now) (get_current_epoch s state_slot))))) }
+        ≡ plain_total (after_tests (slot_registry_tests s state_slot registry.now)
+        (total_with_raised s (get_active_validator_indices (decode registry.now) (get_current_epoch s state_slot)))) }
 {
     plain_total(totals::get_total_active_balance(s, state_slot, registry))
 }
@@ -177,8 +167,8 @@ pub extern "C" fn altair_get_validator_churn_limit(
     registry: &[u64],
 ) -> PlainNumber
     ensures { result
-        ≡ plain_number (number_for (after_tests (slot_registry_tests s state_slot registry.now)
-        (value (get_validator_churn_limit s state_slot (decode registry.now))))) }
+        ≡ plain_number (after_tests (slot_registry_tests s state_slot registry.now)
+        (value (get_validator_churn_limit s state_slot (decode registry.now)))) }
 {
     plain_number(totals::get_validator_churn_limit(s, state_slot, registry))
 }

@@ -2,7 +2,7 @@
 ghost use Rattle.std.specs.Prelude.{◌≡◌};
 ghost use Rattle.definitions_file.specs.Shelf.{shelf_refusal, answers_after, closing_after, Working, shelf_of};
 
-use definitions::Bellatrix;
+use definitions::{Bellatrix, code};
 
 #[unsafe(no_mangle)]
 pub extern "C" fn altair_close_shelf(
@@ -30,7 +30,7 @@ pub extern "C" fn altair_close_shelf(
     ensures working { Working result opening_numbers.old opening_numbers.new }
     ensures working_2 { Working result closing_numbers.old closing_numbers.new }
 {
-    shelf::close_shelf(
+    code(shelf::close_shelf(
         files,
         lengths,
         closing,
@@ -39,5 +39,5 @@ pub extern "C" fn altair_close_shelf(
         answers,
         fork,
         bellatrix,
-    )
+    ))
 }

@@ -12,7 +12,7 @@ ghost use Rattle.definitions_close.specs.Justification.{justification_answer_for
 ghost use Rattle.definitions_close.specs.QueueCalls.{registry_to_queue_tests, registry_queue_tests, QueueCloses};
 ghost use Rattle.definitions.specs.Closes.{Closes};
 
-use definitions::{ExitQueue, Finality, JustificationAnswer, QueueAnswer, Rules, Settings};
+use definitions::{ExitQueue, Finality, JustificationAnswer, QueueAnswer, Rules, Settings, code};
 
 #[unsafe(no_mangle)]
 pub extern "C" fn altair_process_justification_and_finalization(
@@ -43,13 +43,13 @@ pub extern "C" fn altair_process_inactivity_updates(
         (process_inactivity_updates s state_slot finalized_epoch (decode opening.now)) opening.now closing.old
         closing.new result }
 {
-    participation::inactivity::process_inactivity_updates(
+    code(participation::inactivity::process_inactivity_updates(
         s,
         state_slot,
         finalized_epoch,
         opening,
         closing,
-    )
+    ))
 }
 
 #[unsafe(no_mangle)]
@@ -64,13 +64,13 @@ pub extern "C" fn altair_process_rewards_and_penalties(
         (process_rewards_and_penalties (settings_under rules) (settings_under rules).inactivity_penalty_quotient_altair state_slot finalized_epoch
         (decode opening.now)) opening.now closing.old closing.new result }
 {
-    rewards_step::process_rewards_and_penalties(
+    code(rewards_step::process_rewards_and_penalties(
         rules,
         state_slot,
         finalized_epoch,
         opening,
         closing,
-    )
+    ))
 }
 
 #[unsafe(no_mangle)]
@@ -128,7 +128,7 @@ pub extern "C" fn altair_process_slashings(
         (process_slashings (settings_under rules) (settings_under rules).proportional_slashing_multiplier_altair state_slot slashings.now
         (decode opening.now)) opening.now closing.old closing.new result }
 {
-    slashings::process_slashings(rules, state_slot, slashings, opening, closing)
+    code(slashings::process_slashings(rules, state_slot, slashings, opening, closing))
 }
 
 #[unsafe(no_mangle)]
@@ -140,7 +140,7 @@ pub extern "C" fn altair_process_effective_balance_updates(
     ensures { Closes encode (effective_balance_tests s opening.now closing.old)
         (process_effective_balance_updates s (decode opening.now)) opening.now closing.old closing.new result }
 {
-    balances::effective_balances::process_effective_balance_updates(s, opening, closing)
+    code(balances::effective_balances::process_effective_balance_updates(s, opening, closing))
 }
 
 #[unsafe(no_mangle)]
@@ -153,7 +153,7 @@ pub extern "C" fn altair_process_slashings_reset(
     ensures { Closes (λ (xs : List ℕ). xs) (slashings_reset_tests s state_slot opening.now closing.old)
         (value (reset_slashings s state_slot opening.now)) opening.now closing.old closing.new result }
 {
-    slashings::process_slashings_reset(s, state_slot, opening, closing)
+    code(slashings::process_slashings_reset(s, state_slot, opening, closing))
 }
 
 #[unsafe(no_mangle)]
@@ -165,5 +165,5 @@ pub extern "C" fn altair_process_participation_flag_updates(
         (value (process_participation_flag_updates (decode opening.now))) opening.now closing.old
         closing.new result }
 {
-    participation::participation_flags::process_participation_flag_updates(opening, closing)
+    code(participation::participation_flags::process_participation_flag_updates(opening, closing))
 }

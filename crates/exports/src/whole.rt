@@ -8,7 +8,6 @@ ghost use Rattle.definitions.specs.LeafRefusals.{slot_registry_tests};
 ghost use Rattle.definitions.specs.Close.{charged};
 ghost use Rattle.definitions_close.specs.StoreClose.{store_close};
 ghost use Rattle.definitions_close.specs.Calls.{full_outcome, lent, store_called};
-ghost use Rattle.definitions.specs.Answers.{number_for};
 ghost use Rattle.definitions.specs.Plain.{plain_number};
 
 use definitions::{ExitQueue, Finality, FullAnswer, PlainNumber, Settings};
@@ -48,8 +47,7 @@ pub extern "C" fn altair_close(
 #[unsafe(no_mangle)]
 pub extern "C" fn altair_charged(s: Settings, state_slot: u64, registry: &[u64]) -> PlainNumber
     ensures { result
-        ≡ plain_number (number_for
-        (after_tests (slot_registry_tests s state_slot registry.now) (value (charged s state_slot (decode registry.now))))) }
+        ≡ plain_number (after_tests (slot_registry_tests s state_slot registry.now) (value (charged s state_slot (decode registry.now)))) }
 {
     plain_number(totals::charged(s, state_slot, registry))
 }

@@ -1,25 +1,49 @@
 -- The bytes of a number, and numbers one after the other.
-use mathlib.Core.Path.{◌≡◌}
+use mathlib.Core.Path.{◌≡◌, refl, sym, ap, ap₂, ◌∙◌}
 use mathlib.Core.List.{List, [], ◌∷◌, ◌++◌}
-use Prim.Native.Nat.{ℕ, suc, ◌+◌, ◌*◌, ◌/◌, ◌%◌, ◌-◌, ◌≤◌, ◌<◌}
+use Prim.Native.Nat.{ℕ, zero, suc, ◌+◌, ◌*◌, ◌/◌, ◌%◌, ◌-◌, ◌^◌, ◌≤◌, ◌<◌}
 use native.Mathlib.Numerals.{add-one}
+use native.Mathlib.Nat.{pow-succ', mul_comm}
 use native.Mathlib.Omega.{arith}
+use Rattle.std.proofs.Math.Nat.{div-div-eq-div-mul}
+use Rattle.std.specs.Int.{w64, byte_at, bytes_low_first, to_le_bytes, from_le_bytes}
 use lib.ListN.{length, get_or, drop, length-append, drop_of_length-le}
 use lib.Seq.{drop-cons, drop-drop}
 use Rattle.definitions.specs.declared.Checkpoint.{Checkpoint}
 use Rattle.definitions.specs.declared.Finality.{Finality}
 use Rattle.definitions.specs.declared.ExitQueue.{ExitQueue}
-use Rattle.definitions_file.specs.File.{little_endian, numbers_to_bytes, numbers_from_bytes, number_at, checkpoint_to_bytes, finality_to_bytes, queue_to_bytes}
+use Rattle.definitions_file.specs.File.{little_endian, from_little_endian, numbers_to_bytes, numbers_from_bytes, number_at, checkpoint_to_bytes, finality_to_bytes, queue_to_bytes}
 use Rattle.laws_file.proofs.Numbers.{length_little}
 
--- the bytes of a number, its last one first
-pub little_none : (k n : ℕ) → k ≡ 0 → little_endian k n ≡ []
-unfolding little_endian
-little_none k n e = rw e
+-- the bytes of a number, its last one first, as the library gives and takes them
 
-pub little_more : (j k n : ℕ) → j ≡ suc k → little_endian j n ≡ n % 256 ∷ little_endian k (n / 256)
+byte-is : (i n : ℕ) → byte_at i n ≡ n / 256 ^ i % 256
+byte-is zero n = omega arith
+byte-is (suc i) n = refl
+
+bytes-are : (i k n : ℕ) → bytes_low_first i k n ≡ little_endian k (n / 256 ^ i)
 unfolding little_endian
-little_more j k n e = rw e
+bytes-are i zero n = refl
+bytes-are i (suc k) n = ap₂ ◌∷◌ (byte-is i n) (bytes-are (suc i) k n ∙ ap (little_endian k) (sym (div-div n i)))
+  where
+    div-div : (n i : ℕ) → n / 256 ^ i / 256 ≡ n / 256 ^ suc i
+    div-div n i = rw pow-succ' (div-div-eq-div-mul n (256 ^ i) 256 ∙ ap (λ (k : ℕ). n / k) (mul_comm (256 ^ i) 256))
+
+pub written-number : (n : ℕ) → to_le_bytes w64 n ≡ little_endian 8 n
+written-number n = bytes-are 0 8 n ∙ ap (little_endian 8) (omega arith)
+
+pub number-read : (bytes : List ℕ) → length bytes ≡ 8 → from_le_bytes w64 bytes ≡ from_little_endian bytes
+unfolding from_little_endian
+number-read [] l = absurd (omega arith)
+number-read (a ∷ []) l = absurd (omega arith)
+number-read (a ∷ b ∷ []) l = absurd (omega arith)
+number-read (a ∷ b ∷ c ∷ []) l = absurd (omega arith)
+number-read (a ∷ b ∷ c ∷ d ∷ []) l = absurd (omega arith)
+number-read (a ∷ b ∷ c ∷ d ∷ e ∷ []) l = absurd (omega arith)
+number-read (a ∷ b ∷ c ∷ d ∷ e ∷ f ∷ []) l = absurd (omega arith)
+number-read (a ∷ b ∷ c ∷ d ∷ e ∷ f ∷ g ∷ []) l = absurd (omega arith)
+number-read (a ∷ b ∷ c ∷ d ∷ e ∷ f ∷ g ∷ h ∷ []) l = omega arith
+number-read (a ∷ b ∷ c ∷ d ∷ e ∷ f ∷ g ∷ h ∷ i ∷ more) l = absurd (omega arith)
 
 -- Numbers one after the other
 

@@ -1,10 +1,11 @@
 -- A loop that stores one after the other: what is left to store makes of the list what all of it makes of the list before.
 use mathlib.Core.Path.{◌≡◌, refl, sym, ap, ◌∙◌}
-use mathlib.Core.List.{List, [], ◌∷◌, ◌++◌, append-nil}
-use Prim.Native.Nat.{ℕ, suc, ◌+◌, ◌-◌, ◌≤◌}
+use mathlib.Core.List.{List, [], ◌∷◌, ◌++◌, append-nil, append_assoc}
+use Prim.Native.Nat.{ℕ, suc, ◌+◌, ◌≤◌}
 use native.Mathlib.Omega.{arith}
-use lib.ListN.{length, set, take, drop, length-set, length-append, length-take, length-drop, drop_of_length-le}
-use lib.Seq.{sets, length-sets, sets-eq}
+use lib.ListN.{length, set, take, length-set, length-append, drop_of_length-le}
+use lib.Seq.{sets, length-sets, sets-eq, drop-drop}
+use borrow.Rule.Slice.PartMut.{put_mid}
 
 pub sets-append : (xs : List ℕ) (i : ℕ) (ys zs : List ℕ) → sets xs i (ys ++ zs) ≡ sets (sets xs i ys) (i + length ys) zs
 sets-append xs i [] zs = let e : i + 0 ≡ i = omega arith in rw e
@@ -15,11 +16,9 @@ sets-whole xs ys e =
     let l : length xs ≤ 0 + length ys = omega arith in
     sets-eq ys xs 0 (omega arith) ∙ ap (λ (t : List ℕ). ys ++ t) (drop_of_length-le xs l) ∙ append-nil ys
 
--- n from an index on, copied into a list that is as long
-pub sets-part : (xs ys : List ℕ) (i n : ℕ) → length xs ≡ n → i + n ≤ length ys → sets xs 0 (take (i + n - i) (drop i ys)) ≡ take n (drop i ys)
-sets-part xs ys i n e l =
-    let m : i + n - i ≡ n = omega arith in
-    rw m (sets-whole xs (take n (drop i ys)) (simp (length-take, length-drop) (omega arith)))
+-- copied into the part of the list from an index on
+pub sets-copied : (xs ys : List ℕ) (i k : ℕ) {zs : List ℕ} → zs ≡ ys → k ≡ length ys → i + length ys ≤ length xs → put_mid i k xs zs ≡ sets xs i ys
+sets-copied xs ys i k e n l = rw (e, n, drop-drop, ← append_assoc (take i xs) ys) (sym (sets-eq ys xs i l))
 
 pub record Storing (before : List ℕ) (at : ℕ) (all xs : List ℕ) (i : ℕ) (left : List ℕ) : Type 0 where
   pub as_long : length xs ≡ length before

@@ -30,21 +30,17 @@ pub fn put_number(file: &mut [u8], at: usize, n: u64)
     requires { at + 8 ≤ length file.old }
     ensures { file.new ≡ sets file.old at (little_endian 8 n) }
 {
-    let mut left = n;
-    for k in 0..8 {
-        let i = at + k;
-        file[i] = (left % 256) as u8;
-        left = left / 256;
-    }
+    file[at..at + 8].copy_from_slice(&n.to_le_bytes());
 }
 
 pub fn put_numbers(file: &mut [u8], at: usize, numbers: &[u64])
     requires { at + 8 * length numbers.now ≤ length file.old }
     ensures { file.new ≡ sets file.old at (numbers_to_bytes numbers.now) }
 {
-    for i in 0..numbers.len() {
-        let to = at + 8 * i;
-        put_number(file, to, numbers[i]);
+    let mut to = at;
+    for &n in numbers {
+        put_number(file, to, n);
+        to += 8;
     }
 }
 
@@ -52,10 +48,7 @@ pub fn put_bytes(file: &mut [u8], at: usize, bytes: &[u8])
     requires { at + length bytes.now ≤ length file.old }
     ensures { file.new ≡ sets file.old at bytes.now }
 {
-    for i in 0..bytes.len() {
-        let to = at + i;
-        file[to] = bytes[i];
-    }
+    file[at..at + bytes.len()].copy_from_slice(bytes);
 }
 
 // From numbers in document 01's order.
@@ -102,9 +95,8 @@ fn checkpoint_at(bytes: &[u8], at: usize) -> Checkpoint
 {
     let epoch = crate::reader::read_number(bytes, at);
     let from = epoch.position;
-    let to = from + 32;
     let mut root = [0u8; 32];
-    put_bytes(&mut root, 0, &bytes[from..to]);
+    root.copy_from_slice(&bytes[from..from + 32]);
     Checkpoint {
         epoch: epoch.number,
         root,

@@ -1,5 +1,5 @@
 // The reader of a record file: the lent bytes and a position in them.
-ghost use Rattle.std.specs.Prelude.{◌≡◌, ◌+◌, ◌≤◌, ◌<◌, length};
+ghost use Rattle.std.specs.Prelude.{◌≡◌, ◌+◌, ◌≤◌, length};
 ghost use Rattle.definitions_file.specs.File.{number_at};
 
 #[derive(Clone, Copy)]
@@ -15,25 +15,13 @@ pub struct Next {
     pub position: usize,
 }
 
-fn wide(b: u8) -> u64
-    ensures { (result ≡ b) × (result < 256) }
-{
-    b as u64
-}
-
-// From the last byte to the first: no number on the way is above the one read.
 fn number_at(bytes: &[u8], at: usize) -> u64
     requires { at + 8 ≤ length bytes.now }
     ensures { result ≡ number_at at bytes.now }
 {
-    let mut n: u64 = 0;
-    let mut k: usize = 8;
-    while 0 < k {
-        k -= 1;
-        let i = at + k;
-        n = wide(bytes[i]) + 256 * n;
-    }
-    n
+    let mut number = [0u8; 8];
+    number.copy_from_slice(&bytes[at..at + 8]);
+    u64::from_le_bytes(number)
 }
 
 fn next_at(bytes: &[u8], position: usize) -> Next

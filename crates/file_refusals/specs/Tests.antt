@@ -2,7 +2,8 @@
 use Rattle.std.specs.Prelude.{◌≡◌, Bool, cond, not, List, [], ◌∷◌, ℕ, eqb, length}
 use Rattle.definitions.specs.declared.ExitQueue.{ExitQueue}
 use Rattle.definitions.specs.Record.{decode}
-use Rattle.definitions.specs.Checked.{Checked, value, bind, code_of, settle}
+use Rattle.definitions.specs.Checked.{Checked, value, refused, bind, settle}
+use Rattle.definitions.specs.declared.Refusal.{Refusal}
 use Rattle.definitions.specs.Refusals.{in_order, good_settings, good_finality}
 use Rattle.definitions.specs.ExitQueue.{is_queue_of, queue_test}
 use Rattle.file_refusals.specs.declared.Tested.{Tested}
@@ -19,16 +20,16 @@ other_tests bytes registry slashings whole =
     in_order (file_shaped bytes registry slashings ∷ []) (good_settings c.settings ∷ []) (good_finality c.finality ∷ whole ∷ [])
 
 -- the answer of the tests of reading, where reading stopped, and the pair
-pub record Answered (bytes registry slashings : List ℕ) (refusal at : ℕ) (queue : ExitQueue) : Type 0 where
-  pub number : refusal ≡ code_of (read_tests bytes registry slashings)
+pub record Answered (bytes registry slashings : List ℕ) (tested : Checked (Unit {0})) (at : ℕ) (queue : ExitQueue) : Type 0 where
+  pub is : tested ≡ read_tests bytes registry slashings
   pub place : at ≡ position bytes registry slashings
   pub pair : queue ≡ (read bytes registry slashings).queue
 
-abbrev pub nothing_at : ℕ → ℕ → Tested
-nothing_at refusal at = record { refusal = refusal; position = at; queue = no_queue }
+abbrev pub nothing_at : Refusal → ℕ → Tested
+nothing_at refusal at = record { tested = refused refusal; position = at; queue = no_queue }
 
 -- the same of test 8 alone, which is the last
-pub record QueueAnswered (bytes : List ℕ) (refusal at : ℕ) (queue : ExitQueue) : Type 0 where
-  pub number : refusal ≡ code_of (queue_test (queue_in bytes) (decode (contents_of bytes).registry))
+pub record QueueAnswered (bytes : List ℕ) (tested : Checked (Unit {0})) (at : ℕ) (queue : ExitQueue) : Type 0 where
+  pub is : tested ≡ queue_test (queue_in bytes) (decode (contents_of bytes).registry)
   pub place : at ≡ cond (not (is_queue_of (queue_in bytes) (decode (contents_of bytes).registry))) queue_at (length bytes)
   pub pair : queue ≡ settle (bind (queue_test (queue_in bytes) (decode (contents_of bytes).registry)) (λ _. value (queue_in bytes))) no_queue

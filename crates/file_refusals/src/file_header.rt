@@ -1,6 +1,6 @@
 // The header of a record file, and test 6: as long as called for, and the ten numbers as they must be.
 ghost use Rattle.std.specs.Prelude.{◌≡◌, ◌^◌, ◌≤◌, ◌<◌, eqb, length};
-ghost use Rattle.definitions_file.specs.File.{validators_at, file_length, header, version_of, count_of, root_count_of, slashing_count_of, same_numbers, good_header};
+ghost use Rattle.definitions_file.specs.File.{validators_at, file_length, header, version_of, count_of, root_count_of, slashing_count_of, good_header};
 
 use definitions_file::{FINALITY_AT, QUEUE_AT, SETTINGS_AT};
 
@@ -68,18 +68,6 @@ pub fn header_of(version: u64, validators: u64, roots: u64, slashings: u64) -> [
     ]
 }
 
-fn same_numbers(a: &[u64], b: &[u64]) -> bool
-    requires { length a.now ≡ length b.now }
-    ensures { result ≡ same_numbers a.now b.now }
-{
-    for i in 0..a.len() {
-        if a[i] != b[i] {
-            return false;
-        }
-    }
-    true
-}
-
 // Test 6.
 pub fn good_header(bytes: &[u8]) -> bool
     ensures { result ≡ good_header bytes.now }
@@ -102,8 +90,7 @@ pub fn good_header(bytes: &[u8]) -> bool
     if !as_long(bytes.len() as u64, version, validators, roots, slashings) {
         return false;
     }
-    let called_for = header_of(version, validators, roots, slashings);
-    same_numbers(&found, &called_for)
+    found == header_of(version, validators, roots, slashings)
 }
 
 // N, S, L and the version.

@@ -3,7 +3,6 @@
 
 ghost use Rattle.std.specs.Prelude.{true, ◌≡◌, ◌+◌, ◌*◌, ◌≤◌, length, drop};
 ghost use Rattle.definitions.specs.Record.{decode};
-ghost use Rattle.definitions.specs.Checked.{code_of};
 ghost use Rattle.definitions.specs.ExitQueue.{queue_of};
 ghost use Rattle.definitions_file.specs.File.{numbers_from_bytes, validators_at, version_of, count_of, good_header, stopped_at, write_tests, contents_with};
 ghost use Rattle.file_refusals.specs.Tests.{limit_at, other_tests, nothing_at, Answered, QueueAnswered};
@@ -13,7 +12,7 @@ pub mod file_header;
 use crate::file_header::{
     FINALITY, PAIR, SETTINGS, as_long, good_header, read_counts, validators_at,
 };
-use definitions::{ExitQueue, Finality, Settings};
+use definitions::{ExitQueue, Finality, Refusal, Settings};
 use definitions_file::SETTINGS_AT;
 use epochs::roots::roots_shaped;
 use exit_queue::{exited, queue_of, same_queue};
@@ -54,9 +53,14 @@ fn first_bad(bytes: &[u8], from: usize, validators: usize) -> usize
 }
 
 // 1, then 2 and 3, of a file whose header is good. `whole` tells whether every number of the registry is.
-fn other_tests(bytes: &[u8], registry: &[u64], slashings: &[u64], whole: bool) -> u64
+fn other_tests(
+    bytes: &[u8],
+    registry: &[u64],
+    slashings: &[u64],
+    whole: bool,
+) -> Result<(), Refusal>
     requires { good_header bytes.now ≡ true }
-    ensures { result ≡ code_of (other_tests bytes.now registry.now slashings.now whole) }
+    ensures { result ≡ other_tests bytes.now registry.now slashings.now whole }
 {
     let counts = read_counts(bytes);
     let s = fields::read_settings(bytes);
@@ -92,19 +96,19 @@ fn queue_at(bytes: &[u8], from: usize, validators: usize) -> ExitQueue
     queue
 }
 
-// The refusal's number or 0, the position at which reading stopped, and the pair, which is zeros on refusal.
+// What the tests answered, the position at which reading stopped, and the pair, which is zeros on refusal.
 #[derive(Clone, Copy)]
 pub struct Tested {
-    pub refusal: u64,
+    pub tested: Result<(), Refusal>,
     pub position: u64,
     pub queue: ExitQueue,
 }
 
-fn refused(refusal: u64, position: u64) -> Tested
+fn refused(refusal: Refusal, position: u64) -> Tested
     ensures { result ≡ nothing_at refusal position }
 {
     Tested {
-        refusal,
+        tested: Err(refusal),
         position,
         queue: ExitQueue {
             last_epoch: 0,
@@ -117,22 +121,22 @@ fn refused(refusal: u64, position: u64) -> Tested
 fn queue_tests(bytes: &[u8], version: u64, from: usize, validators: usize) -> Tested
     requires version_value { (version ≡ version_of bytes.now) × (from ≡ validators_at version) × (validators ≡ count_of bytes.now) }
     requires le_version { (1 ≤ version) × (version ≤ 2) × (from + 80 * validators ≤ length bytes.now) }
-    ensures { QueueAnswered bytes.now result.refusal result.position result.queue }
+    ensures { QueueAnswered bytes.now result.tested result.position result.queue }
 {
     let own = queue_at(bytes, from, validators);
     if version == 1 {
         return Tested {
-            refusal: 0,
+            tested: Ok(()),
             position: bytes.len() as u64,
             queue: own,
         };
     }
     let stored = fields::read_queue(bytes);
     if !same_queue(stored, own) {
-        return refused(8, PAIR);
+        return refused(Refusal::WrongQueue, PAIR);
     }
     Tested {
-        refusal: 0,
+        tested: Ok(()),
         position: bytes.len() as u64,
         queue: stored,
     }
@@ -140,13 +144,13 @@ fn queue_tests(bytes: &[u8], version: u64, from: usize, validators: usize) -> Te
 
 // 6, then 1, 2, 3, then 8.
 pub fn read_tests(bytes: &[u8], registry: &[u64], slashings: &[u64]) -> Tested
-    ensures { Answered bytes.now registry.now slashings.now result.refusal result.position result.queue }
+    ensures { Answered bytes.now registry.now slashings.now result.tested result.position result.queue }
 {
     if bytes.len() < SETTINGS_AT {
-        return refused(6, 0);
+        return refused(Refusal::BadFile, 0);
     }
     if !good_header(bytes) {
-        return refused(6, SETTINGS);
+        return refused(Refusal::BadFile, SETTINGS);
     }
     let counts = read_counts(bytes);
     let version = counts.version;
@@ -154,17 +158,16 @@ pub fn read_tests(bytes: &[u8], registry: &[u64], slashings: &[u64]) -> Tested
     let from = validators_at(version) as usize;
     let stopped = first_bad(bytes, from, validators);
     let whole = stopped == from + 80 * validators;
-    let others = other_tests(bytes, registry, slashings, whole);
-    if others == 0 {
-        return queue_tests(bytes, version, from, validators);
+    match other_tests(bytes, registry, slashings, whole) {
+        Ok(()) => queue_tests(bytes, version, from, validators),
+        Err(Refusal::BadRecord) => {
+            if !good_finality(fields::read_finality(bytes)) {
+                return refused(Refusal::BadRecord, PAIR);
+            }
+            refused(Refusal::BadRecord, stopped as u64)
+        }
+        Err(refusal) => refused(refusal, FINALITY),
     }
-    if others != 3 {
-        return refused(others, FINALITY);
-    }
-    if !good_finality(fields::read_finality(bytes)) {
-        return refused(3, PAIR);
-    }
-    refused(3, stopped as u64)
 }
 
 // Writing
@@ -178,15 +181,14 @@ pub fn write_tests(
     roots: &[u8],
     slashings: &[u64],
     file: &[u8],
-) -> u64
+) -> Result<(), Refusal>
     ensures { result
-        ≡ code_of
-        (write_tests (contents_with settings finality registry.now roots.now slashings.now) queue file.now) }
+        ≡ write_tests (contents_with settings finality registry.now roots.now slashings.now) queue file.now }
 {
     let n = (registry.len() / 10) as u64;
     let root_count = settings.slots_per_historical_root;
     let slashing_count = settings.epochs_per_slashings_vector;
-    let others = in_order(
+    in_order(
         &[
             settings_shaped(settings),
             registry_shaped(registry),
@@ -196,13 +198,10 @@ pub fn write_tests(
         ],
         &[good_settings(settings)],
         &[good_finality(finality), good_registry(registry)],
-    );
-    if others != 0 {
-        return others;
-    }
+    )?;
     let own = queue_of(registry);
     if !same_queue(queue, own) {
-        return 8;
+        return Err(Refusal::WrongQueue);
     }
-    0
+    Ok(())
 }

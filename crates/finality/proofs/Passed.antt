@@ -1,10 +1,10 @@
--- What the tests of the finality leaves give once passed. `x` is the number that their code gave.
+-- What the tests of the finality leaves give once passed. `x` is what their code answered.
 use mathlib.Core.Path.{◌≡◌, sym, ◌∙◌}
 use Prim.Native.Nat.{ℕ, ◌^◌, ◌<◌}
 use Rattle.definitions.specs.declared.Settings.{Settings}
-use Rattle.definitions.specs.Checked.{code_of}
+use Rattle.definitions.specs.Checked.{Checked, value}
 use Rattle.definitions.specs.LeafRefusals.{finalized_tests}
-use Rattle.laws.proofs.Tests.{in_order_lem}
+use Rattle.laws.proofs.Tests.{in_order-value}
 use Rattle.refusals.proofs.Laws.{settings-shaped, good-settings, small}
 use Rattle.epochs.proofs.Passed.{SlotPassed}
 use Rattle.definitions.specs.Rust.Phase0.EpochProcessing.{get_finality_delay, is_in_inactivity_leak}
@@ -14,10 +14,10 @@ pub record FinalizedPassed (s : Settings) (state_slot finalized_epoch : ℕ) : T
   pub slot : SlotPassed s state_slot
   pub finalized : finalized_epoch < 2 ^ 48
 
-pub finalized-passed : (s : Settings) (state_slot finalized_epoch : ℕ) {x : ℕ} → x ≡ code_of (finalized_tests s state_slot finalized_epoch) → x ≡ 0 → FinalizedPassed s state_slot finalized_epoch
+pub finalized-passed : (s : Settings) (state_slot finalized_epoch : ℕ) {x : Checked (Unit {0})} → x ≡ finalized_tests s state_slot finalized_epoch → x ≡ value tt → FinalizedPassed s state_slot finalized_epoch
 unfolding finalized_tests
 finalized-passed s state_slot finalized_epoch e z =
-    let p = in_order_lem _ _ _ (sym e ∙ z) in
+    let p = in_order-value _ _ _ (sym e ∙ z) in
     record {
       slot = record { settings = record { shape = settings-shaped s (p.shaped 0); good = good-settings s (p.settings 0) }; slot = small state_slot (p.recorded 0) };
       finalized = small finalized_epoch (p.recorded 1);

@@ -2,8 +2,6 @@
 #![tactic(auto)]
 
 ghost use Rattle.std.specs.Prelude.{◌≡◌, cond, ◌&&◌, ◌+◌, ◌/◌, ◌%◌, ◌^◌, ◌≤◌, ◌<◌, eqb};
-ghost use Rattle.definitions.specs.Answers.{Says, SaysTruth};
-ghost use Rattle.definitions.specs.Checked.{code_of};
 ghost use Rattle.definitions.specs.Refusals.{after_tests};
 ghost use Rattle.definitions.specs.LeafRefusals.{finalized_tests};
 ghost use Rattle.definitions.specs.Document.Phase0.EpochProcessing.{justified_bits, finalized_by, weighed};
@@ -12,12 +10,12 @@ ghost use Rattle.definitions.specs.Rust.Phase0.EpochProcessing.{get_finality_del
 pub mod finalizing;
 
 use arithmetic::sub64;
-use definitions::{Checkpoint, Finality, Number, Settings, Truth};
+use definitions::{Checkpoint, Finality, Refusal, Settings};
 use epochs::previous_epoch;
 use refusals::{good_settings, in_order, is_small, settings_shaped};
 
-pub fn finalized_refusal(s: Settings, state_slot: u64, finalized_epoch: u64) -> u64
-    ensures { result ≡ code_of (finalized_tests s state_slot finalized_epoch) }
+pub fn finalized_refusal(s: Settings, state_slot: u64, finalized_epoch: u64) -> Result<(), Refusal>
+    ensures { result ≡ finalized_tests s state_slot finalized_epoch }
 {
     in_order(
         &[settings_shaped(s)],
@@ -28,42 +26,42 @@ pub fn finalized_refusal(s: Settings, state_slot: u64, finalized_epoch: u64) -> 
 
 // What is worked out once the tests have passed.
 
-pub fn finality_delay(s: Settings, state_slot: u64, finalized_epoch: u64) -> Number
+pub fn finality_delay(s: Settings, state_slot: u64, finalized_epoch: u64) -> Result<u64, Refusal>
     requires { 0 < s.slots_per_epoch }
-    ensures { Says (get_finality_delay s state_slot finalized_epoch) result }
+    ensures { result ≡ get_finality_delay s state_slot finalized_epoch }
 {
     sub64(previous_epoch(s, state_slot), finalized_epoch)
 }
 
-pub fn inactivity_leak(s: Settings, state_slot: u64, finalized_epoch: u64) -> Truth
+pub fn inactivity_leak(s: Settings, state_slot: u64, finalized_epoch: u64) -> Result<bool, Refusal>
     requires { 0 < s.slots_per_epoch }
-    ensures { SaysTruth (is_in_inactivity_leak s state_slot finalized_epoch) result }
+    ensures { result ≡ is_in_inactivity_leak s state_slot finalized_epoch }
 {
-    let Number::Value(delay) = finality_delay(s, state_slot, finalized_epoch) else {
-        return Truth::Refused(5);
-    };
-    Truth::Value(s.min_epochs_to_inactivity_penalty < delay)
+    let delay = finality_delay(s, state_slot, finalized_epoch)?;
+    Ok(s.min_epochs_to_inactivity_penalty < delay)
 }
 
 // The leaves.
 
-pub fn get_finality_delay(s: Settings, state_slot: u64, finalized_epoch: u64) -> Number
-    ensures { Says (after_tests (finalized_tests s state_slot finalized_epoch) (get_finality_delay s state_slot finalized_epoch)) result }
+pub fn get_finality_delay(
+    s: Settings,
+    state_slot: u64,
+    finalized_epoch: u64,
+) -> Result<u64, Refusal>
+    ensures { result ≡ after_tests (finalized_tests s state_slot finalized_epoch) (get_finality_delay s state_slot finalized_epoch) }
 {
-    let refusal = finalized_refusal(s, state_slot, finalized_epoch);
-    if refusal != 0 {
-        return Number::Refused(refusal);
-    }
+    finalized_refusal(s, state_slot, finalized_epoch)?;
     finality_delay(s, state_slot, finalized_epoch)
 }
 
-pub fn is_in_inactivity_leak(s: Settings, state_slot: u64, finalized_epoch: u64) -> Truth
-    ensures { SaysTruth (after_tests (finalized_tests s state_slot finalized_epoch) (is_in_inactivity_leak s state_slot finalized_epoch)) result }
+pub fn is_in_inactivity_leak(
+    s: Settings,
+    state_slot: u64,
+    finalized_epoch: u64,
+) -> Result<bool, Refusal>
+    ensures { result ≡ after_tests (finalized_tests s state_slot finalized_epoch) (is_in_inactivity_leak s state_slot finalized_epoch) }
 {
-    let refusal = finalized_refusal(s, state_slot, finalized_epoch);
-    if refusal != 0 {
-        return Truth::Refused(refusal);
-    }
+    finalized_refusal(s, state_slot, finalized_epoch)?;
     inactivity_leak(s, state_slot, finalized_epoch)
 }
 

@@ -4,7 +4,7 @@ use Rattle.definitions.specs.declared.Settings.{Settings}
 use Rattle.definitions.specs.declared.ActivationLimit.{ActivationLimit}
 use Rattle.definitions.specs.declared.Finality.{Finality}
 use Rattle.definitions.specs.Record.{BeaconState}
-use Rattle.definitions.specs.Checked.{Checked, value, refused, number_of}
+use Rattle.definitions.specs.Checked.{Checked, value, refused}
 use Rattle.definitions.specs.Rust.Altair.EpochProcessing.{process_justification_and_finalization}
 use Rattle.definitions.specs.Close.{limited_epoch}
 use Rattle.laws.proofs.Checked.{not_value, value_same, bound}
@@ -24,4 +24,4 @@ accepted by s st {after} h = go (process_justification_and_finalization s st.blo
     go (value f) e =
         let b = bound (registry_steps by s f.slot f.finalized_checkpoint.epoch st.slashings st.validators) _ (sym (eight-steps by s st e) ∙ h) in
         subst (λ (a : BeaconState). Accepted by s st a) (value_same b.then) (record { justified = e; slot = (justification-moves s _ _ _ e).slot; steps = b.gave })
-    go (refused p) e = absurd (not_value (sym (justification-refused by s st {q = number_of p} (record { why = p; is = e; number = refl })).is ∙ h))
+    go (refused p) e = absurd (not_value (sym (justification-refused by s st e) ∙ h))

@@ -18,7 +18,6 @@ use Rattle.definitions_close.specs.Amounts.{limited_amounts, limited_closing_amo
 use Rattle.definitions_close.specs.FinalizingTest.{finalizing_test}
 use Rattle.definitions_close.specs.FullClose.{closing_queue}
 use Rattle.laws.proofs.Encode.{decode-encode}
-use Rattle.laws.proofs.Loops.Ran.{code-value}
 use Rattle.registry.proofs.Epochs.{Epochs}
 use Rattle.write_steps.specs.RegistrySteps.{registry_steps}
 use Rattle.write_steps.specs.Numbers.{BookedBy}
@@ -26,7 +25,7 @@ use Rattle.full_close.specs.StepAmounts.{step_amounts}
 use Rattle.full_close.proofs.Booking.Booked.{steps-booked}
 use Rattle.full_close.proofs.Booking.Amounts.{amounts-are}
 use Rattle.close.specs.Worked.{StepsClosed}
-use Rattle.registry_close.proofs.Worked.{code-refused}
+use Rattle.registry_close.proofs.Worked.{code-refused, code-value}
 use Rattle.full_close.specs.Worked.{FullWorked}
 use Rattle.full_close.proofs.Accepted.{Accepted, accepted}
 

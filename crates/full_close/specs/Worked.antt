@@ -31,4 +31,4 @@ pub record FullWorked (limit : ActivationLimit) (s : Settings) (before : BeaconS
 
 -- The outcome is that of a call under any rules by which the settings are s, and which pass the tests but for those of entries and pair
 pub record FullUnder (limit : ActivationLimit) (s : Settings) (f : Finality) (q : ExitQueue) (registry slashings roots closing_registry closing_slashings amounts : List ℕ) (o : FullOutcome) : Type 0 where
-  pub under : (r : Rules) → settings_under r ≡ s → let c = full_called r f q registry slashings roots closing_registry closing_slashings amounts in code_of (limited_record_tests limit c.call) ≡ 0 → o ≡ limited_full_close limit c
+  pub under : (r : Rules) → settings_under r ≡ s → let c = full_called r f q registry slashings roots closing_registry closing_slashings amounts in limited_record_tests limit c.call ≡ value tt → o ≡ limited_full_close limit c

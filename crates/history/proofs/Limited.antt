@@ -1,6 +1,6 @@
 -- A close under a limit of activations has the interface: its smallest activation churn limit is that of the smallest churn limit.
 use mathlib.Core.Path.{◌≡◌, sym, subst₂}
-use Prim.Native.Nat.{ℕ, ◌+◌, ◌/◌, ◌<◌, ◌^◌}
+use Prim.Native.Nat.{ℕ, ◌/◌, ◌<◌, ◌^◌}
 use native.Mathlib.Omega.{arith}
 use native.Mathlib.Nat.{div-le_self}
 use Rattle.definitions.specs.declared.Settings.{Settings}

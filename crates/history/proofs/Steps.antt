@@ -5,7 +5,7 @@ use Prim.Native.Nat.{ℕ}
 use lib.ListN.{length, get_or, length-map, get_or-map}
 use Rattle.definitions.specs.Record.{Validator, nobody}
 use Rattle.definitions.specs.Updates.{with_effective_balance, with_balance, with_score, with_participation}
-use Rattle.definitions.specs.Checked.{value}
+use Rattle.definitions.specs.Checked.{Checked, value}
 use Rattle.laws.proofs.Checked.{value_same}
 use Rattle.laws.proofs.Frame.Entries.{told}
 use Rattle.history.proofs.Waiting.{eligibility_at, activation_at}
@@ -18,7 +18,7 @@ epochs v = (v.activation_eligibility_epoch, v.activation_epoch)
 pub record Spared (vs ws : List Validator) : Type 0 where
   pub same : map epochs ws ≡ map epochs vs
 
-pub spared_given : {vs ws : List Validator} → value vs ≡ value ws → Spared vs ws
+pub spared_given : {vs ws : List Validator} → ◌≡◌ {A = Checked (List Validator)} (value vs) (value ws) → Spared vs ws
 spared_given p = record { same = ap (map epochs) (sym (value_same p)) }
 
 module _ {vs ws : List Validator} (a : Spared vs ws) where

@@ -1,6 +1,5 @@
 -- The call that says how long a validator waits speaks of demand 3's own words.
-use mathlib.Core.Path.{◌≡◌, sym, ◌∙◌}
-use Rattle.definitions.specs.Record.{BeaconState}
+use mathlib.Core.Path.{sym}
 use Rattle.definitions_wait.specs.Wait.{wait_of}
 use Rattle.history.specs.Wait.{WaitIsDemand3s}
 use Rattle.history.proofs.Waiting.{finalized, waits-is, k-is}

@@ -9,7 +9,8 @@ use native.Mathlib.Omega.{arith}
 use lib.Dec.{T}
 use lib.ListN.{length, take}
 use Rattle.definitions.specs.Record.{Validator}
-use Rattle.definitions.specs.Checked.{Checked, value, refused, bad_shape}
+use Rattle.definitions.specs.Checked.{Checked, value, refused}
+use Rattle.definitions.specs.declared.Refusal.TheVariants.{BadShape}
 use Rattle.definitions_electra.specs.declared.ElectraRules.{ElectraRules}
 use Rattle.definitions_electra.specs.declared.PendingDeposit.{PendingDeposit}
 use Rattle.definitions_electra.specs.Record.{PendingConsolidation, ElectraState}
@@ -94,7 +95,7 @@ closing r tests st stay = record { rules = r; tests = tests; opening = st; other
 
 abbrev closes : List Close
 closes =
-    closing (rules 1 0 0) (refused bad_shape) first true ∷
+    closing (rules 1 0 0) (refused BadShape) first true ∷
     closing (rules 4 2 12) (value tt) second false ∷
     closing (rules 4 5 10) (value tt) third true ∷
     closing (rules 4 5 10) (value tt) fourth false ∷

@@ -7,7 +7,7 @@ use lib.Dec.{leb, eqb}
 use lib.ListN.{length, get_or}
 use Rattle.definitions.specs.Lists.{range}
 use Rattle.definitions.specs.Record.{nobody, FAR_FUTURE_EPOCH}
-use Rattle.definitions.specs.Checked.{value, bind, fold_checked}
+use Rattle.definitions.specs.Checked.{Checked, value, bind, fold_checked}
 use Rattle.definitions.specs.Rust.Phase0.Helpers.{is_active_validator, is_eligible_for_activation}
 use Rattle.definitions.specs.Close.{Step, justification_step, inactivity_step, rewards_step, slashings_reset_step, participation_flags_step, limited_step}
 use Rattle.definitions_electra.specs.declared.ElectraRules.{ElectraRules}
@@ -38,7 +38,7 @@ same-both p q =
       start = q.start ∙ p.start;
     }
 
-same-value : {a c b : ElectraState} → Same a c → value c ≡ value b → Same a b
+same-value : {a c b : ElectraState} → Same a c → ◌≡◌ {A = Checked ElectraState} (value c) (value b) → Same a b
 same-value {a} h e = subst (Same a) (value_same e) h
 
 -- Before it
@@ -98,7 +98,7 @@ pub record Left (a b : ElectraState) : Type 0 where
 left_both : {a b c : ElectraState} → Left a b → Left b c → Left a c
 left_both p q = record { queue = q.queue ∙ p.queue; carried = q.carried ∙ p.carried; final = q.final ∙ p.final; keys = q.keys ∙ p.keys }
 
-left-value : {a c b : ElectraState} → Left a c → value c ≡ value b → Left a b
+left-value : {a c b : ElectraState} → Left a c → ◌≡◌ {A = Checked ElectraState} (value c) (value b) → Left a b
 left-value {a} h e = subst (Left a) (value_same e) h
 
 consolidations-left : (r : ElectraRules) (a b : ElectraState) → electra_step r a pending_consolidations ≡ value b → Left a b

@@ -8,7 +8,8 @@ use borrow.Author.Tests.{eqb-true, leb-true, le-ltb}
 use lib.Dec.{T, leb, ltb, eqb}
 use lib.ListN.{length, take, drop}
 use Rattle.definitions.specs.Lists.{all}
-use Rattle.definitions.specs.Checked.{Checked, value, refused, overflow, number_of, bind, sub64, code_of}
+use Rattle.definitions.specs.Checked.{Checked, value, refused, number_of, bind, sub64, code_of}
+use Rattle.definitions.specs.declared.Refusal.TheVariants.{Overflow}
 use Rattle.definitions.specs.Refusals.{after_tests}
 use Rattle.definitions.specs.Rust.Phase0.Helpers.{compute_start_slot_at_epoch}
 use Rattle.definitions_electra.specs.declared.ElectraRules.{ElectraRules}
@@ -72,7 +73,7 @@ left_over : (available : ℕ) (p : Processing) {x : ℕ} → p.is_churn_limit_re
     → x + p.processed_amount ≡ available
 unfolding left_to_consume sub64
 left_over available p {x} t e =
-    let g = checked_value overflow (leb p.processed_amount available) (subst (λ (b : Bool). cond b (cond (leb p.processed_amount available) (value (available - p.processed_amount)) (refused overflow)) (value 0) ≡ value x) t e) in
+    let g = checked_value Overflow (leb p.processed_amount available) (subst (λ (b : Bool). cond b (cond (leb p.processed_amount available) (value (available - p.processed_amount)) (refused Overflow)) (value 0) ≡ value x) t e) in
     omega (arith, leb-true p.processed_amount available g.0, g.1)
 
 -- The close

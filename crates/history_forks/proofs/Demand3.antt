@@ -23,7 +23,7 @@ use Rattle.laws.proofs.Tests.{test, in_order-value}
 use Rattle.definitions_electra.specs.Record.{ElectraState}
 use Rattle.definitions_electra.specs.Refusals.{good_electra}
 use Rattle.definitions_electra_close.specs.Close.{ElectraCall, electra_state_of, electra_tests, electra_closed, electra_answer, electra_close}
-use Rattle.history.specs.Events.{eligibility, activation, Event, accepts}
+use Rattle.history.specs.Events.{activation, Event, accepts}
 use Rattle.history.proofs.Waiting.{waits_in, waits, ahead, activation_at}
 use Rattle.history.proofs.Order.{Waits, from-waits}
 use Rattle.history.proofs.Shape.{Marked, Shaped}

@@ -17,7 +17,6 @@ use Rattle.history.proofs.Waiting.{finalized, eligibility_at, activation_at, wai
 use Rattle.history.proofs.Order.{Waits, from-waits, to-waits}
 use Rattle.history.proofs.Shape.{Marked, Registered}
 use Rattle.history.proofs.OneClose.{close-order}
-use Rattle.history.proofs.Steps.{epochs}
 use Rattle.history_forks.proofs.Order.{Moves, Ordering}
 use Rattle.history_forks.proofs.Grown.{Grown}
 use Rattle.history_forks.proofs.Registry.{at, Became, marked, left, activated}

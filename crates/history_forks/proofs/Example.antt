@@ -21,7 +21,7 @@ use Rattle.definitions_deneb.specs.Calls.{deneb_close}
 use Rattle.definitions_electra.specs.Record.{encode_deposits, first_deposits, decode_deposits, encode_consolidations, first_consolidations, decode_consolidations}
 use Rattle.definitions_electra.specs.Refusals.{deposits_shaped, consolidations_shaped, keys_shaped, indices_shaped, good_electra, good_compounding, good_deposit, good_deposits}
 use Rattle.definitions_electra_close.specs.Close.{ElectraCall, electra_tests, electra_closed, electra_answer, electra_close}
-use Rattle.history.specs.Events.{activation, waits, ahead, k, Event, accepted, standing, Least, Premises}
+use Rattle.history.specs.Events.{activation, waits, ahead, k, Event, standing, Least, Premises}
 use Rattle.history.proofs.Computing.{computing}
 use Rattle.history.proofs.Premises.{met, least}
 use Rattle.history.proofs.Small.{settings_with, validator, far, record_of}

@@ -13,7 +13,7 @@ use Rattle.definitions.specs.declared.Finality.{Finality}
 use Rattle.definitions.specs.Lists.{range}
 use Rattle.definitions.specs.Record.{Validator, nobody, FAR_FUTURE_EPOCH as FAR}
 use Rattle.definitions.specs.Updates.{with_eligibility, with_activation, with_exit}
-use Rattle.definitions.specs.Checked.{value, bind, add64, fold_checked}
+use Rattle.definitions.specs.Checked.{Checked, value, bind, add64, fold_checked}
 use Rattle.definitions.specs.Rust.Phase0.Helpers.{get_current_epoch, is_active_validator, is_eligible_for_activation, compute_activation_exit_epoch}
 use Rattle.laws.proofs.Checked.{value_same, bound, add64-value, add64-below}
 use Rattle.laws.proofs.Tests.{both, and_both, either}
@@ -59,7 +59,7 @@ module _ (e to f : ℕ) (st : ElectraState) (i : ℕ) where
   turned_left : ((at vs i).0 ≤ f → (at vs i).1 ≡ FAR → ⊥) → Turned e to f i st st
   turned_left h = record { finality = refl; number = refl; here = left h refl; others = λ j d. refl }
 
-  turned-value : {c b : ElectraState} → Turned e to f i st c → value c ≡ value b → Turned e to f i st b
+  turned-value : {c b : ElectraState} → Turned e to f i st c → ◌≡◌ {A = Checked ElectraState} (value c) (value b) → Turned e to f i st b
   turned-value h p = subst (Turned e to f i st) (value_same p) h
 
   -- an exit leaves both
@@ -103,7 +103,7 @@ turned r to st i {b} l low = first (marks && leb r.electra.min_activation_balanc
     waits : Bool
     waits = leb v.activation_eligibility_epoch f && eqb v.activation_epoch FAR
 
-    third : (t : Bool) → waits ≡ t → cond t (value (with (with_activation to v))) (value st) ≡ value b → Turned e to f i st b
+    third : (t : Bool) → waits ≡ t → cond {A = Checked ElectraState} t (value (with (with_activation to v))) (value st) ≡ value b → Turned e to f i st b
     third true q p =
         let h = both (leb v.activation_eligibility_epoch f) (eqb v.activation_epoch FAR) q in
         turned-value e to f st i (turned_set e to f st i (with_activation to v) l (activated (leb-true _ _ h.0) (eqb-true _ _ h.1) refl refl)) p

@@ -11,7 +11,7 @@ use lib.Seq.{map-set_same, get_or-take, get_or-append_seam}
 use Rattle.definitions.specs.declared.Finality.{Finality}
 use Rattle.definitions.specs.Record.{Validator, BeaconState, is_slashed, nobody, FAR_FUTURE_EPOCH as FAR}
 use Rattle.definitions.specs.Updates.{with_effective_balance, with_balance, with_score, with_participation}
-use Rattle.definitions.specs.Checked.{value, bind, fold_checked}
+use Rattle.definitions.specs.Checked.{Checked, value, bind, fold_checked}
 use Rattle.definitions.specs.Rules.{in_place}
 use Rattle.definitions.specs.Rust.Phase0.Helpers.{compute_epoch_at_slot, get_current_epoch, increase_balance, decrease_balance}
 use Rattle.definitions.specs.Close.{Step, justification_step, inactivity_step, rewards_step, slashings_reset_step, participation_flags_step, step, limited_step}
@@ -173,7 +173,7 @@ module _ (r : ElectraRules) (q : Queueing) where
       Then b = Grown p.registry b.registry
 
       same : {n i : ℕ} {ds : List PendingDeposit} {t : Bool} {b : Processing}
-          → value (record { registry = p.registry; processed_amount = n; next_deposit_index = i; deposits_to_postpone = ds; is_churn_limit_reached = t }) ≡ value b → Then b
+          → ◌≡◌ {A = Checked Processing} (value (record { registry = p.registry; processed_amount = n; next_deposit_index = i; deposits_to_postpone = ds; is_churn_limit_reached = t })) (value b) → Then b
       same e = grew_same (ap (λ (b : Processing). b.registry.validators) (value_same e))
 
       applied : (n : ℕ) {b : Processing} → bind (apply_pending_deposit r p.registry d) (λ reg. value (moved_on reg n p.deposits_to_postpone p)) ≡ value b → Then b

@@ -3,28 +3,33 @@
 #![tactic(auto)]
 
 ghost use Rattle.std.specs.Prelude.{◌≡◌};
-ghost use Rattle.definitions.specs.Checked.{code_of};
+ghost use Rattle.definitions.specs.Checked.{value};
 ghost use Rattle.definitions.specs.LeafRefusals.{weigh_tests};
 ghost use Rattle.definitions.specs.Raised.{raised_totals, close_answer_for};
 ghost use Rattle.definitions.specs.Record.{decode};
 ghost use Rattle.definitions.specs.Refusals.{after_tests, justification_tests};
 ghost use Rattle.definitions.specs.Rust.Altair.EpochProcessing.{process_justification_and_finalization};
-ghost use Rattle.justification.specs.Given.{JustifiesGiven, JustifiesTotals};
+ghost use Rattle.justification.specs.Given.{JustifiesGiven, Justifies, JustifiesTotals};
 
 pub mod justification_step;
 
-use definitions::{CloseAnswer, Finality, FinalityAnswer, Number, Settings, TotalAnswer};
+use definitions::{CloseAnswer, Finality, Raised, Refusal, Settings, Total};
 use epochs::roots::roots_shaped;
 use epochs::{current_epoch, previous_epoch};
 use refusals::{
     good_finality, good_registry, good_settings, in_order, registry_shaped, settings_shaped,
 };
-use totals::raising::{answer_with, none_raised, raised_of};
+use totals::raising::{none_raised, raised_of};
 use totals::{active_total, balance_of, participating_total};
 use weighing::weigh;
 
-pub fn justification_refusal(s: Settings, roots: &[u8], finality: Finality, registry: &[u64]) -> u64
-    ensures { result ≡ code_of (justification_tests s roots.now finality registry.now) }
+pub fn justification_refusal(
+    s: Settings,
+    roots: &[u8],
+    finality: Finality,
+    registry: &[u64],
+) -> Result<(), Refusal>
+    ensures { result ≡ justification_tests s roots.now finality registry.now }
 {
     in_order(
         &[
@@ -43,64 +48,79 @@ fn weigh_totals(
     s: Settings,
     roots: &[u8],
     old: Finality,
-    total: Number,
-    previous_target: Number,
-    current_target: Number,
-) -> FinalityAnswer
-    requires { code_of (weigh_tests s roots.now old) ≡ 0 }
+    total: Result<u64, Refusal>,
+    previous_target: Result<u64, Refusal>,
+    current_target: Result<u64, Refusal>,
+) -> Result<Finality, Refusal>
+    requires { weigh_tests s roots.now old ≡ value tt }
     ensures { JustifiesGiven s roots.now old total previous_target current_target result }
 {
     let current = current_epoch(s, old.slot);
     if current <= 1 {
-        return FinalityAnswer {
-            refusal: 0,
-            finality: old,
-        };
+        return Ok(old);
     }
-    let Number::Value(active) = total else {
-        return FinalityAnswer {
-            refusal: 5,
-            finality: old,
-        };
-    };
-    let Number::Value(before) = previous_target else {
-        return FinalityAnswer {
-            refusal: 5,
-            finality: old,
-        };
-    };
-    let Number::Value(now) = current_target else {
-        return FinalityAnswer {
-            refusal: 5,
-            finality: old,
-        };
-    };
+    let active = total?;
+    let before = previous_target?;
+    let now = current_target?;
     weigh(s, roots, old, active, before, now)
 }
 
-// The step by these totals, with which of them were raised.
-pub fn justification_core(
+// What the step gives: the finality, and which of the totals were raised.
+#[derive(Clone, Copy)]
+pub struct Justified {
+    pub finality: Finality,
+    pub raised: Raised,
+}
+
+// The step by these totals.
+pub fn justify(
     s: Settings,
     roots: &[u8],
     old: Finality,
-    total: TotalAnswer,
-    previous_target: TotalAnswer,
-    current_target: TotalAnswer,
-) -> CloseAnswer
-    requires { code_of (weigh_tests s roots.now old) ≡ 0 }
-    ensures { JustifiesTotals s roots.now old total previous_target current_target result }
+    total: Result<Total, Refusal>,
+    previous_target: Result<Total, Refusal>,
+    current_target: Result<Total, Refusal>,
+) -> Result<Justified, Refusal>
+    requires { weigh_tests s roots.now old ≡ value tt }
+    ensures { Justifies s roots.now old total previous_target current_target result }
 {
-    let weighed = weigh_totals(
+    let finality = weigh_totals(
         s,
         roots,
         old,
         balance_of(total),
         balance_of(previous_target),
         balance_of(current_target),
-    );
+    )?;
     let current = current_epoch(s, old.slot);
     let raised = raised_of(current, total, previous_target, current_target);
-    answer_with(weighed.refusal, weighed.finality, raised)
+    Ok(Justified { finality, raised })
+}
+
+// The same, as the step and the close answer it.
+pub fn justification_core(
+    s: Settings,
+    roots: &[u8],
+    old: Finality,
+    total: Result<Total, Refusal>,
+    previous_target: Result<Total, Refusal>,
+    current_target: Result<Total, Refusal>,
+) -> CloseAnswer
+    requires { weigh_tests s roots.now old ≡ value tt }
+    ensures { JustifiesTotals s roots.now old total previous_target current_target result }
+{
+    match justify(s, roots, old, total, previous_target, current_target) {
+        Ok(justified) => CloseAnswer {
+            refusal: 0,
+            finality: justified.finality,
+            raised: justified.raised,
+        },
+        Err(refusal) => CloseAnswer {
+            refusal: refusal.number(),
+            finality: old,
+            raised: none_raised(),
+        },
+    }
 }
 
 // Flag 1 is the target's.
@@ -115,10 +135,9 @@ pub fn process_justification_and_finalization(
         (process_justification_and_finalization s roots.now finality (decode registry.now))) finality
         (raised_totals s finality.slot (decode registry.now)) }
 {
-    let refusal = justification_refusal(s, roots, finality, registry);
-    if refusal != 0 {
+    if let Err(refusal) = justification_refusal(s, roots, finality, registry) {
         return CloseAnswer {
-            refusal,
+            refusal: refusal.number(),
             finality,
             raised: none_raised(),
         };

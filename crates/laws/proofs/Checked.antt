@@ -7,31 +7,36 @@ use native.Mathlib.Omega.{arith}
 use borrow.Author.Tests.{ltb-true}
 use lib.Dec.{ltb}
 use Rattle.definitions.specs.Lists.{sum}
-use Rattle.definitions.specs.Checked.{Refusal, bad_shape, bad_settings, bad_record, no_root, overflow, bad_file, signed_overflow, wrong_queue, no_exit, too_early, full_list, late_start, no_entry, before_genesis, no_seconds, number_of, Checked, value, refused, bind, add64, mul64, sum64, map_checked, fold_checked, settle}
+use Rattle.definitions.specs.Checked.{number_of, Checked, value, refused, bind, add64, mul64, sum64, map_checked, fold_checked, settle}
+use Rattle.definitions.specs.declared.Refusal.{Refusal}
+use Rattle.definitions.specs.declared.Refusal.TheVariants.{BadShape, BadSettings, BadRecord, NoRoot, Overflow, BadFile, SignedOverflow, WrongQueue, NoExit, TooEarly, FullList, LateStart, NoEntry, BeforeGenesis, NoSeconds}
 use Rattle.definitions.specs.Refusals.{closing_buffer}
 
 -- 0 is no refusal's number: the one law that goes through them all
 pub number_not_zero : (r : Refusal) → number_of r ≡ 0 → ⊥
-number_not_zero bad_shape e = omega arith
-number_not_zero bad_settings e = omega arith
-number_not_zero bad_record e = omega arith
-number_not_zero no_root e = omega arith
-number_not_zero overflow e = omega arith
-number_not_zero bad_file e = omega arith
-number_not_zero signed_overflow e = omega arith
-number_not_zero wrong_queue e = omega arith
-number_not_zero no_exit e = omega arith
-number_not_zero too_early e = omega arith
-number_not_zero full_list e = omega arith
-number_not_zero late_start e = omega arith
-number_not_zero no_entry e = omega arith
-number_not_zero before_genesis e = omega arith
-number_not_zero no_seconds e = omega arith
+number_not_zero BadShape e = omega arith
+number_not_zero BadSettings e = omega arith
+number_not_zero BadRecord e = omega arith
+number_not_zero NoRoot e = omega arith
+number_not_zero Overflow e = omega arith
+number_not_zero BadFile e = omega arith
+number_not_zero SignedOverflow e = omega arith
+number_not_zero WrongQueue e = omega arith
+number_not_zero NoExit e = omega arith
+number_not_zero TooEarly e = omega arith
+number_not_zero FullList e = omega arith
+number_not_zero LateStart e = omega arith
+number_not_zero NoEntry e = omega arith
+number_not_zero BeforeGenesis e = omega arith
+number_not_zero NoSeconds e = omega arith
 
 pub not_value : {A : Type 0} {r : Refusal} {a : A} → refused r ≡ value a → ⊥
 not_value p = let z : ◌≡◌ {A = ℕ} 0 1 = cc in omega arith
 
-pub value_same : {A : Type 0} {a b : A} → value a ≡ value b → a ≡ b
+pub refused_same : {A : Type 0} {p q : Refusal} → ◌≡◌ {A = Checked A} (refused p) (refused q) → p ≡ q
+refused_same p = cc
+
+pub value_same : {A : Type 0} {a b : A} → ◌≡◌ {A = Checked A} (value a) (value b) → a ≡ b
 value_same p = cc
 
 -- both halves of a `bind` gave values
@@ -57,19 +62,19 @@ checked_value r false p = absurd (not_value p)
 
 pub add64-value : (a b : ℕ) {x : ℕ} → add64 a b ≡ value x → a + b ≡ x
 unfolding add64
-add64-value a b p = (checked_value overflow (ltb (a + b) (2 ^ 64)) p).1
+add64-value a b p = (checked_value Overflow (ltb (a + b) (2 ^ 64)) p).1
 
 pub add64-below : (a b : ℕ) {x : ℕ} → add64 a b ≡ value x → a + b < 2 ^ 64
 unfolding add64
-add64-below a b p = ltb-true (a + b) (2 ^ 64) (checked_value overflow (ltb (a + b) (2 ^ 64)) p).0
+add64-below a b p = ltb-true (a + b) (2 ^ 64) (checked_value Overflow (ltb (a + b) (2 ^ 64)) p).0
 
 pub mul64-value : (a b : ℕ) {x : ℕ} → mul64 a b ≡ value x → a * b ≡ x
 unfolding mul64
-mul64-value a b p = (checked_value overflow (ltb (a * b) (2 ^ 64)) p).1
+mul64-value a b p = (checked_value Overflow (ltb (a * b) (2 ^ 64)) p).1
 
 pub sum64-value : (xs : List ℕ) {x : ℕ} → sum64 xs ≡ value x → sum xs ≡ x
 unfolding sum64
-sum64-value xs p = (checked_value overflow (ltb (sum xs) (2 ^ 64)) p).1
+sum64-value xs p = (checked_value Overflow (ltb (sum xs) (2 ^ 64)) p).1
 
 -- loops whose turns are alike
 pub map-alike : {A B : Type 0} {f g : A → Checked B} → ((x : A) → f x ≡ g x) → (xs : List A) → map_checked f xs ≡ map_checked g xs

@@ -8,7 +8,8 @@ use borrow.Author.Tests.{ltb-true, ltb-false}
 use lib.Dec.{T, ltb, eqb}
 use lib.ListN.{length, get_or}
 use Rattle.definitions.specs.Lists.{all, every}
-use Rattle.definitions.specs.Checked.{Checked, value, refused, bad_shape, bad_settings, bad_record, code_of}
+use Rattle.definitions.specs.Checked.{Checked, value, refused, code_of}
+use Rattle.definitions.specs.declared.Refusal.TheVariants.{BadShape, BadSettings, BadRecord}
 use Rattle.definitions.specs.Refusals.{in_order}
 
 pub both : (a b : Bool) → (a && b) ≡ true → (a ≡ true) × (b ≡ true)
@@ -84,7 +85,7 @@ pub record InOrder (first second third : List Bool) : Type 0 where
 
 -- by three truth values
 abbrev pub tested : Bool → Bool → Bool → Checked (Unit {0})
-tested a b c = cond a (cond b (cond c (value tt) (refused bad_record)) (refused bad_settings)) (refused bad_shape)
+tested a b c = cond a (cond b (cond c (value tt) (refused BadRecord)) (refused BadSettings)) (refused BadShape)
 
 abbrev pub numbered : Bool → Bool → Bool → ℕ
 numbered a b c = code_of (tested a b c)
@@ -104,12 +105,12 @@ in_order_lem shaped settings recorded e =
 pub in_order-value : (shaped settings recorded : List Bool) {u : Unit {0}} → in_order shaped settings recorded ≡ value u → InOrder shaped settings recorded
 in_order-value shaped settings recorded e = in_order_lem shaped settings recorded (ap code_of e)
 
--- Tests of 2 made after others: x is the number that the others gave
-pub settings-tested : (shaped settings more recorded : List Bool) {x : ℕ} → x ≡ code_of (in_order shaped settings recorded) → cond (eqb x 1) 1 (cond (every more) x 2) ≡ code_of (in_order shaped (settings ++ more) recorded)
+-- Tests of 2 made after others: x is what the others answered
+pub settings-tested : (shaped settings more recorded : List Bool) {x : Checked (Unit {0})} → x ≡ in_order shaped settings recorded → cond (eqb (code_of x) 1) x (cond (every more) x (refused BadSettings)) ≡ in_order shaped (settings ++ more) recorded
 unfolding in_order
 settings-tested shaped settings more recorded e = rw (every_append settings more, e) (go (every shaped) (every settings) (every recorded) (every more))
   where
-    go : (a b c d : Bool) → cond (eqb (numbered a b c) 1) 1 (cond d (numbered a b c) 2) ≡ numbered a (b && d) c
+    go : (a b c d : Bool) → cond (eqb (code_of (tested a b c)) 1) (tested a b c) (cond d (tested a b c) (refused BadSettings)) ≡ tested a (b && d) c
     go true true true true = refl
     go true true true false = refl
     go true true false true = refl

@@ -8,7 +8,8 @@ use Rattle.definitions.specs.declared.ActivationLimit.{ActivationLimit}
 use Rattle.definitions.specs.declared.ActivationLimit.TheVariants.{Churn}
 use Rattle.definitions.specs.Lists.{all}
 use Rattle.definitions.specs.Record.{decode}
-use Rattle.definitions.specs.Checked.{Checked, value, refused, bad_shape}
+use Rattle.definitions.specs.Checked.{Checked, value, refused}
+use Rattle.definitions.specs.declared.Refusal.TheVariants.{BadShape}
 use Rattle.definitions.specs.Refusals.{roots_shaped, slashings_shaped, registry_shaped, good_finality, good_validator, good_registry}
 use Rattle.definitions.specs.Rules.{rules_shaped, good_rules}
 use Rattle.definitions.specs.Close.{limited_tests}
@@ -45,7 +46,7 @@ close_passed by c l p =
       amounts = l;
     }
 
-where_shaped : (t : Bool) {m : Checked (Unit {0})} → cond t m (refused bad_shape) ≡ value tt → (t ≡ true) × (m ≡ value tt)
+where_shaped : (t : Bool) {m : Checked (Unit {0})} → cond t m (refused BadShape) ≡ value tt → (t ≡ true) × (m ≡ value tt)
 where_shaped true p = (refl, p)
 where_shaped false p = absurd (not_value p)
 

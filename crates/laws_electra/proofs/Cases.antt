@@ -4,7 +4,8 @@ use mathlib.Core.Bool.{Bool, true, false, cond}
 use Prim.Native.Nat.{ℕ, ◌≤◌, ◌<◌}
 use native.Mathlib.Omega.{arith}
 use native.Mathlib.Decide.{ℕ_discrete, dec_lt}
-use Rattle.definitions.specs.Checked.{Checked, value, refused, Refusal, bind, code_of}
+use Rattle.definitions.specs.Checked.{Checked, value, refused, bind, code_of}
+use Rattle.definitions.specs.declared.Refusal.{Refusal}
 use Rattle.laws.proofs.Checked.{number_not_zero}
 
 pub same_or : {P : Type 0} (a b : ℕ) → (a ≡ b → P) → ((a ≡ b → ⊥) → P) → P

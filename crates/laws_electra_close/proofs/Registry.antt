@@ -105,7 +105,7 @@ update_steady r activation st j {after} e = go (is_eligible_for_activation_queue
     activated : ElectraState
     activated = with_vs (set st.altair.validators j (with_activation activation v)) st
 
-    last : (t : Bool) → cond t (value activated) (value st) ≡ value after → Steady st after
+    last : (t : Bool) → cond {A = Checked ElectraState} t (value activated) (value st) ≡ value after → Steady st after
     last true e = steady_then (steady_set st j (with_activation activation v) refl refl) (steady_same (value_same e))
     last false e = steady_same (value_same e)
 

@@ -9,7 +9,8 @@ use lib.Dec.{eqb}
 use lib.ListN.{length, drop, length-drop}
 use lib.Seq.{length-take-le}
 use Rattle.definitions.specs.Record.{decode}
-use Rattle.definitions.specs.Checked.{Checked, value, refused, bad_file}
+use Rattle.definitions.specs.Checked.{Checked, value, refused}
+use Rattle.definitions.specs.declared.Refusal.TheVariants.{BadFile}
 use Rattle.definitions.specs.Refusals.{good_settings, good_finality, good_registry}
 use Rattle.definitions.specs.ExitQueue.{is_queue_of, queue_test}
 use Rattle.definitions_file.specs.File.{Contents, numbers_from_bytes, version_of, validators_at, queue_in, header, count_of, root_count_of, slashing_count_of, roots_at, slashings_at, file_length, contents_of, same_numbers, good_header, file_shaped, read_tests, read_file}
@@ -27,7 +28,7 @@ pub record Passed (bytes lent_registry lent_slashings : List ℕ) : Type 0 where
   pub registry : good_registry (contents_of bytes).registry ≡ true
   pub queue : is_queue_of (queue_in bytes) (decode (contents_of bytes).registry) ≡ true
 
-header-passed : (t : Bool) (m : Checked (Unit {0})) {u : Unit {0}} → cond t m (refused bad_file) ≡ value u → (t ≡ true) × (m ≡ value u)
+header-passed : (t : Bool) (m : Checked (Unit {0})) {u : Unit {0}} → cond t m (refused BadFile) ≡ value u → (t ≡ true) × (m ≡ value u)
 header-passed true m e = (refl, e)
 header-passed false m e = absurd (not_value e)
 

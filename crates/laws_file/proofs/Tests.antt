@@ -10,7 +10,8 @@ use lib.ListN.{length}
 use Rattle.definitions.specs.declared.ExitQueue.{ExitQueue}
 use Rattle.definitions.specs.Lists.{every}
 use Rattle.definitions.specs.Record.{Validator, decode}
-use Rattle.definitions.specs.Checked.{value, refused, wrong_queue, bind}
+use Rattle.definitions.specs.Checked.{value, refused, bind}
+use Rattle.definitions.specs.declared.Refusal.TheVariants.{WrongQueue}
 use Rattle.definitions.specs.Refusals.{in_order, is_vector_length, settings_shaped, registry_shaped, good_settings, good_finality, good_registry}
 use Rattle.definitions.specs.ExitQueue.{is_queue_of, queue_test}
 use Rattle.definitions_file.specs.File.{Contents, file_length, file_of, write_tests, written}
@@ -52,7 +53,7 @@ pub queue-passed : (q : ExitQueue) (vs : List Validator) {u : Unit {0}} → queu
 unfolding queue_test
 queue-passed q vs e = go (is_queue_of q vs) e
   where
-    go : (t : Bool) {u : Unit {0}} → cond t (value tt) (refused wrong_queue) ≡ value u → t ≡ true
+    go : (t : Bool) {u : Unit {0}} → cond t (value tt) (refused WrongQueue) ≡ value u → t ≡ true
     go true e = refl
     go false e = absurd (not_value e)
 

@@ -1,2 +1,3 @@
 -- Laws of the leaves' tests.
 pub mod Passed
+pub mod Shape

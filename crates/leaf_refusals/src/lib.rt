@@ -1,39 +1,38 @@
-// Tests 1, 2 and 3 of the leaves that are lent one validator's ten numbers: 0, or the number of the first test that failed.
+// Tests 1, 2 and 3 of the leaves that are lent one validator's ten numbers: what they answer is the refusal of the first test that failed.
 #![tactic(auto)]
 
 ghost use Rattle.std.specs.Prelude.{◌≡◌, ◌<◌};
-ghost use Rattle.definitions.specs.Checked.{code_of};
 ghost use Rattle.definitions.specs.LeafRefusals.{entry_tests, finalized_entry_tests, settings_entry_tests, slot_entry_tests, is_participation_epoch, participation_entry_tests};
 
 pub mod registry_refusals;
 
-use definitions::Settings;
+use definitions::{Refusal, Settings};
 use epochs::{current_epoch, previous_epoch};
 use refusals::{good_entry, good_settings, in_order, is_small, settings_shaped};
 
-pub fn entry_tests(entry: &[u64]) -> u64
-    ensures { result ≡ code_of (entry_tests entry.now) }
+pub fn entry_tests(entry: &[u64]) -> Result<(), Refusal>
+    ensures { result ≡ entry_tests entry.now }
 {
     if entry.len() != 10 {
-        return 1;
+        return Err(Refusal::BadShape);
     }
     in_order(&[], &[], &[good_entry(entry)])
 }
 
-pub fn finalized_entry_tests(finalized_epoch: u64, entry: &[u64]) -> u64
-    ensures { result ≡ code_of (finalized_entry_tests finalized_epoch entry.now) }
+pub fn finalized_entry_tests(finalized_epoch: u64, entry: &[u64]) -> Result<(), Refusal>
+    ensures { result ≡ finalized_entry_tests finalized_epoch entry.now }
 {
     if entry.len() != 10 {
-        return 1;
+        return Err(Refusal::BadShape);
     }
     in_order(&[], &[], &[is_small(finalized_epoch), good_entry(entry)])
 }
 
-pub fn settings_entry_tests(s: Settings, entry: &[u64]) -> u64
-    ensures { result ≡ code_of (settings_entry_tests s entry.now) }
+pub fn settings_entry_tests(s: Settings, entry: &[u64]) -> Result<(), Refusal>
+    ensures { result ≡ settings_entry_tests s entry.now }
 {
     if entry.len() != 10 {
-        return 1;
+        return Err(Refusal::BadShape);
     }
     in_order(
         &[settings_shaped(s)],
@@ -42,11 +41,11 @@ pub fn settings_entry_tests(s: Settings, entry: &[u64]) -> u64
     )
 }
 
-pub fn slot_entry_tests(s: Settings, state_slot: u64, entry: &[u64]) -> u64
-    ensures { result ≡ code_of (slot_entry_tests s state_slot entry.now) }
+pub fn slot_entry_tests(s: Settings, state_slot: u64, entry: &[u64]) -> Result<(), Refusal>
+    ensures { result ≡ slot_entry_tests s state_slot entry.now }
 {
     if entry.len() != 10 {
-        return 1;
+        return Err(Refusal::BadShape);
     }
     in_order(
         &[settings_shaped(s)],
@@ -73,11 +72,11 @@ pub fn participation_entry_tests(
     flag_index: u64,
     epoch: u64,
     entry: &[u64],
-) -> u64
-    ensures { result ≡ code_of (participation_entry_tests s state_slot flag_index epoch entry.now) }
+) -> Result<(), Refusal>
+    ensures { result ≡ participation_entry_tests s state_slot flag_index epoch entry.now }
 {
     if entry.len() != 10 {
-        return 1;
+        return Err(Refusal::BadShape);
     }
     in_order(
         &[

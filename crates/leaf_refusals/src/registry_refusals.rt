@@ -1,17 +1,16 @@
-// Tests 1, 2 and 3 of the calls that are lent settings and a registry: 0, or the number of the first test that failed.
+// Tests 1, 2 and 3 of the calls that are lent settings and a registry: what they answer is the refusal of the first test that failed.
 ghost use Rattle.std.specs.Prelude.{◌≡◌};
-ghost use Rattle.definitions.specs.Checked.{code_of};
 ghost use Rattle.definitions.specs.Refusals.{registry_tests};
 ghost use Rattle.definitions.specs.LeafRefusals.{slot_registry_tests, participation_tests};
 
 use crate::is_participation_epoch;
-use definitions::Settings;
+use definitions::{Refusal, Settings};
 use refusals::{
     good_registry, good_settings, in_order, is_small, registry_shaped, settings_shaped,
 };
 
-pub fn slot_registry_tests(s: Settings, state_slot: u64, registry: &[u64]) -> u64
-    ensures { result ≡ code_of (slot_registry_tests s state_slot registry.now) }
+pub fn slot_registry_tests(s: Settings, state_slot: u64, registry: &[u64]) -> Result<(), Refusal>
+    ensures { result ≡ slot_registry_tests s state_slot registry.now }
 {
     in_order(
         &[settings_shaped(s), registry_shaped(registry)],
@@ -26,8 +25,8 @@ pub fn participation_tests(
     flag_index: u64,
     epoch: u64,
     registry: &[u64],
-) -> u64
-    ensures { result ≡ code_of (participation_tests s state_slot flag_index epoch registry.now) }
+) -> Result<(), Refusal>
+    ensures { result ≡ participation_tests s state_slot flag_index epoch registry.now }
 {
     in_order(
         &[
@@ -48,8 +47,8 @@ pub fn registry_tests(
     finalized_epoch: u64,
     opening: &[u64],
     closing: &[u64],
-) -> u64
-    ensures { result ≡ code_of (registry_tests s state_slot finalized_epoch opening.now closing.now) }
+) -> Result<(), Refusal>
+    ensures { result ≡ registry_tests s state_slot finalized_epoch opening.now closing.now }
 {
     in_order(
         &[

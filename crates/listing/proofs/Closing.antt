@@ -6,6 +6,7 @@ use lib.ListN.{length}
 use Rattle.definitions_file.specs.File.{Contents}
 use Rattle.definitions.specs.Close.{close_tests, limited_tests, closed, close}
 use Rattle.definitions_file.specs.Listing.{call_of}
+use Rattle.laws_file.proofs.Codes.{no-refusal}
 use Rattle.refusals.proofs.Answers.{same-buffer}
 
 -- Two closing buffers as long as two others
@@ -29,4 +30,4 @@ module _ (c : Contents) (xs ys : List ℕ) (us vs : List ℕ) (l : length xs ≡
 
   pub same-registry : (close (call_of c xs ys)).refusal ≡ 0 → (close (call_of c xs ys)).closing_registry ≡ (close (call_of c us vs)).closing_registry
   unfolding close closed
-  same-registry e = same-buffer _ (close_tests (call_of c xs ys)) _ c.registry xs us e ∙ rw same_tests
+  same-registry e = same-buffer _ (close_tests (call_of c xs ys)) _ c.registry xs us (no-refusal _ e) ∙ rw same_tests

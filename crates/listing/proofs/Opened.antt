@@ -6,7 +6,7 @@ use Prim.Native.Nat.{ℕ, ◌*◌}
 use lib.ListN.{length, length-replicate, replicate}
 use Rattle.definitions_file.specs.File.{count_of, slashing_count_of, contents_of, good_header, file_shaped, read_tests, read_file, read, header_read}
 use Rattle.definitions_file.specs.Listing.{opened}
-use Rattle.laws.proofs.Loops.Ran.{code-value}
+use Rattle.laws_file.proofs.Codes.{code-value}
 use Rattle.laws_file.proofs.Passed.{read-passed, Accepted, accepted}
 use Rattle.record_file.proofs.Reading as reading
 

@@ -9,6 +9,7 @@ ghost use Rattle.listing.specs.Printed.{Exact, printed_text, printed_length};
 pub mod listing_close;
 
 use crate::listing_close::list_close;
+use definitions::Refusal;
 use definitions_file::{LONGEST_LISTING, MOST_INPUT};
 use listing_lines::text::put_refused;
 use record_file::{file_roots, read_file, read_header};
@@ -63,7 +64,7 @@ pub fn list_file(bytes: &[u8], text: &mut [u8]) -> usize
         return 0;
     }
     if MOST_INPUT < bytes.len() {
-        return put_refused(text, 0, 6);
+        return put_refused(text, 0, Refusal::BadFile.number());
     }
     let h = read_header(bytes);
     let n = 10 * (h.validators as usize);

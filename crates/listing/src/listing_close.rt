@@ -38,9 +38,8 @@ fn put_close(
         (decode registry.now) (decode closing_registry.now))) text.new result }
     ensures upper_bound { result ≤ length text.old }
 {
-    let refusal = changes(registry, closing_registry);
-    if refusal != 0 {
-        return put_refused(text, 0, refusal);
+    if let Err(refusal) = changes(registry, closing_registry) {
+        return put_refused(text, 0, refusal.number());
     }
     let h = head_core(s, state_slot, closing_finality, registry);
     let at = put_head(text, 0, h);

@@ -8,7 +8,8 @@ use lib.IntN.{ℤ}
 use lib.ListN.{length, get_or, drop, drop_of_length-le}
 use lib.Seq.{drop-cons}
 use Rattle.definitions.specs.Record.{decode, nobody}
-use Rattle.definitions.specs.Checked.{value, refused, signed_overflow, code_of, bind}
+use Rattle.definitions.specs.Checked.{value, refused, bind}
+use Rattle.definitions.specs.declared.Refusal.{Refusal}
 use Rattle.laws.proofs.Encode.{length-decode}
 use Rattle.laws.proofs.Loops.Entry.{number-at}
 use Rattle.definitions.specs.NetChange.{net_change, change_tests}
@@ -41,13 +42,13 @@ module _ (opening closing : List ℕ) (shaped : length opening ≡ 10 * (length 
         let l : i < length opening / 10 = omega (arith, f.count) in
         record { count = f.count; below = omega arith; rest = rw (add-one i) (f.rest ∙ rw (first i l, g)) }
 
-    pub fitting_wide : i < n → net_change (get_or opening (10 * i + 6) 0) (get_or closing (10 * i + 6) 0) ≡ refused signed_overflow → 7 ≡ code_of (change_tests (decode opening) (decode closing))
+    pub fitting_wide : {p : Refusal} → i < n → net_change (get_or opening (10 * i + 6) 0) (get_or closing (10 * i + 6) 0) ≡ refused p → change_tests (decode opening) (decode closing) ≡ refused p
     unfolding bind
     fitting_wide h g =
         let l : i < length opening / 10 = omega (arith, f.count) in
         rw (f.rest, first i l, g)
 
-    pub fitting_all : n ≤ i → 0 ≡ code_of (change_tests (decode opening) (decode closing))
+    pub fitting_all : n ≤ i → change_tests (decode opening) (decode closing) ≡ value tt
     unfolding change_tests
     fitting_all h =
         let e : length (decode opening) ≤ i = omega (arith, f.count, many opening shaped opening refl) in

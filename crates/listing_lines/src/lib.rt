@@ -3,7 +3,6 @@
 
 ghost use Rattle.std.specs.Prelude.{◌≡◌, ◌*◌, ◌/◌, ◌<◌, length};
 ghost use Rattle.definitions.specs.Record.{decode};
-ghost use Rattle.definitions.specs.Checked.{code_of};
 ghost use Rattle.definitions.specs.NetChange.{change_tests};
 ghost use Rattle.definitions_file.specs.ListingAnswers.{head_tests, head_numbers, head_of, line_tests, line_for, line_of};
 ghost use Rattle.listing_lines.specs.Told.{line_shaped, line_told};
@@ -12,7 +11,7 @@ pub mod numbers;
 pub mod text;
 
 use arithmetic::signed::net_change;
-use definitions::{Change, Finality, Settings};
+use definitions::{Finality, Refusal, Settings};
 use definitions_file::{Head, Line};
 use epochs::current_epoch;
 use numbers::{no_head, no_line};
@@ -45,8 +44,13 @@ pub fn head_core(s: Settings, state_slot: u64, closing: Finality, opening: &[u64
     }
 }
 
-fn head_tests(s: Settings, state_slot: u64, closing: Finality, opening: &[u64]) -> u64
-    ensures { result ≡ code_of (head_tests s state_slot closing opening.now) }
+fn head_tests(
+    s: Settings,
+    state_slot: u64,
+    closing: Finality,
+    opening: &[u64],
+) -> Result<(), Refusal>
+    ensures { result ≡ head_tests s state_slot closing opening.now }
 {
     in_order(
         &[settings_shaped(s), registry_shaped(opening)],
@@ -63,9 +67,8 @@ fn head_tests(s: Settings, state_slot: u64, closing: Finality, opening: &[u64]) 
 pub fn head(s: Settings, state_slot: u64, closing: Finality, opening: &[u64]) -> Head
     ensures { result ≡ head_of s state_slot closing opening.now }
 {
-    let refusal = head_tests(s, state_slot, closing, opening);
-    if refusal != 0 {
-        return no_head(refusal);
+    if let Err(refusal) = head_tests(s, state_slot, closing, opening) {
+        return no_head(refusal.number());
     }
     head_core(s, state_slot, closing, opening)
 }
@@ -81,8 +84,9 @@ fn line_core(opening: &[u64], closing: &[u64], index: u64) -> Line
     let score_at = a + 9;
     let before = opening[balance_at];
     let after = closing[balance_at];
-    let Change::Value(change) = net_change(before, after) else {
-        return no_line(7);
+    let change = match net_change(before, after) {
+        Ok(change) => change,
+        Err(refusal) => return no_line(refusal.number()),
     };
     Line {
         refusal: 0,
@@ -95,8 +99,8 @@ fn line_core(opening: &[u64], closing: &[u64], index: u64) -> Line
     }
 }
 
-fn line_shaped(opening: &[u64], closing: &[u64], index: u64) -> u64
-    ensures { result ≡ code_of (line_shaped opening.now closing.now index) }
+fn line_shaped(opening: &[u64], closing: &[u64], index: u64) -> Result<(), Refusal>
+    ensures { result ≡ line_shaped opening.now closing.now index }
 {
     in_order(
         &[
@@ -110,46 +114,40 @@ fn line_shaped(opening: &[u64], closing: &[u64], index: u64) -> u64
 }
 
 // Of the two registries nothing but the validator's own numbers is looked at.
-fn line_tests(opening: &[u64], closing: &[u64], index: u64) -> u64
-    ensures { result ≡ code_of (line_tests opening.now closing.now index) }
+fn line_tests(opening: &[u64], closing: &[u64], index: u64) -> Result<(), Refusal>
+    ensures { result ≡ line_tests opening.now closing.now index }
 {
-    let shaped = line_shaped(opening, closing, index);
-    if shaped != 0 {
-        return shaped;
-    }
+    line_shaped(opening, closing, index)?;
     let a = 10 * (index as usize);
     let b = a + 10;
     if !good_entry(&opening[a..b]) {
-        return 3;
+        return Err(Refusal::BadRecord);
     }
     if !good_entry(&closing[a..b]) {
-        return 3;
+        return Err(Refusal::BadRecord);
     }
-    0
+    Ok(())
 }
 
 // Of the validator's ten numbers in either registry.
 pub fn line(opening: &[u64], closing: &[u64], index: u64) -> Line
     ensures { result ≡ line_of opening.now closing.now index }
 {
-    let refusal = line_tests(opening, closing, index);
-    if refusal != 0 {
-        return no_line(refusal);
+    if let Err(refusal) = line_tests(opening, closing, index) {
+        return no_line(refusal.number());
     }
     line_core(opening, closing, index)
 }
 
-// Whether every validator's net change fits: 0, or 7 at the first that does not.
-pub fn changes(opening: &[u64], closing: &[u64]) -> u64
+// Whether every validator's net change fits: refused at the first that does not.
+pub fn changes(opening: &[u64], closing: &[u64]) -> Result<(), Refusal>
     requires { (length opening.now ≡ 10 * (length opening.now / 10)) × (length closing.now ≡ length opening.now) }
-    ensures { result ≡ code_of (change_tests (decode opening.now) (decode closing.now)) }
+    ensures { result ≡ change_tests (decode opening.now) (decode closing.now) }
 {
     let n = opening.len() / 10;
     for i in 0..n {
         let at = 10 * i + 6;
-        let Change::Value(_) = net_change(opening[at], closing[at]) else {
-            return 7;
-        };
+        net_change(opening[at], closing[at])?;
     }
-    0
+    Ok(())
 }

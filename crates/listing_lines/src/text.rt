@@ -2,7 +2,7 @@
 ghost use Rattle.std.specs.Prelude.{◌≡◌, true, [], ◌∷◌, ◌+◌, ◌*◌, ◌/◌, ◌≤◌, length};
 ghost use Rattle.std.proofs.Math.IntN.{sub_ℕ};
 ghost use Rattle.definitions.specs.Record.{decode};
-ghost use Rattle.definitions.specs.Checked.{code_of};
+ghost use Rattle.definitions.specs.Checked.{value};
 ghost use Rattle.definitions.specs.NetChange.{change_tests};
 ghost use Rattle.definitions.specs.Refusals.{registry_shaped};
 ghost use Rattle.fields.specs.Put.{Put};
@@ -10,7 +10,7 @@ ghost use Rattle.definitions_file.specs.Lines.{row, raised_figures, head_line, v
 ghost use Rattle.listing_lines.specs.Sizes.{longest_head, longest_line, longest_refused};
 
 use arithmetic::signed::net_change;
-use definitions::{Change, Raised};
+use definitions::Raised;
 use definitions_file::Head;
 use fields::decimals::{put_change, put_labelled};
 
@@ -110,7 +110,7 @@ fn put_line(
 pub fn put_lines(text: &mut [u8], at: usize, opening: &[u64], closing: &[u64]) -> usize
     requires opening_value { (registry_shaped opening.now ≡ true) × (length closing.now ≡ length opening.now) }
     requires opening_in_bounds { at + longest_line * (length opening.now / 10) ≤ length text.old }
-    requires closing_value { code_of (change_tests (decode opening.now) (decode closing.now)) ≡ 0 }
+    requires closing_value { change_tests (decode opening.now) (decode closing.now) ≡ value tt }
     ensures put { Put text.old at (lines 0 (decode opening.now) (decode closing.now)) text.new result }
     ensures upper_bound { result ≤ length text.old }
 {
@@ -122,7 +122,7 @@ pub fn put_lines(text: &mut [u8], at: usize, opening: &[u64], closing: &[u64]) -
         let score_at = a + 9;
         let before = opening[balance_at];
         let after = closing[balance_at];
-        let Change::Value(change) = net_change(before, after) else {
+        let Ok(change) = net_change(before, after) else {
             return end;
         };
         end = put_line(

@@ -12,22 +12,24 @@ use lib.Seq.{get_or-drop}
 use Rattle.definitions.specs.declared.ExitQueue.{ExitQueue}
 use Rattle.definitions.specs.declared.Settings.{Settings}
 use Rattle.definitions.specs.Record.{Validator, nobody, decode_one, encode, decode, FAR_FUTURE_EPOCH}
-use Rattle.definitions.specs.Checked.{Refusal, Checked, value, refused, no_exit, too_early, code_of, settle}
+use Rattle.definitions.specs.Checked.{Checked, value, refused, number_of, code_of, done, settle}
+use Rattle.definitions.specs.declared.Refusal.{Refusal}
+use Rattle.definitions.specs.declared.Refusal.TheVariants.{NoExit, TooEarly}
 use Rattle.definitions.specs.ExitQueue.{queue_of}
 use Rattle.definitions.specs.Rust.Phase0.Helpers.{is_active_validator, get_current_epoch, get_validator_churn_limit, compute_activation_exit_epoch, initiate_validator_exit}
 use Rattle.definitions_close.proofs.Orders.{orders-long}
-use Rattle.definitions_close.specs.Orders.{Order, orders_in, room, may_exit, is_due, process_voluntary_exit, carried_out, answers_to}
+use Rattle.definitions_close.specs.Orders.{Order, orders_in, may_exit, is_due, process_voluntary_exit, carried_out, answers_to}
 use Rattle.laws.proofs.Encode.{length-decode, encode-decode, decode-encode}
-use Rattle.laws.proofs.Checked.{not_value}
+use Rattle.laws.proofs.Checked.{not_value, refused_same}
+use Rattle.laws.proofs.Loops.Ran.{ran-refused}
 use Rattle.laws.proofs.Loops.Entry.{entry_at, entry-is, number-at}
 use Rattle.laws.proofs.Tests.{both}
-use Rattle.exit_queue.specs.Exits.{exit_at, Leaves}
+use Rattle.exit_queue.specs.Exits.{exit_at}
 use Rattle.exit_queue.proofs.exits.Exits.{exit_by-numbers}
-use Rattle.exit_queue.specs.declared.Turn.{Turn}
 use Rattle.exit_queue.proofs.exits.Limit.{limit-exit}
-use Rattle.validator_exit.specs.Exits.{ExitsAt}
+use Rattle.validator_exit.specs.Exits.{LeavesPair}
 use Rattle.definitions_close.specs.Calls.{order}
-use Rattle.orders.specs.Tried.{entry_may_exit, order_by, Tries, carried_by, answers_by, AllTried}
+use Rattle.orders.specs.Tried.{entry_may_exit, order_by, carried_by, answers_by, AllTried}
 
 -- One order on the registry xs of n validators
 
@@ -39,12 +41,12 @@ module _ (epoch period least limit delay n : ℕ) (xs : List ℕ) (long : length
   m = order_by epoch period least limit delay vs (order validator start)
 
   -- turned away, with nothing changed
-  turned : (r : Refusal) {number : ℕ} {q : ExitQueue} → m ≡ refused r → number ≡ code_of {A = List Validator} (refused r) → q ≡ queue_of vs → Tries m xs xs (record { refusal = number; queue = q })
-  turned r e h k = record { refusal = h ∙ ap code_of (sym e); registry = rw e (sym (encode-decode n xs long)); queue = k }
+  turned : (r : Refusal) → m ≡ refused r → LeavesPair m xs xs (refused r)
+  turned r e = rw e (record { leaves = record { ran = ran-refused refl; kept = λ p h. refl }; queue = λ z. absurd (not_value z) })
 
-  pub unknown : n ≤ validator → {q : ExitQueue} → q ≡ queue_of vs → Tries m xs xs (record { refusal = 9; queue = q })
+  pub unknown : n ≤ validator → LeavesPair m xs xs (refused NoExit)
   unfolding order_by may_exit
-  unknown l = turned no_exit (rw (le-ltb validator (length vs) (omega (arith, length-decode n xs long, l)))) refl
+  unknown l = turned NoExit (rw (le-ltb validator (length vs) (omega (arith, length-decode n xs long, l))))
 
   module _ (l : validator < n) where
     abbrev v : Validator
@@ -53,11 +55,11 @@ module _ (epoch period least limit delay n : ℕ) (xs : List ℕ) (long : length
     inside : ltb validator (length vs) ≡ true
     inside = lt-ltb validator (length vs) (omega (arith, length-decode n xs long, l))
 
-    pub cannot : entry_may_exit epoch v ≡ false → {q : ExitQueue} → q ≡ queue_of vs → Tries m xs xs (record { refusal = 9; queue = q })
+    pub cannot : entry_may_exit epoch v ≡ false → LeavesPair m xs xs (refused NoExit)
     unfolding order_by may_exit
-    cannot e = turned no_exit (go (is_active_validator v epoch) (eqb v.exit_epoch FAR_FUTURE_EPOCH) refl refl) refl
+    cannot e = turned NoExit (go (is_active_validator v epoch) (eqb v.exit_epoch FAR_FUTURE_EPOCH) refl refl)
       where
-        go : (a b : Bool) → is_active_validator v epoch ≡ a → eqb v.exit_epoch FAR_FUTURE_EPOCH ≡ b → m ≡ refused no_exit
+        go : (a b : Bool) → is_active_validator v epoch ≡ a → eqb v.exit_epoch FAR_FUTURE_EPOCH ≡ b → m ≡ refused NoExit
         go true true p q = absurd (false≢true (sym e ∙ rw (p, q)))
         go true false p q = rw (inside, p, q)
         go false b p q = rw (inside, p)
@@ -68,17 +70,13 @@ module _ (epoch period least limit delay n : ℕ) (xs : List ℕ) (long : length
         let a = both (is_active_validator v epoch) (eqb v.exit_epoch FAR_FUTURE_EPOCH) e in
         rw (inside, a.0, a.1)
 
-    pub early : entry_may_exit epoch v ≡ true → is_due epoch period v start ≡ false → {q : ExitQueue} → q ≡ queue_of vs → Tries m xs xs (record { refusal = 10; queue = q })
+    pub early : entry_may_exit epoch v ≡ true → is_due epoch period v start ≡ false → LeavesPair m xs xs (refused TooEarly)
     unfolding order_by
-    early e f = turned too_early (rw (may e, f)) refl
+    early e f = turned TooEarly (rw (may e, f))
 
-    tries_exit : (w : Checked (List Validator)) {after : List ℕ} {t : Turn} → Leaves w xs after t.refusal → t.queue ≡ queue_of (decode after) → Tries w xs after t
-    tries_exit (value ws) h k = record { refusal = h.ran.code; registry = h.ran.held ws refl; queue = k }
-    tries_exit (refused r) h k = record { refusal = h.ran.code; registry = h.kept r refl ∙ sym (encode-decode n xs long); queue = k }
-
-    pub exits : entry_may_exit epoch v ≡ true → is_due epoch period v start ≡ true → {after : List ℕ} {t : Turn} → ExitsAt least limit delay validator xs after t → Tries m xs after t
+    pub exits : entry_may_exit epoch v ≡ true → is_due epoch period v start ≡ true → {after : List ℕ} {t : Checked ExitQueue} → LeavesPair (exit_at least limit delay vs validator) xs after t → LeavesPair m xs after t
     unfolding order_by
-    exits e f h = rw (may e, f) (tries_exit (exit_at least limit delay vs validator) h.leaves h.queue)
+    exits e f h = rw (may e, f) h
 
     -- an active validator's activation is not ahead
     pub active-since : entry_may_exit epoch v ≡ true → v.activation_epoch ≤ epoch
@@ -149,6 +147,17 @@ drop_more zero xs = refl
 drop_more (suc i) [] = refl
 drop_more (suc i) (x ∷ xs) = drop_more i xs
 
+-- the registry after a try, and the number that is told of it
+tried_held : (m : Checked (List Validator)) (n : ℕ) {xs ys : List ℕ} {t : Checked ExitQueue} → length xs ≡ 10 * n → LeavesPair m xs ys t → ys ≡ encode (settle m (decode xs))
+tried_held (value ws) n long h = h.leaves.ran.held ws refl
+tried_held (refused r) n {xs = xs} long h = h.leaves.kept r refl ∙ sym (encode-decode n xs long)
+
+same-number : {A B : Type 0} (m : Checked A) (t : Checked B) → done t ≡ done m → code_of t ≡ code_of m
+same-number (value x) (value y) e = refl
+same-number (value x) (refused q) e = absurd (not_value e)
+same-number (refused p) (value y) e = absurd (not_value (sym e))
+same-number (refused p) (refused q) e = ap number_of (refused_same e)
+
 -- after i orders
 pub record Trying (f : List Validator → Order → Checked (List Validator)) (n : ℕ) (xs₀ orders lent : List ℕ) (count i : ℕ) (xs answers : List ℕ) (q : ExitQueue) : Type 0 where
   pub below : i ≤ count
@@ -162,34 +171,46 @@ pub trying_none : {f : List Validator → Order → Checked (List Validator)} {n
 unfolding orders_in carried_by answers_by
 trying_none {n = n} {xs₀ = xs₀} long h = record { below = omega arith; long = long; held = sym (encode-decode n xs₀ long); answered = refl; room = refl; queue = h }
 
-pub trying_more : {f : List Validator → Order → Checked (List Validator)} {n : ℕ} {xs₀ orders lent : List ℕ} {count i : ℕ} {xs answers : List ℕ} {q : ExitQueue} → Trying f n xs₀ orders lent count i xs answers q → {ys : List ℕ} {t : Turn} → i < count → count ≤ length lent → length ys ≡ length xs → Tries (f (decode xs) (order (get_or orders (2 * i) 0) (get_or orders (2 * i + 1) 0))) xs ys t → Trying f n xs₀ orders lent count (i + 1) ys (set answers i t.refusal) t.queue
-trying_more {f} {n} {xs₀} {orders} {lent} {count} {i} {xs} {answers} {q} g {ys} {t} l fits same h =
-    record {
-      below = omega arith;
-      long = same ∙ g.long;
-      held = h.registry ∙ ap (λ (us : List Validator). encode (settle (f us o) us)) so_far ∙ ap encode (sym (carried-more f vs (orders_in i orders) o)) ∙ ap (λ (os : List Order). encode (carried_by f vs os)) (sym next);
-      answered =
-          ap₂ (λ (given : List ℕ) (y : ℕ). set given i y) g.answered (h.refusal ∙ ap (λ (us : List Validator). code_of (f us o)) so_far)
-          ∙ set-behind (answers_by f vs (orders_in i orders)) (drop i lent) i _ size (omega (arith, size, length-drop i lent, l, fits))
-          ∙ ap₂ ◌++◌ (sym (answers-more f vs (orders_in i orders) o) ∙ ap (answers_by f vs) (sym next)) (drop_more i lent ∙ ap (λ (k : ℕ). drop k lent) (sym (add-one i)));
-      room = length-set answers i t.refusal ∙ g.room;
-      queue = h.queue;
-    }
-  where
-    vs : List Validator
-    vs = decode xs₀
+module _ {f : List Validator → Order → Checked (List Validator)} {n : ℕ} {xs₀ orders lent : List ℕ} {count i : ℕ} {xs answers : List ℕ} {q : ExitQueue} (g : Trying f n xs₀ orders lent count i xs answers q) {ys : List ℕ} {t : Checked ExitQueue} (l : i < count) (fits : count ≤ length lent) (same : length ys ≡ length xs) (h : LeavesPair (f (decode xs) (order (get_or orders (2 * i) 0) (get_or orders (2 * i + 1) 0))) xs ys t) where
+  trying_next : {number : ℕ} {pair : ExitQueue} → number ≡ code_of t → pair ≡ queue_of (decode ys) → Trying f n xs₀ orders lent count (i + 1) ys (set answers i number) pair
+  trying_next {number} {pair} told k =
+      record {
+        below = omega arith;
+        long = same ∙ g.long;
+        held = tried_held (f (decode xs) o) n g.long h ∙ ap (λ (us : List Validator). encode (settle (f us o) us)) so_far ∙ ap encode (sym (carried-more f vs (orders_in i orders) o)) ∙ ap (λ (os : List Order). encode (carried_by f vs os)) (sym next);
+        answered =
+            ap₂ (λ (given : List ℕ) (y : ℕ). set given i y) g.answered (told ∙ same-number (f (decode xs) o) t h.leaves.ran.is ∙ ap (λ (us : List Validator). code_of (f us o)) so_far)
+            ∙ set-behind (answers_by f vs (orders_in i orders)) (drop i lent) i _ size (omega (arith, size, length-drop i lent, l, fits))
+            ∙ ap₂ ◌++◌ (sym (answers-more f vs (orders_in i orders) o) ∙ ap (answers_by f vs) (sym next)) (drop_more i lent ∙ ap (λ (k : ℕ). drop k lent) (sym (add-one i)));
+        room = length-set answers i number ∙ g.room;
+        queue = k;
+      }
+    where
+      vs : List Validator
+      vs = decode xs₀
 
-    o : Order
-    o = order (get_or orders (2 * i) 0) (get_or orders (2 * i + 1) 0)
+      o : Order
+      o = order (get_or orders (2 * i) 0) (get_or orders (2 * i + 1) 0)
 
-    so_far : decode xs ≡ carried_by f vs (orders_in i orders)
-    so_far = ap decode g.held ∙ decode-encode (carried_by f vs (orders_in i orders))
+      so_far : decode xs ≡ carried_by f vs (orders_in i orders)
+      so_far = ap decode g.held ∙ decode-encode (carried_by f vs (orders_in i orders))
 
-    size : length (answers_by f vs (orders_in i orders)) ≡ i
-    size = answers-long f vs (orders_in i orders) ∙ orders-long i orders
+      size : length (answers_by f vs (orders_in i orders)) ≡ i
+      size = answers-long f vs (orders_in i orders) ∙ orders-long i orders
 
-    next : orders_in (i + 1) orders ≡ orders_in i orders ++ (o ∷ [])
-    next = ap (λ (k : ℕ). orders_in k orders) (add-one i) ∙ orders-more i orders
+      next : orders_in (i + 1) orders ≡ orders_in i orders ++ (o ∷ [])
+      next = ap (λ (k : ℕ). orders_in k orders) (add-one i) ∙ orders-more i orders
+
+  pub trying_exit : {pair : ExitQueue} → t ≡ value pair → Trying f n xs₀ orders lent count (i + 1) ys (set answers i 0) pair
+  trying_exit z = trying_next (ap code_of (sym z)) (h.queue z)
+
+  -- the registry is as it was, and so is its pair
+  pub trying_refused : {p : Refusal} {number : ℕ} → t ≡ refused p → number ≡ number_of p → Trying f n xs₀ orders lent count (i + 1) ys (set answers i number) q
+  trying_refused z e = trying_next (e ∙ ap code_of (sym z)) (g.queue ∙ ap (λ (zs : List ℕ). queue_of (decode zs)) (sym (untouched (f (decode xs) (order (get_or orders (2 * i) 0) (get_or orders (2 * i + 1) 0))) h (ap done (sym z) ∙ h.leaves.ran.is))))
+    where
+      untouched : (m : Checked (List Validator)) → LeavesPair m xs ys t → {p : Refusal} → refused p ≡ done m → ys ≡ xs
+      untouched (value ws) k e = absurd (not_value e)
+      untouched (refused r) k e = k.leaves.kept r refl
 
 pub trying_all : {f : List Validator → Order → Checked (List Validator)} {n : ℕ} {xs₀ orders lent : List ℕ} {count i : ℕ} {xs answers : List ℕ} {q : ExitQueue} → Trying f n xs₀ orders lent count i xs answers q → count ≤ i → AllTried f xs₀ orders lent count xs answers q
 trying_all {count = count} {i = i} g l = let e : i ≡ count = omega (arith, l, g.below) in rw (← e) (record { registry = g.held; answers = g.answered; queue = g.queue })
@@ -199,7 +220,7 @@ exited : (s : Settings) (state_slot period : ℕ) (vs : List Validator) (o : Ord
 unfolding process_voluntary_exit
 exited s state_slot period vs o {ws} p = go (may_exit (get_current_epoch s state_slot) vs o.validator) (is_due (get_current_epoch s state_slot) period (get_or vs o.validator nobody) o.start) p
   where
-    go : (a b : Bool) → cond a (cond b (initiate_validator_exit s state_slot vs o.validator) (refused too_early)) (refused no_exit) ≡ value ws → initiate_validator_exit s state_slot vs o.validator ≡ value ws
+    go : (a b : Bool) → cond a (cond b (initiate_validator_exit s state_slot vs o.validator) (refused TooEarly)) (refused NoExit) ≡ value ws → initiate_validator_exit s state_slot vs o.validator ≡ value ws
     go true true e = e
     go true false e = absurd (not_value e)
     go false b e = absurd (not_value e)

@@ -2,12 +2,12 @@
 use Rattle.std.specs.Prelude.{◌≡◌, Bool, cond, ◌&&◌, List, [], ◌∷◌, ◌++◌, ℕ, eqb, get_or, drop}
 use Rattle.definitions.specs.declared.ExitQueue.{ExitQueue}
 use Rattle.definitions.specs.Record.{Validator, nobody, encode, decode, FAR_FUTURE_EPOCH}
-use Rattle.definitions.specs.Checked.{Checked, refused, no_exit, too_early, code_of, settle}
+use Rattle.definitions.specs.Checked.{Checked, refused, code_of, settle}
+use Rattle.definitions.specs.declared.Refusal.TheVariants.{NoExit, TooEarly}
 use Rattle.definitions.specs.ExitQueue.{queue_of}
 use Rattle.definitions.specs.Rust.Phase0.Helpers.{is_active_validator}
 use Rattle.definitions_close.specs.Orders.{Order, orders_in, may_exit, is_due}
 use Rattle.exit_queue.specs.Exits.{exit_at}
-use Rattle.exit_queue.specs.declared.Turn.{Turn}
 
 -- a validator that is known
 abbrev pub entry_may_exit : ℕ → Validator → Bool
@@ -18,14 +18,8 @@ unfoldable pub order_by : ℕ → ℕ → ℕ → ℕ → ℕ → List Validator
 order_by epoch period least limit delay vs o =
     let index = o.validator in
     cond (may_exit epoch vs index)
-    (cond (is_due epoch period (get_or vs index nobody) o.start) (exit_at least limit delay vs index) (refused too_early))
-    (refused no_exit)
-
--- the order m of the registry `before`: refused, it changes nothing
-pub record Tries (m : Checked (List Validator)) (before after : List ℕ) (r : Turn) : Type 0 where
-  pub refusal : r.refusal ≡ code_of m
-  pub registry : after ≡ encode (settle m (decode before))
-  pub queue : r.queue ≡ queue_of (decode after)
+    (cond (is_due epoch period (get_or vs index nobody) o.start) (exit_at least limit delay vs index) (refused TooEarly))
+    (refused NoExit)
 
 -- one after the other
 unfoldable pub carried_by : (List Validator → Order → Checked (List Validator)) → List Validator → List Order → List Validator

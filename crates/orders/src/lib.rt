@@ -4,17 +4,28 @@
 ghost use Rattle.std.specs.Prelude.{◌≡◌, ◌&&◌, ◌+◌, ◌*◌, ◌/◌, ◌≤◌, ◌<◌, leb, length, set};
 ghost use Rattle.definitions.specs.Record.{decode_one, decode};
 ghost use Rattle.definitions.specs.ExitQueue.{queue_of};
+ghost use Rattle.definitions_close.specs.CloseBySteps.{turned_away};
 ghost use Rattle.definitions_close.specs.Orders.{orders_shaped, take_order, room};
 ghost use Rattle.definitions_close.specs.Calls.{order, order_called, order_outcome};
-ghost use Rattle.orders.specs.Tried.{entry_may_exit, order_by, Tries, AllTried};
+ghost use Rattle.validator_exit.specs.Exits.{LeavesPair};
+ghost use Rattle.orders.specs.Tried.{entry_may_exit, order_by, AllTried};
 
 pub mod ninth_call;
 
-use definitions::{ACTIVATION_EPOCH, EXIT_EPOCH, ExitQueue, FAR_FUTURE_EPOCH};
+use definitions::{ACTIVATION_EPOCH, EXIT_EPOCH, ExitQueue, FAR_FUTURE_EPOCH, Refusal};
 use definitions_close::{Running, RunningAnswer};
 use entries::entry_is_active;
-use exit_queue::Turn;
 use validator_exit::exit_in_place;
+
+pub fn turned_away(refusal: Refusal, running: Running) -> RunningAnswer
+    ensures { result ≡ turned_away refusal running }
+{
+    RunningAnswer {
+        refusal: refusal.number(),
+        ended: 0,
+        running,
+    }
+}
 
 // After the first step and before the end.
 fn takes_orders(done: u64) -> bool
@@ -53,27 +64,15 @@ pub fn take_order(running: Running, validator: u64, start: u64, orders: &mut [u6
         };
     }
     if !takes_orders(done) {
-        return RunningAnswer {
-            refusal: 1,
-            ended: 0,
-            running,
-        };
+        return turned_away(Refusal::BadShape, running);
     }
     let count = running.orders;
     if !orders_shaped(count, &orders[..]) {
-        return RunningAnswer {
-            refusal: 1,
-            ended: 0,
-            running,
-        };
+        return turned_away(Refusal::BadShape, running);
     }
     let room = orders.len() / 2;
     if room <= count as usize {
-        return RunningAnswer {
-            refusal: 11,
-            ended: 0,
-            running,
-        };
+        return turned_away(Refusal::FullList, running);
     }
     put_order(count as usize, validator, start, orders);
     let answer = running.answer;
@@ -106,7 +105,7 @@ fn is_due(epoch: u64, period: u64, activation: u64, start: u64) -> bool
     period <= epoch - activation
 }
 
-// One order on the record as it stands. Refused, it changes nothing.
+// One order on the record as it stands: the pair afterwards. Refused, it changes nothing.
 fn try_order(
     epoch: u64,
     period: u64,
@@ -118,33 +117,24 @@ fn try_order(
     queue: ExitQueue,
     registry: &mut [u64],
     n: usize,
-) -> Turn
+) -> Result<ExitQueue, Refusal>
     requires registry_len { (length registry.old ≡ 10 * n) × (least < 18446744073709551615) }
     requires queue_value { queue ≡ queue_of (decode registry.old) }
-    ensures { Tries (order_by epoch period least limit delay (decode registry.old) (order validator start)) registry.old
+    ensures { LeavesPair (order_by epoch period least limit delay (decode registry.old) (order validator start)) registry.old
         registry.new result }
 {
     let index = validator as usize;
     if n <= index {
-        return Turn {
-            refusal: 9,
-            queue: queue,
-        };
+        return Err(Refusal::NoExit);
     }
     let a = 10 * index;
     let b = a + 10;
     if !entry_may_exit(epoch, &registry[a..b]) {
-        return Turn {
-            refusal: 9,
-            queue: queue,
-        };
+        return Err(Refusal::NoExit);
     }
     let activation = registry[10 * index + ACTIVATION_EPOCH];
     if !is_due(epoch, period, activation, start) {
-        return Turn {
-            refusal: 10,
-            queue: queue,
-        };
+        return Err(Refusal::TooEarly);
     }
     exit_in_place(registry, n, index, queue, least, limit, delay)
 }
@@ -174,11 +164,17 @@ pub fn try_all(
         let at = 2 * i;
         let validator = orders[at];
         let start = orders[at + 1];
-        let turn = try_order(
+        match try_order(
             epoch, period, least, limit, delay, validator, start, queue, registry, n,
-        );
-        answers[i] = turn.refusal;
-        queue = turn.queue;
+        ) {
+            Ok(moved) => {
+                answers[i] = 0;
+                queue = moved;
+            }
+            Err(refusal) => {
+                answers[i] = refusal.number();
+            }
+        }
     }
     queue
 }

@@ -1,12 +1,11 @@
 // The ninth call of a close by steps: its tests, and the orders carried out in order of arrival.
 ghost use Rattle.std.specs.Prelude.{◌≡◌};
-ghost use Rattle.definitions.specs.Checked.{code_of};
 ghost use Rattle.definitions_close.specs.Orders.{ninth_tests, carry_out};
 ghost use Rattle.definitions_close.specs.Calls.{ninth_called, ninth_outcome};
 ghost use Rattle.orders.specs.Ninth.{lent_tests, Ready, carried_under};
 
-use crate::{orders_shaped, try_all};
-use definitions::{Finality, FullAnswer, Rules, Settings};
+use crate::{orders_shaped, try_all, turned_away};
+use definitions::{Finality, FullAnswer, Refusal, Rules, Settings};
 use definitions_close::{Running, RunningAnswer};
 use epochs::current_epoch;
 use refusals::rules::{rules_refusal, settings_under};
@@ -14,7 +13,7 @@ use refusals::{
     good_finality, good_settings, in_order, is_small, registry_shaped, settings_shaped,
 };
 use totals::churn_limit;
-use validator_exit::queue_tests::found_refusal;
+use validator_exit::queue_tests::queue_refusal;
 use validator_exit::see_registry;
 
 // Tests 1 and 2, and 3 of the finality so far.
@@ -26,8 +25,8 @@ fn lent_tests(
     registry: &[u64],
     orders: &[u64],
     answers: &[u64],
-) -> u64
-    ensures { result ≡ code_of (lent_tests rules period finality count registry.now orders.now answers.now) }
+) -> Result<(), Refusal>
+    ensures { result ≡ lent_tests rules period finality count registry.now orders.now answers.now }
 {
     let s = rules.settings;
     let by_settings = in_order(
@@ -51,20 +50,15 @@ fn ninth_tests(
     registry: &[u64],
     orders: &[u64],
     answers: &[u64],
-) -> u64
-    ensures { result ≡ code_of (ninth_tests (ninth_called rules period running registry.now orders.now answers.now)) }
+) -> Result<(), Refusal>
+    ensures { result ≡ ninth_tests (ninth_called rules period running registry.now orders.now answers.now) }
 {
     let so_far = running.answer;
     let finality = so_far.finality;
     let count = running.orders;
-    let refusal = lent_tests(rules, period, finality, count, registry, orders, answers);
-    if refusal != 0 {
-        return refusal;
-    }
-    let seen = see_registry(registry, 0);
-    let queue = so_far.queue;
-    let found = seen.queue;
-    found_refusal(seen.refusal, queue, found)
+    lent_tests(rules, period, finality, count, registry, orders, answers)?;
+    let seen = see_registry(registry, 0)?;
+    queue_refusal(so_far.queue, seen.queue)
 }
 
 // Once the tests have passed, by the settings under the rules. The churn limit stays while exits are made; the pair is moved at each.
@@ -141,26 +135,17 @@ pub fn carry_out(
         };
     }
     if done != 8 {
-        return RunningAnswer {
-            refusal: 1,
-            ended: 0,
-            running,
-        };
+        return turned_away(Refusal::BadShape, running);
     }
-    let refusal = ninth_tests(
+    if let Err(refusal) = ninth_tests(
         rules,
         shard_committee_period,
         running,
         &closing_registry[..],
         orders,
         &answers[..],
-    );
-    if refusal != 0 {
-        return RunningAnswer {
-            refusal,
-            ended: 0,
-            running,
-        };
+    ) {
+        return turned_away(refusal, running);
     }
     let s = settings_under(rules);
     carry_tested(

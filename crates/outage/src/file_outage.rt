@@ -6,6 +6,7 @@ ghost use Rattle.outage.specs.Lent.{Printed};
 ghost use Rattle.outage.specs.Text.{printed_text, printed_length};
 
 use crate::put_text;
+use definitions::Refusal;
 use definitions_file::{LONGEST_OUTAGE, MOST_INPUT};
 use fields::reader::read_number;
 use listing_lines::text::put_refused;
@@ -42,10 +43,10 @@ fn put_input(input: &[u8], text: &mut [u8]) -> usize
     ensures { Printed (outage input.now) text.old text.new result }
 {
     if MOST_INPUT < input.len() {
-        return put_refused(text, 0, 6);
+        return put_refused(text, 0, Refusal::BadFile.number());
     }
     if input.len() < 80 {
-        return put_refused(text, 0, 6);
+        return put_refused(text, 0, Refusal::BadFile.number());
     }
     let end = file_end(input);
     let mut opening = numbers();

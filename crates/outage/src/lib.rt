@@ -18,13 +18,12 @@ pub mod outage_preparation;
 pub mod outage_run;
 
 use crate::outage_run::run_epochs;
-use definitions::{Finality, Settings};
+use definitions::{Finality, Refusal, Settings};
 use fields::reader::read_number;
 use fields::{put_bytes, read_numbers};
 use listing_lines::changes;
 use listing_lines::text::{put_lines, put_refused};
 use record_file::{file_roots, read_file, read_header};
-use refusals::buffers::copy;
 
 // The validator lines, or refusal 7 in place of all of them.
 fn put_rows(text: &mut [u8], at: usize, opening: &[u64], closing: &[u64]) -> usize
@@ -33,9 +32,8 @@ fn put_rows(text: &mut [u8], at: usize, opening: &[u64], closing: &[u64]) -> usi
     ensures put { Put text.old at (lines_text opening.now closing.now) text.new result }
     ensures upper_bound { result ≤ length text.old }
 {
-    let refusal = changes(opening, closing);
-    if refusal != 0 {
-        return put_refused(text, at, refusal);
+    if let Err(refusal) = changes(opening, closing) {
+        return put_refused(text, at, refusal.number());
     }
     put_lines(text, at, opening, closing)
 }
@@ -115,7 +113,7 @@ fn put_read(
     requires tail_value { good_tail (count_of file.now) tail.now ≡ true }
     ensures { Printed (text_of file.now tail.now) text.old text.new result }
 {
-    copy(&registry[..], opening);
+    opening.copy_from_slice(&registry[..]);
     let read_roots = file_roots(file);
     put_bytes(roots, 0, read_roots);
     read_numbers(tail, 40, absences);
@@ -158,7 +156,7 @@ fn put_file(
         return put_refused(text, 0, read.refusal);
     }
     if !good_tail((registry.len() / 10) as u64, tail) {
-        return put_refused(text, 0, 1);
+        return put_refused(text, 0, Refusal::BadShape.number());
     }
     let s = read.settings;
     let finality = read.finality;
@@ -197,7 +195,7 @@ pub fn put_text(
 {
     let h = read_header(file);
     if h.refusal != 0 {
-        return put_refused(text, 0, 6);
+        return put_refused(text, 0, Refusal::BadFile.number());
     }
     let entries = 10 * (h.validators as usize);
     let pairs = 2 * (h.validators as usize);

@@ -13,7 +13,6 @@ use close::close_as_altair;
 use definitions::{Finality, Settings};
 use listing_lines::head_core;
 use listing_lines::text::put_head;
-use refusals::buffers::copy;
 
 // 0 or the refusal's number, the finality of the record as it then stands, and the place behind the head lines.
 #[derive(Clone, Copy)]
@@ -58,8 +57,8 @@ fn close_once(
     let after = closed.finality;
     let h = head_core(s, finality.slot, after, &registry[..]);
     let last = put_head(text, at, h);
-    copy(&closing_registry[..], registry);
-    copy(&closing_slashings[..], slashings);
+    registry.copy_from_slice(&closing_registry[..]);
+    slashings.copy_from_slice(&closing_slashings[..]);
     Closed {
         refusal: 0,
         finality: after,

@@ -7,8 +7,8 @@ ghost use Rattle.definitions.specs.Document.Altair.EpochProcessing.{rotate_parti
 ghost use Rattle.definitions.specs.Rust.Altair.EpochProcessing.{process_participation_flag_updates};
 ghost use Rattle.definitions.specs.Closes.{Closes};
 
-use definitions::{CURRENT_EPOCH_PARTICIPATION, PREVIOUS_EPOCH_PARTICIPATION};
-use refusals::buffers::copy;
+use definitions::{CURRENT_EPOCH_PARTICIPATION, PREVIOUS_EPOCH_PARTICIPATION, Refusal};
+use over_entries::map_entries;
 use refusals::{good_registry, in_order, registry_shaped};
 
 pub fn entry_rotate(entry: &mut [u64])
@@ -24,16 +24,11 @@ pub fn participation_flags_core(registry: &mut [u64])
     requires { length registry.old ≡ 10 * (length registry.old / 10) }
     ensures { registry.new ≡ encode (process_participation_flag_updates (decode registry.old)) }
 {
-    let n = registry.len() / 10;
-    for i in 0..n {
-        let a = 10 * i;
-        let b = a + 10;
-        entry_rotate(&mut registry[a..b]);
-    }
+    map_entries(|entry| entry_rotate(entry), registry);
 }
 
-fn rotation_tests(opening: &[u64], closing: &[u64]) -> u64
-    ensures { result ≡ code_of (rotation_tests opening.now closing.now) }
+fn rotation_tests(opening: &[u64], closing: &[u64]) -> Result<(), Refusal>
+    ensures { result ≡ rotation_tests opening.now closing.now }
 {
     in_order(
         &[registry_shaped(opening), closing.len() == opening.len()],
@@ -42,16 +37,16 @@ fn rotation_tests(opening: &[u64], closing: &[u64]) -> u64
     )
 }
 
-pub fn process_participation_flag_updates(opening: &[u64], closing: &mut [u64]) -> u64
+pub fn process_participation_flag_updates(
+    opening: &[u64],
+    closing: &mut [u64],
+) -> Result<(), Refusal>
     ensures { Closes encode (rotation_tests opening.now closing.old)
         (value (process_participation_flag_updates (decode opening.now))) opening.now closing.old
-        closing.new result }
+        closing.new (code_of result) }
 {
-    let refusal = rotation_tests(opening, closing);
-    if refusal != 0 {
-        return refusal;
-    }
-    copy(opening, closing);
+    rotation_tests(opening, closing)?;
+    closing.copy_from_slice(opening);
     participation_flags_core(closing);
-    0
+    Ok(())
 }

@@ -2,80 +2,95 @@
 #![tactic(auto)]
 
 ghost use Rattle.std.specs.Prelude.{◌≡◌};
-ghost use Rattle.definitions.specs.Plain.{plain_number, plain_truth, plain_deltas, plain_total};
-ghost use Rattle.plain.specs.Root.{root_given};
+ghost use Rattle.definitions.specs.Plain.{plain_number, plain_truth, plain_deltas, plain_total, plain_root};
+ghost use Rattle.definitions.specs.NetChange.{plain_change};
 
 use definitions::{
-    DeltasAnswer, Number, PlainDeltas, PlainNumber, PlainRoot, PlainTotal, PlainTruth, TotalAnswer,
-    Truth,
+    Deltas, PlainChange, PlainDeltas, PlainNumber, PlainRoot, PlainTotal, PlainTruth, Refusal,
+    Total,
 };
-use epochs::roots::root_copy;
 
-pub fn plain_number(n: Number) -> PlainNumber
-    ensures { result ≡ plain_number n }
+pub fn plain_number(number: Result<u64, Refusal>) -> PlainNumber
+    ensures { result ≡ plain_number number }
 {
-    match n {
-        Number::Value(value) => PlainNumber { refusal: 0, value },
-        Number::Refused(refusal) => PlainNumber { refusal, value: 0 },
+    match number {
+        Ok(value) => PlainNumber { refusal: 0, value },
+        Err(refusal) => {
+            let refusal = refusal.number();
+            PlainNumber { refusal, value: 0 }
+        }
     }
 }
 
-pub fn plain_truth(t: Truth) -> PlainTruth
-    ensures { result ≡ plain_truth t }
+pub fn plain_truth(truth: Result<bool, Refusal>) -> PlainTruth
+    ensures { result ≡ plain_truth truth }
 {
-    match t {
-        Truth::Value(holds) => PlainTruth {
+    match truth {
+        Ok(holds) => PlainTruth {
             refusal: 0,
             value: holds as u64,
         },
-        Truth::Refused(refusal) => PlainTruth { refusal, value: 0 },
+        Err(refusal) => {
+            let refusal = refusal.number();
+            PlainTruth { refusal, value: 0 }
+        }
     }
 }
 
-pub fn plain_deltas(d: DeltasAnswer) -> PlainDeltas
-    ensures { result ≡ plain_deltas d }
+pub fn plain_deltas(deltas: Result<Deltas, Refusal>) -> PlainDeltas
+    ensures { result ≡ plain_deltas deltas }
 {
-    match d {
-        DeltasAnswer::Value(deltas) => PlainDeltas {
+    match deltas {
+        Ok(deltas) => PlainDeltas {
             refusal: 0,
             reward: deltas.reward,
             penalty: deltas.penalty,
         },
-        DeltasAnswer::Refused(refusal) => PlainDeltas {
-            refusal,
+        Err(refusal) => PlainDeltas {
+            refusal: refusal.number(),
             reward: 0,
             penalty: 0,
         },
     }
 }
 
-pub fn plain_total(t: TotalAnswer) -> PlainTotal
-    ensures { result ≡ plain_total t }
+pub fn plain_total(total: Result<Total, Refusal>) -> PlainTotal
+    ensures { result ≡ plain_total total }
 {
-    match t {
-        TotalAnswer::Value(total) => PlainTotal {
+    match total {
+        Ok(total) => PlainTotal {
             refusal: 0,
             balance: total.balance,
             raised: total.raised,
         },
-        TotalAnswer::Refused(refusal) => PlainTotal {
-            refusal,
+        Err(refusal) => PlainTotal {
+            refusal: refusal.number(),
             balance: 0,
             raised: 0,
         },
     }
 }
 
-// A lookup's number and the part of the roots that it found, which is empty where it is refused.
-pub fn plain_root(refusal: u64, part: &[u8]) -> PlainRoot
-    ensures { result ≡ root_given refusal part.now }
+pub fn plain_root(root: Result<[u8; 32], Refusal>) -> PlainRoot
+    ensures { result ≡ plain_root root }
 {
-    if part.len() != 32 {
-        return PlainRoot {
-            refusal,
+    match root {
+        Ok(root) => PlainRoot { refusal: 0, root },
+        Err(refusal) => PlainRoot {
+            refusal: refusal.number(),
             root: [0u8; 32],
-        };
+        },
     }
-    let root = root_copy(part);
-    PlainRoot { refusal, root }
+}
+
+pub fn plain_change(change: Result<i64, Refusal>) -> PlainChange
+    ensures { result ≡ plain_change change }
+{
+    match change {
+        Ok(value) => PlainChange { refusal: 0, value },
+        Err(refusal) => {
+            let refusal = refusal.number();
+            PlainChange { refusal, value: 0 }
+        }
+    }
 }

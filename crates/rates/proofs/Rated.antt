@@ -7,10 +7,9 @@ use lib.Dec.{eqb}
 use lib.ListN.{get_or}
 use Rattle.definitions.specs.declared.Settings.{Settings}
 use Rattle.definitions.specs.declared.Deltas.{Deltas}
-use Rattle.definitions.specs.declared.DeltasAnswer.{DeltasAnswer}
-use Rattle.definitions.specs.declared.DeltasAnswer.TheVariants.{Value as DeltasValue, Refused as DeltasRefused}
-use Rattle.definitions.specs.Answers.{SaysDeltas, deltas_answer_for}
-use Rattle.definitions.specs.Checked.{Checked, value, refused, overflow, bind, mul64}
+use Rattle.definitions.specs.Checked.{Checked, value, refused, bind, mul64}
+use Rattle.definitions.specs.declared.Refusal.{Refusal}
+use Rattle.definitions.specs.declared.Refusal.TheVariants.{Overflow}
 use Rattle.definitions.specs.Record.{Validator}
 use Rattle.definitions.specs.Updates.{with_score}
 use Rattle.definitions.specs.Document.Phase0.EpochProcessing.{is_eligible}
@@ -19,7 +18,6 @@ use Rattle.laws.proofs.Checked.{bound, value_same}
 use Rattle.arithmetic.proofs.Laws.{bind-value, bind-refused}
 use Rattle.rewards.specs.declared.Shared.{Shared}
 use Rattle.rewards.specs.Shared.{totals_of}
-use Rattle.rates.specs.declared.Amount.{Amount}
 use Rattle.rates.specs.declared.Rates.{Rates}
 use Rattle.rates.specs.Rated.{base_of, reward_of, penalty_of, Told, rates_of, Fits, by_flag, FlagBy, by_score}
 use Rattle.rates.proofs.Scored.{eligible-scored, hit_scored}
@@ -55,50 +53,44 @@ miss_penalty index weight base {d} e = e ∙ ap value (go (eqb index 2) e)
 -- An amount by the base reward m, and what follows from it
 
 module _ (m : Checked ℕ) (k : ℕ → Checked Deltas) (of : ℕ → Deltas) where
-  pub told-past : bind m k ≡ refused overflow → Told (bind m k) of (record { value = 0; over = 1 })
+  pub told-past : bind m k ≡ refused Overflow → Told (bind m k) of (record { value = 0; over = 1 })
   told-past e = record { fits = λ z. absurd (omega (arith, z)); past = λ _. e }
 
   pub told-fits : {base x : ℕ} → m ≡ value base → k base ≡ value (of x) → Told (bind m k) of (record { value = x; over = 0 })
   told-fits e h = record { fits = λ _. bind-value k e ∙ h; past = λ n. absurd (n refl) }
 
-  pub no-base : m ≡ refused overflow → bind m k ≡ refused overflow
-  no-base e = bind-refused k e
+  pub no-base : {p : Refusal} → ((q : Refusal) → m ≡ refused q → q ≡ Overflow) → m ≡ refused p → bind m k ≡ refused Overflow
+  no-base o e = bind-refused k (e ∙ ap refused (o _ e))
 
-  pub not_fits : {base : ℕ} → m ≡ value base → k base ≡ refused overflow → bind m k ≡ refused overflow
-  not_fits e h = bind-value k e ∙ h
+  pub not_fits : {base : ℕ} {p : Refusal} → ((q : Refusal) → k base ≡ refused q → q ≡ Overflow) → m ≡ value base → k base ≡ refused p → bind m k ≡ refused Overflow
+  not_fits o e h = bind-value k e ∙ h ∙ ap refused (o _ h)
 
 -- One flag, by what the code found of it
 
 module _ (eligible hit : Bool) (x y : Checked Deltas) where
-  pub not_eligible : not eligible ≡ true → SaysDeltas (by_flag eligible hit x y) (DeltasValue no_deltas)
+  pub not_eligible : not eligible ≡ true → value no_deltas ≡ by_flag eligible hit x y
   unfolding by_flag
   not_eligible e = go eligible e
     where
-      go : (b : Bool) → not b ≡ true → SaysDeltas (cond b (cond hit x y) (value no_deltas)) (DeltasValue no_deltas)
+      go : (b : Bool) → not b ≡ true → value no_deltas ≡ cond b (cond hit x y) (value no_deltas)
       go true e = absurd (true≢false (sym e))
-      go false e = record { is = refl }
+      go false e = refl
 
-  pub was_hit : not eligible ≡ false → hit ≡ true → {r : DeltasAnswer} → SaysDeltas x r → SaysDeltas (by_flag eligible hit x y) r
+  pub was_hit : not eligible ≡ false → hit ≡ true → {r : Checked Deltas} → r ≡ x → r ≡ by_flag eligible hit x y
   unfolding by_flag
   was_hit e i {r} h = rw i (go eligible e)
     where
-      go : (b : Bool) → not b ≡ false → SaysDeltas (cond b x (value no_deltas)) r
+      go : (b : Bool) → not b ≡ false → r ≡ cond b x (value no_deltas)
       go true e = h
       go false e = absurd (true≢false e)
 
-  pub was-missed : not eligible ≡ false → hit ≡ false → {r : DeltasAnswer} → SaysDeltas y r → SaysDeltas (by_flag eligible hit x y) r
+  pub was-missed : not eligible ≡ false → hit ≡ false → {r : Checked Deltas} → r ≡ y → r ≡ by_flag eligible hit x y
   unfolding by_flag
   was-missed e i {r} h = rw i (go eligible e)
     where
-      go : (b : Bool) → not b ≡ false → SaysDeltas (cond b y (value no_deltas)) r
+      go : (b : Bool) → not b ≡ false → r ≡ cond b y (value no_deltas)
       go true e = h
       go false e = absurd (true≢false e)
-
-pub says-amount : {m : Checked Deltas} {of : ℕ → Deltas} {a : Amount} → Told m of a → a.over ≡ 0 → SaysDeltas m (DeltasValue (of a.value))
-says-amount t z = record { is = ap deltas_answer_for (sym (t.fits z)) }
-
-pub says_past : {m : Checked Deltas} {of : ℕ → Deltas} {a : Amount} → Told m of a → (a.over ≡ 0 → ⊥) → SaysDeltas m (DeltasRefused 5)
-says_past t n = record { is = ap deltas_answer_for (sym (t.past n)) }
 
 -- as pairs_by takes them
 pub fits_each : {s : Settings} {h : Shared} {source target head : ℕ} {q : Rates} → Fits s h source target head q → Fits s h source target head (rates_of q.effective_balance q.source_reward q.source_penalty q.target_reward q.target_penalty q.head_reward q.head_penalty q.most_score)
@@ -130,15 +122,15 @@ module _ {s : Settings} {h : Shared} {source target head : ℕ} {q : Rates} (f :
       go true false = refl
       go false t = refl
 
-  pub source-says : {hit : Bool} → hit ≡ is_unslashed_participating h.current_epoch 0 h.previous_epoch v → {r : DeltasAnswer} → FlagBy eligible hit q.source_reward q.source_penalty r → SaysDeltas (flag_index_deltas s h.current_epoch h.previous_epoch 0 (totals_of h source) (with_score score v)) r
+  pub source-says : {hit : Bool} → hit ≡ is_unslashed_participating h.current_epoch 0 h.previous_epoch v → {r : Checked Deltas} → FlagBy eligible hit q.source_reward q.source_penalty r → r ≡ flag_index_deltas s h.current_epoch h.previous_epoch 0 (totals_of h source) (with_score score v)
   source-says i b = rw (flag_is 0 source i) (b.of _ _ f.source_hit f.source_miss)
 
-  pub target-says : {hit : Bool} → hit ≡ is_unslashed_participating h.current_epoch 1 h.previous_epoch v → {r : DeltasAnswer} → FlagBy eligible hit q.target_reward q.target_penalty r → SaysDeltas (flag_index_deltas s h.current_epoch h.previous_epoch 1 (totals_of h target) (with_score score v)) r
+  pub target-says : {hit : Bool} → hit ≡ is_unslashed_participating h.current_epoch 1 h.previous_epoch v → {r : Checked Deltas} → FlagBy eligible hit q.target_reward q.target_penalty r → r ≡ flag_index_deltas s h.current_epoch h.previous_epoch 1 (totals_of h target) (with_score score v)
   target-says i b = rw (flag_is 1 target i) (b.of _ _ f.target_hit f.target_miss)
 
-  pub head-says : {hit : Bool} → hit ≡ is_unslashed_participating h.current_epoch 2 h.previous_epoch v → {r : DeltasAnswer} → FlagBy eligible hit q.head_reward q.head_penalty r → SaysDeltas (flag_index_deltas s h.current_epoch h.previous_epoch 2 (totals_of h head) (with_score score v)) r
+  pub head-says : {hit : Bool} → hit ≡ is_unslashed_participating h.current_epoch 2 h.previous_epoch v → {r : Checked Deltas} → FlagBy eligible hit q.head_reward q.head_penalty r → r ≡ flag_index_deltas s h.current_epoch h.previous_epoch 2 (totals_of h head) (with_score score v)
   head-says i b = rw (flag_is 2 head i) (b.of _ _ f.head_hit f.head_miss)
 
-  pub penalty-says : (quotient : ℕ) {hit : Bool} → hit ≡ is_unslashed_participating h.current_epoch 1 h.previous_epoch v → {r : DeltasAnswer} → SaysDeltas (by_score s.inactivity_score_bias quotient eligible hit q.effective_balance score) r → SaysDeltas (inactivity_penalty_deltas s quotient h.current_epoch h.previous_epoch (with_score score v)) r
+  pub penalty-says : (quotient : ℕ) {hit : Bool} → hit ≡ is_unslashed_participating h.current_epoch 1 h.previous_epoch v → {r : Checked Deltas} → r ≡ by_score s.inactivity_score_bias quotient eligible hit q.effective_balance score → r ≡ inactivity_penalty_deltas s quotient h.current_epoch h.previous_epoch (with_score score v)
   unfolding inactivity_penalty_deltas by_score
   penalty-says quotient i k = rw (← eligible-scored _ score v e, ← hit_scored _ _ _ score v i, ← same) k

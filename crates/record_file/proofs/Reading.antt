@@ -6,9 +6,10 @@ use Prim.Native.Nat.{ℕ, ◌-◌, ◌*◌}
 use native.Mathlib.Omega.{arith}
 use borrow.Author.Tests.{eqb-true}
 use lib.ListN.{length, drop}
-use Rattle.definitions.specs.Checked.{Checked, value, refused, bind, code_of, settle}
+use Rattle.definitions.specs.Checked.{Checked, value, refused, bind, number_of, code_of}
 use Rattle.definitions_file.specs.File.{Contents, version_of, validators_at, numbers_from_bytes, slashings_at, count_of, root_count_of, slashing_count_of, file_length, contents_of, good_header, file_shaped, read_tests, read_file, nothing, read, no_header, header_read}
-use Rattle.refusals.proofs.Answers.{passed}
+use Rattle.definitions.specs.declared.Refusal.{Refusal}
+use Rattle.laws_file.proofs.Codes.{code-value}
 use Rattle.laws.proofs.Tests.{test}
 use Rattle.laws_file.proofs.Passed.{Passed, read-passed, good-header}
 use Rattle.definitions_file.specs.declared.Header.{Header}
@@ -33,11 +34,6 @@ unfolding bind
 code-bind (value u) a = refl
 code-bind (refused r) a = refl
 
-settle-refused : {A : Type 0} (m : Checked (Unit {0})) (a b : A) → (code_of m ≡ 0 → ⊥) → settle (bind m (λ _. value a)) b ≡ b
-unfolding bind
-settle-refused (value u) a b z = absurd (z refl)
-settle-refused (refused r) a b z = refl
-
 pub read-code : (bytes registry slashings : List ℕ) → (read bytes registry slashings).refusal ≡ code_of (read_tests bytes registry slashings)
 unfolding read read_file
 read-code bytes registry slashings = code-bind (read_tests bytes registry slashings) (contents_of bytes)
@@ -60,19 +56,16 @@ lengths {bytes} {registry} {slashings} p =
     let sizes = test _ p.shaped in
     record { header = p.header; file = (good-header bytes p.header).long; entries = eqb-true _ _ (sizes 5); sums = eqb-true _ _ (sizes 6) }
 
-module _ (bytes registry slashings : List ℕ) {x : ℕ} (e : x ≡ code_of (read_tests bytes registry slashings)) where
-  pub read-refused : (x ≡ 0 → ⊥) → Gives bytes registry slashings x (nothing registry slashings)
-  unfolding read read_file
-  read-refused z =
-      record {
-        number = e ∙ sym (read-code bytes registry slashings);
-        contents = settle-refused (read_tests bytes registry slashings) (contents_of bytes) (nothing registry slashings) (λ c. z (e ∙ c));
-      }
+pub read-refused : (bytes registry slashings : List ℕ) {p : Refusal} {k : ℕ} → read_tests bytes registry slashings ≡ refused p → k ≡ number_of p → Gives bytes registry slashings k (nothing registry slashings)
+unfolding read read_file bind
+read-refused bytes registry slashings m n = record { number = rw (m, n); contents = rw m }
 
+-- `x` is the number that is answered
+module _ (bytes registry slashings : List ℕ) {x : ℕ} (e : x ≡ code_of (read_tests bytes registry slashings)) where
   module _ (z : x ≡ 0) where
     found : read_file bytes registry slashings ≡ value (contents_of bytes)
     unfolding read_file bind
-    found = rw (passed (read_tests bytes registry slashings) e z)
+    found = rw (code-value (read_tests bytes registry slashings) tt (sym e ∙ z))
 
     pub read-accepted : Gives bytes registry slashings 0 (contents_of bytes)
     unfolding read

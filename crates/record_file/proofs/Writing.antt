@@ -1,5 +1,5 @@
 -- What a refused write leaves, and how long the part before the validators is.
-use mathlib.Core.Path.{◌≡◌, refl, ◌∙◌}
+use mathlib.Core.Path.{◌≡◌}
 use mathlib.Core.List.{List, ◌++◌}
 use Prim.Native.Nat.{ℕ}
 use native.Mathlib.Omega.{arith}
@@ -7,21 +7,18 @@ use lib.ListN.{length, length-append}
 use Rattle.definitions.specs.declared.Settings.{Settings}
 use Rattle.definitions.specs.declared.Finality.{Finality}
 use Rattle.definitions.specs.declared.ExitQueue.{ExitQueue}
-use Rattle.definitions.specs.Checked.{Checked, value, refused, bind, code_of, settle}
+use Rattle.definitions.specs.Checked.{refused, bind}
+use Rattle.definitions.specs.declared.Refusal.{Refusal}
 use Rattle.definitions.specs.Refusals.{settings_numbers}
-use Rattle.definitions_file.specs.File.{Contents, header, numbers_to_bytes, finality_to_bytes, queue_to_bytes, file_of, write_tests, written}
+use Rattle.definitions_file.specs.File.{Contents, header, numbers_to_bytes, finality_to_bytes, queue_to_bytes, write_tests, written}
 use Rattle.laws_file.proofs.Numbers.{length_to_bytes}
 use Rattle.fields.proofs.Bytes.{length-finality, length-queue}
 use Rattle.record_file.specs.Sized.{head_of}
 
 -- a refused write leaves the file
-pub write_refused : (c : Contents) (q : ExitQueue) (file : List ℕ) {x : ℕ} → x ≡ code_of (write_tests c q file) → (x ≡ 0 → ⊥) → file ≡ written c q file
-unfolding written
-write_refused c q file e z = go (write_tests c q file) (λ k. z (e ∙ k))
-  where
-    go : (m : Checked (Unit {0})) → (code_of m ≡ 0 → ⊥) → file ≡ settle (bind m (λ _. value (file_of c q))) file
-    go (value u) k = absurd (k refl)
-    go (refused r) k = unfold bind in refl
+pub write_refused : (c : Contents) (q : ExitQueue) (file : List ℕ) {p : Refusal} → write_tests c q file ≡ refused p → file ≡ written c q file
+unfolding written bind
+write_refused c q file m = rw m
 
 -- The part before the validators
 

@@ -3,12 +3,11 @@
 
 ghost use Rattle.std.specs.Prelude.{◌≡◌, true, [], length};
 ghost use Rattle.std.proofs.lemmas.List.Edits.{sets};
-ghost use Rattle.definitions.specs.Checked.{code_of};
 ghost use Rattle.definitions.specs.Refusals.{settings_from};
 ghost use Rattle.definitions_file.specs.File.{validators_at, file_length, version_of, no_finality, good_header, contents_of, read, file_of, write_tests, written, no_header, header_read, contents_with};
 ghost use Rattle.record_file.specs.Sized.{Sized, head_of};
 
-use definitions::{Checkpoint, ExitQueue, Finality, Settings};
+use definitions::{Checkpoint, ExitQueue, Finality, Refusal, Settings};
 use definitions_file::{FINALITY_AT, Header, QUEUE_AT, ReadAnswer, SETTINGS_AT, VALIDATORS_AT};
 use fields::settings_from;
 
@@ -18,7 +17,7 @@ fn no_header() -> Header
     ensures { result ≡ no_header }
 {
     Header {
-        refusal: 6,
+        refusal: Refusal::BadFile.number(),
         validators: 0,
         roots: 0,
         slashings: 0,
@@ -84,9 +83,9 @@ pub fn read_file(bytes: &[u8], registry: &mut [u64], slashings: &mut [u64]) -> R
 {
     let tested = file_refusals::read_tests(bytes, &registry[..], &slashings[..]);
     let queue = tested.queue;
-    if tested.refusal != 0 {
+    if let Err(refusal) = tested.tested {
         return ReadAnswer {
-            refusal: tested.refusal,
+            refusal: refusal.number(),
             position: tested.position,
             settings: no_settings(),
             finality: no_finality(),
@@ -175,14 +174,13 @@ pub fn write_file(
     roots: &[u8],
     slashings: &[u64],
     file: &mut [u8],
-) -> u64
+) -> Result<(), Refusal>
     ensures value { result
-        ≡ code_of
-        (write_tests (contents_with settings finality registry.now roots.now slashings.now) queue file.old) }
+        ≡ write_tests (contents_with settings finality registry.now roots.now slashings.now) queue file.old }
     ensures file_after { file.new
         ≡ written (contents_with settings finality registry.now roots.now slashings.now) queue file.old }
 {
-    let refusal = file_refusals::write_tests(
+    file_refusals::write_tests(
         settings,
         finality,
         queue,
@@ -190,10 +188,7 @@ pub fn write_file(
         roots,
         slashings,
         &file[..],
-    );
-    if refusal != 0 {
-        return refusal;
-    }
+    )?;
     put_record(settings, finality, queue, registry, roots, slashings, file);
-    0
+    Ok(())
 }

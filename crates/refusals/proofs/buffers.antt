@@ -1,4 +1,3 @@
 -- From tests and work to what a closing buffer holds.
 pub mod Closes
 pub mod Chained
-mod Clearing

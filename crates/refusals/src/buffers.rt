@@ -1,32 +1,14 @@
 // A buffer that a call is lent to write into.
-ghost use Rattle.std.specs.Prelude.{◌≡◌, cond, eqb, length, replicate};
+ghost use Rattle.std.specs.Prelude.{◌≡◌, is_ok, cond, length};
 
-pub fn copy(from: &[u64], to: &mut [u64])
-    requires { length to.old ≡ length from.now }
-    ensures { to.new ≡ from.now }
-{
-    let n = from.len();
-    for i in 0..n {
-        to[i] = from[i];
-    }
-}
+use definitions::Refusal;
 
 // The opening again, where what was done on its copy was refused.
-pub fn put_back(done: u64, opening: &[u64], closing: &mut [u64])
+pub fn put_back(done: Result<(), Refusal>, opening: &[u64], closing: &mut [u64])
     requires { length closing.old ≡ length opening.now }
-    ensures { closing.new ≡ cond (eqb done 0) closing.old opening.now }
+    ensures { closing.new ≡ cond (is_ok done) closing.old opening.now }
 {
-    if done != 0 {
-        copy(opening, closing);
-    }
-}
-
-// All zeros.
-pub fn clear(list: &mut [u64])
-    ensures { list.new ≡ replicate (length list.old) 0 }
-{
-    let long = list.len();
-    for i in 0..long {
-        list[i] = 0;
+    if done.is_err() {
+        closing.copy_from_slice(opening);
     }
 }

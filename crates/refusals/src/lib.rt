@@ -4,21 +4,20 @@
 ghost use Rattle.std.specs.Prelude.{◌≡◌, not, ◌*◌, eqb, ltb, length};
 ghost use Rattle.definitions.specs.Lists.{all, every};
 ghost use Rattle.definitions.specs.Record.{decode_one};
-ghost use Rattle.definitions.specs.Checked.{code_of};
 ghost use Rattle.definitions.specs.Refusals.{in_order, is_small, is_vector_length, settings_shaped, settings_numbers, good_settings, good_finality, registry_shaped, good_validator, good_registry};
 
 pub mod buffers;
 pub mod rules;
 
 use definitions::{
-    CURRENT_EPOCH_PARTICIPATION, Finality, PREVIOUS_EPOCH_PARTICIPATION, SLASHED, Settings,
+    CURRENT_EPOCH_PARTICIPATION, Finality, PREVIOUS_EPOCH_PARTICIPATION, Refusal, SLASHED, Settings,
 };
 
 pub fn all_pass(tests: &[bool]) -> bool
     ensures { result ≡ every tests.now }
 {
-    for i in 0..tests.len() {
-        if !tests[i] {
+    for &test in tests {
+        if !test {
             return false;
         }
     }
@@ -26,19 +25,19 @@ pub fn all_pass(tests: &[bool]) -> bool
 }
 
 // 0, or the number of the first test that failed: those under 1, then those under 2, then 3.
-pub fn in_order(shaped: &[bool], settings: &[bool], recorded: &[bool]) -> u64
-    ensures { result ≡ code_of (in_order shaped.now settings.now recorded.now) }
+pub fn in_order(shaped: &[bool], settings: &[bool], recorded: &[bool]) -> Result<(), Refusal>
+    ensures { result ≡ in_order shaped.now settings.now recorded.now }
 {
     if !all_pass(shaped) {
-        return 1;
+        return Err(Refusal::BadShape);
     }
     if !all_pass(settings) {
-        return 2;
+        return Err(Refusal::BadSettings);
     }
     if !all_pass(recorded) {
-        return 3;
+        return Err(Refusal::BadRecord);
     }
-    0
+    Ok(())
 }
 
 // Slots, epochs and settings stay below 2^48.
@@ -80,8 +79,8 @@ pub fn registry_shaped(registry: &[u64]) -> bool
 fn none_zero(numbers: &[u64]) -> bool
     ensures { result ≡ all (λ n. not (eqb n 0)) numbers.now }
 {
-    for i in 0..numbers.len() {
-        if numbers[i] == 0 {
+    for &n in numbers {
+        if n == 0 {
             return false;
         }
     }
@@ -91,8 +90,8 @@ fn none_zero(numbers: &[u64]) -> bool
 pub fn all_below(numbers: &[u64], bound: u64) -> bool
     ensures { result ≡ all (λ n. ltb n bound) numbers.now }
 {
-    for i in 0..numbers.len() {
-        if bound <= numbers[i] {
+    for &n in numbers {
+        if bound <= n {
             return false;
         }
     }
@@ -176,11 +175,8 @@ pub fn good_entry(entry: &[u64]) -> bool
 pub fn good_registry(registry: &[u64]) -> bool
     ensures { result ≡ good_registry registry.now }
 {
-    let n = registry.len() / 10;
-    for i in 0..n {
-        let a = 10 * i;
-        let b = a + 10;
-        if !good_entry(&registry[a..b]) {
+    for entry in registry.as_chunks::<10>().0 {
+        if !good_entry(entry) {
             return false;
         }
     }

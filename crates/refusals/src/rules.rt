@@ -1,12 +1,13 @@
 // Rules: the tests that fork, pair and limit of activations add to those of the settings, and the settings that the steps go by.
-ghost use Rattle.std.specs.Prelude.{◌≡◌};
+ghost use Rattle.std.specs.Prelude.{◌≡◌, eqb};
+ghost use Rattle.definitions.specs.Checked.{code_of};
 ghost use Rattle.definitions.specs.Rules.{settings_under, good_bellatrix, altair_rules};
 ghost use Rattle.definitions.specs.Lists.{every};
 ghost use Rattle.definitions.specs.Close.{good_limit};
 ghost use Rattle.refusals.specs.Refusal.{rules_refusal, limit_refusal};
 
 use crate::{all_pass, is_small};
-use definitions::{ActivationLimit, Bellatrix, Rules, Settings};
+use definitions::{ActivationLimit, Bellatrix, Refusal, Rules, Settings};
 
 fn good_bellatrix(b: Bellatrix) -> bool
     ensures { result ≡ good_bellatrix b }
@@ -16,23 +17,30 @@ fn good_bellatrix(b: Bellatrix) -> bool
     all_pass(&[quotient != 0, is_small(quotient), is_small(multiplier)])
 }
 
-// The refusal of a call's tests, 0 for none, once those by the settings have answered: a fork over 1 is 1, and the pair of fork 1, and of no
+// Test 1 comes before what rules add under 2.
+fn misshapen(tested: Result<(), Refusal>) -> bool
+    ensures { result ≡ eqb (code_of tested) 1 }
+{
+    matches!(tested, Err(Refusal::BadShape))
+}
+
+// The answer of a call's tests once those by the settings have answered: a fork over 1 is 1, and the pair of fork 1, and of no
 // other, is tested with 2.
-pub fn rules_refusal(rules: Rules, by_settings: u64) -> u64
+pub fn rules_refusal(rules: Rules, by_settings: Result<(), Refusal>) -> Result<(), Refusal>
     ensures { result ≡ rules_refusal rules by_settings }
 {
     let fork = rules.fork;
     if 1 < fork {
-        return 1;
+        return Err(Refusal::BadShape);
     }
-    if by_settings == 1 {
-        return 1;
+    if misshapen(by_settings) {
+        return by_settings;
     }
     if fork == 0 {
         return by_settings;
     }
     if !good_bellatrix(rules.bellatrix) {
-        return 2;
+        return Err(Refusal::BadSettings);
     }
     by_settings
 }
@@ -47,14 +55,14 @@ fn good_limit(limit: ActivationLimit) -> bool
 }
 
 // The same once those by the rules have answered: Deneb's number is tested with 2.
-pub fn limit_refusal(limit: ActivationLimit, by_rules: u64) -> u64
+pub fn limit_refusal(limit: ActivationLimit, by_rules: Result<(), Refusal>) -> Result<(), Refusal>
     ensures { result ≡ limit_refusal limit by_rules }
 {
-    if by_rules == 1 {
-        return 1;
+    if misshapen(by_rules) {
+        return by_rules;
     }
     if !good_limit(limit) {
-        return 2;
+        return Err(Refusal::BadSettings);
     }
     by_rules
 }

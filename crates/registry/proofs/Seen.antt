@@ -12,7 +12,8 @@ use Rattle.definitions.specs.declared.Settings.{Settings}
 use Rattle.definitions.specs.Lists.{range}
 use Rattle.definitions.specs.Record.{Validator, encode, decode, nobody}
 use Rattle.definitions.specs.Updates.{with_exit}
-use Rattle.definitions.specs.Checked.{value, fold_checked}
+use Rattle.definitions.specs.Checked.{Checked, value, refused, fold_checked}
+use Rattle.definitions.specs.declared.Refusal.{Refusal}
 use Rattle.definitions.specs.Document.Phase0.Helpers.{is_eligible_for_activation}
 use Rattle.definitions.specs.Document.Phase0.EpochProcessing.{queue_eligible, is_ejected}
 use Rattle.laws.proofs.Checked.{bound, value_same}
@@ -105,12 +106,12 @@ module _ (s : Settings) (epoch least churn f : ℕ) (vs : List Validator) {ws : 
   }
 
 -- The code's ways through the turns and the activation, once the loop has left ys and answered r
-module _ (stop : ℕ) (s : Settings) (epoch limit most f : ℕ) (xs : List ℕ) {ys : List ℕ} {r : ℕ} (h : Ran (fold_checked (update_at s epoch (least_exit s epoch) limit) (decode xs) (range 0 (length (decode xs)))) ys r) where
-  pub updates-stop : {zs : List ℕ} → (r ≡ 0 → ⊥) → Ran (updates_by stop s epoch limit most f (decode xs)) zs r
+module _ (stop : ℕ) (s : Settings) (epoch limit most f : ℕ) (xs : List ℕ) {ys : List ℕ} {r : Checked (Unit {0})} (h : Ran (fold_checked (update_at s epoch (least_exit s epoch) limit) (decode xs) (range 0 (length (decode xs)))) ys r) where
+  pub updates-stop : {zs : List ℕ} {p : Refusal} → r ≡ refused p → Ran (updates_by stop s epoch limit most f (decode xs)) zs (refused p)
   unfolding updates_by
   updates-stop z = ran-stop h _ z
 
-  pub updates-end : {zs : List ℕ} {bound quota : ℕ} → r ≡ 0 → CutAt most f (eligible_now s epoch (decode xs)) bound quota → zs ≡ encode (admitted (least_exit s epoch) f bound quota stop (decode ys)) → Ran (updates_by stop s epoch limit most f (decode xs)) zs 0
+  pub updates-end : {zs : List ℕ} {bound quota : ℕ} → r ≡ value tt → CutAt most f (eligible_now s epoch (decode xs)) bound quota → zs ≡ encode (admitted (least_exit s epoch) f bound quota stop (decode ys)) → Ran (updates_by stop s epoch limit most f (decode xs)) zs (value tt)
   unfolding updates_by activated
   updates-end {zs} {bound} {quota} z c e =
       let cut = cut-cuts (cut-turned s epoch (least_exit s epoch) limit f (decode xs) (ran-gave h z) c) in

@@ -11,7 +11,8 @@ use Rattle.definitions.specs.declared.Settings.{Settings}
 use Rattle.definitions.specs.Lists.{range}
 use Rattle.definitions.specs.Record.{Validator, FAR_FUTURE_EPOCH, decode_one, encode_one, decode, nobody}
 use Rattle.definitions.specs.Updates.{with_eligibility}
-use Rattle.definitions.specs.Checked.{Checked, value, bind, code_of, settle, fold_checked}
+use Rattle.definitions.specs.Checked.{Checked, value, refused, bind, done, settle, fold_checked}
+use Rattle.definitions.specs.declared.Refusal.{Refusal}
 use Rattle.definitions.specs.Document.Phase0.Helpers.{is_eligible_for_activation_queue}
 use Rattle.definitions.specs.Document.Phase0.EpochProcessing.{queue_eligible, is_ejected}
 use Rattle.laws.proofs.Checked.{value_same}
@@ -21,7 +22,6 @@ use Rattle.laws.proofs.Loops.Entry.{entry_at, put_at, entry-ten}
 use Rattle.laws.proofs.Loops.Iterated.{Iterated, iterated-none, iterated-more, iterated-stop, iterated-all}
 use Rattle.exit_queue.specs.Exits.{exit_at}
 use Rattle.definitions.specs.declared.ExitQueue.{ExitQueue}
-use Rattle.exit_queue.specs.declared.Turn.{Turn}
 use Rattle.exit_queue.specs.Queue.{Tracks, exit_by, moved}
 use Rattle.exit_queue.specs.Turns.{Exits, Turns}
 use Rattle.exit_queue.proofs.Tracks.{tracks-kept, tracks-few}
@@ -58,23 +58,28 @@ module _ (s : Settings) (epoch limit : ℕ) (q : ExitQueue) where
     unfolding turn_by
     exits z = rw (ejected z)
 
-    pub turn-stays : b ≡ false → Turns (turn_by s epoch limit q) q before e (record { refusal = 0; queue = q })
+    -- the pair moves the same from one who has become eligible
+    moved-eligible : (m : Checked Validator) (v : Validator) → bind m (λ w. value (moved q (eligible v) w)) ≡ bind m (λ w. value (moved q v w))
+    unfolding bind
+    moved-eligible (value w) v = ap value (moved-from q (eligible v) v w (eligible-exit s epoch v))
+    moved-eligible (refused p) v = refl
+
+    pub turn-stays : b ≡ false → Turns (turn_by s epoch limit q) q before e (value q)
+    unfolding bind
     turn-stays z =
         let v = decode_one before in
         record {
-          code = ap code_of (sym (stays z));
+          is = rw (stays z) (ap value (sym (moved_none q v (eligible v) (eligible-exit s epoch v))));
           held = λ w g. h ∙ ap encode_one (value_same (sym (stays z) ∙ g));
-          queue = λ w g. sym (moved_none q v w (ap (λ (u : Validator). u.exit_epoch) (sym (value_same (sym (stays z) ∙ g))) ∙ eligible-exit s epoch v));
         }
 
-    pub turn-exits : b ≡ true → {after : List ℕ} {r : Turn} → Exits (exit_by limit delay q) q e after r → Turns (turn_by s epoch limit q) q before after r
+    pub turn-exits : b ≡ true → {after : List ℕ} {r : Checked ExitQueue} → Exits (exit_by limit delay q) q e after r → Turns (turn_by s epoch limit q) q before after r
     turn-exits z {after} {r} x =
         let v = decode_one before in
         let y : Exits (exit_by limit delay q) q (encode_one (eligible v)) after r = rw h at x in
         record {
-          code = y.settles.code ∙ ap code_of (sym (exits z));
-          held = λ w g. y.settles.held ∙ ap (λ (m : Checked Validator). encode_one (settle m (eligible v))) (sym (exits z) ∙ g);
-          queue = λ w g. y.queue ∙ ap (λ (m : Checked Validator). moved q (eligible v) (settle m (eligible v))) (sym (exits z) ∙ g) ∙ moved-from q (eligible v) v w (eligible-exit s epoch v);
+          is = y.is ∙ moved-eligible (exit_by limit delay q (eligible v)) v ∙ sym (ap (λ (m : Checked Validator). bind m (λ w. value (moved q v w))) (exits z));
+          held = λ w g. y.held ∙ ap (λ (m : Checked Validator). encode_one (settle m (eligible v))) (sym (exits z) ∙ g);
         }
 
   pub turn-keeps : (v w : Validator) → turn_by s epoch limit q v ≡ value w → (v.exit_epoch ≡ FAR_FUTURE_EPOCH → ⊥) → w.exit_epoch ≡ v.exit_epoch
@@ -111,7 +116,7 @@ module _ {s : Settings} {epoch least limit n : ℕ} {xs₀ : List ℕ} {i : ℕ}
   pub updating_few : q.number ≤ n
   updating_few = let f = tracks-few g.tracked in omega (arith, length-decode n xs g.iterated.long)
 
-  pub updating_all : n ≤ i → Ran (fold_checked (update_at s epoch least limit) (decode xs₀) (range 0 (length (decode xs₀)))) xs 0
+  pub updating_all : n ≤ i → Ran (fold_checked (update_at s epoch least limit) (decode xs₀) (range 0 (length (decode xs₀)))) xs (value tt)
   updating_all l = iterated-all g.iterated l
 
   module _ (l : i < n) where
@@ -119,18 +124,18 @@ module _ {s : Settings} {epoch least limit n : ℕ} {xs₀ : List ℕ} {i : ℕ}
     updating_ten = entry-ten n xs i g.iterated.long l
 
     -- the part came back as e, and the answer is r
-    module _ {e : List ℕ} {r : Turn} (h : Turns (turn_by s epoch limit q) q (entry_at xs i) e r) where
-      ran : Ran (update_at s epoch least limit (decode xs) i) (put_at xs i e) r.refusal
+    module _ {e : List ℕ} {r : Checked ExitQueue} (h : Turns (turn_by s epoch limit q) q (entry_at xs i) e r) where
+      ran : Ran (update_at s epoch least limit (decode xs) i) (put_at xs i e) (done r)
       ran =
           rw (turn-tracked s epoch limit q g.tracked i (omega (arith, length-decode n xs g.iterated.long)))
           (turn-ran (turn_by s epoch limit q) n xs i g.iterated.long l h)
 
-      pub updating_more : r.refusal ≡ 0 → length (put_at xs i e) ≡ length xs → Updating s epoch least limit n xs₀ (i + 1) (put_at xs i e) r.queue
+      pub updating_more : {p : ExitQueue} → r ≡ value p → length (put_at xs i e) ≡ length xs → Updating s epoch least limit n xs₀ (i + 1) (put_at xs i e) p
       updating_more z k =
           record {
-            iterated = iterated-more g.iterated l ran z k;
+            iterated = iterated-more g.iterated l ran (ap done z) k;
             tracked = turn-tracks (turn_by s epoch limit q) n xs i g.iterated.long l h g.tracked (turn-keeps s epoch limit q (get_or (decode xs) i nobody)) z;
           }
 
-      pub updating_stop : {zs : List ℕ} → (r.refusal ≡ 0 → ⊥) → Ran (fold_checked (update_at s epoch least limit) (decode xs₀) (range 0 (length (decode xs₀)))) zs r.refusal
-      updating_stop z = iterated-stop g.iterated l ran z
+      pub updating_stop : {zs : List ℕ} {p : Refusal} → r ≡ refused p → Ran (fold_checked (update_at s epoch least limit) (decode xs₀) (range 0 (length (decode xs₀)))) zs (refused p)
+      updating_stop z = iterated-stop g.iterated l ran (ap done z)

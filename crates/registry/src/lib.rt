@@ -9,9 +9,9 @@ ghost use Rattle.registry.specs.Updates.{turn_by};
 
 pub mod activation;
 
-use definitions::{ACTIVATION_ELIGIBILITY_EPOCH, EFFECTIVE_BALANCE, ExitQueue, Settings};
+use definitions::{ACTIVATION_ELIGIBILITY_EPOCH, EFFECTIVE_BALANCE, ExitQueue, Refusal, Settings};
 use entries::{entry_is_active, entry_is_eligible_for_activation_queue};
-use exit_queue::{Turn, exit_entry};
+use exit_queue::exit_entry;
 
 fn entry_queue_eligible(s: Settings, epoch: u64, entry: &mut [u64])
     requires { (length entry.old ≡ 10) × (epoch < 2 ^ 48) }
@@ -33,23 +33,20 @@ fn entry_is_ejected(s: Settings, epoch: u64, entry: &[u64]) -> bool
     entry[EFFECTIVE_BALANCE] <= s.ejection_balance
 }
 
-// One validator's turn. An ejection takes its epoch from the exit queue's pair.
+// One validator's turn: the exit queue's pair afterwards. An ejection takes its epoch from it.
 pub fn update_entry(
     s: Settings,
     epoch: u64,
     limit: u64,
     queue: ExitQueue,
     entry: &mut [u64],
-) -> Turn
+) -> Result<ExitQueue, Refusal>
     requires { (length entry.old ≡ 10) × (epoch < 2 ^ 48) × (queue.number < 18446744073709551615) }
     ensures { Turns (turn_by s epoch limit queue) queue entry.old entry.new result }
 {
     entry_queue_eligible(s, epoch, entry);
     if !entry_is_ejected(s, epoch, &entry[..]) {
-        return Turn {
-            refusal: 0,
-            queue: queue,
-        };
+        return Ok(queue);
     }
     let delay = s.min_validator_withdrawability_delay;
     exit_entry(entry, queue, limit, delay)

@@ -1,7 +1,6 @@
 -- The definition's eight steps as the code groups them: justification, six over the registry, the slashings' reset.
 use mathlib.Core.Path.{◌≡◌, refl}
 use mathlib.Core.List.{List, [], ◌∷◌}
-use Prim.Native.Nat.{ℕ}
 use Rattle.definitions.specs.declared.Settings.{Settings}
 use Rattle.definitions.specs.declared.ActivationLimit.{ActivationLimit}
 use Rattle.definitions.specs.declared.Finality.{Finality}
@@ -11,7 +10,7 @@ use Rattle.definitions.specs.Checked.{Checked, value, refused, bind, fold_checke
 use Rattle.definitions.specs.Rust.Phase0.EpochProcessing.{reset_slashings}
 use Rattle.definitions.specs.Rust.Altair.EpochProcessing.{process_justification_and_finalization, process_participation_flag_updates}
 use Rattle.definitions.specs.Close.{inactivity_step, rewards_step, registry_step, slashings_step, effective_balances_step, slashings_reset_step, participation_flags_step, limited_step, on_validators, finalized_epoch_of, limited_up_to, limited_epoch}
-use Rattle.refusals.proofs.Answers.{Refused}
+use Rattle.definitions.specs.declared.Refusal.{Refusal}
 use Rattle.write_steps.specs.RegistrySteps.{registry_steps}
 
 -- a step over the registry, and then another
@@ -41,9 +40,9 @@ registry-steps by s st =
 
 module _ (by : ActivationLimit) (s : Settings) (st : BeaconState) where
   -- where justification is refused
-  pub justification-refused : {q : ℕ} → Refused (process_justification_and_finalization s st.block_roots st.finality st.validators) q → Refused (limited_epoch by s st) q
+  pub justification-refused : {p : Refusal} → process_justification_and_finalization s st.block_roots st.finality st.validators ≡ refused p → limited_epoch by s st ≡ refused p
   unfolding limited_epoch limited_up_to fold_checked limited_step bind
-  justification-refused p = record { why = p.why; is = rw p.is; number = p.number }
+  justification-refused h = rw h
 
   -- where it gave f
   pub eight-steps : {f : Finality} → process_justification_and_finalization s st.block_roots st.finality st.validators ≡ value f → limited_epoch by s st ≡ bind (registry_steps by s f.slot f.finalized_checkpoint.epoch st.slashings st.validators) (λ vs. value (with_validators vs (reset s (with_finality f st))))

@@ -4,11 +4,11 @@ use Rattle.definitions.specs.declared.Settings.{Settings}
 use Rattle.definitions.specs.declared.ActivationLimit.{ActivationLimit}
 use Rattle.definitions.specs.declared.ActivationLimit.TheVariants.{Churn}
 use Rattle.definitions.specs.declared.Finality.{Finality}
-use Rattle.definitions.specs.declared.TotalAnswer.{TotalAnswer}
-use Rattle.definitions.specs.declared.TotalAnswer.TheVariants.{Value, Refused}
+use Rattle.definitions.specs.declared.Total.{Total}
+use Rattle.definitions.specs.declared.Refusal.TheVariants.{Overflow}
 use Rattle.definitions.specs.declared.CloseAnswer.{CloseAnswer}
 use Rattle.definitions.specs.Record.{BeaconState, encode, decode}
-use Rattle.definitions.specs.Checked.{value, code_of, settle}
+use Rattle.definitions.specs.Checked.{Checked, value, refused, code_of, settle}
 use Rattle.definitions.specs.Raised.{raised_totals, raised_unless_refused}
 use Rattle.definitions.specs.Refusals.{good_finality}
 use Rattle.definitions.specs.LeafRefusals.{weigh_tests}
@@ -21,14 +21,14 @@ state_now f registry slashings roots =
     record { finality = f; validators = decode registry; slashings = slashings; block_roots = roots }
 
 -- a total, from the survey's sum and whether it has left 64 bits
-unfoldable pub total_of : ℕ → ℕ → ℕ → TotalAnswer
-total_of increment sum over = cond (eqb over 0) (Value (total_from increment sum)) (Refused 5)
+unfoldable pub total_of : ℕ → ℕ → ℕ → Checked Total
+total_of increment sum over = cond (eqb over 0) (value (total_from increment sum)) (refused Overflow)
 
 -- What the tests say of the opening, of registry xs, slashings ys and roots zs, and the steps rely on
 pub record Tested (s : Settings) (f : Finality) (xs ys zs : List ℕ) : Type 0 where
   pub settings : Passed s f.slot
   pub finality : good_finality f ≡ true
-  pub weighs : code_of (weigh_tests s zs f) ≡ 0
+  pub weighs : weigh_tests s zs f ≡ value tt
   pub registry : length xs ≡ 10 * (length xs / 10)
   pub slashings : length ys ≡ s.epochs_per_slashings_vector
 

@@ -9,7 +9,7 @@ use Rattle.definitions.specs.declared.ActivationLimit.TheVariants.{Churn}
 use Rattle.definitions.specs.declared.ExitQueue.{ExitQueue}
 use Rattle.definitions.specs.declared.QueueAnswer.{QueueAnswer}
 use Rattle.definitions.specs.Record.{Validator, decode}
-use Rattle.definitions.specs.Checked.{Checked, value, refused, bind, code_of}
+use Rattle.definitions.specs.Checked.{Checked, value, refused, bind}
 use Rattle.definitions.specs.Refusals.{after_tests, closing_buffer, registry_tests}
 use Rattle.definitions.specs.RegisterOrder.{registry_updates_to}
 use Rattle.definitions.specs.Rust.Phase0.EpochProcessing.{process_registry_updates}
@@ -31,8 +31,8 @@ module _ (s : Settings) (state_slot finalized_epoch : ℕ) (queue : ExitQueue) (
 
   whole : registry_queue_tests s state_slot finalized_epoch queue opening closing ≡ value tt → registry_updates_to n s state_slot finalized_epoch (decode opening) ≡ process_registry_updates s state_slot finalized_epoch (decode opening)
   whole t =
-      let q = queue-passed (registry_tests s state_slot finalized_epoch opening closing) queue opening {x = 0} (ap code_of (sym t)) refl in
-      let p = registry-passed s state_slot finalized_epoch opening closing (ap code_of (sym q.before)) refl in
+      let q = queue-passed (registry_tests s state_slot finalized_epoch opening closing) queue opening refl t in
+      let p = registry-passed s state_slot finalized_epoch opening closing refl q.before in
       ap (λ (k : ℕ). registry_updates_to k s state_slot finalized_epoch (decode opening)) (sym (length-decode n opening p.opened.shape.long))
       ∙ (stopped Churn s state_slot finalized_epoch (decode opening)).whole
 

@@ -7,7 +7,7 @@
 ghost use Rattle.std.specs.Prelude.{◌≡◌, true, ◌*◌, ◌/◌, ◌^◌, ◌≤◌, ◌<◌, length};
 ghost use Rattle.definitions.specs.Lists.{range};
 ghost use Rattle.definitions.specs.Record.{decode};
-ghost use Rattle.definitions.specs.Checked.{value, fold_checked, code_of};
+ghost use Rattle.definitions.specs.Checked.{value, fold_checked};
 ghost use Rattle.definitions.specs.Refusals.{good_settings};
 ghost use Rattle.definitions.specs.RegisterOrder.{registry_updates_to, limited_updates_to};
 ghost use Rattle.definitions.specs.ExitQueue.{queue_of};
@@ -22,10 +22,10 @@ ghost use Rattle.survey.specs.Found.{Finds};
 ghost use Rattle.registry_step.specs.First.{first_tests};
 ghost use Rattle.registry_step.specs.Cut.{UpdatesUnder};
 
-use definitions::{ActivationLimit, ExitQueue, FAR_FUTURE_EPOCH, QueueAnswer, Settings};
+use definitions::{ActivationLimit, ExitQueue, FAR_FUTURE_EPOCH, QueueAnswer, Refusal, Settings};
 use epochs::{current_epoch, previous_epoch};
 use exit_queue::{queue_of, start_pair};
-use refusals::buffers::copy;
+use refusals::buffers::put_back;
 use refusals::{good_settings, in_order, is_small, registry_shaped, settings_shaped};
 use registry::activation::admit_below;
 use registry::update_entry;
@@ -42,7 +42,7 @@ fn update_all(
     first: ExitQueue,
     registry: &mut [u64],
     n: usize,
-) -> u64
+) -> Result<(), Refusal>
     requires { (length registry.old ≡ 10 * n) × (epoch < 2 ^ 48) × Tracks (least_exit s epoch) (decode registry.old) first }
     ensures { Ran
         (fold_checked (update_at s epoch (least_exit s epoch) limit) (decode registry.old) (range 0 (length (decode registry.old))))
@@ -52,14 +52,9 @@ fn update_all(
     for i in 0..n {
         let a = 10 * i;
         let b = a + 10;
-        let turn = update_entry(s, epoch, limit, queue, &mut registry[a..b]);
-        let refusal = turn.refusal;
-        if refusal != 0 {
-            return refusal;
-        }
-        queue = turn.queue;
+        queue = update_entry(s, epoch, limit, queue, &mut registry[a..b])?;
     }
-    0
+    Ok(())
 }
 
 // By the numbers that were found: the churn limit, the exit queue's pair and the cut of the activation queue. The stop is activation's alone.
@@ -72,7 +67,7 @@ pub fn update_by(
     cut: Cut,
     finalized_epoch: u64,
     registry: &mut [u64],
-) -> u64
+) -> Result<(), Refusal>
     requires registry_len { (length registry.old ≡ 10 * (length registry.old / 10)) × (epoch < 2 ^ 48) × (s.max_seed_lookahead < 2 ^ 48) }
     requires stop_in_bounds { stop ≤ length registry.old / 10 }
     requires tracks { Tracks (least_exit s epoch) (decode registry.old) queue }
@@ -80,10 +75,7 @@ pub fn update_by(
 {
     let n = registry.len() / 10;
     let least = epoch + 1 + s.max_seed_lookahead;
-    let refusal = update_all(s, epoch, limit, queue, registry, n);
-    if refusal != 0 {
-        return refusal;
-    }
+    update_all(s, epoch, limit, queue, registry, n)?;
     admit_below(
         registry,
         n,
@@ -93,7 +85,7 @@ pub fn update_by(
         cut.quota,
         least,
     );
-    0
+    Ok(())
 }
 
 // On the closing registry, a copy of the opening one, from what the survey found. Ejections keep the churn limit.
@@ -108,7 +100,7 @@ fn update_registry(
     opening: &[u64],
     kept: &[u64],
     closing: &mut [u64],
-) -> u64
+) -> Result<(), Refusal>
     requires s_value { good_settings s ≡ true }
     requires state_slot_bound { (state_slot < 2 ^ 48) × (finalized_epoch < 2 ^ 48) }
     requires opening_len { (length opening.now ≡ 10 * (length opening.now / 10)) × (closing.old ≡ opening.now) }
@@ -148,7 +140,7 @@ fn run_step(
     ensures { QueueCloses (value tt) (limited_updates_to limit stop s state_slot finalized_epoch (decode opening.now)) queue opening.now
         closing.old closing.new result }
 {
-    copy(opening, closing);
+    closing.copy_from_slice(opening);
     let done = update_registry(
         limit,
         stop,
@@ -161,10 +153,10 @@ fn run_step(
         kept,
         closing,
     );
-    if done != 0 {
-        copy(opening, closing);
+    put_back(done, opening, closing);
+    if let Err(refusal) = done {
         return QueueAnswer {
-            refusal: done,
+            refusal: refusal.number(),
             queue: queue,
         };
     }
@@ -183,8 +175,8 @@ pub fn step_tests(
     finalized_epoch: u64,
     opening: &[u64],
     closing: &[u64],
-) -> u64
-    ensures { result ≡ code_of (first_tests stop s state_slot finalized_epoch opening.now closing.now) }
+) -> Result<(), Refusal>
+    ensures { result ≡ first_tests stop s state_slot finalized_epoch opening.now closing.now }
 {
     in_order(
         &[
@@ -210,7 +202,7 @@ pub fn step_surveyed(
     kept: &mut [u64],
     closing: &mut [u64],
 ) -> QueueAnswer
-    requires closing_value { code_of (first_tests stop s state_slot finalized_epoch opening.now closing.old) ≡ 0 }
+    requires closing_value { first_tests stop s state_slot finalized_epoch opening.now closing.old ≡ value tt }
     requires kept_len { (length kept.old ≡ 64) × Blank kept.old }
     ensures { QueueCloses
         (registry_to_queue_tests stop s state_slot finalized_epoch queue opening.now closing.old)
@@ -221,10 +213,9 @@ pub fn step_surveyed(
     let previous = previous_epoch(s, state_slot);
     let found = survey_registry(s, epoch, previous, opening, kept);
     let pair = found.queue;
-    let refusal = found_refusal(found.refusal, queue, pair);
-    if refusal != 0 {
+    if let Err(refusal) = found_refusal(found.tested, queue, pair) {
         return QueueAnswer {
-            refusal: refusal,
+            refusal: refusal.number(),
             queue: queue,
         };
     }
@@ -257,10 +248,9 @@ pub fn process_registry_updates_to(
         (registry_updates_to stop s state_slot finalized_epoch (decode opening.now))
         queue opening.now closing.old closing.new result }
 {
-    let refusal = step_tests(stop, s, state_slot, finalized_epoch, opening, &closing[..]);
-    if refusal != 0 {
+    if let Err(refusal) = step_tests(stop, s, state_slot, finalized_epoch, opening, &closing[..]) {
         return QueueAnswer {
-            refusal: refusal,
+            refusal: refusal.number(),
             queue: queue,
         };
     }

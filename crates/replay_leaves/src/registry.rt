@@ -1,4 +1,5 @@
 // Leaves 17 to 23: totals and counts of a registry, and what changes one.
+use definitions::code;
 use vectors::{Case, copy_lent, lent, lent_agrees, number, number_agrees, settings, total_agrees};
 
 // Places in an entry. The withdrawable epoch follows the exit epoch.
@@ -36,13 +37,13 @@ fn charged(c: Case, words: &[u64]) -> bool {
 // What changes is lent a copy.
 
 fn increase_balance(c: Case, words: &[u64], copy: &mut [u64]) -> bool {
-    let refusal = balances::increase_balance(copy, number(c, words, 0));
-    lent_agrees(refusal, c, words, &copy[..], BALANCE)
+    let answer = balances::increase_balance(copy, number(c, words, 0));
+    lent_agrees(code(answer), c, words, &copy[..], BALANCE)
 }
 
 fn decrease_balance(c: Case, words: &[u64], copy: &mut [u64]) -> bool {
-    let refusal = balances::decrease_balance(copy, number(c, words, 0));
-    lent_agrees(refusal, c, words, &copy[..], BALANCE)
+    let answer = balances::decrease_balance(copy, number(c, words, 0));
+    lent_agrees(code(answer), c, words, &copy[..], BALANCE)
 }
 
 fn exit_place(index: u64, n: usize) -> usize {

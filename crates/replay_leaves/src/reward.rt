@@ -1,5 +1,4 @@
 // Leaves 24 to 29: rewards and penalties, finality, the square root.
-use definitions::Number;
 use refusals::rules::altair_rules;
 use vectors::{
     Case, deltas_agree, finality, finality_agrees, lent, number, number_agrees, roots, settings,
@@ -61,7 +60,7 @@ fn weigh_justification_and_finalization(c: Case, words: &[u64], bytes: &[u8]) ->
 
 fn integer_sqrt(c: Case, words: &[u64]) -> bool {
     let answer = arithmetic::integer_sqrt(number(c, words, 0));
-    number_agrees(Number::Value(answer), c, words)
+    number_agrees(Ok(answer), c, words)
 }
 
 pub fn agrees(c: Case, words: &[u64], bytes: &[u8]) -> bool {

@@ -48,9 +48,8 @@ fn get_block_root_at_slot(c: Case, words: &[u64], bytes: &[u8]) -> bool {
     let state_slot = number(c, words, 0);
     let slot = number(c, words, 1);
     let given = roots(c, bytes);
-    let refusal = epochs::roots::get_block_root_at_slot_refusal(s, given, state_slot, slot);
-    let root = epochs::roots::get_block_root_at_slot(s, given, state_slot, slot);
-    root_agrees(refusal, root, c, bytes)
+    let answer = epochs::roots::get_block_root_at_slot(s, given, state_slot, slot);
+    root_agrees(answer, c, bytes)
 }
 
 fn get_block_root(c: Case, words: &[u64], bytes: &[u8]) -> bool {
@@ -58,9 +57,8 @@ fn get_block_root(c: Case, words: &[u64], bytes: &[u8]) -> bool {
     let state_slot = number(c, words, 0);
     let epoch = number(c, words, 1);
     let given = roots(c, bytes);
-    let refusal = epochs::roots::get_block_root_refusal(s, given, state_slot, epoch);
-    let root = epochs::roots::get_block_root(s, given, state_slot, epoch);
-    root_agrees(refusal, root, c, bytes)
+    let answer = epochs::roots::get_block_root(s, given, state_slot, epoch);
+    root_agrees(answer, c, bytes)
 }
 
 pub fn agrees(c: Case, words: &[u64], bytes: &[u8]) -> bool {

@@ -1,5 +1,5 @@
 // The eight steps, each alone, and the close, on what is lent of the file's parts.
-use definitions::{CloseAnswer, Settings};
+use definitions::{CloseAnswer, Settings, code};
 use refusals::rules::altair_rules;
 use vectors::records::{
     Outcome, Record, finality, finality_place, finalized_epoch, in_finality, registry, roots,
@@ -61,30 +61,34 @@ fn on_registry(
     closing: &mut [u64],
 ) -> u64 {
     match operation {
-        2 => participation::inactivity::process_inactivity_updates(
+        2 => code(participation::inactivity::process_inactivity_updates(
             s,
             slot,
             finalized_epoch,
             opening,
             closing,
-        ),
-        3 => rewards_step::process_rewards_and_penalties(
+        )),
+        3 => code(rewards_step::process_rewards_and_penalties(
             altair_rules(s),
             slot,
             finalized_epoch,
             opening,
             closing,
-        ),
+        )),
         4 => process_registry_updates(s, slot, finalized_epoch, opening, closing),
-        5 => slashings::process_slashings(altair_rules(s), slot, slashings, opening, closing),
-        6 => balances::effective_balances::process_effective_balance_updates(s, opening, closing),
-        _ => participation::participation_flags::process_participation_flag_updates(
-            opening, closing,
+        5 => code(slashings::process_slashings(altair_rules(s), slot, slashings, opening, closing)),
+        6 => code(
+            balances::effective_balances::process_effective_balance_updates(s, opening, closing),
+        ),
+        _ => code(
+            participation::participation_flags::process_participation_flag_updates(
+                opening, closing,
+            ),
         ),
     }
 }
 
-// The refusal of a step that is lent the closing registry.
+// The refusal's number, of a step that is lent the closing registry.
 pub fn step_on_registry(operation: u64, r: Record, words: &[u64], closing: &mut [u64]) -> u64 {
     let file = r.file;
     on_registry(
@@ -98,12 +102,12 @@ pub fn step_on_registry(operation: u64, r: Record, words: &[u64], closing: &mut 
     )
 }
 
-// The refusal.
+// The refusal's number.
 pub fn process_slashings_reset(r: Record, words: &[u64], closing: &mut [u64]) -> u64 {
     let file = r.file;
     let opening = slashings(file, words, r.slashings_words);
     let s = settings(file, words);
-    slashings::process_slashings_reset(s, slot(file, words), opening, closing)
+    code(slashings::process_slashings_reset(s, slot(file, words), opening, closing))
 }
 
 // Which part of what comes back differs.

@@ -1,4 +1,3 @@
--- The base reward's refusals, its tests, and an answer after tests.
-pub mod After
+-- The base reward's refusals, and its tests.
 pub mod Base
 pub mod Tests

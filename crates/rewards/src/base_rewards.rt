@@ -2,55 +2,54 @@
 // record already and carry the reward of an increment as an answer: it may have left 64 bits and be wanted by nobody.
 ghost use Rattle.std.specs.Prelude.{◌≡◌, ◌<◌, length};
 ghost use Rattle.definitions.specs.Record.{decode_one};
-ghost use Rattle.definitions.specs.Checked.{code_of};
-ghost use Rattle.definitions.specs.Answers.{Says};
 ghost use Rattle.definitions.specs.Refusals.{after_tests};
 ghost use Rattle.definitions.specs.LeafRefusals.{total_tests, total_entry_tests};
 ghost use Rattle.definitions.specs.Rust.Altair.Helpers.{get_base_reward_per_increment, get_base_reward};
 
 use arithmetic::{integer_sqrt, mul64};
-use definitions::{EFFECTIVE_BALANCE, Number, Settings};
+use definitions::{EFFECTIVE_BALANCE, Refusal, Settings};
 use leaf_refusals::settings_entry_tests;
 use refusals::{good_entry, good_settings, in_order, settings_shaped};
 
-pub fn base_reward_per_increment(s: Settings, total: u64) -> Number
+pub fn base_reward_per_increment(s: Settings, total: u64) -> Result<u64, Refusal>
     requires { 0 < total }
-    ensures { Says (get_base_reward_per_increment s total) result }
+    ensures { result ≡ get_base_reward_per_increment s total }
 {
-    let Number::Value(product) = mul64(s.effective_balance_increment, s.base_reward_factor) else {
-        return Number::Refused(5);
-    };
+    let product = mul64(s.effective_balance_increment, s.base_reward_factor)?;
     let root = integer_sqrt(total);
     let reward = product / root;
-    Number::Value(reward)
+    Ok(reward)
 }
 
-pub fn entry_base_reward(s: Settings, total: u64, per_increment: Number, entry: &[u64]) -> Number
+pub fn entry_base_reward(
+    s: Settings,
+    total: u64,
+    per_increment: Result<u64, Refusal>,
+    entry: &[u64],
+) -> Result<u64, Refusal>
     requires effective_balance_increment_nonzero { 0 < s.effective_balance_increment }
     requires len { length entry.now ≡ 10 }
-    requires says { Says (get_base_reward_per_increment s total) per_increment }
-    ensures { Says (get_base_reward s total (decode_one entry.now)) result }
+    requires says { per_increment ≡ get_base_reward_per_increment s total }
+    ensures { result ≡ get_base_reward s total (decode_one entry.now) }
 {
-    let Number::Value(reward) = per_increment else {
-        return Number::Refused(5);
-    };
+    let reward = per_increment?;
     mul64(
         entry[EFFECTIVE_BALANCE] / s.effective_balance_increment,
         reward,
     )
 }
 
-fn total_tests(s: Settings, total: u64) -> u64
-    ensures { result ≡ code_of (total_tests s total) }
+fn total_tests(s: Settings, total: u64) -> Result<(), Refusal>
+    ensures { result ≡ total_tests s total }
 {
     in_order(&[settings_shaped(s), total != 0], &[good_settings(s)], &[])
 }
 
-fn total_entry_tests(s: Settings, total: u64, entry: &[u64]) -> u64
-    ensures { result ≡ code_of (total_entry_tests s total entry.now) }
+fn total_entry_tests(s: Settings, total: u64, entry: &[u64]) -> Result<(), Refusal>
+    ensures { result ≡ total_entry_tests s total entry.now }
 {
     if entry.len() != 10 {
-        return 1;
+        return Err(Refusal::BadShape);
     }
     in_order(
         &[settings_shaped(s), total != 0],
@@ -59,23 +58,17 @@ fn total_entry_tests(s: Settings, total: u64, entry: &[u64]) -> u64
     )
 }
 
-pub fn get_base_reward_per_increment(s: Settings, total: u64) -> Number
-    ensures { Says (after_tests (total_tests s total) (get_base_reward_per_increment s total)) result }
+pub fn get_base_reward_per_increment(s: Settings, total: u64) -> Result<u64, Refusal>
+    ensures { result ≡ after_tests (total_tests s total) (get_base_reward_per_increment s total) }
 {
-    let refusal = total_tests(s, total);
-    if refusal != 0 {
-        return Number::Refused(refusal);
-    }
+    total_tests(s, total)?;
     base_reward_per_increment(s, total)
 }
 
-pub fn get_base_reward(s: Settings, total: u64, entry: &[u64]) -> Number
-    ensures { Says (after_tests (total_entry_tests s total entry.now) (get_base_reward s total (decode_one entry.now))) result }
+pub fn get_base_reward(s: Settings, total: u64, entry: &[u64]) -> Result<u64, Refusal>
+    ensures { result ≡ after_tests (total_entry_tests s total entry.now) (get_base_reward s total (decode_one entry.now)) }
 {
-    let refusal = total_entry_tests(s, total, entry);
-    if refusal != 0 {
-        return Number::Refused(refusal);
-    }
+    total_entry_tests(s, total, entry)?;
     let per_increment = base_reward_per_increment(s, total);
     entry_base_reward(s, total, per_increment, entry)
 }

@@ -4,8 +4,7 @@
 
 ghost use Rattle.std.specs.Prelude.{◌≡◌, ◌≤◌, ◌<◌, length, get_or};
 ghost use Rattle.definitions.specs.Record.{decode_one};
-ghost use Rattle.definitions.specs.Checked.{code_of, mul64};
-ghost use Rattle.definitions.specs.Answers.{Says, SaysDeltas};
+ghost use Rattle.definitions.specs.Checked.{mul64};
 ghost use Rattle.definitions.specs.Refusals.{after_tests};
 ghost use Rattle.definitions.specs.Rules.{settings_under, inactivity_penalty_tests};
 ghost use Rattle.definitions.specs.Rust.Altair.Helpers.{PARTICIPATION_FLAG_WEIGHTS, get_base_reward, hit_deltas, miss_deltas, flag_index_deltas, inactivity_penalty_deltas, get_inactivity_penalty_deltas};
@@ -15,9 +14,7 @@ pub mod base_rewards;
 
 use crate::base_rewards::base_reward_per_increment;
 use arithmetic::mul64;
-use definitions::{
-    Deltas, DeltasAnswer, EFFECTIVE_BALANCE, INACTIVITY_SCORE, Number, Rules, Settings,
-};
+use definitions::{Deltas, EFFECTIVE_BALANCE, INACTIVITY_SCORE, Refusal, Rules, Settings};
 use entries::{entry_is_eligible, entry_is_participating};
 use epochs::{current_epoch, previous_epoch};
 use leaf_refusals::slot_entry_tests;
@@ -31,8 +28,8 @@ pub struct Shared {
     pub previous_epoch: u64,
     pub total: u64,
     pub leaking: bool,
-    pub per_increment: Number,
-    pub denominator: Number,
+    pub per_increment: Result<u64, Refusal>,
+    pub denominator: Result<u64, Refusal>,
 }
 
 pub fn shared_numbers(
@@ -58,55 +55,53 @@ pub fn shared_numbers(
 }
 
 // For a hit: nothing in a leak.
-pub fn hit_deltas(s: Settings, h: Shared, weight: u64, increments: u64, base: u64) -> DeltasAnswer
+pub fn hit_deltas(
+    s: Settings,
+    h: Shared,
+    weight: u64,
+    increments: u64,
+    base: u64,
+) -> Result<Deltas, Refusal>
     requires { SharedBy s h }
-    ensures { SaysDeltas (hit_deltas s weight (totals_of h increments) base) result }
+    ensures { result ≡ hit_deltas s weight (totals_of h increments) base }
 {
     if h.leaking {
         let none = Deltas {
             reward: 0,
             penalty: 0,
         };
-        return DeltasAnswer::Value(none);
+        return Ok(none);
     }
-    let Number::Value(weighted) = mul64(base, weight) else {
-        return DeltasAnswer::Refused(5);
-    };
-    let Number::Value(numerator) = mul64(weighted, increments) else {
-        return DeltasAnswer::Refused(5);
-    };
+    let weighted = mul64(base, weight)?;
+    let numerator = mul64(weighted, increments)?;
     let product = h.denominator;
-    let Number::Value(denominator) = product else {
-        return DeltasAnswer::Refused(5);
-    };
+    let denominator = product?;
     let reward = numerator / denominator;
     let deltas = Deltas {
         reward: reward,
         penalty: 0,
     };
-    DeltasAnswer::Value(deltas)
+    Ok(deltas)
 }
 
 // For a miss: nothing for the head.
-pub fn miss_deltas(flag_index: u64, weight: u64, base: u64) -> DeltasAnswer
-    ensures { SaysDeltas (miss_deltas flag_index weight base) result }
+pub fn miss_deltas(flag_index: u64, weight: u64, base: u64) -> Result<Deltas, Refusal>
+    ensures { result ≡ miss_deltas flag_index weight base }
 {
     if flag_index == 2 {
         let none = Deltas {
             reward: 0,
             penalty: 0,
         };
-        return DeltasAnswer::Value(none);
+        return Ok(none);
     }
-    let Number::Value(weighted) = mul64(base, weight) else {
-        return DeltasAnswer::Refused(5);
-    };
+    let weighted = mul64(base, weight)?;
     let penalty = weighted / 64;
     let deltas = Deltas {
         reward: 0,
         penalty: penalty,
     };
-    DeltasAnswer::Value(deltas)
+    Ok(deltas)
 }
 
 fn flag_weight(flag_index: u64) -> u64
@@ -125,25 +120,23 @@ pub fn flag_deltas(
     h: Shared,
     flag_index: u64,
     increments: u64,
-    base: Number,
+    base: Result<u64, Refusal>,
     entry: &[u64],
-) -> DeltasAnswer
+) -> Result<Deltas, Refusal>
     requires shared_by { SharedBy s h }
     requires flag_index_bound { flag_index ≤ 2 }
     requires len { length entry.now ≡ 10 }
-    requires says { Says (get_base_reward s h.total (decode_one entry.now)) base }
-    ensures { SaysDeltas (flag_index_deltas s h.current_epoch h.previous_epoch flag_index (totals_of h increments) (decode_one entry.now)) result }
+    requires says { base ≡ get_base_reward s h.total (decode_one entry.now) }
+    ensures { result ≡ flag_index_deltas s h.current_epoch h.previous_epoch flag_index (totals_of h increments) (decode_one entry.now) }
 {
     if !entry_is_eligible(h.previous_epoch, entry) {
         let none = Deltas {
             reward: 0,
             penalty: 0,
         };
-        return DeltasAnswer::Value(none);
+        return Ok(none);
     }
-    let Number::Value(reward) = base else {
-        return DeltasAnswer::Refused(5);
-    };
+    let reward = base?;
     let weight = flag_weight(flag_index);
     if entry_is_participating(h.current_epoch, flag_index, h.previous_epoch, entry) {
         return hit_deltas(s, h, weight, increments, reward);
@@ -157,59 +150,56 @@ pub fn penalty_deltas(
     quotient: u64,
     current_epoch: u64,
     previous_epoch: u64,
-    product: Number,
+    product: Result<u64, Refusal>,
     entry: &[u64],
-) -> DeltasAnswer
+) -> Result<Deltas, Refusal>
     requires inactivity_score_bias_nonzero { 0 < s.inactivity_score_bias }
     requires quotient_nonzero { 0 < quotient }
     requires len { length entry.now ≡ 10 }
-    requires says { Says (mul64 s.inactivity_score_bias quotient) product }
-    ensures { SaysDeltas (inactivity_penalty_deltas s quotient current_epoch previous_epoch (decode_one entry.now)) result }
+    requires says { product ≡ mul64 s.inactivity_score_bias quotient }
+    ensures { result ≡ inactivity_penalty_deltas s quotient current_epoch previous_epoch (decode_one entry.now) }
 {
     if !entry_is_eligible(previous_epoch, entry) {
         let none = Deltas {
             reward: 0,
             penalty: 0,
         };
-        return DeltasAnswer::Value(none);
+        return Ok(none);
     }
     if entry_is_participating(current_epoch, 1, previous_epoch, entry) {
         let none = Deltas {
             reward: 0,
             penalty: 0,
         };
-        return DeltasAnswer::Value(none);
+        return Ok(none);
     }
-    let Number::Value(numerator) = mul64(entry[EFFECTIVE_BALANCE], entry[INACTIVITY_SCORE]) else {
-        return DeltasAnswer::Refused(5);
-    };
-    let Number::Value(denominator) = product else {
-        return DeltasAnswer::Refused(5);
-    };
+    let numerator = mul64(entry[EFFECTIVE_BALANCE], entry[INACTIVITY_SCORE])?;
+    let denominator = product?;
     let penalty = numerator / denominator;
     let deltas = Deltas {
         reward: 0,
         penalty: penalty,
     };
-    DeltasAnswer::Value(deltas)
+    Ok(deltas)
 }
 
-fn penalty_tests(rules: Rules, state_slot: u64, entry: &[u64]) -> u64
-    ensures { result ≡ code_of (inactivity_penalty_tests rules state_slot entry.now) }
+fn penalty_tests(rules: Rules, state_slot: u64, entry: &[u64]) -> Result<(), Refusal>
+    ensures { result ≡ inactivity_penalty_tests rules state_slot entry.now }
 {
     let by_settings = slot_entry_tests(rules.settings, state_slot, entry);
     rules_refusal(rules, by_settings)
 }
 
-pub fn get_inactivity_penalty_deltas(rules: Rules, state_slot: u64, entry: &[u64]) -> DeltasAnswer
-    ensures { SaysDeltas (after_tests (inactivity_penalty_tests rules state_slot entry.now)
+pub fn get_inactivity_penalty_deltas(
+    rules: Rules,
+    state_slot: u64,
+    entry: &[u64],
+) -> Result<Deltas, Refusal>
+    ensures { result ≡ after_tests (inactivity_penalty_tests rules state_slot entry.now)
         (get_inactivity_penalty_deltas (settings_under rules) (settings_under rules).inactivity_penalty_quotient_altair state_slot
-        (decode_one entry.now))) result }
+        (decode_one entry.now)) }
 {
-    let refusal = penalty_tests(rules, state_slot, entry);
-    if refusal != 0 {
-        return DeltasAnswer::Refused(refusal);
-    }
+    penalty_tests(rules, state_slot, entry)?;
     let s = settings_under(rules);
     let current = current_epoch(s, state_slot);
     let previous = previous_epoch(s, state_slot);

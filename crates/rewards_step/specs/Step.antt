@@ -1,29 +1,15 @@
 -- What the step works out before its loop, and what is left of get_flag_index_deltas once a part of its numbers is.
 use Rattle.std.specs.Prelude.{List, ℕ}
 use Rattle.definitions.specs.declared.Deltas.{Deltas}
-use Rattle.definitions.specs.declared.Number.{Number}
-use Rattle.definitions.specs.declared.Number.TheVariants.{Value as NumberValue, Refused as NumberRefused}
 use Rattle.definitions.specs.declared.Settings.{Settings}
-use Rattle.definitions.specs.declared.Truth.{Truth}
-use Rattle.definitions.specs.declared.Truth.TheVariants.{Value as TruthValue, Refused as TruthRefused}
-use Rattle.definitions.specs.Answers.{Answers}
-use Rattle.definitions.specs.Checked.{Checked, value, refused, number_of, bind}
+use Rattle.definitions.specs.Checked.{Checked, value, bind}
 use Rattle.definitions.specs.Lists.{filter}
 use Rattle.definitions.specs.Record.{Validator}
 use Rattle.definitions.specs.Rust.Phase0.EpochProcessing.{is_in_inactivity_leak}
 use Rattle.definitions.specs.Rust.Phase0.Helpers.{get_active_validator_indices, get_total_balance}
 use Rattle.definitions.specs.Rust.Altair.Helpers.{is_unslashed_participating, flag_index_deltas}
 use Rattle.rewards_step.specs.declared.StepTotals.{StepTotals}
-use Rattle.rewards_step.specs.declared.TotalsAnswer.{TotalsAnswer}
-use Rattle.rewards_step.specs.declared.TotalsAnswer.TheVariants.{Value, Refused}
 use Rattle.rewards_step.specs.Totals.{flag_totals_of}
-
-abbrev pub totals_for : Checked StepTotals → TotalsAnswer
-totals_for (value t) = Value t
-totals_for (refused r) = Refused (number_of r)
-
-abbrev pub SaysTotals : Checked StepTotals → TotalsAnswer → Type 0
-SaysTotals m r = Answers totals_for m r
 
 -- the numbers that all validators share
 unfoldable pub step_totals : Settings → (state_slot finalized_epoch current previous : ℕ) → List Validator → Checked StepTotals
@@ -34,16 +20,6 @@ step_totals s state_slot finalized_epoch current previous vs =
     bind (get_total_balance s (filter (is_unslashed_participating current 1 previous) vs)) (λ target.
     bind (get_total_balance s (filter (is_unslashed_participating current 2 previous) vs)) (λ head.
     value (record { source = source; target = target; head = head; total = total; leaking = leaking }))))))
-
--- five answers as one
-unfoldable pub totals_by : Number → Number → Truth → Number → Number → TotalsAnswer
-totals_by (NumberValue a) (NumberValue b) (TruthValue c) (NumberValue d) (NumberValue e) =
-    Value (record { source = a; target = d; head = e; total = b; leaking = c })
-totals_by (NumberValue a) (NumberValue b) (TruthValue c) (NumberValue d) (NumberRefused q) = Refused 5
-totals_by (NumberValue a) (NumberValue b) (TruthValue c) (NumberRefused q) head = Refused 5
-totals_by (NumberValue a) (NumberValue b) (TruthRefused q) target head = Refused 5
-totals_by (NumberValue a) (NumberRefused q) leaking target head = Refused 5
-totals_by (NumberRefused q) total leaking target head = Refused 5
 
 -- of get_flag_index_deltas, once the participants' balance is known
 abbrev pub flag_deltas_from : Settings → ℕ → ℕ → List Validator → (current previous flag_index participating : ℕ) → Validator → Checked Deltas

@@ -1,15 +1,13 @@
 // get_flag_index_deltas, of one validator of the registry.
 ghost use Rattle.std.specs.Prelude.{◌≡◌, true, ◌*◌, ◌/◌, ◌≤◌, ◌<◌, length, get_or};
 ghost use Rattle.definitions.specs.Record.{decode_one, decode, nobody};
-ghost use Rattle.definitions.specs.Checked.{code_of};
-ghost use Rattle.definitions.specs.Answers.{SaysDeltas};
 ghost use Rattle.definitions.specs.Refusals.{after_tests, good_settings};
 ghost use Rattle.definitions.specs.LeafRefusals.{flag_deltas_tests};
 ghost use Rattle.definitions.specs.Rust.Altair.Helpers.{flag_index_deltas, get_flag_index_deltas};
 ghost use Rattle.rewards_step.specs.Totals.{flag_totals_of};
 ghost use Rattle.rewards_step.specs.Step.{flag_deltas_from};
 
-use definitions::{DeltasAnswer, Number, Settings, Truth};
+use definitions::{Deltas, Refusal, Settings};
 use epochs::{current_epoch, previous_epoch};
 use finality::inactivity_leak;
 use refusals::{
@@ -29,14 +27,13 @@ fn entry_flag_deltas(
     total: u64,
     leaking: bool,
     entry: &[u64],
-) -> DeltasAnswer
+) -> Result<Deltas, Refusal>
     requires effective_balance_increment_nonzero { 0 < s.effective_balance_increment }
     requires effective_balance_increment_bound { s.effective_balance_increment ≤ total }
     requires flag_index_bound { flag_index ≤ 2 }
     requires len { length entry.now ≡ 10 }
-    ensures { SaysDeltas
-        (flag_index_deltas s current_epoch previous_epoch flag_index (flag_totals_of s participating total leaking) (decode_one entry.now))
-        result }
+    ensures { result ≡
+        flag_index_deltas s current_epoch previous_epoch flag_index (flag_totals_of s participating total leaking) (decode_one entry.now) }
 {
     let shared = shared_numbers(s, current_epoch, previous_epoch, total, leaking);
     let per_increment = shared.per_increment;
@@ -52,8 +49,8 @@ fn flag_deltas_tests(
     flag_index: u64,
     index: usize,
     registry: &[u64],
-) -> u64
-    ensures { result ≡ code_of (flag_deltas_tests s state_slot finalized_epoch flag_index index registry.now) }
+) -> Result<(), Refusal>
+    ensures { result ≡ flag_deltas_tests s state_slot finalized_epoch flag_index index registry.now }
 {
     in_order(
         &[
@@ -82,19 +79,15 @@ fn flag_deltas_from(
     participating: u64,
     index: usize,
     registry: &[u64],
-) -> DeltasAnswer
+) -> Result<Deltas, Refusal>
     requires s_value { good_settings s ≡ true }
     requires flag_index_bound { (flag_index ≤ 2) × (index < length registry.now / 10) }
     requires registry_len { length registry.now ≡ 10 * (length registry.now / 10) }
-    ensures { SaysDeltas (flag_deltas_from s state_slot finalized_epoch (decode registry.now) current previous flag_index participating
-        (get_or (decode registry.now) index nobody)) result }
+    ensures { result ≡ flag_deltas_from s state_slot finalized_epoch (decode registry.now) current previous flag_index participating
+        (get_or (decode registry.now) index nobody) }
 {
-    let Number::Value(total) = total_active(s, current, registry) else {
-        return DeltasAnswer::Refused(5);
-    };
-    let Truth::Value(leaking) = inactivity_leak(s, state_slot, finalized_epoch) else {
-        return DeltasAnswer::Refused(5);
-    };
+    let total = total_active(s, current, registry)?;
+    let leaking = inactivity_leak(s, state_slot, finalized_epoch)?;
     let a = 10 * index;
     let b = a + 10;
     entry_flag_deltas(
@@ -117,21 +110,16 @@ fn tested_flag_deltas(
     flag_index: u64,
     index: usize,
     registry: &[u64],
-) -> DeltasAnswer
+) -> Result<Deltas, Refusal>
     requires s_value { good_settings s ≡ true }
     requires flag_index_bound { (flag_index ≤ 2) × (index < length registry.now / 10) }
     requires registry_len { length registry.now ≡ 10 * (length registry.now / 10) }
-    ensures { SaysDeltas
-        (get_flag_index_deltas s state_slot finalized_epoch (decode registry.now) flag_index
-        (get_or (decode registry.now) index nobody)) result }
+    ensures { result ≡ get_flag_index_deltas s state_slot finalized_epoch (decode registry.now) flag_index
+        (get_or (decode registry.now) index nobody) }
 {
     let current = current_epoch(s, state_slot);
     let previous = previous_epoch(s, state_slot);
-    let Number::Value(participating) = total_participating(
-        s, current, flag_index, previous, registry,
-    ) else {
-        return DeltasAnswer::Refused(5);
-    };
+    let participating = total_participating(s, current, flag_index, previous, registry)?;
     flag_deltas_from(
         s,
         state_slot,
@@ -152,14 +140,11 @@ pub fn get_flag_index_deltas(
     flag_index: u64,
     index: usize,
     registry: &[u64],
-) -> DeltasAnswer
-    ensures { SaysDeltas (after_tests (flag_deltas_tests s state_slot finalized_epoch flag_index index registry.now)
+) -> Result<Deltas, Refusal>
+    ensures { result ≡ after_tests (flag_deltas_tests s state_slot finalized_epoch flag_index index registry.now)
         (get_flag_index_deltas s state_slot finalized_epoch (decode registry.now) flag_index
-        (get_or (decode registry.now) index nobody))) result }
+        (get_or (decode registry.now) index nobody)) }
 {
-    let refusal = flag_deltas_tests(s, state_slot, finalized_epoch, flag_index, index, registry);
-    if refusal != 0 {
-        return DeltasAnswer::Refused(refusal);
-    }
+    flag_deltas_tests(s, state_slot, finalized_epoch, flag_index, index, registry)?;
     tested_flag_deltas(s, state_slot, finalized_epoch, flag_index, index, registry)
 }

@@ -4,7 +4,6 @@
 ghost use Rattle.std.specs.Prelude.{◌≡◌, true, ◌*◌, ◌/◌, ◌≤◌, ◌<◌, length};
 ghost use Rattle.definitions.specs.Record.{decode, encode};
 ghost use Rattle.definitions.specs.Checked.{code_of, mul64, map_checked};
-ghost use Rattle.definitions.specs.Answers.{Says};
 ghost use Rattle.definitions.specs.Refusals.{good_settings};
 ghost use Rattle.definitions.specs.Rules.{settings_under, rewards_tests};
 ghost use Rattle.definitions.specs.Rust.Altair.EpochProcessing.{reward_and_penalize, process_rewards_and_penalties};
@@ -12,17 +11,18 @@ ghost use Rattle.laws.specs.Ran.{Ran};
 ghost use Rattle.definitions.specs.Closes.{Closes};
 ghost use Rattle.rewards.specs.Shared.{SharedBy, totals_of};
 ghost use Rattle.rewards_step.specs.Totals.{source_totals, target_totals, head_totals};
-ghost use Rattle.rewards_step.specs.Step.{SaysTotals, step_totals, totals_by};
+ghost use Rattle.rewards_step.specs.Step.{step_totals};
 
 pub mod flag_rewards;
 
 use arithmetic::mul64;
-use definitions::{Number, Rules, Settings, Truth};
+use definitions::{Refusal, Rules, Settings};
 use epochs::{current_epoch, previous_epoch};
 use finality::inactivity_leak;
 use leaf_refusals::registry_refusals::registry_tests;
+use over_entries::each_entry;
 use rates::reward_balances::entry_reward;
-use refusals::buffers::{copy, put_back};
+use refusals::buffers::put_back;
 use refusals::rules::{rules_refusal, settings_under};
 use rewards::{Shared, shared_numbers};
 use totals::{total_active, total_participating};
@@ -34,35 +34,20 @@ fn reward_all(
     target: u64,
     head: u64,
     quotient: u64,
-    product: Number,
+    product: Result<u64, Refusal>,
     registry: &mut [u64],
-) -> u64
+) -> Result<(), Refusal>
     requires shared_by { SharedBy s h }
     requires inactivity_score_bias_nonzero { (0 < s.inactivity_score_bias) × (0 < quotient) }
-    requires says { Says (mul64 s.inactivity_score_bias quotient) product }
+    requires says { product ≡ mul64 s.inactivity_score_bias quotient }
     requires registry_len { length registry.old ≡ 10 * (length registry.old / 10) }
     ensures { Ran (map_checked (reward_and_penalize s quotient h.current_epoch h.previous_epoch (totals_of h source) (totals_of h target) (totals_of h head))
         (decode registry.old)) registry.new result }
 {
-    let n = registry.len() / 10;
-    for i in 0..n {
-        let a = 10 * i;
-        let b = a + 10;
-        let refusal = entry_reward(
-            s,
-            h,
-            source,
-            target,
-            head,
-            quotient,
-            product,
-            &mut registry[a..b],
-        );
-        if refusal != 0 {
-            return refusal;
-        }
-    }
-    0
+    each_entry(
+        |entry| entry_reward(s, h, source, target, head, quotient, product, entry),
+        registry,
+    )
 }
 
 // What all validators share: the balances of the three flags' participants, the total active balance and the leak.
@@ -75,46 +60,6 @@ pub struct StepTotals {
     pub leaking: bool,
 }
 
-#[derive(Clone, Copy)]
-pub enum TotalsAnswer {
-    Value(StepTotals),
-    Refused(u64),
-}
-
-// Five answers as one: each refuses by 5 alone.
-fn all_totals(
-    source: Number,
-    total: Number,
-    leaking: Truth,
-    target: Number,
-    head: Number,
-) -> TotalsAnswer
-    ensures { result ≡ totals_by source total leaking target head }
-{
-    let Number::Value(a) = source else {
-        return TotalsAnswer::Refused(5);
-    };
-    let Number::Value(b) = total else {
-        return TotalsAnswer::Refused(5);
-    };
-    let Truth::Value(c) = leaking else {
-        return TotalsAnswer::Refused(5);
-    };
-    let Number::Value(d) = target else {
-        return TotalsAnswer::Refused(5);
-    };
-    let Number::Value(e) = head else {
-        return TotalsAnswer::Refused(5);
-    };
-    TotalsAnswer::Value(StepTotals {
-        source: a,
-        target: d,
-        head: e,
-        total: b,
-        leaking: c,
-    })
-}
-
 pub fn step_totals(
     s: Settings,
     state_slot: u64,
@@ -122,17 +67,23 @@ pub fn step_totals(
     current: u64,
     previous: u64,
     registry: &[u64],
-) -> TotalsAnswer
+) -> Result<StepTotals, Refusal>
     requires s_value { good_settings s ≡ true }
     requires registry_len { length registry.now ≡ 10 * (length registry.now / 10) }
-    ensures { SaysTotals (step_totals s state_slot finalized_epoch current previous (decode registry.now)) result }
+    ensures { result ≡ step_totals s state_slot finalized_epoch current previous (decode registry.now) }
 {
-    let source = total_participating(s, current, 0, previous, registry);
-    let total = total_active(s, current, registry);
-    let leaking = inactivity_leak(s, state_slot, finalized_epoch);
-    let target = total_participating(s, current, 1, previous, registry);
-    let head = total_participating(s, current, 2, previous, registry);
-    all_totals(source, total, leaking, target, head)
+    let source = total_participating(s, current, 0, previous, registry)?;
+    let total = total_active(s, current, registry)?;
+    let leaking = inactivity_leak(s, state_slot, finalized_epoch)?;
+    let target = total_participating(s, current, 1, previous, registry)?;
+    let head = total_participating(s, current, 2, previous, registry)?;
+    Ok(StepTotals {
+        source: source,
+        target: target,
+        head: head,
+        total: total,
+        leaking: leaking,
+    })
 }
 
 fn reward_registry(
@@ -142,7 +93,7 @@ fn reward_registry(
     previous_epoch: u64,
     totals: StepTotals,
     registry: &mut [u64],
-) -> u64
+) -> Result<(), Refusal>
     requires effective_balance_increment_nonzero { (0 < s.effective_balance_increment) × (s.effective_balance_increment ≤ totals.total) }
     requires inactivity_score_bias_nonzero { (0 < s.inactivity_score_bias) × (0 < quotient) }
     requires registry_len { length registry.old ≡ 10 * (length registry.old / 10) }
@@ -178,7 +129,7 @@ pub fn rewards_core(
     state_slot: u64,
     finalized_epoch: u64,
     registry: &mut [u64],
-) -> u64
+) -> Result<(), Refusal>
     requires s_value { good_settings s ≡ true }
     requires quotient_nonzero { 0 < quotient }
     requires registry_len { length registry.old ≡ 10 * (length registry.old / 10) }
@@ -186,19 +137,17 @@ pub fn rewards_core(
 {
     let current = current_epoch(s, state_slot);
     if current == 0 {
-        return 0;
+        return Ok(());
     }
     let previous = previous_epoch(s, state_slot);
-    let TotalsAnswer::Value(totals) = step_totals(
+    let totals = step_totals(
         s,
         state_slot,
         finalized_epoch,
         current,
         previous,
         &registry[..],
-    ) else {
-        return 5;
-    };
+    )?;
     reward_registry(s, quotient, current, previous, totals, registry)
 }
 
@@ -208,8 +157,8 @@ fn rewards_tests(
     finalized_epoch: u64,
     opening: &[u64],
     closing: &[u64],
-) -> u64
-    ensures { result ≡ code_of (rewards_tests rules state_slot finalized_epoch opening.now closing.now) }
+) -> Result<(), Refusal>
+    ensures { result ≡ rewards_tests rules state_slot finalized_epoch opening.now closing.now }
 {
     let s = rules.settings;
     let by_settings = registry_tests(s, state_slot, finalized_epoch, opening, closing);
@@ -222,17 +171,14 @@ pub fn process_rewards_and_penalties(
     finalized_epoch: u64,
     opening: &[u64],
     closing: &mut [u64],
-) -> u64
+) -> Result<(), Refusal>
     ensures { Closes encode (rewards_tests rules state_slot finalized_epoch opening.now closing.old)
         (process_rewards_and_penalties (settings_under rules) (settings_under rules).inactivity_penalty_quotient_altair state_slot finalized_epoch
-        (decode opening.now)) opening.now closing.old closing.new result }
+        (decode opening.now)) opening.now closing.old closing.new (code_of result) }
 {
-    let refusal = rewards_tests(rules, state_slot, finalized_epoch, opening, closing);
-    if refusal != 0 {
-        return refusal;
-    }
+    rewards_tests(rules, state_slot, finalized_epoch, opening, closing)?;
     let s = settings_under(rules);
-    copy(opening, closing);
+    closing.copy_from_slice(opening);
     let done = rewards_core(
         s,
         s.inactivity_penalty_quotient_altair,

@@ -13,7 +13,8 @@ use Rattle.definitions.specs.declared.Checkpoint.{Checkpoint}
 use Rattle.definitions.specs.declared.ExitQueue.{ExitQueue}
 use Rattle.definitions.specs.Lists.{all, filter, maximum, every}
 use Rattle.definitions.specs.Record.{decode_first, decode}
-use Rattle.definitions.specs.Checked.{value, refused, bad_file, bind}
+use Rattle.definitions.specs.Checked.{value, refused, bind}
+use Rattle.definitions.specs.declared.Refusal.TheVariants.{BadFile}
 use Rattle.definitions.specs.Mainnet.{mainnet}
 use Rattle.definitions.specs.Refusals.{in_order, settings_numbers, settings_from, settings_shaped, registry_shaped, good_settings, good_finality, good_validator, good_registry}
 use Rattle.definitions.specs.ExitQueue.{queue_of, is_queue_of, queue_test}
@@ -125,6 +126,6 @@ unfolding numbers_to_bytes little_endian contents_of numbers_from_bytes from_lit
 first-queue = refl
 
 -- version 1 with the offsets of version 2, pair and all, gets 6
-pub first_mixed : read_file (file_with (1 ∷ drop 1 (header 2 2 1 1)) (queue_to_bytes (pair 1))) (replicate 20 0) (replicate 1 0) ≡ refused bad_file
+pub first_mixed : read_file (file_with (1 ∷ drop 1 (header 2 2 1 1)) (queue_to_bytes (pair 1))) (replicate 20 0) (replicate 1 0) ≡ refused BadFile
 unfolding read_file read_tests bind numbers_to_bytes little_endian numbers_from_bytes from_little_endian same_numbers good_header every
 first_mixed = refl

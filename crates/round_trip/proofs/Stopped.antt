@@ -10,7 +10,8 @@ use lib.ListN.{length, get_or, take, drop}
 use lib.Seq.{drop-drop, get_or-take, get_or-drop}
 use Rattle.definitions.specs.Lists.{every}
 use Rattle.definitions.specs.Record.{encode_one, decode, nobody}
-use Rattle.definitions.specs.Checked.{refused, bad_record, bind}
+use Rattle.definitions.specs.Checked.{refused, bind}
+use Rattle.definitions.specs.declared.Refusal.TheVariants.{BadRecord}
 use Rattle.definitions.specs.Refusals.{in_order, good_registry}
 use Rattle.definitions.specs.ExitQueue.{is_queue_of, queue_test}
 use Rattle.definitions_file.specs.File.{number_at, version_of, validators_at, queue_in, count_of, contents_of, read_tests, read_file, stopped_at, position}
@@ -34,7 +35,7 @@ number_of-entry n i k xs l h small =
 
 stops_in_registry :
     (bytes registry slashings : List ℕ) →
-    read_file bytes registry slashings ≡ refused bad_record →
+    read_file bytes registry slashings ≡ refused BadRecord →
     position bytes registry slashings ≡ stopped_at (validators_at (version_of bytes)) (decode (contents_of bytes).registry) →
     good_registry (contents_of bytes).registry ≡ false →
     StoppedInRegistry bytes registry slashings

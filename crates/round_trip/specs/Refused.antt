@@ -2,7 +2,9 @@
 use Rattle.std.specs.Prelude.{◌≡◌, true, false, List, [], ℕ, length, get_or, replicate}
 use Rattle.definitions.specs.declared.ExitQueue.{ExitQueue}
 use Rattle.definitions.specs.Record.{encode_one, decode, nobody}
-use Rattle.definitions.specs.Checked.{value, refused, Refusal, bad_record, wrong_queue, number_of}
+use Rattle.definitions.specs.Checked.{value, refused, number_of}
+use Rattle.definitions.specs.declared.Refusal.{Refusal}
+use Rattle.definitions.specs.declared.Refusal.TheVariants.{BadRecord, WrongQueue}
 use Rattle.definitions.specs.Refusals.{settings_numbers, good_settings, good_finality, good_registry}
 use Rattle.definitions.specs.ExitQueue.{is_queue_of}
 use Rattle.definitions_file.specs.File.{Contents, validators_at, version_of, queue_in, no_queue, finality_to_bytes, write_tests, written, contents_of, number_at, good_header, file_shaped, read_tests, read_file, position, ReadOutcome, read}
@@ -37,7 +39,7 @@ ReadToEnd =
 
 -- every other test passes: the answer is 3, and the file has the bad number at the position
 pub record StoppedInRegistry (bytes registry slashings : List ℕ) : Type 0 where
-  pub answer : read_file bytes registry slashings ≡ refused bad_record
+  pub answer : read_file bytes registry slashings ≡ refused BadRecord
   pub stopped : Stopped (validators_at (version_of bytes)) (decode (contents_of bytes).registry) (position bytes registry slashings)
   pub number : number_at (position bytes registry slashings) bytes ≡ get_or (encode_one (get_or (decode (contents_of bytes).registry) stopped.entry nobody)) stopped.place 0
 
@@ -53,7 +55,7 @@ RegistryRefused =
 
 -- "8, where a stored pair is not that of the register": every other test passes. The position is the pair's, and only version 2 stores one.
 pub record StoppedAtQueue (bytes registry slashings : List ℕ) : Type 0 where
-  pub answer : read_file bytes registry slashings ≡ refused wrong_queue
+  pub answer : read_file bytes registry slashings ≡ refused WrongQueue
   pub there : position bytes registry slashings ≡ 368
   pub stored : version_of bytes ≡ 2
 

@@ -3,7 +3,7 @@ ghost use Rattle.std.specs.Prelude.{◌≡◌};
 ghost use Rattle.definitions_file.specs.File.{contents_with};
 ghost use Rattle.round_trip.specs.Functions.{Passes, SameRecord, Accepted, SameBytes};
 
-use definitions::{ExitQueue, Finality, Settings};
+use definitions::{ExitQueue, Finality, Settings, code};
 use definitions_file::ReadAnswer;
 use record_file::{file_roots, read_file, write_file};
 
@@ -24,7 +24,7 @@ fn write_then_read(
         → SameRecord (contents_with settings finality registry.now roots.now slashings.now) queue file.old result
         registry_read.new slashings_read.new }
 {
-    write_file(settings, finality, queue, registry, roots, slashings, file);
+    let _ = write_file(settings, finality, queue, registry, roots, slashings, file);
     read_file(&file[..], registry_read, slashings_read)
 }
 
@@ -43,9 +43,9 @@ fn write_then_roots<'a>(
         → result.now
         ≡ roots.now }
 {
-    let refusal = write_file(settings, finality, queue, registry, roots, slashings, file);
+    let written = write_file(settings, finality, queue, registry, roots, slashings, file);
     let bytes = &file[..];
-    if refusal != 0 {
+    if written.is_err() {
         return &bytes[0..0];
     }
     file_roots(bytes)
@@ -69,7 +69,7 @@ fn read_then_write(
     let settings = read.settings;
     let finality = read.finality;
     let queue = read.queue;
-    write_file(
+    code(write_file(
         settings,
         finality,
         queue,
@@ -77,5 +77,5 @@ fn read_then_write(
         roots,
         &slashings[..],
         file,
-    )
+    ))
 }

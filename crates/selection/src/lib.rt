@@ -26,13 +26,9 @@ pub fn highest(kept: &[u64]) -> usize
     ensures { Highest kept.now result }
 {
     let mut p: usize = 0;
-    let mut j: usize = 0;
-    while j < kept.len() {
-        if kept[p] < kept[j] {
+    for (j, &epoch) in kept.iter().enumerate() {
+        if kept[p] < epoch {
             p = j;
-            j += 1;
-        } else {
-            j += 1;
         }
     }
     p
@@ -54,13 +50,9 @@ pub fn count_under(kept: &[u64], bound: u64) -> u64
     ensures { result ≡ count (under bound) kept.now }
 {
     let mut count: u64 = 0;
-    let mut j: usize = 0;
-    while j < kept.len() {
-        if kept[j] < bound {
+    for &epoch in kept {
+        if epoch < bound {
             count += 1;
-            j += 1;
-        } else {
-            j += 1;
         }
     }
     count
@@ -88,10 +80,7 @@ fn at_most_next(epoch: u64, finalized_epoch: u64) -> u64
     requires { finalized_epoch < 18446744073709551615 }
     ensures { result ≡ min epoch (finalized_epoch + 1) }
 {
-    if finalized_epoch < epoch {
-        return finalized_epoch + 1;
-    }
-    epoch
+    epoch.min(finalized_epoch + 1)
 }
 
 // The limit is the length of `first`.
@@ -100,8 +89,8 @@ fn pick(kept: &[u64], finalized_epoch: u64, first: &mut [u64]) -> Cut
     ensures { CutOf (length first.old) finalized_epoch kept.now result.bound result.quota }
 {
     let mut p: usize = 0;
-    for j in 0..kept.len() {
-        p = keep(first, p, kept[j]);
+    for &epoch in kept {
+        p = keep(first, p, epoch);
     }
     let bound = at_most_next(first[p], finalized_epoch);
     let before = count_under(&first[..], bound);

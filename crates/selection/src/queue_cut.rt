@@ -9,6 +9,7 @@ ghost use Rattle.selection.specs.Bracket.{Bracket};
 
 use crate::{Cut, count_under, cut_few, highest, waiting_since};
 use definitions::Settings;
+use over_entries::count_entries;
 
 // How many wait since before `bound`, as they stand after this close's eligibility writes.
 fn count_waiting(
@@ -21,19 +22,10 @@ fn count_waiting(
     requires { (length registry.now ≡ 10 * n) × (epoch < 18446744073709551615) }
     ensures { result ≡ count (λ v. under bound (waiting_since max_effective_balance epoch v)) (decode registry.now) }
 {
-    let mut count: u64 = 0;
-    let mut i: usize = 0;
-    while i < n {
-        let a = 10 * i;
-        let b = a + 10;
-        if waiting_since(max_effective_balance, epoch, &registry[a..b]) < bound {
-            count += 1;
-            i += 1;
-        } else {
-            i += 1;
-        }
-    }
-    count
+    count_entries(
+        |entry| waiting_since(max_effective_balance, epoch, entry) < bound,
+        registry,
+    )
 }
 
 // The bound by halving: as many as the limit wait since before it, or fewer, and with those of its own epoch as many or more.

@@ -2,10 +2,11 @@
 #![tactic(auto)]
 
 ghost use Rattle.std.specs.Prelude.{◌≡◌, true, eqb, length};
+ghost use Rattle.definitions.specs.Checked.{code_of};
 ghost use Rattle.definitions.specs.Lists.{sum};
 ghost use Rattle.definitions_file.specs.Shelf.{holds_longest, shelf_shaped, shelf_refusal, answers_for, parts_for, answers_after, closing_after, Working, shelf_of};
 
-use definitions::Bellatrix;
+use definitions::{Bellatrix, Refusal};
 use refusals::all_pass;
 use shelf_file::close_file;
 
@@ -14,11 +15,11 @@ fn sums_to(lengths: &[u64], total: u64) -> bool
     ensures { result ≡ eqb (sum lengths.now) total }
 {
     let mut left = total;
-    for i in 0..lengths.len() {
-        if left < lengths[i] {
+    for &n in lengths {
+        if left < n {
             return false;
         }
-        left -= lengths[i];
+        left -= n;
     }
     left == 0
 }
@@ -27,8 +28,8 @@ fn sums_to(lengths: &[u64], total: u64) -> bool
 fn holds_longest(lengths: &[u64], numbers: &[u64]) -> bool
     ensures { result ≡ holds_longest lengths.now numbers.now }
 {
-    for i in 0..lengths.len() {
-        let needed = lengths[i] / 8 + (lengths[i] % 8 + 7) / 8;
+    for &n in lengths {
+        let needed = n / 8 + (n % 8 + 7) / 8;
         if (numbers.len() as u64) < needed {
             return false;
         }
@@ -94,7 +95,7 @@ fn close_files(
     }
 }
 
-// 0, or 1 where the lengths do not fit, and then nothing is written. The working lists end with any contents.
+// Refused with 1 where the lengths do not fit, and then nothing is written. The working lists end with any contents.
 pub fn close_shelf(
     files: &[u8],
     lengths: &[u64],
@@ -104,8 +105,8 @@ pub fn close_shelf(
     answers: &mut [u64],
     fork: u64,
     bellatrix: Bellatrix,
-) -> u64
-    ensures value { result
+) -> Result<(), Refusal>
+    ensures value { code_of result
         ≡ shelf_refusal
         (shelf_of files.now lengths.now closing.old opening_numbers.old closing_numbers.old
         answers.old) }
@@ -117,8 +118,8 @@ pub fn close_shelf(
         ≡ closing_after fork bellatrix
         (shelf_of files.now lengths.now closing.old opening_numbers.old closing_numbers.old
         answers.old) }
-    ensures working { Working result opening_numbers.old opening_numbers.new }
-    ensures working_2 { Working result closing_numbers.old closing_numbers.new }
+    ensures working { Working (code_of result) opening_numbers.old opening_numbers.new }
+    ensures working_2 { Working (code_of result) closing_numbers.old closing_numbers.new }
 {
     if !shelf_shaped(
         files,
@@ -128,7 +129,7 @@ pub fn close_shelf(
         &closing_numbers[..],
         &answers[..],
     ) {
-        return 1;
+        return Err(Refusal::BadShape);
     }
     close_files(
         files,
@@ -140,5 +141,5 @@ pub fn close_shelf(
         fork,
         bellatrix,
     );
-    0
+    Ok(())
 }

@@ -16,7 +16,9 @@ use Rattle.definitions.specs.declared.Bellatrix.{Bellatrix}
 use Rattle.definitions.specs.declared.Rules.{Rules}
 use Rattle.definitions.specs.Lists.{every}
 use Rattle.definitions.specs.Record.{BeaconState, decode}
-use Rattle.definitions.specs.Checked.{Checked, value, refused, bad_file, wrong_queue, bind, code_of, settle}
+use Rattle.definitions.specs.Checked.{Checked, value, refused, bind, number_of, code_of, settle}
+use Rattle.definitions.specs.declared.Refusal.{Refusal}
+use Rattle.definitions.specs.declared.Refusal.TheVariants.{BadShape, BadSettings, BadFile, WrongQueue}
 use Rattle.definitions.specs.Refusals.{in_order, settings_shaped, registry_shaped, good_settings, good_finality, good_registry, after_tests, closing_buffer}
 use Rattle.definitions.specs.Rules.{«BELLATRIX», is_altair, good_bellatrix, settings_under, rules_shaped, good_rules}
 use Rattle.definitions.specs.ExitQueue.{queue_of, is_queue_of, queue_test}
@@ -33,18 +35,17 @@ use Rattle.laws_file.proofs.Passed.{Passed, Accepted, accepted, length-registry,
 use Rattle.close.specs.Called.{called}
 use Rattle.registry_close.specs.Worked.{state_now, Tested, Worked}
 use Rattle.close.specs.Worked.{record_tests, limited_record_tests}
-use Rattle.laws.proofs.Loops.Ran.{code-value}
+use Rattle.laws_file.proofs.Codes.{code-value}
 use Rattle.laws.proofs.Encode.{decode-encode}
 use Rattle.record_file.specs.Sized.{Sized}
-use Rattle.registry_close.proofs.Worked.{code-refused}
 use Rattle.close.proofs.Lent.{lent}
 use Rattle.shelf_file.specs.Parts.{FileClosed}
 
 abbrev eight : Bool → Checked (Unit {0})
-eight t = cond t (value tt) (refused wrong_queue)
+eight t = cond t (value tt) (refused WrongQueue)
 
 -- fork (f) and pair (p) beside the tests of reading: 1 (a), 2 (g), 3 (r), 8 (t)
-beside : (f a p g r t : Bool) → let x = code_of (bind (laws.tested (a && true) (g && true) r) (λ _. eight t)) in cond f (cond (eqb x 1) 1 (cond p x 2)) 1 ≡ code_of (bind (laws.tested (a && (f && true)) ((g && p) && true) r) (λ _. eight t))
+beside : (f a p g r t : Bool) → let x = bind (laws.tested (a && true) (g && true) r) (λ _. eight t) in cond f (cond (eqb (code_of x) 1) x (cond p x (refused BadSettings))) (refused BadShape) ≡ bind (laws.tested (a && (f && true)) ((g && p) && true) r) (λ _. eight t)
 unfolding bind
 beside false true p g r t = refl
 beside false false p g r t = refl
@@ -70,9 +71,9 @@ module _ (fork : ℕ) (pair : Bellatrix) (file : List ℕ) where
   abbrev c : Contents
   c = contents_of file
 
-  pub off_shelf : (good_header file && eqb (version_of file) 2) ≡ false → (part : List ℕ) → FileClosed fork pair file part part 6
+  pub off_shelf : (good_header file && eqb (version_of file) 2) ≡ false → {k : ℕ} → k ≡ number_of BadFile → (part : List ℕ) → FileClosed fork pair file part part k
   unfolding file_tests answer_for part_for after_tests bind closing_buffer
-  off_shelf e part = record { number = rw e; part = rw e }
+  off_shelf e n part = record { number = rw (e, n); part = rw e }
 
   pub same-rules : (own : Rules) → own.settings ≡ c.settings → own.fork ≡ fork → own.bellatrix ≡ pair → own ≡ r
   same-rules own a b d = λ i. record { settings = a i; fork = b i; bellatrix = d i }
@@ -81,20 +82,18 @@ module _ (fork : ℕ) (pair : Bellatrix) (file : List ℕ) where
     shape : file_shaped file xs ys ≡ file_shaped file c.registry c.slashings
     shape = same_shape file xs ys c.registry c.slashings (l ∙ sym (length-registry file)) (m ∙ sym (length-slashings file))
 
-    pub tested : {x y : ℕ} → y ≡ rules_refusal r x → x ≡ code_of (read_tests file xs ys) → y ≡ code_of (file_tests fork pair file)
+    pub tested : {x y : Checked (Unit {0})} → y ≡ rules_refusal r x → x ≡ read_tests file xs ys → y ≡ file_tests fork pair file
     unfolding read_tests file_tests rules_refusal good_rules queue_test in_order every
     tested {x} {y} e f =
         let recorded = good_finality c.finality ∷ good_registry c.registry ∷ [] in
         let t = is_queue_of (queue_in file) (decode c.registry) in
-        let number : x ≡ code_of (bind (in_order (file_shaped file c.registry c.slashings ∷ []) (good_settings c.settings ∷ []) recorded) (λ _. eight t)) = f ∙ rw (h, shape) in
-        e ∙ rw (h, v, number) (beside (leb fork «BELLATRIX») (file_shaped file c.registry c.slashings) (is_altair r || good_bellatrix pair) (good_settings c.settings) (every recorded) t)
+        let read : x ≡ bind (in_order (file_shaped file c.registry c.slashings ∷ []) (good_settings c.settings ∷ []) recorded) (λ _. eight t) = f ∙ rw (h, shape) in
+        e ∙ rw (h, v, read) (beside (leb fork «BELLATRIX») (file_shaped file c.registry c.slashings) (is_altair r || good_bellatrix pair) (good_settings c.settings) (every recorded) t)
 
   -- refused: the part stays
-  pub refused-tests : {x : ℕ} → x ≡ code_of (file_tests fork pair file) → (x ≡ 0 → ⊥) → (part : List ℕ) → FileClosed fork pair file part part x
+  pub refused-tests : {p : Refusal} {k : ℕ} → file_tests fork pair file ≡ refused p → k ≡ number_of p → (part : List ℕ) → FileClosed fork pair file part part k
   unfolding answer_for part_for after_tests bind closing_buffer
-  refused-tests {x} e z part =
-      let p = code-refused (file_tests fork pair file) e z in
-      record { number = rw p.is p.number; part = rw p.is }
+  refused-tests m n part = record { number = rw (m, n); part = rw m }
 
   -- All of them passed
 
@@ -105,7 +104,7 @@ module _ (fork : ℕ) (pair : Bellatrix) (file : List ℕ) where
     pub rules : good_rules r ≡ true
     pub accepts : Accepted file
 
-  first-passed : (t : Bool) (m : Checked (Unit {0})) → cond t m (refused bad_file) ≡ value tt → (t ≡ true) × (m ≡ value tt)
+  first-passed : (t : Bool) (m : Checked (Unit {0})) → cond t m (refused BadFile) ≡ value tt → (t ≡ true) × (m ≡ value tt)
   first-passed true m e = (refl, e)
   first-passed false m e = absurd (not_value e)
 
@@ -139,7 +138,7 @@ module _ (fork : ℕ) (pair : Bellatrix) (file : List ℕ) where
     abbrev call : Call
     call = called r c.finality c.registry c.slashings c.roots c.registry c.slashings
 
-    record_passes : 0 ≡ code_of (record_tests call)
+    record_passes : value tt ≡ record_tests call
     unfolding limited_record_tests rules_shaped settings_shaped registry_shaped in_order every
     record_passes =
         let p = passes in
@@ -173,9 +172,11 @@ module _ (fork : ℕ) (pair : Bellatrix) (file : List ℕ) where
       -- a step refused: the file's own bytes
       pub closed-refused : (x ≡ 0 → ⊥) → (before : List ℕ) {after : List ℕ} → after ≡ file → FileClosed fork pair file before after x
       unfolding part_for closing_buffer
-      closed-refused z before a =
-          let p = code-refused (work fork pair file) w z in
-          record { number = answer-is; part = a ∙ rw (e, p.is) }
+      closed-refused z before {after} a = go (work fork pair file) refl
+        where
+          go : (m : Checked BeaconState) → work fork pair file ≡ m → FileClosed fork pair file before after x
+          go (value state) q = absurd (z (w ∙ ap code_of q))
+          go (refused p) q = record { number = answer-is; part = a ∙ rw (e, q) }
 
       -- none did: the closed record
       pub closed-done : (before : List ℕ) {after : List ℕ} (state : BeaconState) → work fork pair file ≡ value state → after ≡ closed_file file state → FileClosed fork pair file before after x

@@ -2,7 +2,7 @@
 #![tactic(auto)]
 
 ghost use Rattle.std.specs.Prelude.{◌≡◌, ◌&&◌, ◌*◌, ◌≤◌, eqb, length, take};
-ghost use Rattle.definitions.specs.Checked.{value, code_of};
+ghost use Rattle.definitions.specs.Checked.{value};
 ghost use Rattle.definitions.specs.Rust.Phase0.EpochProcessing.{reset_slashings};
 ghost use Rattle.definitions.specs.Record.{decode};
 ghost use Rattle.definitions.specs.ExitQueue.{queue_of};
@@ -12,7 +12,7 @@ ghost use Rattle.record_file.specs.Sized.{Sized};
 ghost use Rattle.registry_close.specs.Worked.{state_now, Tested, Worked};
 ghost use Rattle.shelf_file.specs.Parts.{Counted, numbers_behind, Opened, FileClosed};
 
-use definitions::{Bellatrix, CloseAnswer, Finality, Rules, Settings};
+use definitions::{Bellatrix, CloseAnswer, Finality, Refusal, Rules, Settings};
 use definitions_file::VALIDATORS_AT;
 use exit_queue::queue_of;
 use fields::{put_bytes, read_finality, read_numbers, read_settings};
@@ -35,13 +35,13 @@ fn on_shelf(file: &[u8]) -> bool
 }
 
 // The other tests. The registry has the first `a` of the numbers, the slashings those up to `b`.
-fn file_tests(file: &[u8], rules: Rules, a: usize, b: usize, numbers: &[u64]) -> u64
+fn file_tests(file: &[u8], rules: Rules, a: usize, b: usize, numbers: &[u64]) -> Result<(), Refusal>
     requires counted { Counted file.now a b numbers.now }
     requires settings_value { rules.settings ≡ (contents_of file.now).settings }
-    ensures { result ≡ code_of (file_tests rules.fork rules.bellatrix file.now) }
+    ensures { result ≡ file_tests rules.fork rules.bellatrix file.now }
 {
     let tested = read_tests(file, &numbers[..a], &numbers[a..b]);
-    rules_refusal(rules, tested.refusal)
+    rules_refusal(rules, tested.tested)
 }
 
 fn read_opening(file: &[u8], a: usize, b: usize, numbers: &mut [u64])
@@ -153,7 +153,7 @@ pub fn close_file(
     ensures part_after { part.new ≡ part_for fork bellatrix file.now part.old }
 {
     if !on_shelf(file) {
-        return 6;
+        return Refusal::BadFile.number();
     }
     let counts = read_counts(file);
     let a = 10 * (counts.validators as usize);
@@ -164,9 +164,8 @@ pub fn close_file(
         fork,
         bellatrix,
     };
-    let refusal = file_tests(file, rules, a, b, &opening_numbers[..]);
-    if refusal != 0 {
-        return refusal;
+    if let Err(refusal) = file_tests(file, rules, a, b, &opening_numbers[..]) {
+        return refusal.number();
     }
     close_passed(
         file,

@@ -4,7 +4,8 @@ use Prim.Native.Nat.{ℕ, ◌/◌}
 use borrow.Author.Tests.{eq-eqb, ne_eqb}
 use Rattle.definitions.specs.declared.Settings.{Settings}
 use Rattle.definitions.specs.Record.{Validator}
-use Rattle.definitions.specs.Checked.{value, refused, overflow, bind, add64}
+use Rattle.definitions.specs.Checked.{value, refused, bind, add64}
+use Rattle.definitions.specs.declared.Refusal.{Refusal}
 use Rattle.definitions.specs.Rust.Phase0.Helpers.{decrease_balance}
 use Rattle.definitions.specs.Rust.Altair.EpochProcessing.{is_slashing_due, slashing_penalty, slash}
 use Rattle.arithmetic.proofs.Operations.{OnlyOverflow, only-bind, only-mul64}
@@ -15,7 +16,7 @@ module _ (s : Settings) (epoch total adjusted : ℕ) (v : Validator) where
   unslashed n = rw (ne_eqb _ _ n)
 
   module _ (is : v.slashed ≡ 1) where
-    pub due-refused : add64 epoch (s.epochs_per_slashings_vector / 2) ≡ refused overflow → slash s epoch total adjusted v ≡ refused overflow
+    pub due-refused : {p : Refusal} → add64 epoch (s.epochs_per_slashings_vector / 2) ≡ refused p → slash s epoch total adjusted v ≡ refused p
     unfolding slash is_slashing_due bind
     due-refused h = rw (eq-eqb _ _ is, h)
 
@@ -25,7 +26,7 @@ module _ (s : Settings) (epoch total adjusted : ℕ) (v : Validator) where
       not_due n = rw (eq-eqb _ _ is, h, ne_eqb _ _ n)
 
       module _ (at : due ≡ v.withdrawable_epoch) where
-        pub penalty-refused : slashing_penalty s total adjusted v ≡ refused overflow → slash s epoch total adjusted v ≡ refused overflow
+        pub penalty-refused : {p : Refusal} → slashing_penalty s total adjusted v ≡ refused p → slash s epoch total adjusted v ≡ refused p
         unfolding slash is_slashing_due bind
         penalty-refused g = rw (eq-eqb _ _ is, h, eq-eqb _ _ at, g)
 

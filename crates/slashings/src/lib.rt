@@ -4,7 +4,6 @@
 ghost use Rattle.std.specs.Prelude.{◌≡◌, true, List, ℕ, ◌*◌, ◌/◌, ◌<◌, length};
 ghost use Rattle.definitions.specs.Record.{decode_one, decode, encode};
 ghost use Rattle.definitions.specs.Checked.{value, code_of, sum64, map_checked};
-ghost use Rattle.definitions.specs.Answers.{Says};
 ghost use Rattle.definitions.specs.Refusals.{good_settings, slashings_reset_tests};
 ghost use Rattle.definitions.specs.Rules.{settings_under, slashings_tests};
 ghost use Rattle.definitions.specs.Rust.Phase0.EpochProcessing.{reset_slashings};
@@ -16,9 +15,10 @@ ghost use Rattle.slashings.specs.Adjusted.{adjusted_balance};
 
 use arithmetic::{add64, min, mul64};
 use balances::entry_decrease_balance;
-use definitions::{EFFECTIVE_BALANCE, Number, Rules, SLASHED, Settings, WITHDRAWABLE_EPOCH};
+use definitions::{EFFECTIVE_BALANCE, Refusal, Rules, SLASHED, Settings, WITHDRAWABLE_EPOCH};
 use epochs::current_epoch;
-use refusals::buffers::{copy, put_back};
+use over_entries::each_entry;
+use refusals::buffers::put_back;
 use refusals::rules::{rules_refusal, settings_under};
 use refusals::{
     good_registry, good_settings, in_order, is_small, registry_shaped, settings_shaped,
@@ -26,81 +26,75 @@ use refusals::{
 use totals::total_active;
 
 // What was slashed, over the lent epochs.
-fn slashed_balance(slashings: &[u64]) -> Number
-    ensures { Says (sum64 slashings.now) result }
+fn slashed_balance(slashings: &[u64]) -> Result<u64, Refusal>
+    ensures { result ≡ sum64 slashings.now }
 {
-    let n = slashings.len();
     let mut sum: u64 = 0;
-    for i in 0..n {
-        let amount = slashings[i];
+    for &amount in slashings {
         if 18446744073709551615 - sum < amount {
-            return Number::Refused(5);
+            return Err(Refusal::Overflow);
         }
         sum += amount;
     }
-    Number::Value(sum)
+    Ok(sum)
 }
 
 // Times the multiplier, and at most the total: the balance by which penalties go.
-pub fn adjusted_balance(multiplier: u64, total: u64, slashings: &[u64]) -> Number
-    ensures { Says (adjusted_balance multiplier total slashings.now) result }
+pub fn adjusted_balance(multiplier: u64, total: u64, slashings: &[u64]) -> Result<u64, Refusal>
+    ensures { result ≡ adjusted_balance multiplier total slashings.now }
 {
-    let Number::Value(slashed) = slashed_balance(slashings) else {
-        return Number::Refused(5);
-    };
-    let Number::Value(product) = mul64(slashed, multiplier) else {
-        return Number::Refused(5);
-    };
+    let slashed = slashed_balance(slashings)?;
+    let product = mul64(slashed, multiplier)?;
     let adjusted = min(product, total);
-    Number::Value(adjusted)
+    Ok(adjusted)
 }
 
-fn slashing_penalty(s: Settings, total: u64, adjusted: u64, entry: &[u64]) -> Number
+fn slashing_penalty(s: Settings, total: u64, adjusted: u64, entry: &[u64]) -> Result<u64, Refusal>
     requires { (length entry.now ≡ 10) × (0 < s.effective_balance_increment) × (0 < total) }
-    ensures { Says (slashing_penalty s total adjusted (decode_one entry.now)) result }
+    ensures { result ≡ slashing_penalty s total adjusted (decode_one entry.now) }
 {
     let increments = entry[EFFECTIVE_BALANCE] / s.effective_balance_increment;
-    let Number::Value(numerator) = mul64(increments, adjusted) else {
-        return Number::Refused(5);
-    };
+    let numerator = mul64(increments, adjusted)?;
     mul64(numerator / total, s.effective_balance_increment)
 }
 
 // The epoch is compared only where the validator is slashed, and the penalty worked out only where it is due.
-pub fn entry_slash(s: Settings, epoch: u64, total: u64, adjusted: u64, entry: &mut [u64]) -> u64
+pub fn entry_slash(
+    s: Settings,
+    epoch: u64,
+    total: u64,
+    adjusted: u64,
+    entry: &mut [u64],
+) -> Result<(), Refusal>
     requires { (length entry.old ≡ 10) × (0 < s.effective_balance_increment) × (0 < total) }
     ensures { Settles (slash s epoch total adjusted) entry.old entry.new result }
 {
     if entry[SLASHED] != 1 {
-        return 0;
+        return Ok(());
     }
-    let Number::Value(due) = add64(epoch, s.epochs_per_slashings_vector / 2) else {
-        return 5;
-    };
+    let due = add64(epoch, s.epochs_per_slashings_vector / 2)?;
     if due != entry[WITHDRAWABLE_EPOCH] {
-        return 0;
+        return Ok(());
     }
-    let Number::Value(penalty) = slashing_penalty(s, total, adjusted, &entry[..]) else {
-        return 5;
-    };
+    let penalty = slashing_penalty(s, total, adjusted, &entry[..])?;
     entry_decrease_balance(entry, penalty);
-    0
+    Ok(())
 }
 
-fn slash_all(s: Settings, epoch: u64, total: u64, adjusted: u64, registry: &mut [u64]) -> u64
+fn slash_all(
+    s: Settings,
+    epoch: u64,
+    total: u64,
+    adjusted: u64,
+    registry: &mut [u64],
+) -> Result<(), Refusal>
     requires { (length registry.old ≡ 10 * (length registry.old / 10)) × (0 < s.effective_balance_increment) × (0 < total) }
     ensures { Ran (map_checked (slash s epoch total adjusted) (decode registry.old)) registry.new result }
 {
-    let n = registry.len() / 10;
-    for i in 0..n {
-        let a = 10 * i;
-        let b = a + 10;
-        let refusal = entry_slash(s, epoch, total, adjusted, &mut registry[a..b]);
-        if refusal != 0 {
-            return refusal;
-        }
-    }
-    0
+    each_entry(
+        |entry| entry_slash(s, epoch, total, adjusted, entry),
+        registry,
+    )
 }
 
 // The step in place. Total, sum and product are evaluated also where nobody is due.
@@ -110,17 +104,13 @@ pub fn slashings_core(
     state_slot: u64,
     slashings: &[u64],
     registry: &mut [u64],
-) -> u64
+) -> Result<(), Refusal>
     requires { (length registry.old ≡ 10 * (length registry.old / 10)) × (good_settings s ≡ true) }
     ensures { Ran (process_slashings s multiplier state_slot slashings.now (decode registry.old)) registry.new result }
 {
     let epoch = current_epoch(s, state_slot);
-    let Number::Value(total) = total_active(s, epoch, registry) else {
-        return 5;
-    };
-    let Number::Value(adjusted) = adjusted_balance(multiplier, total, slashings) else {
-        return 5;
-    };
+    let total = total_active(s, epoch, registry)?;
+    let adjusted = adjusted_balance(multiplier, total, slashings)?;
     slash_all(s, epoch, total, adjusted, registry)
 }
 
@@ -130,8 +120,8 @@ fn slashings_tests(
     slashings: &[u64],
     opening: &[u64],
     closing: &[u64],
-) -> u64
-    ensures { result ≡ code_of (slashings_tests rules state_slot slashings.now opening.now closing.now) }
+) -> Result<(), Refusal>
+    ensures { result ≡ slashings_tests rules state_slot slashings.now opening.now closing.now }
 {
     let s = rules.settings;
     let by_settings = in_order(
@@ -153,17 +143,14 @@ pub fn process_slashings(
     slashings: &[u64],
     opening: &[u64],
     closing: &mut [u64],
-) -> u64
+) -> Result<(), Refusal>
     ensures { Closes encode (slashings_tests rules state_slot slashings.now opening.now closing.old)
         (process_slashings (settings_under rules) (settings_under rules).proportional_slashing_multiplier_altair state_slot slashings.now
-        (decode opening.now)) opening.now closing.old closing.new result }
+        (decode opening.now)) opening.now closing.old closing.new (code_of result) }
 {
-    let refusal = slashings_tests(rules, state_slot, slashings, opening, closing);
-    if refusal != 0 {
-        return refusal;
-    }
+    slashings_tests(rules, state_slot, slashings, opening, closing)?;
     let s = settings_under(rules);
-    copy(opening, closing);
+    closing.copy_from_slice(opening);
     let multiplier = s.proportional_slashing_multiplier_altair;
     let done = slashings_core(s, multiplier, state_slot, slashings, closing);
     put_back(done, opening, closing);
@@ -180,8 +167,13 @@ pub fn slashings_reset_core(s: Settings, state_slot: u64, slashings: &mut [u64])
     slashings[at as usize] = 0;
 }
 
-fn slashings_reset_tests(s: Settings, state_slot: u64, opening: &[u64], closing: &[u64]) -> u64
-    ensures { result ≡ code_of (slashings_reset_tests s state_slot opening.now closing.now) }
+fn slashings_reset_tests(
+    s: Settings,
+    state_slot: u64,
+    opening: &[u64],
+    closing: &[u64],
+) -> Result<(), Refusal>
+    ensures { result ≡ slashings_reset_tests s state_slot opening.now closing.now }
 {
     in_order(
         &[
@@ -199,15 +191,12 @@ pub fn process_slashings_reset(
     state_slot: u64,
     opening: &[u64],
     closing: &mut [u64],
-) -> u64
+) -> Result<(), Refusal>
     ensures { Closes (λ (xs : List ℕ). xs) (slashings_reset_tests s state_slot opening.now closing.old)
-        (value (reset_slashings s state_slot opening.now)) opening.now closing.old closing.new result }
+        (value (reset_slashings s state_slot opening.now)) opening.now closing.old closing.new (code_of result) }
 {
-    let refusal = slashings_reset_tests(s, state_slot, opening, closing);
-    if refusal != 0 {
-        return refusal;
-    }
-    copy(opening, closing);
+    slashings_reset_tests(s, state_slot, opening, closing)?;
+    closing.copy_from_slice(opening);
     slashings_reset_core(s, state_slot, closing);
-    0
+    Ok(())
 }

@@ -2,22 +2,22 @@
 use mathlib.Core.Bool.{Bool, true, false}
 use mathlib.Core.List.{List, [], ◌∷◌}
 use mathlib.Core.Path.{◌≡◌, sym, ◌∙◌}
-use Prim.Native.Nat.{ℕ, ◌+◌, ◌*◌, ◌%◌, ◌≤◌, ◌<◌}
+use Prim.Native.Nat.{◌+◌, ◌*◌, ◌%◌, ◌≤◌, ◌<◌}
 use native.Mathlib.Omega.{arith}
 use borrow.Author.Tests.{eqb-true, leb-true, ltb-true, le-leb, lt-leb}
 use lib.Dec.{ltb, eqb}
 use lib.ListN.{length}
 use Rattle.definitions.specs.Lists.{all, every}
-use Rattle.definitions.specs.Checked.{code_of, late_start}
+use Rattle.definitions.specs.Checked.{Checked, value}
+use Rattle.definitions.specs.declared.Refusal.TheVariants.{LateStart}
 use Rattle.definitions.specs.Refusals.{in_order, after_tests}
 use Rattle.definitions.specs.Rules.{rules_shaped, good_rules}
 use Rattle.definitions_close.specs.Store.{Entry, Store, entries, room, last_of, of_last, keeps, in_sequence, store_shaped, good_entries, store_tests, addition_shaped, start_test, addition_tests}
 use Rattle.laws.proofs.Checked.{bound, checked_value}
-use Rattle.laws.proofs.Tests.{test, in_order_lem, in_order-value, and_true, and_false}
-use Rattle.refusals.proofs.Answers.{passed}
+use Rattle.laws.proofs.Tests.{test, in_order-value, and_true, and_false}
 
 -- a group of tests is tested as its tests are
-pub grouped : (shaped settings recorded : List Bool) {x : ℕ} → x ≡ code_of (in_order shaped settings recorded) → x ≡ code_of (in_order (every shaped ∷ []) settings recorded)
+pub grouped : (shaped settings recorded : List Bool) {x : Checked (Unit {0})} → x ≡ in_order shaped settings recorded → x ≡ in_order (every shaped ∷ []) settings recorded
 unfolding in_order every
 grouped shaped settings recorded e = rw (and_true (every shaped)) e
 
@@ -49,10 +49,10 @@ pub record StorePassed (s : Store) : Type 0 where
   pub shape : StoreShape s
   pub entries-good : good_entries (entries s) ≡ true
 
-pub store-passed : (s : Store) {x : ℕ} → x ≡ code_of (store_tests s) → x ≡ 0 → StorePassed s
+pub store-passed : (s : Store) {x : Checked (Unit {0})} → x ≡ store_tests s → x ≡ value tt → StorePassed s
 unfolding store_tests
 store-passed s e z =
-    let q = in_order_lem _ _ _ (sym e ∙ z) in
+    let q = in_order-value _ _ _ (sym e ∙ z) in
     record { shape = store-shaped s (q.shaped 0); entries-good = q.settings 0 }
 
 pub record AdditionShape (s : Store) (new : Entry) : Type 0 where
@@ -75,9 +75,9 @@ pub record AdditionPassed (s : Store) (new : Entry) : Type 0 where
   pub rules-good : good_rules new.rules ≡ true
   pub later : of_last (λ e. ltb e.start new.start) (last_of (entries s)) ≡ true
 
-pub addition_passed : (s : Store) (new : Entry) {x : ℕ} → x ≡ code_of (addition_tests s new) → x ≡ 0 → AdditionPassed s new
+pub addition_passed : (s : Store) (new : Entry) {x : Checked (Unit {0})} → x ≡ addition_tests s new → x ≡ value tt → AdditionPassed s new
 unfolding addition_tests start_test after_tests
 addition_passed s new e z =
-    let b = bound _ (λ _. start_test s new) (passed (addition_tests s new) e z) in
+    let b = bound _ (λ _. start_test s new) (sym e ∙ z) in
     let q = in_order-value _ _ _ b.gave in
-    record { shape = addition_shaped_lem s new (q.shaped 0); entries-good = q.settings 0; rules-good = q.settings 1; later = (checked_value late_start _ b.then).0 }
+    record { shape = addition_shaped_lem s new (q.shaped 0); entries-good = q.settings 0; rules-good = q.settings 1; later = (checked_value LateStart _ b.then).0 }

@@ -2,7 +2,6 @@
 #![tactic(auto)]
 
 ghost use Rattle.std.specs.Prelude.{◌≡◌, ◌*◌, ◌≤◌, ltb, length};
-ghost use Rattle.definitions.specs.Checked.{code_of};
 ghost use Rattle.definitions_close.specs.Store.{entries_from, keeps, last_of, of_last, store_tests, rules_at, read_rules, rules_answer_for, numbers_of, addition_tests, added};
 ghost use Rattle.definitions_close.specs.Calls.{lent, new_entry, add_outcome};
 ghost use Rattle.store.specs.Answers.{Finds, turned_away};
@@ -13,10 +12,9 @@ pub mod store_rules;
 use crate::store_entries::{
     entry_rules, good_entries, good_rules, keeps, rules_shaped, store_shaped,
 };
-use definitions::{Bellatrix, Rules, Settings};
+use definitions::{Bellatrix, Refusal, Rules, Settings};
 use definitions_close::{CountAnswer, RulesAnswer};
 use fields::settings_from;
-use refusals::buffers::copy;
 use refusals::{in_order, settings_numbers};
 
 // The place of the last of the first n entries whose start is not above the epoch; n where there is none.
@@ -68,13 +66,13 @@ pub fn rules_at(store: &[u64], n: usize, epoch: u64) -> RulesAnswer
     RulesAnswer { refusal: 0, rules }
 }
 
-// Tests 1 and 2: 0, or the number of the first that failed. An entry is read only where the count is within the room.
-fn store_tests(store: &[u64], count: u64) -> u64
-    ensures { result ≡ code_of (store_tests (lent store.now count)) }
+// Tests 1 and 2, the first that failed. An entry is read only where the count is within the room.
+fn store_tests(store: &[u64], count: u64) -> Result<(), Refusal>
+    ensures { result ≡ store_tests (lent store.now count) }
 {
     let n = count as usize;
     if store.len() / 23 < n {
-        return 1;
+        return Err(Refusal::BadShape);
     }
     in_order(
         &[store_shaped(store, count)],
@@ -86,9 +84,8 @@ fn store_tests(store: &[u64], count: u64) -> u64
 pub fn read_rules(store: &[u64], count: u64, epoch: u64) -> RulesAnswer
     ensures { result ≡ rules_answer_for (read_rules (lent store.now count) epoch) }
 {
-    let refusal = store_tests(store, count);
-    if refusal != 0 {
-        return turned_away(refusal);
+    if let Err(refusal) = store_tests(store, count) {
+        return turned_away(refusal.number());
     }
     rules_at(store, count as usize, epoch)
 }
@@ -120,14 +117,14 @@ fn starts_after(store: &[u64], n: usize, start: u64) -> bool
 }
 
 // Tests 1, 2 and 12.
-fn addition_tests(store: &[u64], count: u64, start: u64, rules: Rules) -> u64
-    ensures { result ≡ code_of (addition_tests (lent store.now count) (new_entry start rules)) }
+fn addition_tests(store: &[u64], count: u64, start: u64, rules: Rules) -> Result<(), Refusal>
+    ensures { result ≡ addition_tests (lent store.now count) (new_entry start rules) }
 {
     let n = count as usize;
     if store.len() / 23 < n {
-        return 1;
+        return Err(Refusal::BadShape);
     }
-    let refusal = in_order(
+    in_order(
         &[
             store_shaped(store, count),
             n < store.len() / 23,
@@ -136,14 +133,11 @@ fn addition_tests(store: &[u64], count: u64, start: u64, rules: Rules) -> u64
         ],
         &[good_entries(store, n), good_rules(rules)],
         &[],
-    );
-    if refusal != 0 {
-        return refusal;
-    }
+    )?;
     if !starts_after(store, n, start) {
-        return 12;
+        return Err(Refusal::LateStart);
     }
-    0
+    Ok(())
 }
 
 // An entry's 23 numbers.
@@ -158,15 +152,17 @@ fn put_entry(entry: &mut [u64], start: u64, rules: Rules)
     entry[1] = rules.fork;
     entry[21] = pair.inactivity_penalty_quotient_bellatrix;
     entry[22] = pair.proportional_slashing_multiplier_bellatrix;
-    copy(&numbers, &mut entry[2..21]);
+    entry[2..21].copy_from_slice(&numbers);
 }
 
 pub fn add_rules(store: &mut [u64], count: u64, start: u64, rules: Rules) -> CountAnswer
     ensures { add_outcome result store.new ≡ added (lent store.old count) (new_entry start rules) }
 {
-    let refusal = addition_tests(store, count, start, rules);
-    if refusal != 0 {
-        return CountAnswer { refusal, count };
+    if let Err(refusal) = addition_tests(store, count, start, rules) {
+        return CountAnswer {
+            refusal: refusal.number(),
+            count,
+        };
     }
     let a = 23 * (count as usize);
     let b = a + 23;

@@ -45,7 +45,7 @@ pub fn good_rules(rules: Rules) -> bool
         fork: 1,
         bellatrix,
     };
-    good_settings(settings) & ((rules.fork == 0) | (rules_refusal(asked, 0) == 0))
+    good_settings(settings) & ((rules.fork == 0) | rules_refusal(asked, Ok(())).is_ok())
 }
 
 // What may not change from one entry to the next.

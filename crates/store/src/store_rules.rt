@@ -1,6 +1,5 @@
 // The rules that a close with a store goes by (02, R-10): tests 1 and 2 of the store and of what is lent beside it, then 13.
 ghost use Rattle.std.specs.Prelude.{◌≡◌, true, ◌&&◌, ◌*◌, ◌≤◌, length};
-ghost use Rattle.definitions.specs.Checked.{code_of};
 ghost use Rattle.definitions.specs.Refusals.{roots_shaped, slashings_shaped};
 ghost use Rattle.definitions_close.specs.Store.{entries_from, last_of, of_last, good_entries, rules_answer_for};
 ghost use Rattle.definitions_close.specs.StoreClose.{rules_at_slot};
@@ -9,7 +8,7 @@ ghost use Rattle.store.specs.Called.{tests_with, rules_with};
 
 use crate::store_entries::{entry_rules, good_entries, store_shaped};
 use crate::{rules_at, turned_away};
-use definitions::Settings;
+use definitions::{Refusal, Settings};
 use definitions_close::RulesAnswer;
 use refusals::{in_order, registry_shaped};
 
@@ -43,7 +42,7 @@ fn fits_last(store: &[u64], n: usize, slashings: &[u64], roots: &[u8]) -> bool
     fits_settings(last.settings, slashings, roots)
 }
 
-// Tests 1 and 2: 0, or the number of the first that failed.
+// Tests 1 and 2, the first that failed.
 fn call_tests(
     store: &[u64],
     count: u64,
@@ -53,14 +52,14 @@ fn call_tests(
     closing_registry: &[u64],
     closing_slashings: &[u64],
     amounts: &[u64],
-) -> u64
+) -> Result<(), Refusal>
     ensures { result
-        ≡ code_of (tests_with (lent store.now count) registry.now slashings.now roots.now
-        closing_registry.now closing_slashings.now amounts.now) }
+        ≡ tests_with (lent store.now count) registry.now slashings.now roots.now
+        closing_registry.now closing_slashings.now amounts.now }
 {
     let n = count as usize;
     if store.len() / 23 < n {
-        return 1;
+        return Err(Refusal::BadShape);
     }
     in_order(
         &[
@@ -106,7 +105,7 @@ pub fn rules_for(
         ≡ rules_answer_for (rules_with (lent store.now count) slot registry.now slashings.now roots.now
         closing_registry.now closing_slashings.now amounts.now) }
 {
-    let refusal = call_tests(
+    if let Err(refusal) = call_tests(
         store,
         count,
         registry,
@@ -115,9 +114,8 @@ pub fn rules_for(
         closing_registry,
         closing_slashings,
         amounts,
-    );
-    if refusal != 0 {
-        return turned_away(refusal);
+    ) {
+        return turned_away(refusal.number());
     }
     rules_at_slot(store, count as usize, slot)
 }

@@ -7,7 +7,8 @@ use native.Mathlib.Omega.{arith}
 use borrow.Author.Tests.{eq-eqb, ne_eqb, eqb-true, le-leb, lt-leb}
 use lib.Dec.{leb, eqb}
 use Rattle.definitions.specs.declared.Rules.{Rules}
-use Rattle.definitions.specs.Checked.{Checked, code_of}
+use Rattle.definitions.specs.declared.Refusal.{Refusal}
+use Rattle.definitions.specs.Checked.{Checked, value, refused, number_of}
 use Rattle.definitions_close.specs.declared.RunningAnswer.{RunningAnswer}
 use Rattle.definitions_close.specs.CloseBySteps.{in_turn, ended_by, unwritten, close_step}
 use Rattle.definitions_close.specs.Orders.{carry_out}
@@ -17,7 +18,7 @@ use Rattle.definitions_close.specs.StoreClose.{rules_at_slot, rules_for}
 use Rattle.definitions_close.specs.StoreSteps.{StoreStepCall, step_by, step_of, store_so_far, store_found, step_refused, store_step_by, store_step, StoreNinthCall, ninth_by, ninth_rules, carry_by, store_carry_out}
 use Rattle.close_by_steps.specs.Called.{ended_answer}
 use Rattle.definitions_close.specs.Calls.{step_outcome, ninth_outcome}
-use Rattle.laws.proofs.Tests.{in_order_lem}
+use Rattle.laws.proofs.Tests.{in_order-value}
 use Rattle.refusals.proofs.Answers.{after-passed, after-refused}
 use Rattle.store.specs.Answers.{turned_away}
 use Rattle.store.proofs.Passed.{StorePassed, store-shaped}
@@ -88,21 +89,19 @@ module _ (c : StoreStepCall) (n : c.running.done ≡ 9 → ⊥) where
 
 -- the ninth
 
-module _ (store : Store) (period count : ℕ) (registry orders answers : List ℕ) {x : ℕ} (e : x ≡ code_of (ninth_tests_with store period count registry orders answers)) where
-  pub with-passed : x ≡ 0 → StorePassed store
+module _ (store : Store) (period count : ℕ) (registry orders answers : List ℕ) {x : Checked (Unit {0})} (e : x ≡ ninth_tests_with store period count registry orders answers) where
+  pub with-passed : x ≡ value tt → StorePassed store
   unfolding ninth_tests_with
   with-passed z =
-      let q = in_order_lem _ _ _ (sym e ∙ z) in
+      let q = in_order-value _ _ _ (sym e ∙ z) in
       record { shape = store-shaped store (q.shaped 0); entries-good = q.settings 0 }
 
   module _ (slot : ℕ) where
-    pub with-refused : (x ≡ 0 → ⊥) → turned_away x ≡ rules_answer_for (ninth_rules_with store period slot count registry orders answers)
+    pub with-refused : {p : Refusal} → x ≡ refused p → {n : ℕ} → n ≡ number_of p → turned_away n ≡ rules_answer_for (ninth_rules_with store period slot count registry orders answers)
     unfolding ninth_rules_with
-    with-refused z =
-        let r = after-refused (ninth_tests_with store period count registry orders answers) (rules_at_slot slot (entries store)) e z in
-        rw r.is (ap turned_away r.number)
+    with-refused z told = rw (after-refused (ninth_tests_with store period count registry orders answers) (rules_at_slot slot (entries store)) e z, told)
 
-    pub with-rules : x ≡ 0 → ninth_rules_with store period slot count registry orders answers ≡ rules_at_slot slot (entries store)
+    pub with-rules : x ≡ value tt → ninth_rules_with store period slot count registry orders answers ≡ rules_at_slot slot (entries store)
     unfolding ninth_rules_with
     with-rules z = after-passed _ _ e z
 

@@ -2,7 +2,6 @@
 #![tactic(auto)]
 
 ghost use Rattle.std.specs.Prelude.{◌≡◌, ◌&&◌, ◌+◌, ◌≤◌, leb, eqb};
-ghost use Rattle.definitions.specs.Checked.{code_of};
 ghost use Rattle.definitions_close.specs.Store.{rules_answer_for};
 ghost use Rattle.definitions_close.specs.StoreSteps.{store_step, store_carry_out};
 ghost use Rattle.definitions_close.specs.Calls.{step_outcome, ninth_outcome, lent, store_called, store_step_called, store_ninth_called};
@@ -12,7 +11,7 @@ pub mod store_close;
 
 use close_by_steps::close_step;
 use close_by_steps::close_steps::ended_by;
-use definitions::{ExitQueue, Finality};
+use definitions::{ExitQueue, Finality, Refusal};
 use definitions_close::{RulesAnswer, Running, RunningAnswer};
 use orders::ninth_call::carry_out;
 use orders::orders_shaped;
@@ -167,11 +166,7 @@ pub fn store_step(
         };
     }
     if !in_turn(number, done) {
-        return RunningAnswer {
-            refusal: 1,
-            ended: 0,
-            running,
-        };
+        return orders::turned_away(Refusal::BadShape, running);
     }
     if done == 0 {
         return first_step(
@@ -205,7 +200,7 @@ pub fn store_step(
     )
 }
 
-// Tests 1 and 2 of all that is lent to the ninth call: 0, or the number of the first that failed.
+// Tests 1 and 2 of all that is lent to the ninth call.
 fn ninth_tests(
     store: &[u64],
     count: u64,
@@ -214,14 +209,12 @@ fn ninth_tests(
     registry: &[u64],
     orders: &[u64],
     answers: &[u64],
-) -> u64
-    ensures { result
-        ≡ code_of
-        (ninth_tests_with (lent store.now count) period taken registry.now orders.now answers.now) }
+) -> Result<(), Refusal>
+    ensures { result ≡ ninth_tests_with (lent store.now count) period taken registry.now orders.now answers.now }
 {
     let n = count as usize;
     if store.len() / 23 < n {
-        return 1;
+        return Err(Refusal::BadShape);
     }
     in_order(
         &[
@@ -250,9 +243,8 @@ fn ninth_rules(
         ≡ rules_answer_for
         (ninth_rules_with (lent store.now count) period slot taken registry.now orders.now answers.now) }
 {
-    let refusal = ninth_tests(store, count, period, taken, registry, orders, answers);
-    if refusal != 0 {
-        return turned_away(refusal);
+    if let Err(refusal) = ninth_tests(store, count, period, taken, registry, orders, answers) {
+        return turned_away(refusal.number());
     }
     rules_at_slot(store, count as usize, slot)
 }
@@ -280,11 +272,7 @@ pub fn store_carry_out(
         };
     }
     if done != 8 {
-        return RunningAnswer {
-            refusal: 1,
-            ended: 0,
-            running,
-        };
+        return orders::turned_away(Refusal::BadShape, running);
     }
     let so_far = running.answer;
     let finality = so_far.finality;

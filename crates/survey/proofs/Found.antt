@@ -4,7 +4,8 @@ use borrow.Author.Tests.{eqb-false}
 use lib.ListN.{length-map, get_or-map}
 use Rattle.definitions.specs.declared.Settings.{Settings}
 use Rattle.definitions.specs.Lists.{filter, all, sum}
-use Rattle.definitions.specs.Checked.{value}
+use Rattle.definitions.specs.Checked.{Checked, value, refused}
+use Rattle.definitions.specs.declared.Refusal.TheVariants.{BadRecord}
 use Rattle.definitions.specs.Record.{Validator, decode_one, decode, nobody}
 use Rattle.definitions.specs.Refusals.{good_validator, good_registry}
 use Rattle.definitions.specs.Rust.Phase0.Helpers.{get_active_validator_indices}
@@ -79,11 +80,11 @@ module _ {p : Validator → Bool} {us : List Validator} {low over : ℕ} (g : Ad
         past = λ n. whole ∙ sum64-refused (map (weight p) us) (g.sums.past n);
       }
 
--- test 3: 0 where all have passed
-abbrev graded : Bool → ℕ
-graded passed = cond passed 0 3
+-- test 3: whether all have passed
+abbrev graded : Bool → Checked (Unit {0})
+graded passed = cond passed (value tt) (refused BadRecord)
 
-all-last : (p : Validator → Bool) (us : List Validator) (v : Validator) → cond (p v) (graded (all p us)) 3 ≡ graded (all p (us ++ (v ∷ [])))
+all-last : (p : Validator → Bool) (us : List Validator) (v : Validator) → cond (p v) (graded (all p us)) (refused BadRecord) ≡ graded (all p (us ++ (v ∷ [])))
 unfolding all
 all-last p [] v = go (p v)
   where
@@ -92,14 +93,14 @@ all-last p [] v = go (p v)
     go false = refl
 all-last p (u ∷ us) v = go (p u) (p v) (all p us) (all p (us ++ (v ∷ []))) (all-last p us v)
   where
-    go : (a b c d : Bool) → cond b (graded c) 3 ≡ graded d → cond b (graded (a && c)) 3 ≡ graded (a && d)
+    go : (a b c d : Bool) → cond b (graded c) (refused BadRecord) ≡ graded d → cond b (graded (a && c)) (refused BadRecord) ≡ graded (a && d)
     go true b c d e = e
     go false true c d e = refl
     go false false c d e = refl
 
 -- Everything, over the validators us
 pub record Found (current previous : ℕ) (us : List Validator) (r : Findings) : Type 0 where
-  pub tested : r.refusal ≡ cond (all good_validator us) 0 3
+  pub tested : r.tested ≡ graded (all good_validator us)
   pub active : Adding (active_at current) us r.sums.active r.over.active
   pub source : Adding (is_unslashed_participating current 0 previous) us r.sums.source r.over.source
   pub target : Adding (is_unslashed_participating current 1 previous) us r.sums.target r.over.target
@@ -112,7 +113,7 @@ abbrev pub nothing : Findings
 nothing =
     let sums : Sums = record { active = 0; source = 0; target = 0; head = 0; current_target = 0 } in
     let over : Overs = record { active = 0; source = 0; target = 0; head = 0; current_target = 0 } in
-    record { refusal = 0; sums = sums; over = over; active = 0; queue = record { last_epoch = 0; number = 0 } }
+    record { tested = value tt; sums = sums; over = over; active = 0; queue = record { last_epoch = 0; number = 0 } }
 
 found_none : (current previous : ℕ) → Found current previous [] nothing
 unfolding all filter

@@ -1,7 +1,8 @@
 -- What one pass over the opening registry finds.
 use Rattle.std.specs.Prelude.{◌≡◌, ℕ, ◌+◌, ◌%◌, ◌^◌, Bool, cond, List, [], ◌∷◌, length, ◌==◌, ◌≢◌, nat_lt}
 use Rattle.definitions.specs.declared.Settings.{Settings}
-use Rattle.definitions.specs.Checked.{value, refused, overflow}
+use Rattle.definitions.specs.Checked.{value, refused}
+use Rattle.definitions.specs.declared.Refusal.TheVariants.{BadRecord, Overflow}
 use Rattle.definitions.specs.Record.{Validator, decode}
 use Rattle.definitions.specs.Refusals.{good_validator, good_registry}
 use Rattle.definitions.specs.Rust.Phase0.Helpers.{get_active_validator_indices}
@@ -18,11 +19,11 @@ use Rattle.definitions.specs.Lists.{every}
 -- a plain sum: a number where `over` is 0, and else it has left 64 bits
 pub record PlainSum (p : Validator → Bool) (vs : List Validator) (sum over : ℕ) : Type 0 where
   pub fits : over ≡ 0 → balance_of p vs ≡ value sum
-  pub past : (over ≢ 0) → balance_of p vs ≡ refused overflow
+  pub past : (over ≢ 0) → balance_of p vs ≡ refused Overflow
 
 -- Everything that the steps ask of the whole registry. `kept` has the epochs since which those that wait do, those that become eligible in this close too
 pub record Finds (s : Settings) (current previous : ℕ) (registry kept : List ℕ) (r : Findings) : Type 0 where
-  pub tested : r.refusal ≡ cond (good_registry registry) 0 3
+  pub tested : r.tested ≡ cond (good_registry registry) (value tt) (refused BadRecord)
   pub active : PlainSum (active_at current) (decode registry) r.sums.active r.over.active
   pub source : PlainSum (is_unslashed_participating current TIMELY_SOURCE_FLAG_INDEX previous) (decode registry) r.sums.source r.over.source
   pub target : PlainSum (is_unslashed_participating current TIMELY_TARGET_FLAG_INDEX previous) (decode registry) r.sums.target r.over.target
@@ -60,7 +61,7 @@ overs_after over t own =
 unfoldable pub found_after : ℕ → ℕ → Findings → Validator → Findings
 found_after current previous r v =
     record {
-      refusal = cond (good_validator v) r.refusal 3;
+      tested = cond (good_validator v) r.tested (refused BadRecord);
       sums = sums_after r.sums (sums_of current previous v);
       over = overs_after r.over r.sums (sums_of current previous v);
       active = r.active + cond (active_at current v) 1 0;

@@ -1,7 +1,8 @@
 // One pass over the registry for all that a close asks of it as a whole.
 #![tactic(auto)]
 
-ghost use Rattle.std.specs.Prelude.{◌≡◌, ◌*◌, ◌/◌, ◌<◌, [], ◌∷◌, length, if◌then◌else◌, nat_le};
+ghost use Rattle.std.specs.Prelude.{◌≡◌, ◌*◌, ◌/◌, ◌<◌, [], ◌∷◌, length, if◌then◌else◌, nat_le, Err};
+ghost use Rattle.definitions.specs.declared.Refusal.TheVariants.{BadRecord};
 ghost use Rattle.definitions.specs.Lists.{every};
 ghost use Rattle.definitions.specs.Record.{decode_one};
 ghost use Rattle.selection.specs.Keep.{Blank};
@@ -10,7 +11,7 @@ ghost use Rattle.survey.specs.Found.{over_after, sums_after, overs_after, found_
 
 use definitions::{
     ACTIVATION_EPOCH, CURRENT_EPOCH_PARTICIPATION, EFFECTIVE_BALANCE, EXIT_EPOCH, ExitQueue,
-    PREVIOUS_EPOCH_PARTICIPATION, SLASHED, Settings,
+    PREVIOUS_EPOCH_PARTICIPATION, Refusal, SLASHED, Settings,
 };
 use entries::{flags_at, is_active, participates};
 use exit_queue::{last_after, number_after};
@@ -100,7 +101,7 @@ pub fn raised_totals(sums: Sums, increment: u64) -> Totals
 // the largest exit epoch below FAR, or 0, and how many have exactly it.
 #[derive(Clone, Copy)]
 pub struct Findings {
-    pub refusal: u64,
+    pub tested: Result<(), Refusal>,
     pub sums: Sums,
     pub over: Overs,
     pub active: u64,
@@ -140,20 +141,26 @@ fn overs_after(over: Overs, t: Sums, own: Sums) -> Overs
     }
 }
 
-// Test 3 of one validator after those before it: 0 or 3.
-fn test_after(refusal: u64, slashed: u64, previous: u64, current: u64) -> u64
-    ensures { result ≡ (if every (nat_le slashed 1 ∷ nat_le previous 255 ∷ nat_le current 255 ∷ []) then refusal else 3) }
+// Test 3 of one validator after those before it, whose tests answered `tested`.
+fn test_after(
+    tested: Result<(), Refusal>,
+    slashed: u64,
+    previous: u64,
+    current: u64,
+) -> Result<(), Refusal>
+    ensures { result
+        ≡ (if every (nat_le slashed 1 ∷ nat_le previous 255 ∷ nat_le current 255 ∷ []) then tested else Err BadRecord) }
 {
     if 1 < slashed {
-        return 3;
+        return Err(Refusal::BadRecord);
     }
     if 255 < previous {
-        return 3;
+        return Err(Refusal::BadRecord);
     }
     if 255 < current {
-        return 3;
+        return Err(Refusal::BadRecord);
     }
-    refusal
+    tested
 }
 
 fn survey_entry(current_epoch: u64, previous_epoch: u64, entry: &[u64], found: Findings) -> Findings
@@ -167,8 +174,8 @@ fn survey_entry(current_epoch: u64, previous_epoch: u64, entry: &[u64], found: F
     let exit = entry[EXIT_EPOCH];
     let active = is_active(entry[ACTIVATION_EPOCH], exit, current_epoch);
     Findings {
-        refusal: test_after(
-            found.refusal,
+        tested: test_after(
+            found.tested,
             entry[SLASHED],
             entry[PREVIOUS_EPOCH_PARTICIPATION],
             entry[CURRENT_EPOCH_PARTICIPATION],
@@ -225,7 +232,7 @@ pub fn survey_registry(
     let n = registry.len() / 10;
     let most = s.max_effective_balance;
     let mut found = Findings {
-        refusal: 0,
+        tested: Ok(()),
         sums: no_sums(),
         over: no_overs(),
         active: 0,

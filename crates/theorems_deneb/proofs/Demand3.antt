@@ -1,5 +1,5 @@
 -- Demand 3 of lists in which each close names its fork: an accepted Deneb close has the interface of history, by the limit of its own.
-use mathlib.Core.Path.{refl, sym, ap, ◌∙◌}
+use mathlib.Core.Path.{refl, ap, ◌∙◌}
 use mathlib.Core.Bool.{Bool}
 use mathlib.Core.List.{List, [], ◌∷◌, map}
 use borrow.Author.Tests.{ltb-true}

@@ -1,9 +1,8 @@
 -- R-14 of runs in which each close names its fork: the exits of a Deneb close are made under the churn limit, as before.
-use mathlib.Core.Path.{refl, sym, ap, subst, ◌∙◌}
+use mathlib.Core.Path.{sym, ap, subst, ◌∙◌}
 use mathlib.Core.List.{List, [], ◌∷◌, map}
 use lib.Dec.{eqb→eq}
 use Rattle.definitions.specs.Record.{decode}
-use Rattle.definitions.specs.Rules.{settings_under}
 use Rattle.definitions.specs.Close.{state_of}
 use Rattle.definitions_close.specs.FullClose.{settings_of}
 use Rattle.definitions_deneb.specs.Calls.{limit_of, DenebCall, as_bellatrix, deneb_close}

@@ -1,5 +1,5 @@
 -- Two checked values that both are values, which R relates, or both refused under one number.
-use mathlib.Core.Path.{◌≡◌, refl, ap}
+use mathlib.Core.Path.{◌≡◌, refl}
 use mathlib.Core.Bool.{Bool, true, false, cond}
 use mathlib.Core.List.{List, [], ◌∷◌}
 use Rattle.definitions.specs.Checked.{Checked, value, refused, bind, fold_checked}

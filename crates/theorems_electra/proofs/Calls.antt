@@ -7,8 +7,7 @@ use Rattle.definitions.specs.Record.{Validator, encode}
 use Rattle.definitions.specs.Checked.{Checked, value, refused, code_of}
 use Rattle.definitions.specs.Refusals.{after_tests}
 use Rattle.agreement.proofs.Restored.{tests-number}
-use Rattle.agreement.proofs.Agrees.{Agrees, Overflow}
-use Rattle.definitions_electra.specs.declared.ExitChurn.{ExitChurn}
+use Rattle.agreement.proofs.Agrees.{Agrees, IsOverflow}
 use Rattle.definitions_electra.specs.declared.ExitChurnAnswer.{ExitChurnAnswer}
 use Rattle.definitions_electra.specs.declared.PendingDeposit.{PendingDeposit}
 use Rattle.definitions_electra.specs.declared.DepositNumbers.{DepositNumbers}
@@ -16,7 +15,7 @@ use Rattle.definitions_electra.specs.declared.DepositsAnswer.{DepositsAnswer}
 use Rattle.definitions_electra.specs.declared.ConsolidationsAnswer.{ConsolidationsAnswer}
 use Rattle.definitions_electra.specs.Record.{PendingConsolidation, ElectraState, encode_deposits, encode_consolidations, decode_consolidations}
 use Rattle.definitions_electra.specs.Refusals.{count_of, deposits_of, registry_tests, slashings_tests, deposits_tests, consolidations_tests, effective_balance_tests, exit_tests}
-use Rattle.definitions_electra.specs.Calls.{registry_in, over, churn_in, exit_churn_answer, deposits_answer, consolidations_answer, ChurnCloses, DepositsClose, ConsolidationsClose}
+use Rattle.definitions_electra.specs.Calls.{registry_in, over, deposits_answer, consolidations_answer, ChurnCloses, DepositsClose, ConsolidationsClose}
 use Rattle.agreement_electra.proofs.Agrees.{registry, initiate_exit, slashings-step, deposits, consolidations, effective-balances}
 use Rattle.theorems_electra.specs.Calls.{ChurnCall, DepositsCall, ConsolidationsCall, RegistryCalls, ExitCalls, SlashingsCalls, DepositsCalls, ConsolidationsCalls, EffectiveBalancesCalls}
 use Rattle.theorems_electra.proofs.Alike.{Alike}
@@ -35,7 +34,7 @@ effective_balances-calls r st opening closing after n d h =
 
 -- registry and exit
 
-churn-call : {R : ElectraState → ElectraState → Type 0} (tests : Checked (Unit {0})) (work text : Checked ElectraState) (document st : ElectraState) → TestsNumber tests → Alike R work text → ((a b : ElectraState) → R a b → (a.altair.validators ≡ b.altair.validators) × (a.churn ≡ b.churn)) → Agrees Overflow text document → {opening closing after : List ℕ} {r : ExitChurnAnswer} → ChurnCloses tests work st.churn opening closing after r → ChurnCall tests text document st opening closing after r
+churn-call : {R : ElectraState → ElectraState → Type 0} (tests : Checked (Unit {0})) (work text : Checked ElectraState) (document st : ElectraState) → TestsNumber tests → Alike R work text → ((a b : ElectraState) → R a b → (a.altair.validators ≡ b.altair.validators) × (a.churn ≡ b.churn)) → Agrees IsOverflow text document → {opening closing after : List ℕ} {r : ExitChurnAnswer} → ChurnCloses tests work st.churn opening closing after r → ChurnCall tests text document st opening closing after r
 churn-call tests work text document st t a same g {r = r} h =
     let code : r.refusal ≡ code_of (after_tests tests work) = ap (λ (x : ExitChurnAnswer). x.refusal) h.answer ∙ churn-code (after_tests tests work) in
     let held : r.churn ≡ value_of (λ s. s.churn) st.churn (after_tests tests work) = ap (λ (x : ExitChurnAnswer). x.churn) h.answer ∙ churn-value (after_tests tests work) st.churn in
@@ -68,7 +67,7 @@ unfolding consolidations_answer
 left-value (value st) lent = refl
 left-value (refused q) lent = refl
 
-consolidations-call : {R : ElectraState → ElectraState → Type 0} (tests : Checked (Unit {0})) (work text : Checked ElectraState) (document : ElectraState) → TestsNumber tests → Alike R work text → ((a b : ElectraState) → R a b → (a.altair.validators ≡ b.altair.validators) × (a.pending_consolidations ≡ b.pending_consolidations)) → Agrees Overflow text document → {registry pairs registry_before registry_after pairs_before pairs_after : List ℕ} {r : ConsolidationsAnswer} → ConsolidationsClose tests work registry pairs registry_before registry_after pairs_before pairs_after r → ConsolidationsCall tests text document registry pairs registry_before registry_after pairs_before pairs_after r
+consolidations-call : {R : ElectraState → ElectraState → Type 0} (tests : Checked (Unit {0})) (work text : Checked ElectraState) (document : ElectraState) → TestsNumber tests → Alike R work text → ((a b : ElectraState) → R a b → (a.altair.validators ≡ b.altair.validators) × (a.pending_consolidations ≡ b.pending_consolidations)) → Agrees IsOverflow text document → {registry pairs registry_before registry_after pairs_before pairs_after : List ℕ} {r : ConsolidationsAnswer} → ConsolidationsClose tests work registry pairs registry_before registry_after pairs_before pairs_after r → ConsolidationsCall tests text document registry pairs registry_before registry_after pairs_before pairs_after r
 consolidations-call tests work text document t a same g {registry} {pairs} {registry_before} {registry_after} {pairs_before} {pairs_after} {r} h =
     let m = after_tests tests work in
     let code : r.refusal ≡ code_of m = ap (λ (x : ConsolidationsAnswer). x.refusal) h.answer ∙ left-code m pairs in
@@ -110,7 +109,7 @@ module _ (numbers : DepositNumbers) (registry deposits : List ℕ) where
   told-deposits (value st) = refl
   told-deposits (refused q) = refl
 
-module _ (tests : Checked (Unit {0})) (work text : Checked ElectraState) (document : ElectraState) (t : TestsNumber tests) (a : Alike SameDeposits work text) (g : Agrees Overflow text document) {numbers : DepositNumbers} {registry compounding queue registry_before registry_after compounding_before compounding_after queue_before queue_after : List ℕ} {r : DepositsAnswer} (h : DepositsClose tests work numbers registry compounding queue registry_before registry_after compounding_before compounding_after queue_before queue_after r) where
+module _ (tests : Checked (Unit {0})) (work text : Checked ElectraState) (document : ElectraState) (t : TestsNumber tests) (a : Alike SameDeposits work text) (g : Agrees IsOverflow text document) {numbers : DepositNumbers} {registry compounding queue registry_before registry_after compounding_before compounding_after queue_before queue_after : List ℕ} {r : DepositsAnswer} (h : DepositsClose tests work numbers registry compounding queue registry_before registry_after compounding_before compounding_after queue_before queue_after r) where
   abbrev m : Checked ElectraState
   m = after_tests tests work
 

@@ -7,7 +7,6 @@ use lib.Dec.{leb, eqb}
 use lib.ListN.{length, get_or}
 use Rattle.definitions.specs.Record.{FAR_FUTURE_EPOCH, nobody, decode}
 use Rattle.definitions_electra.specs.declared.ElectraRules.{ElectraRules}
-use Rattle.definitions_electra.specs.declared.ExitChurn.{ExitChurn}
 use Rattle.definitions_electra.specs.Record.{ElectraState, decode_deposits, decode_consolidations}
 use Rattle.definitions_electra.specs.Calls.{opening_keys, registry_work, exit_work, slashings_work, deposits_work, consolidations_work, effective_balances_work}
 use Rattle.definitions_electra.specs.Document.Electra.EpochProcessing.{current_epoch_of, finalized_epoch_of}
@@ -16,7 +15,7 @@ use Rattle.definitions.specs.Rust.Phase0.Helpers.{is_active_validator, is_eligib
 use Rattle.definitions_electra.specs.Evaluated.Electra.Helpers.{initiate_validator_exit}
 use Rattle.definitions_electra.specs.Evaluated.Electra.EpochProcessing.{update_registry_at, process_registry_updates, process_slashings, queueing, process_pending_deposits, process_pending_consolidations, process_effective_balance_updates}
 use Rattle.theorems_electra.specs.Calls.{numbers_of}
-use Rattle.theorems_electra.proofs.Alike.{Alike, alike-bind, alike_then, alike-cond, alike_fold}
+use Rattle.theorems_electra.proofs.Alike.{Alike, alike_then, alike-cond, alike_fold}
 
 abbrev pub SameValidators : ElectraState → ElectraState → Type 0
 SameValidators a b = a.altair.validators ≡ b.altair.validators

@@ -6,19 +6,18 @@ use Prim.Native.Nat.{ℕ}
 use native.Mathlib.Omega.{arith}
 use Rattle.definitions.specs.declared.PlainNumber.{PlainNumber}
 use Rattle.definitions.specs.Checked.{number_of, Checked, value, refused, bind, code_of, settle}
-use Rattle.definitions.specs.Answers.{number_for}
 use Rattle.definitions.specs.Plain.{plain_number}
 use Rattle.definitions.specs.Refusals.{after_tests}
 use Rattle.agreement.specs.Restored.{OneOf}
 use Rattle.agreement.proofs.Restored.{low, one_left, tests-number}
-use Rattle.agreement.proofs.Agrees.{Agrees, Overflow, value-agrees}
+use Rattle.agreement.proofs.Agrees.{Agrees, IsOverflow, value-agrees}
 use Rattle.agreement_electra.proofs.Agrees.{limit, balance-limit, exit-churn}
 use Rattle.definitions_electra.specs.declared.ExitChurnAnswer.{ExitChurnAnswer}
 use Rattle.definitions_electra.specs.Refusals.{slot_registry_tests, credential_tests}
 use Rattle.theorems_electra.specs.Leaves.{LeafCall, NumberCall, BalanceChurnLimitCalls, ActivationExitChurnLimitCalls, MaxEffectiveBalanceCalls, ExitChurnCalls}
 use Rattle.theorems_electra.proofs.Numbers.{TestsNumber}
 
-leaf-call : {X : Type 0} (tests : Checked (Unit {0})) (text : Checked X) (document : X) → TestsNumber tests → Agrees Overflow text document → {lent x : X} {n : ℕ} → n ≡ code_of (after_tests tests text) → x ≡ settle (after_tests tests text) lent → LeafCall tests text document lent x n
+leaf-call : {X : Type 0} (tests : Checked (Unit {0})) (text : Checked X) (document : X) → TestsNumber tests → Agrees IsOverflow text document → {lent x : X} {n : ℕ} → n ≡ code_of (after_tests tests text) → x ≡ settle (after_tests tests text) lent → LeafCall tests text document lent x n
 unfolding bind after_tests
 leaf-call (refused q) text document t g {n = n} e h =
     let l : OneOf n (1 ∷ 2 ∷ 3 ∷ []) = rw e (t q refl) in
@@ -44,17 +43,17 @@ leaf-call (value u) (value y) document t g {n = n} e h =
     let z : n ≡ 0 = e in
     record { answers = e; number = inl z; accepted = λ _. h ∙ sym (g.same y refl); overflows = λ f. absurd (omega (arith, z, f)); otherwise = λ f. absurd (f z) }
 
-plain_code : (m : Checked ℕ) → (plain_number (number_for m)).refusal ≡ code_of m
+plain_code : (m : Checked ℕ) → (plain_number m).refusal ≡ code_of m
 unfolding plain_number
 plain_code (value x) = refl
 plain_code (refused q) = refl
 
-plain_value : (m : Checked ℕ) → (plain_number (number_for m)).value ≡ settle m 0
+plain_value : (m : Checked ℕ) → (plain_number m).value ≡ settle m 0
 unfolding plain_number
 plain_value (value x) = refl
 plain_value (refused q) = refl
 
-number-call : (tests : Checked (Unit {0})) (text : Checked ℕ) (document : ℕ) → TestsNumber tests → Agrees Overflow text document → {answer : PlainNumber} → answer ≡ plain_number (number_for (after_tests tests text)) → NumberCall tests text document answer
+number-call : (tests : Checked (Unit {0})) (text : Checked ℕ) (document : ℕ) → TestsNumber tests → Agrees IsOverflow text document → {answer : PlainNumber} → answer ≡ plain_number (after_tests tests text) → NumberCall tests text document answer
 number-call tests text document t g h =
     leaf-call tests text document t g (ap (λ (x : PlainNumber). x.refusal) h ∙ plain_code (after_tests tests text)) (ap (λ (x : PlainNumber). x.value) h ∙ plain_value (after_tests tests text))
 

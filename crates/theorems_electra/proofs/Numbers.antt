@@ -4,19 +4,16 @@ use mathlib.Core.List.{List, [], ◌∷◌}
 use mathlib.Core.Logic.{inl, inr}
 use Prim.Native.Nat.{ℕ}
 use native.Mathlib.Omega.{arith}
-use Rattle.definitions.specs.Checked.{Refusal, number_of, Checked, value, refused, bind, code_of}
+use Rattle.definitions.specs.Checked.{number_of, Checked, value, refused, bind, code_of}
+use Rattle.definitions.specs.declared.Refusal.{Refusal}
 use Rattle.definitions.specs.Refusals.{after_tests, closing_buffer}
 use Rattle.laws.proofs.Checked.{number_not_zero}
 use Rattle.agreement.specs.Restored.{OneOf}
 use Rattle.agreement.proofs.Restored.{low, high, one_left}
-use Rattle.agreement.proofs.Agrees.{Agrees, Overflow}
+use Rattle.agreement.proofs.Agrees.{Agrees, IsOverflow}
 use Rattle.definitions_electra.specs.declared.ExitChurn.{ExitChurn}
-use Rattle.definitions_electra.specs.declared.ExitChurnAnswer.{ExitChurnAnswer}
-use Rattle.definitions_electra.specs.declared.DepositNumbers.{DepositNumbers}
-use Rattle.definitions_electra.specs.declared.DepositsAnswer.{DepositsAnswer}
-use Rattle.definitions_electra.specs.declared.ConsolidationsAnswer.{ConsolidationsAnswer}
 use Rattle.definitions_electra.specs.Record.{ElectraState}
-use Rattle.definitions_electra.specs.Calls.{churn_in, exit_churn_answer, deposits_answer, consolidations_answer}
+use Rattle.definitions_electra.specs.Calls.{churn_in, exit_churn_answer}
 use Rattle.theorems_electra.specs.Calls.{ElectraCall}
 use Rattle.theorems_electra.proofs.Alike.{Alike}
 
@@ -24,7 +21,7 @@ use Rattle.theorems_electra.proofs.Alike.{Alike}
 abbrev pub TestsNumber : Checked (Unit {0}) → Type 0
 TestsNumber tests = (q : Refusal) → tests ≡ refused q → OneOf (number_of q) (1 ∷ 2 ∷ 3 ∷ [])
 
-pub electra-call : {R : ElectraState → ElectraState → Type 0} (contents : ElectraState → List ℕ) (tests : Checked (Unit {0})) (work text : Checked ElectraState) (document : ElectraState) → TestsNumber tests → Alike R work text → ((a b : ElectraState) → R a b → contents a ≡ contents b) → Agrees Overflow text document → {opening closing after : List ℕ} {n : ℕ} → n ≡ code_of (after_tests tests work) → after ≡ closing_buffer contents tests work opening closing → ElectraCall tests text document contents opening closing after n
+pub electra-call : {R : ElectraState → ElectraState → Type 0} (contents : ElectraState → List ℕ) (tests : Checked (Unit {0})) (work text : Checked ElectraState) (document : ElectraState) → TestsNumber tests → Alike R work text → ((a b : ElectraState) → R a b → contents a ≡ contents b) → Agrees IsOverflow text document → {opening closing after : List ℕ} {n : ℕ} → n ≡ code_of (after_tests tests work) → after ≡ closing_buffer contents tests work opening closing → ElectraCall tests text document contents opening closing after n
 unfolding bind after_tests closing_buffer
 electra-call contents (refused q) work text document t a same g {n = n} e h =
     let l : OneOf n (1 ∷ 2 ∷ 3 ∷ []) = rw e (t q refl) in
@@ -80,7 +77,7 @@ abbrev pub value_of : {X : Type 0} → (ElectraState → X) → X → Checked El
 value_of f lent (value st) = f st
 value_of f lent (refused q) = lent
 
-pub by_value : {X : Type 0} {R : ElectraState → ElectraState → Type 0} (f : ElectraState → X) (tests : Checked (Unit {0})) (work text : Checked ElectraState) (document : ElectraState) → Alike R work text → ((a b : ElectraState) → R a b → f a ≡ f b) → Agrees Overflow text document → {lent x : X} {n : ℕ} → n ≡ code_of (after_tests tests work) → x ≡ value_of f lent (after_tests tests work) → ByValue f document lent x n
+pub by_value : {X : Type 0} {R : ElectraState → ElectraState → Type 0} (f : ElectraState → X) (tests : Checked (Unit {0})) (work text : Checked ElectraState) (document : ElectraState) → Alike R work text → ((a b : ElectraState) → R a b → f a ≡ f b) → Agrees IsOverflow text document → {lent x : X} {n : ℕ} → n ≡ code_of (after_tests tests work) → x ≡ value_of f lent (after_tests tests work) → ByValue f document lent x n
 unfolding bind after_tests
 by_value f (refused q) work text document a same g e h = record { accepted = λ z. absurd (number_not_zero q (sym e ∙ z)); refused = λ _. h }
 by_value f (value u) (refused p) text document a same g e h = record { accepted = λ z. absurd (number_not_zero p (sym e ∙ z)); refused = λ _. h }

@@ -2,7 +2,8 @@
 -- stands in it is not read.
 use Rattle.std.specs.Prelude.{◌≡◌, List, [], ◌∷◌, ℕ, length}
 use Rattle.definitions.specs.Record.{decode}
-use Rattle.definitions.specs.Checked.{Checked, refused, overflow, code_of}
+use Rattle.definitions.specs.Checked.{Checked, refused, code_of}
+use Rattle.definitions.specs.declared.Refusal.TheVariants.{Overflow}
 use Rattle.definitions.specs.Refusals.{after_tests}
 use Rattle.definitions.specs.Closes.{Closes}
 use Rattle.theorems.specs.Completeness.Calls.{ByNumber}
@@ -30,7 +31,7 @@ pub record ElectraCall (tests : Checked (Unit {0})) (text : Checked ElectraState
   pub answers : r ≡ code_of (after_tests tests text)
   -- 0: the document's; 1, 2 and 3: untouched; 5: the opening's
   pub by_number : ByNumber numbers (contents document) opening closing after r
-  pub overflows : r ≡ 5 → text ≡ refused overflow
+  pub overflows : r ≡ 5 → text ≡ refused Overflow
 
 -- with room behind what is written: the document's, or the opening, at the front, and the rest untouched
 abbrev pub RoomyCall : Checked (Unit {0}) → Checked ElectraState → ElectraState → (ElectraState → List ℕ) → List ℕ → List ℕ → List ℕ → ℕ → Type 0

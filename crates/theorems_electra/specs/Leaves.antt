@@ -2,8 +2,8 @@
 use Rattle.std.specs.Prelude.{◌≡◌, List, ℕ}
 use Rattle.definitions.specs.declared.PlainNumber.{PlainNumber}
 use Rattle.definitions.specs.Record.{decode}
-use Rattle.definitions.specs.Checked.{Checked, value, refused, overflow, code_of}
-use Rattle.definitions.specs.Answers.{number_for}
+use Rattle.definitions.specs.Checked.{Checked, value, refused, code_of}
+use Rattle.definitions.specs.declared.Refusal.TheVariants.{Overflow}
 use Rattle.definitions.specs.Plain.{plain_number}
 use Rattle.definitions.specs.Refusals.{after_tests}
 use Rattle.agreement.specs.Restored.{OneOf}
@@ -21,14 +21,14 @@ pub record LeafCall {X : Type 0} (tests : Checked (Unit {0})) (text : Checked X)
   pub answers : n ≡ code_of (after_tests tests text)
   pub number : OneOf n numbers
   pub accepted : n ≡ 0 → x ≡ document
-  pub overflows : n ≡ 5 → text ≡ refused overflow
+  pub overflows : n ≡ 5 → text ≡ refused Overflow
   pub otherwise : (n ≡ 0 → ⊥) → x ≡ lent
 
 abbrev pub NumberCall : Checked (Unit {0}) → Checked ℕ → ℕ → PlainNumber → Type 0
 NumberCall tests text document r = LeafCall tests text document 0 r.value r.refusal
 
 abbrev Answers : Checked (Unit {0}) → Checked ℕ → PlainNumber → Type 0
-Answers tests text answer = answer ≡ plain_number (number_for (after_tests tests text))
+Answers tests text answer = answer ≡ plain_number (after_tests tests text)
 
 abbrev pub BalanceChurnLimitCalls : Type 0
 BalanceChurnLimitCalls =

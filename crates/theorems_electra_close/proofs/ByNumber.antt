@@ -3,7 +3,8 @@ use mathlib.Core.Path.{◌≡◌, refl, sym, ◌∙◌}
 use mathlib.Core.Logic.{inl, inr}
 use mathlib.Core.List.{[], ◌∷◌}
 use native.Mathlib.Omega.{arith}
-use Rattle.definitions.specs.Checked.{Refusal, Checked, value, refused, number_of, code_of, bind}
+use Rattle.definitions.specs.Checked.{Checked, value, refused, number_of, bind}
+use Rattle.definitions.specs.declared.Refusal.{Refusal}
 use Rattle.definitions.specs.Refusals.{after_tests, closing_buffer}
 use Rattle.definitions_electra.specs.Record.{ElectraState}
 use Rattle.definitions_electra.specs.Evaluated.Electra.EpochProcessing.{process_epoch}

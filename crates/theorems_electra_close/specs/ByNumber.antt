@@ -1,6 +1,6 @@
 -- Demands 1 and 2 of the whole close under Electra: what comes back and what every lent list holds, by the number that it answers. Document 03, F-2 and
 -- F-3: "total, six numbers, what each buffer holds", and "the record that the text defines".
-use Rattle.std.specs.Prelude.{◌≡◌, List, [], ◌∷◌, ℕ, ◌*◌, length, replicate}
+use Rattle.std.specs.Prelude.{◌≡◌, [], ◌∷◌, ◌*◌, length, replicate}
 use Rattle.definitions.specs.Record.{encode, decode}
 use Rattle.definitions.specs.Checked.{value, code_of}
 use Rattle.definitions.specs.Raised.{none_raised, raised_totals}
@@ -10,8 +10,7 @@ use Rattle.definitions_electra.specs.Refusals.{count_of, deposits_of}
 use Rattle.definitions_electra.specs.Calls.{over}
 use Rattle.definitions_electra.specs.Document.Electra.EpochProcessing as document
 use Rattle.definitions_electra.specs.Evaluated.Electra.EpochProcessing as evaluated
-use Rattle.definitions_electra_close.specs.Amounts.{electra_amounts}
-use Rattle.definitions_electra_close.specs.Close.{ElectraCall, electra_state_of, electra_tests, ElectraOutcome, electra_close}
+use Rattle.definitions_electra_close.specs.Close.{ElectraCall, electra_state_of, electra_tests, electra_close}
 use Rattle.agreement.specs.Restored.{OneOf}
 
 -- the answer beside a refusal: all as it was handed in

@@ -1,5 +1,4 @@
 -- Laws of totals.
 mod Genesis
 pub mod Sums
-pub mod Tested
 pub mod WithRaised

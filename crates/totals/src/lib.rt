@@ -6,8 +6,7 @@ ghost use Rattle.std.specs.Prelude.{◌≡◌, cond, map, ◌+◌, ◌*◌, ◌/
 ghost use Rattle.definitions.specs.Lists.{filter};
 ghost use Rattle.definitions.specs.Record.{decode_one, decode};
 ghost use Rattle.definitions.specs.Checked.{value, sum64};
-ghost use Rattle.definitions.specs.Answers.{Says};
-ghost use Rattle.definitions.specs.Raised.{total_with_raised, SaysTotal};
+ghost use Rattle.definitions.specs.Raised.{total_with_raised};
 ghost use Rattle.definitions.specs.Refusals.{after_tests};
 ghost use Rattle.definitions.specs.LeafRefusals.{slot_registry_tests, participation_tests};
 ghost use Rattle.definitions.specs.Rust.Phase0.Helpers.{get_current_epoch, get_active_validator_indices, get_total_balance, get_validator_churn_limit};
@@ -20,10 +19,11 @@ ghost use Rattle.totals.specs.Totals.{total_from, balance_for};
 pub mod raising;
 
 use arithmetic::{max, min};
-use definitions::{ActivationLimit, EFFECTIVE_BALANCE, Number, Settings, Total, TotalAnswer};
+use definitions::{ActivationLimit, EFFECTIVE_BALANCE, Refusal, Settings, Total};
 use entries::{entry_is_active, entry_is_eligible, entry_is_participating};
 use epochs::{current_epoch, previous_epoch};
 use leaf_refusals::registry_refusals::{participation_tests, slot_registry_tests};
+use over_entries::{count_entries, sum_entries};
 
 pub fn count_if(count: u64, on: bool) -> u64
     requires { count < 18446744073709551615 }
@@ -79,23 +79,12 @@ fn member_weight(members: Members, entry: &[u64]) -> u64
 }
 
 // The plain sum of the members' effective balances.
-fn members_balance(members: Members, registry: &[u64]) -> Number
+fn members_balance(members: Members, registry: &[u64]) -> Result<u64, Refusal>
     requires registry_len { length registry.now ≡ 10 * (length registry.now / 10) }
     requires members_bound { flag_of members ≤ 7 }
-    ensures { Says (sum64 (map (λ v. v.effective_balance) (filter (is_member members) (decode registry.now)))) result }
+    ensures { result ≡ sum64 (map (λ v. v.effective_balance) (filter (is_member members) (decode registry.now))) }
 {
-    let n = registry.len() / 10;
-    let mut sum: u64 = 0;
-    for i in 0..n {
-        let a = 10 * i;
-        let b = a + 10;
-        let weight = member_weight(members, &registry[a..b]);
-        if 18446744073709551615 - sum < weight {
-            return Number::Refused(5);
-        }
-        sum += weight;
-    }
-    Number::Value(sum)
+    sum_entries(|entry| member_weight(members, entry), registry)
 }
 
 // How many they are.
@@ -104,17 +93,7 @@ fn members_count(members: Members, registry: &[u64]) -> u64
     requires members_bound { flag_of members ≤ 7 }
     ensures { result ≡ length (filter (is_member members) (decode registry.now)) }
 {
-    let n = registry.len() / 10;
-    let mut count: u64 = 0;
-    for i in 0..n {
-        let a = 10 * i;
-        let b = a + 10;
-        if !is_member(members, &registry[a..b]) {
-            continue;
-        }
-        count += 1;
-    }
-    count
+    count_entries(|entry| is_member(members, entry), registry)
 }
 
 // A total is its plain sum, and at least one increment, also over nobody.
@@ -144,21 +123,19 @@ pub fn total_from(sum: u64, increment: u64) -> Total
     }
 }
 
-fn members_total(s: Settings, members: Members, registry: &[u64]) -> TotalAnswer
+fn members_total(s: Settings, members: Members, registry: &[u64]) -> Result<Total, Refusal>
     requires registry_len { length registry.now ≡ 10 * (length registry.now / 10) }
     requires members_bound { flag_of members ≤ 7 }
-    ensures { SaysTotal (total_with_raised s (filter (is_member members) (decode registry.now))) result }
+    ensures { result ≡ total_with_raised s (filter (is_member members) (decode registry.now)) }
 {
-    let Number::Value(sum) = members_balance(members, registry) else {
-        return TotalAnswer::Refused(5);
-    };
+    let sum = members_balance(members, registry)?;
     let total = total_from(sum, s.effective_balance_increment);
-    TotalAnswer::Value(total)
+    Ok(total)
 }
 
-pub fn active_total(s: Settings, epoch: u64, registry: &[u64]) -> TotalAnswer
+pub fn active_total(s: Settings, epoch: u64, registry: &[u64]) -> Result<Total, Refusal>
     requires { length registry.now ≡ 10 * (length registry.now / 10) }
-    ensures { SaysTotal (total_with_raised s (get_active_validator_indices (decode registry.now) epoch)) result }
+    ensures { result ≡ total_with_raised s (get_active_validator_indices (decode registry.now) epoch) }
 {
     let members = Members::Active { epoch: epoch };
     members_total(s, members, registry)
@@ -170,10 +147,10 @@ pub fn participating_total(
     flag_index: u64,
     epoch: u64,
     registry: &[u64],
-) -> TotalAnswer
+) -> Result<Total, Refusal>
     requires registry_len { length registry.now ≡ 10 * (length registry.now / 10) }
     requires flag_index_bound { flag_index ≤ 7 }
-    ensures { SaysTotal (total_with_raised s (filter (is_unslashed_participating current_epoch flag_index epoch) (decode registry.now))) result }
+    ensures { result ≡ total_with_raised s (filter (is_unslashed_participating current_epoch flag_index epoch) (decode registry.now)) }
 {
     let members = Members::Participating {
         current_epoch: current_epoch,
@@ -184,18 +161,16 @@ pub fn participating_total(
 }
 
 // A total alone, for what does not ask whether it was raised.
-pub fn balance_of(answer: TotalAnswer) -> Number
+pub fn balance_of(answer: Result<Total, Refusal>) -> Result<u64, Refusal>
     ensures { result ≡ balance_for answer }
 {
-    match answer {
-        TotalAnswer::Value(total) => Number::Value(total.balance),
-        TotalAnswer::Refused(refusal) => Number::Refused(refusal),
-    }
+    let total = answer?;
+    Ok(total.balance)
 }
 
-pub fn total_active(s: Settings, epoch: u64, registry: &[u64]) -> Number
+pub fn total_active(s: Settings, epoch: u64, registry: &[u64]) -> Result<u64, Refusal>
     requires { length registry.now ≡ 10 * (length registry.now / 10) }
-    ensures { Says (get_total_balance s (get_active_validator_indices (decode registry.now) epoch)) result }
+    ensures { result ≡ get_total_balance s (get_active_validator_indices (decode registry.now) epoch) }
 {
     balance_of(active_total(s, epoch, registry))
 }
@@ -206,22 +181,23 @@ pub fn total_participating(
     flag_index: u64,
     epoch: u64,
     registry: &[u64],
-) -> Number
+) -> Result<u64, Refusal>
     requires registry_len { length registry.now ≡ 10 * (length registry.now / 10) }
     requires flag_index_bound { flag_index ≤ 7 }
-    ensures { Says (get_total_balance s (filter (is_unslashed_participating current_epoch flag_index epoch) (decode registry.now))) result }
+    ensures { result ≡ get_total_balance s (filter (is_unslashed_participating current_epoch flag_index epoch) (decode registry.now)) }
 {
     balance_of(participating_total(s, current_epoch, flag_index, epoch, registry))
 }
 
-pub fn get_total_active_balance(s: Settings, state_slot: u64, registry: &[u64]) -> TotalAnswer
-    ensures { SaysTotal (after_tests (slot_registry_tests s state_slot registry.now)
-        (total_with_raised s (get_active_validator_indices (decode registry.now) (get_current_epoch s state_slot)))) result }
+pub fn get_total_active_balance(
+    s: Settings,
+    state_slot: u64,
+    registry: &[u64],
+) -> Result<Total, Refusal>
+    ensures { result ≡ after_tests (slot_registry_tests s state_slot registry.now)
+        (total_with_raised s (get_active_validator_indices (decode registry.now) (get_current_epoch s state_slot))) }
 {
-    let refusal = slot_registry_tests(s, state_slot, registry);
-    if refusal != 0 {
-        return TotalAnswer::Refused(refusal);
-    }
+    slot_registry_tests(s, state_slot, registry)?;
     let epoch = current_epoch(s, state_slot);
     active_total(s, epoch, registry)
 }
@@ -233,14 +209,11 @@ pub fn get_participating_balance(
     flag_index: u64,
     epoch: u64,
     registry: &[u64],
-) -> TotalAnswer
-    ensures { SaysTotal (after_tests (participation_tests s state_slot flag_index epoch registry.now)
-        (total_with_raised s (get_unslashed_participating_indices s state_slot (decode registry.now) flag_index epoch))) result }
+) -> Result<Total, Refusal>
+    ensures { result ≡ after_tests (participation_tests s state_slot flag_index epoch registry.now)
+        (total_with_raised s (get_unslashed_participating_indices s state_slot (decode registry.now) flag_index epoch)) }
 {
-    let refusal = participation_tests(s, state_slot, flag_index, epoch, registry);
-    if refusal != 0 {
-        return TotalAnswer::Refused(refusal);
-    }
+    participation_tests(s, state_slot, flag_index, epoch, registry)?;
     let current = current_epoch(s, state_slot);
     participating_total(s, current, flag_index, epoch, registry)
 }
@@ -274,16 +247,17 @@ pub fn churn_limit(s: Settings, state_slot: u64, registry: &[u64]) -> u64
     churn_by(s, active)
 }
 
-pub fn get_validator_churn_limit(s: Settings, state_slot: u64, registry: &[u64]) -> Number
-    ensures { Says (after_tests (slot_registry_tests s state_slot registry.now)
-        (value (get_validator_churn_limit s state_slot (decode registry.now)))) result }
+pub fn get_validator_churn_limit(
+    s: Settings,
+    state_slot: u64,
+    registry: &[u64],
+) -> Result<u64, Refusal>
+    ensures { result ≡ after_tests (slot_registry_tests s state_slot registry.now)
+        (value (get_validator_churn_limit s state_slot (decode registry.now))) }
 {
-    let refusal = slot_registry_tests(s, state_slot, registry);
-    if refusal != 0 {
-        return Number::Refused(refusal);
-    }
+    slot_registry_tests(s, state_slot, registry)?;
     let limit = churn_limit(s, state_slot, registry);
-    Number::Value(limit)
+    Ok(limit)
 }
 
 // How many are charged: nobody at the genesis epoch, where there are no rewards and penalties.
@@ -303,13 +277,10 @@ pub fn charged_count(s: Settings, state_slot: u64, registry: &[u64]) -> u64
     members_count(members, registry)
 }
 
-pub fn charged(s: Settings, state_slot: u64, registry: &[u64]) -> Number
-    ensures { Says (after_tests (slot_registry_tests s state_slot registry.now) (value (charged s state_slot (decode registry.now)))) result }
+pub fn charged(s: Settings, state_slot: u64, registry: &[u64]) -> Result<u64, Refusal>
+    ensures { result ≡ after_tests (slot_registry_tests s state_slot registry.now) (value (charged s state_slot (decode registry.now))) }
 {
-    let refusal = slot_registry_tests(s, state_slot, registry);
-    if refusal != 0 {
-        return Number::Refused(refusal);
-    }
+    slot_registry_tests(s, state_slot, registry)?;
     let count = charged_count(s, state_slot, registry);
-    Number::Value(count)
+    Ok(count)
 }

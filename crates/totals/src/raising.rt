@@ -1,11 +1,11 @@
 // Which of the three totals that justification weighs were raised to one increment: 1 or 0 each, nothing up to epoch 1 and on refusal.
 ghost use Rattle.std.specs.Prelude.{◌≡◌, ◌*◌, ◌/◌, ◌<◌, length};
 ghost use Rattle.definitions.specs.Record.{decode};
-ghost use Rattle.definitions.specs.Raised.{none_raised, raised_totals};
-ghost use Rattle.totals.specs.Flags.{flag_for, raised_of, answer_with};
+ghost use Rattle.definitions.specs.Raised.{none_raised, raised_totals, close_answer_for};
+ghost use Rattle.totals.specs.Flags.{flag_for, raised_of};
 
 use crate::{active_total, participating_total};
-use definitions::{CloseAnswer, Finality, Raised, Settings, TotalAnswer};
+use definitions::{CloseAnswer, Finality, Raised, Refusal, Settings, Total};
 use epochs::{current_epoch, previous_epoch};
 
 pub fn none_raised() -> Raised
@@ -19,21 +19,21 @@ pub fn none_raised() -> Raised
 }
 
 // A sum that has left 64 bits is not below the increment.
-fn flag_of(answer: TotalAnswer) -> u64
+fn flag_of(answer: Result<Total, Refusal>) -> u64
     ensures { result ≡ flag_for answer }
 {
     match answer {
-        TotalAnswer::Value(total) => total.raised,
-        TotalAnswer::Refused(_) => 0,
+        Ok(total) => total.raised,
+        Err(_) => 0,
     }
 }
 
 // From the three totals of a registry, for callers that have them.
 pub fn raised_of(
     current_epoch: u64,
-    active: TotalAnswer,
-    previous: TotalAnswer,
-    current: TotalAnswer,
+    active: Result<Total, Refusal>,
+    previous: Result<Total, Refusal>,
+    current: Result<Total, Refusal>,
 ) -> Raised
     ensures { result ≡ raised_of current_epoch active previous current }
 {
@@ -61,20 +61,24 @@ pub fn raised_totals(s: Settings, state_slot: u64, registry: &[u64]) -> Raised
     raised_of(now, active, previous, current)
 }
 
-// The answer of justification and of the close: nothing was raised where it is refused.
-pub fn answer_with(refusal: u64, finality: Finality, raised: Raised) -> CloseAnswer
-    ensures { result ≡ answer_with refusal finality raised }
+// The answer of justification and of the close: on refusal the finality handed in, and nothing was raised.
+pub fn answer_with(
+    answered: Result<Finality, Refusal>,
+    old: Finality,
+    raised: Raised,
+) -> CloseAnswer
+    ensures { result ≡ close_answer_for answered old raised }
 {
-    if refusal != 0 {
-        return CloseAnswer {
-            refusal,
+    match answered {
+        Ok(finality) => CloseAnswer {
+            refusal: 0,
             finality,
+            raised,
+        },
+        Err(refusal) => CloseAnswer {
+            refusal: refusal.number(),
+            finality: old,
             raised: none_raised(),
-        };
-    }
-    CloseAnswer {
-        refusal,
-        finality,
-        raised,
+        },
     }
 }

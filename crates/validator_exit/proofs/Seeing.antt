@@ -14,9 +14,11 @@ use Rattle.laws.proofs.Loops.Filtered.{filter-last, filter_le}
 use Rattle.laws.proofs.Loops.Reading.{prefix_all, prefix_more}
 use Rattle.laws.proofs.Loops.Tested.{Tested, tested-none, tested-more, tested-stop, tested-all}
 use Rattle.definitions.specs.declared.ExitQueue.{ExitQueue}
+use Rattle.definitions.specs.declared.Refusal.TheVariants.{BadRecord}
+use Rattle.definitions.specs.Checked.{value, refused}
 use Rattle.exit_queue.specs.Queue.{joined}
 use Rattle.exit_queue.proofs.QueueOf.{Tracking, tracking_none, tracking_more, tracking_all}
-use Rattle.validator_exit.specs.Exits.{Sees}
+use Rattle.validator_exit.specs.Exits.{sees}
 
 pub record Seeing (epoch n : ℕ) (xs : List ℕ) (i active : ℕ) (q : ExitQueue) : Type 0 where
   pub good : Tested good_validator n xs i
@@ -42,15 +44,12 @@ module _ {epoch n : ℕ} {xs : List ℕ} {i active : ℕ} {q : ExitQueue} (g : S
           pair = tracking_more g.pair l h;
         }
 
-    pub seeing_stop : b ≡ false → Sees epoch xs (record { refusal = 3; active = 0; queue = q })
-    unfolding good_registry
-    seeing_stop f = record { tested = rw (← tested-stop g.good l e f); active = λ z. absurd (omega arith); queue = λ z. absurd (omega arith) }
+    pub seeing_stop : b ≡ false → refused BadRecord ≡ sees epoch xs
+    unfolding good_registry sees
+    seeing_stop f = rw (← tested-stop g.good l e f)
 
-  pub seeing_all : n ≤ i → Sees epoch xs (record { refusal = 0; active = active; queue = q })
-  unfolding good_registry get_active_validator_indices
+  pub seeing_all : n ≤ i → value (record { active = active; queue = q }) ≡ sees epoch xs
+  unfolding good_registry sees get_active_validator_indices
   seeing_all l =
-      record {
-        tested = rw (← tested-all g.good l);
-        active = λ z. g.number ∙ ap (λ (vs : List Validator). length (filter (λ v. is_active_validator v epoch) vs)) (prefix_all g.good.at l);
-        queue = λ z. tracking_all g.pair l;
-      }
+      let number : active ≡ length (filter (λ v. is_active_validator v epoch) (decode xs)) = g.number ∙ ap (λ (vs : List Validator). length (filter (λ v. is_active_validator v epoch) vs)) (prefix_all g.good.at l) in
+      rw (← tested-all g.good l, number, tracking_all g.pair l)

@@ -1,19 +1,21 @@
--- What one pass finds, and one validator's exit in place.
+-- What one pass finds, and one validator's exit.
 use Rattle.std.specs.Prelude.{◌≡◌, cond, List, ℕ, length}
-use Rattle.definitions.specs.Record.{decode}
+use Rattle.definitions.specs.declared.ExitQueue.{ExitQueue}
+use Rattle.definitions.specs.declared.Refusal.TheVariants.{BadRecord}
+use Rattle.definitions.specs.Record.{Validator, decode}
+use Rattle.definitions.specs.Checked.{Checked, value, refused, done}
 use Rattle.definitions.specs.Refusals.{good_registry}
 use Rattle.definitions.specs.ExitQueue.{queue_of}
 use Rattle.definitions.specs.Rust.Phase0.Helpers.{get_active_validator_indices}
-use Rattle.exit_queue.specs.Exits.{exit_at, Leaves}
-use Rattle.exit_queue.specs.declared.Turn.{Turn}
+use Rattle.exit_queue.specs.Exits.{Leaves}
 use Rattle.validator_exit.specs.declared.Seen.{Seen}
 
-pub record Sees (epoch : ℕ) (registry : List ℕ) (r : Seen) : Type 0 where
-  pub tested : r.refusal ≡ cond (good_registry registry) 0 3
-  pub active : r.refusal ≡ 0 → r.active ≡ length (get_active_validator_indices (decode registry) epoch)
-  pub queue : r.refusal ≡ 0 → r.queue ≡ queue_of (decode registry)
+unfoldable pub sees : ℕ → List ℕ → Checked Seen
+sees epoch registry =
+    let found : Seen = record { active = length (get_active_validator_indices (decode registry) epoch); queue = queue_of (decode registry) } in
+    cond (good_registry registry) (value found) (refused BadRecord)
 
--- 0 or the refusal's number; the registry and its pair, both left as lent where the exit is refused
-pub record ExitsAt (least limit delay index : ℕ) (before after : List ℕ) (r : Turn) : Type 0 where
-  pub leaves : Leaves (exit_at least limit delay (decode before) index) before after r.refusal
-  pub queue : r.queue ≡ queue_of (decode after)
+-- The registry's pair afterwards or the refusal; and the registry, left as lent where it is refused
+pub record LeavesPair (m : Checked (List Validator)) (before after : List ℕ) (r : Checked ExitQueue) : Type 0 where
+  pub leaves : Leaves m before after (done r)
+  pub queue : {q : ExitQueue} → r ≡ value q → q ≡ queue_of (decode after)

@@ -4,35 +4,35 @@
 
 ghost use Rattle.std.specs.Prelude.{◌≡◌, [], ◌∷◌, ◌*◌, ◌/◌, ◌<◌, length};
 ghost use Rattle.definitions.specs.Record.{decode};
-ghost use Rattle.definitions.specs.Checked.{code_of};
-ghost use Rattle.definitions.specs.Refusals.{in_order, settings_shaped, registry_shaped, good_settings, is_small};
+ghost use Rattle.definitions.specs.Refusals.{in_order, settings_shaped, registry_shaped, good_settings, is_small, after_tests};
 ghost use Rattle.definitions.specs.LeafRefusals.{is_index};
 ghost use Rattle.definitions.specs.ExitQueue.{queue_of};
 ghost use Rattle.definitions.specs.Rust.Phase0.Helpers.{initiate_validator_exit};
 ghost use Rattle.definitions_close.specs.QueueCalls.{exit_queue_tests, QueueCloses, found_queue};
-ghost use Rattle.validator_exit.specs.Exits.{Sees, ExitsAt};
+ghost use Rattle.exit_queue.specs.Exits.{exit_at};
+ghost use Rattle.validator_exit.specs.Exits.{sees, LeavesPair};
 
 pub mod queue_tests;
 
-use crate::queue_tests::found_refusal;
-use definitions::{EXIT_EPOCH, ExitQueue, FAR_FUTURE_EPOCH, QueueAnswer, Settings};
+use crate::queue_tests::queue_refusal;
+use definitions::{EXIT_EPOCH, ExitQueue, FAR_FUTURE_EPOCH, QueueAnswer, Refusal, Settings};
 use entries::entry_is_active;
 use epochs::current_epoch;
-use exit_queue::{Turn, exit_entry, exited, start_pair};
+use exit_queue::{exit_entry, exited, start_pair};
 use refusals::{good_entry, good_settings, in_order, is_small, registry_shaped, settings_shaped};
 use totals::{churn_by, count_if};
 
-// What one pass over the registry finds: 3 where an entry fails test 3; else how many are active, and the exit queue's pair.
+// What one pass over the registry finds: how many are active, and the exit queue's pair.
 #[derive(Clone, Copy)]
 pub struct Seen {
-    pub refusal: u64,
     pub active: u64,
     pub queue: ExitQueue,
 }
 
-pub fn see_registry(registry: &[u64], epoch: u64) -> Seen
+// Refusal 3 where an entry fails test 3.
+pub fn see_registry(registry: &[u64], epoch: u64) -> Result<Seen, Refusal>
     requires { length registry.now ≡ 10 * (length registry.now / 10) }
-    ensures { Sees epoch registry.now result }
+    ensures { result ≡ sees epoch registry.now }
 {
     let n = registry.len() / 10;
     let mut active: u64 = 0;
@@ -44,28 +44,23 @@ pub fn see_registry(registry: &[u64], epoch: u64) -> Seen
         let a = 10 * i;
         let b = a + 10;
         if !good_entry(&registry[a..b]) {
-            return Seen {
-                refusal: 3,
-                active: 0,
-                queue: queue,
-            };
+            return Err(Refusal::BadRecord);
         }
         let on = entry_is_active(&registry[a..b], epoch);
         active = count_if(active, on);
         queue = exited(queue, registry[10 * i + EXIT_EPOCH]);
     }
-    Seen {
-        refusal: 0,
+    Ok(Seen {
         active: active,
         queue: queue,
-    }
+    })
 }
 
 // Tests 1 and 2, and 3 of the slot.
-fn shape_tests(s: Settings, state_slot: u64, index: u64, registry: &[u64]) -> u64
+fn shape_tests(s: Settings, state_slot: u64, index: u64, registry: &[u64]) -> Result<(), Refusal>
     ensures { result
-        ≡ code_of (in_order (settings_shaped s ∷ registry_shaped registry.now ∷ is_index index registry.now ∷ []) (good_settings s ∷ [])
-        (is_small state_slot ∷ [])) }
+        ≡ in_order (settings_shaped s ∷ registry_shaped registry.now ∷ is_index index registry.now ∷ []) (good_settings s ∷ [])
+        (is_small state_slot ∷ []) }
 {
     in_order(
         &[
@@ -79,7 +74,7 @@ fn shape_tests(s: Settings, state_slot: u64, index: u64, registry: &[u64]) -> u6
 }
 
 // The exit of one validator in place, once the record is tested and the numbers are worked out: `least` is the activation exit epoch of the
-// present epoch, `limit` the churn limit. The registry's pair goes in and comes back; on refusal both stay.
+// present epoch, `limit` the churn limit. The registry's pair goes in and comes back; on refusal the registry stays.
 pub fn exit_in_place(
     registry: &mut [u64],
     n: usize,
@@ -88,34 +83,44 @@ pub fn exit_in_place(
     least: u64,
     limit: u64,
     delay: u64,
-) -> Turn
+) -> Result<ExitQueue, Refusal>
     requires registry_len { (length registry.old ≡ 10 * n) × (index < n) × (least < 18446744073709551615) }
     requires queue_value { queue ≡ queue_of (decode registry.old) }
-    ensures { ExitsAt least limit delay index registry.old registry.new result }
+    ensures { LeavesPair (exit_at least limit delay (decode registry.old) index) registry.old registry.new result }
 {
     let at = 10 * index + 4;
     if registry[at] != FAR_FUTURE_EPOCH {
-        return Turn {
-            refusal: 0,
-            queue: queue,
-        };
+        return Ok(queue);
     }
     let start = start_pair(queue, least);
     let a = 10 * index;
     let b = a + 10;
-    let turn = exit_entry(&mut registry[a..b], start, limit, delay);
-    let refusal = turn.refusal;
-    if refusal != 0 {
-        return Turn {
-            refusal: refusal,
-            queue: queue,
-        };
-    }
+    exit_entry(&mut registry[a..b], start, limit, delay)?;
     let moved = exited(queue, registry[10 * index + EXIT_EPOCH]);
-    Turn {
-        refusal: 0,
-        queue: moved,
-    }
+    Ok(moved)
+}
+
+// The tests and the exit: the pair afterwards.
+fn exit_tested(
+    s: Settings,
+    state_slot: u64,
+    index: u64,
+    queue: ExitQueue,
+    registry: &mut [u64],
+) -> Result<ExitQueue, Refusal>
+    ensures { LeavesPair
+        (after_tests (exit_queue_tests s state_slot index queue registry.old) (initiate_validator_exit s state_slot (decode registry.old) index))
+        registry.old registry.new result }
+{
+    shape_tests(s, state_slot, index, &registry[..])?;
+    let epoch = current_epoch(s, state_slot);
+    let seen = see_registry(&registry[..], epoch)?;
+    queue_refusal(queue, seen.queue)?;
+    let n = registry.len() / 10;
+    let limit = churn_by(s, seen.active);
+    let least = epoch + 1 + s.max_seed_lookahead;
+    let delay = s.min_validator_withdrawability_delay;
+    exit_in_place(registry, n, index as usize, queue, least, limit, delay)
 }
 
 // The registry is left as lent on every refusal.
@@ -130,32 +135,15 @@ pub fn initiate_validator_exit(
         (initiate_validator_exit s state_slot (decode registry.old) index)
         queue registry.old registry.old registry.new result }
 {
-    let shaped = shape_tests(s, state_slot, index, &registry[..]);
-    if shaped != 0 {
-        return QueueAnswer {
-            refusal: shaped,
-            queue: queue,
-        };
-    }
-    let epoch = current_epoch(s, state_slot);
-    let seen = see_registry(&registry[..], epoch);
-    let found = seen.queue;
-    let tested = found_refusal(seen.refusal, queue, found);
-    if tested != 0 {
-        return QueueAnswer {
-            refusal: tested,
-            queue: queue,
-        };
-    }
-    let n = registry.len() / 10;
-    let limit = churn_by(s, seen.active);
-    let least = epoch + 1 + s.max_seed_lookahead;
-    let delay = s.min_validator_withdrawability_delay;
-    let turn = exit_in_place(registry, n, index as usize, queue, least, limit, delay);
-    let after = turn.queue;
-    QueueAnswer {
-        refusal: turn.refusal,
-        queue: after,
+    match exit_tested(s, state_slot, index, queue, registry) {
+        Ok(after) => QueueAnswer {
+            refusal: 0,
+            queue: after,
+        },
+        Err(refusal) => QueueAnswer {
+            refusal: refusal.number(),
+            queue,
+        },
     }
 }
 
@@ -169,20 +157,18 @@ pub fn found_queue(registry: &[u64]) -> QueueAnswer
     };
     if !registry_shaped(registry) {
         return QueueAnswer {
-            refusal: 1,
+            refusal: Refusal::BadShape.number(),
             queue: none,
         };
     }
-    let seen = see_registry(registry, 0);
-    if seen.refusal != 0 {
-        return QueueAnswer {
-            refusal: 3,
+    match see_registry(registry, 0) {
+        Ok(seen) => QueueAnswer {
+            refusal: 0,
+            queue: seen.queue,
+        },
+        Err(refusal) => QueueAnswer {
+            refusal: refusal.number(),
             queue: none,
-        };
-    }
-    let queue = seen.queue;
-    QueueAnswer {
-        refusal: 0,
-        queue: queue,
+        },
     }
 }

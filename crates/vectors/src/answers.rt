@@ -1,21 +1,16 @@
 // Whether a leaf's answer is the one stored: the same refusal, and the same words where there is none.
 use crate::case::Case;
 use crate::words::{bytes_part, part, past, word};
-use definitions::{
-    Checkpoint, Deltas, DeltasAnswer, Finality, FinalityAnswer, Number, Total, TotalAnswer, Truth,
-};
+use definitions::{Checkpoint, Deltas, Finality, Refusal, Total};
 
-fn is_refused(c: Case, refusal: u64) -> bool {
-    if refusal == 0 {
-        return false;
-    }
-    c.refusal == refusal
+fn is_refused(c: Case, refusal: Refusal) -> bool {
+    c.refusal == refusal.number()
 }
 
-pub fn number_agrees(answer: Number, c: Case, words: &[u64]) -> bool {
+pub fn number_agrees(answer: Result<u64, Refusal>, c: Case, words: &[u64]) -> bool {
     match answer {
-        Number::Refused(refusal) => is_refused(c, refusal),
-        Number::Value(n) => value_agrees(n, c, words),
+        Ok(n) => value_agrees(n, c, words),
+        Err(refusal) => is_refused(c, refusal),
     }
 }
 
@@ -26,17 +21,17 @@ fn value_agrees(n: u64, c: Case, words: &[u64]) -> bool {
     word(words, c.answer, 0) == n
 }
 
-pub fn truth_agrees(answer: Truth, c: Case, words: &[u64]) -> bool {
+pub fn truth_agrees(answer: Result<bool, Refusal>, c: Case, words: &[u64]) -> bool {
     match answer {
-        Truth::Refused(refusal) => is_refused(c, refusal),
-        Truth::Value(yes) => value_agrees(yes as u64, c, words),
+        Ok(yes) => value_agrees(yes as u64, c, words),
+        Err(refusal) => is_refused(c, refusal),
     }
 }
 
-pub fn deltas_agree(answer: DeltasAnswer, c: Case, words: &[u64]) -> bool {
+pub fn deltas_agree(answer: Result<Deltas, Refusal>, c: Case, words: &[u64]) -> bool {
     match answer {
-        DeltasAnswer::Refused(refusal) => is_refused(c, refusal),
-        DeltasAnswer::Value(d) => both_agree(d, c, words),
+        Ok(d) => both_agree(d, c, words),
+        Err(refusal) => is_refused(c, refusal),
     }
 }
 
@@ -47,10 +42,10 @@ fn both_agree(d: Deltas, c: Case, words: &[u64]) -> bool {
     value_agrees(d.reward, c, words)
 }
 
-pub fn total_agrees(answer: TotalAnswer, c: Case, words: &[u64]) -> bool {
+pub fn total_agrees(answer: Result<Total, Refusal>, c: Case, words: &[u64]) -> bool {
     match answer {
-        TotalAnswer::Refused(refusal) => is_refused(c, refusal),
-        TotalAnswer::Value(t) => balance_agrees(t, c, words),
+        Ok(t) => balance_agrees(t, c, words),
+        Err(refusal) => is_refused(c, refusal),
     }
 }
 
@@ -91,20 +86,18 @@ pub fn lent_agrees(refusal: u64, c: Case, words: &[u64], after: &[u64], at: usiz
     true
 }
 
-fn stored_bytes(refusal: u64) -> usize {
-    if refusal == 0 {
-        return 32;
+pub fn root_agrees(answer: Result<[u8; 32], Refusal>, c: Case, bytes: &[u8]) -> bool {
+    match answer {
+        Ok(root) => found_agrees(root, c, bytes),
+        Err(refusal) => is_refused(c, refusal),
     }
-    0
 }
 
-// The root's 32 bytes, or none where the leaf refuses.
-pub fn root_agrees(refusal: u64, root: &[u8], c: Case, bytes: &[u8]) -> bool {
-    if c.refusal != refusal {
+fn found_agrees(root: [u8; 32], c: Case, bytes: &[u8]) -> bool {
+    if c.refusal != 0 {
         return false;
     }
-    let n = stored_bytes(refusal);
-    root == bytes_part(bytes, c.answer, n)
+    &root[..] == bytes_part(bytes, c.answer, 32)
 }
 
 fn checkpoint_stands(p: Checkpoint, words: &[u64], bytes: &[u8], at: usize) -> bool {
@@ -136,14 +129,21 @@ pub fn finality_stands(f: Finality, words: &[u64], bytes: &[u8], at: usize) -> b
     checkpoint_stands(finalized, words, bytes, past(at, 12, n))
 }
 
-// The stored finality, or the one handed in where the leaf refuses.
-pub fn finality_agrees(answer: FinalityAnswer, c: Case, words: &[u64], bytes: &[u8]) -> bool {
-    if c.refusal != answer.refusal {
-        return false;
+pub fn finality_agrees(
+    answer: Result<Finality, Refusal>,
+    c: Case,
+    words: &[u64],
+    bytes: &[u8],
+) -> bool {
+    match answer {
+        Ok(f) => weighed_agrees(f, c, words, bytes),
+        Err(refusal) => is_refused(c, refusal),
     }
-    let f = answer.finality;
+}
+
+fn weighed_agrees(f: Finality, c: Case, words: &[u64], bytes: &[u8]) -> bool {
     if c.refusal != 0 {
-        return finality_stands(f, words, bytes, c.finality);
+        return false;
     }
     finality_stands(f, words, bytes, c.answer)
 }

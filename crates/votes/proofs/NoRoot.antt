@@ -7,7 +7,8 @@ use native.Mathlib.Omega.{arith}
 use native.Mathlib.Decide.{dec_le}
 use native.Mathlib.Nat.{mul-le-mul_right}
 use Rattle.definitions.specs.declared.Settings.{Settings}
-use Rattle.definitions.specs.Checked.{refused, no_root}
+use Rattle.definitions.specs.Checked.{refused}
+use Rattle.definitions.specs.declared.Refusal.TheVariants.{NoRoot}
 use Rattle.definitions.specs.Rust.Phase0.Helpers.{compute_start_slot_at_epoch, get_current_epoch, get_previous_epoch, get_block_root, get_block_root_at_slot}
 use Rattle.arithmetic.proofs.Laws.{bind-value}
 use Rattle.epochs.proofs.roots.Lookups as lookups
@@ -22,10 +23,10 @@ module _ (s : Settings) (roots : List ℕ) (state_slot epoch : ℕ) (l : epoch *
   unfolding get_block_root compute_start_slot_at_epoch
   at-start = bind-value (get_block_root_at_slot s roots state_slot) (mul64-fits epoch s.slots_per_epoch (omega arith))
 
-  only-no_root : is_found (get_block_root s roots state_slot epoch) ≡ false → get_block_root s roots state_slot epoch ≡ refused no_root
+  only-no_root : is_found (get_block_root s roots state_slot epoch) ≡ false → get_block_root s roots state_slot epoch ≡ refused NoRoot
   only-no_root h = go (dec_le state_slot (epoch * s.slots_per_epoch)) (dec_le state_slot (epoch * s.slots_per_epoch + s.slots_per_historical_root))
     where
-      go : Dec (state_slot ≤ epoch * s.slots_per_epoch) → Dec (state_slot ≤ epoch * s.slots_per_epoch + s.slots_per_historical_root) → get_block_root s roots state_slot epoch ≡ refused no_root
+      go : Dec (state_slot ≤ epoch * s.slots_per_epoch) → Dec (state_slot ≤ epoch * s.slots_per_epoch + s.slots_per_historical_root) → get_block_root s roots state_slot epoch ≡ refused NoRoot
       go (yes e) d = at-start ∙ lookups.late s roots state_slot (epoch * s.slots_per_epoch) e
       go (no e) (yes d) = absurd (true≢false (sym (ap is_found (at-start ∙ lookups.found s roots state_slot (epoch * s.slots_per_epoch) (omega arith) (add64-fits (epoch * s.slots_per_epoch) s.slots_per_historical_root (omega arith)) d)) ∙ h))
       go (no e) (no d) = at-start ∙ lookups.old s roots state_slot (epoch * s.slots_per_epoch) (omega arith) (add64-fits (epoch * s.slots_per_epoch) s.slots_per_historical_root (omega arith)) (omega arith)
@@ -39,6 +40,6 @@ pub four_is_no_root : FourIsNoRoot
 four_is_no_root s roots f registry marks z =
     let p = votes-passed s roots f registry marks z in
     record {
-      previous = only-no_root s roots f.slot (get_previous_epoch s f.slot) (previous-start s f.slot) p.finality.slot p.roots;
-      current = only-no_root s roots f.slot (get_current_epoch s f.slot) (current-start s f.slot) p.finality.slot p.roots;
+      previous = only-no_root s roots f.slot (get_previous_epoch s f.slot) (previous-start s f.slot) p.finality.slot p.small_roots;
+      current = only-no_root s roots f.slot (get_current_epoch s f.slot) (current-start s f.slot) p.finality.slot p.small_roots;
     }

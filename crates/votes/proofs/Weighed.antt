@@ -1,5 +1,5 @@
 -- The outcome by the five sums.
-use mathlib.Core.Path.{◌≡◌, refl, sym, ◌∙◌}
+use mathlib.Core.Path.{◌≡◌, refl, sym, ap, ◌∙◌}
 use mathlib.Core.Logic.{◌⊎◌, inl, inr}
 use mathlib.Core.Bool.{Bool, true, false, cond}
 use mathlib.Core.List.{List, map}
@@ -7,20 +7,22 @@ use Prim.Native.Nat.{ℕ, ◌^◌, ◌≤◌, ◌<◌, max}
 use native.Mathlib.Omega.{arith}
 use borrow.Author.Tests.{le-leb, lt-leb, ltb-true}
 use lib.Dec.{ltb}
-use Rattle.definitions.specs.Checked.{value, refused, no_root, overflow, sum64}
+use Rattle.definitions.specs.Checked.{Checked, value, refused, bind, sum64}
+use Rattle.definitions.specs.declared.Refusal.TheVariants.{NoRoot, Overflow}
 use Rattle.definitions.specs.Lists.{sum}
 use Rattle.definitions.specs.Rust.Phase0.EpochProcessing.{is_justified}
 use Rattle.laws.proofs.Checked.{not_value, value_same}
 use Rattle.laws.proofs.Loops.Summed.{sum64-given}
 use Rattle.definitions_votes.specs.Filling.{Filling, none_set, all_set, filled}
-use Rattle.definitions_votes.specs.Exact.{Ballot, current_of, previous_of, test_of, roots_found, nothing_open}
-use Rattle.definitions_votes.specs.Votes.{weighed_votes, votes}
+use Rattle.definitions_votes.specs.Exact.{Ballot, current_of, previous_of, test_of, roots_found, nothing_open, Outcome}
+use Rattle.definitions_votes.specs.Votes.{weighed_votes, votes, finalized_after, outcome_of}
 use Rattle.definitions_votes.proofs.Filled.{active-kept}
 use Rattle.definitions_votes.proofs.Tests.{test_plain, test_fits}
 use Rattle.definitions_votes.proofs.Exact.{active_sum, test-sums, Given, Over, either, later}
 use Rattle.votes.specs.declared.vote_sums.VoteSums.{VoteSums}
 use Rattle.votes.specs.Sums.{weight, active_at, hits_target, PlainSums}
 use Rattle.votes.specs.Weighed.{weighed_by, weighed_sums}
+use Rattle.votes.specs.Epochs.{numbers_of, numbers_for}
 
 record Plain (xs : List ℕ) (x : ℕ) : Type 0 where
   pub is : sum xs ≡ x
@@ -30,9 +32,18 @@ plain : (xs : List ℕ) {x : ℕ} → sum64 xs ≡ value x → Plain xs x
 unfolding sum64
 plain xs {x} h = go (ltb (sum xs) (2 ^ 64)) refl h
   where
-    go : (t : Bool) → ltb (sum xs) (2 ^ 64) ≡ t → cond t (value (sum xs)) (refused overflow) ≡ value x → Plain xs x
+    go : (t : Bool) → ltb (sum xs) (2 ^ 64) ≡ t → cond t (value (sum xs)) (refused Overflow) ≡ value x → Plain xs x
     go true e h = record { is = value_same h; fits = ltb-true _ _ e }
     go false e h = absurd (not_value h)
+
+-- the numbers of an outcome that four tests give, in the order of the tests
+spread : (f : Bool → Bool → Bool → Bool → Outcome) (a b c d : Checked Bool) → numbers_for (bind a (λ pm. bind b (λ cm. bind c (λ pf. bind d (λ cf. value (f pf pm cf cm)))))) ≡ bind a (λ pm. bind b (λ cm. bind c (λ pf. bind d (λ cf. value (numbers_of (f pf pm cf cm))))))
+unfolding bind
+spread f (value a) (value b) (value c) (value d) = refl
+spread f (value a) (value b) (value c) (refused r) = refl
+spread f (value a) (value b) (refused r) d = refl
+spread f (value a) (refused r) c d = refl
+spread f (refused r) b c d = refl
 
 module _ (b : Ballot) where
   abbrev increment : ℕ
@@ -65,15 +76,16 @@ module _ (b : Ballot) where
   votes-early h = rw (le-leb _ _ h)
 
   module _ (l : 1 < current_of b) where
-    pub votes-missing : roots_found b ≡ false → votes b ≡ refused no_root
+    pub votes-missing : roots_found b ≡ false → votes b ≡ refused NoRoot
     unfolding votes
     votes-missing h = rw (lt-leb _ _ l, h)
 
     module _ (r : roots_found b ≡ true) where
-      pub votes_by_sums : (t : VoteSums) → PlainSums (current_of b) (previous_of b) b.marks b.validators t → votes b ≡ weighed_sums b.settings b.finality (current_of b) t
+      pub votes_by_sums : (t : VoteSums) → PlainSums (current_of b) (previous_of b) b.marks b.validators t → numbers_for (votes b) ≡ weighed_sums b.settings b.finality (current_of b) t
       unfolding weighed_votes weighed_by
       votes_by_sums t s =
-          later b l r
+          ap numbers_for (later b l r)
+          ∙ spread (outcome_of (finalized_after (current_of b) b.finality)) _ _ _ _
           ∙ rw (
             test-is (previous_of b) all_set s.active s.previous_most,
             test-is (current_of b) all_set s.active s.current_most,
@@ -81,10 +93,10 @@ module _ (b : Ballot) where
             test-is (current_of b) none_set s.active s.current_fewest,
           )
 
-      pub votes-over : ((t : VoteSums) → PlainSums (current_of b) (previous_of b) b.marks b.validators t → ⊥) → votes b ≡ refused overflow
+      pub votes-over : ((t : VoteSums) → PlainSums (current_of b) (previous_of b) b.marks b.validators t → ⊥) → votes b ≡ refused Overflow
       votes-over n = go (either b l r)
         where
-          go : Given b l r ⊎ Over b l r → votes b ≡ refused overflow
+          go : Given b l r ⊎ Over b l r → votes b ≡ refused Overflow
           go (inl g) =
               absurd (n (record {
                 active = sum active;

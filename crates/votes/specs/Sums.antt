@@ -1,13 +1,13 @@
 -- The five sums of a ballot: those active, and each target's weight with no unknown flag set and with all set.
 use Rattle.std.specs.Prelude.{◌≡◌, Bool, cond, List, map, ℕ}
-use Rattle.definitions.specs.Checked.{Checked, value, refused, number_of, overflow, bind, add64, sum64}
+use Rattle.definitions.specs.Checked.{Checked, value, refused, bind, add64, sum64}
+use Rattle.definitions.specs.declared.Refusal.{Refusal}
+use Rattle.definitions.specs.declared.Refusal.TheVariants.{Overflow}
 use Rattle.definitions.specs.Record.{Validator}
 use Rattle.definitions.specs.Rust.Phase0.Helpers.{is_active_validator}
 use Rattle.definitions.specs.Rust.Altair.Helpers.{is_unslashed_participating}
 use Rattle.definitions_votes.specs.Filling.{Filling, none_set, all_set, filled_one, filled}
 use Rattle.votes.specs.declared.vote_sums.VoteSums.{VoteSums}
-use Rattle.votes.specs.declared.vote_sums.VoteSumsAnswer.{VoteSumsAnswer}
-use Rattle.votes.specs.declared.vote_sums.VoteSumsAnswer.TheVariants.{Value, Refused}
 
 -- a validator's weight where it passes a test
 abbrev pub weight : (Validator → Bool) → Validator → ℕ
@@ -41,10 +41,6 @@ added_to t own =
     bind (add64 t.current_most own.current_most) (λ cm.
     value (record { active = a; previous_fewest = pf; previous_most = pm; current_fewest = cf; current_most = cm }))))))
 
-abbrev pub sums_for : Checked VoteSums → VoteSumsAnswer
-sums_for (value t) = Value t
-sums_for (refused r) = Refused (number_of r)
-
 -- the plain sum of a weight over the registry that a filling makes
 abbrev pub sum_in : (Validator → Bool) → List ℕ → Filling → List Validator → Checked ℕ
 sum_in p marks f vs = sum64 (map (weight p) (filled marks f vs))
@@ -58,7 +54,7 @@ pub record PlainSums (current previous : ℕ) (marks : List ℕ) (vs : List Vali
   pub current_most : sum_in (hits_target current current) marks all_set vs ≡ value t.current_most
 
 -- the answer of the pass: the sums, or refused where there are none
-pub record Counted (current previous : ℕ) (marks : List ℕ) (vs : List Validator) (r : VoteSumsAnswer) : Type 0 where
-  pub given : (t : VoteSums) → r ≡ Value t → PlainSums current previous marks vs t
-  pub number : (q : ℕ) → r ≡ Refused q → q ≡ number_of overflow
-  pub over : (q : ℕ) → r ≡ Refused q → (t : VoteSums) → PlainSums current previous marks vs t → ⊥
+pub record Counted (current previous : ℕ) (marks : List ℕ) (vs : List Validator) (r : Checked VoteSums) : Type 0 where
+  pub given : (t : VoteSums) → r ≡ value t → PlainSums current previous marks vs t
+  pub why : (p : Refusal) → r ≡ refused p → p ≡ Overflow
+  pub over : (p : Refusal) → r ≡ refused p → (t : VoteSums) → PlainSums current previous marks vs t → ⊥

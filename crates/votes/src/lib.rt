@@ -3,20 +3,21 @@
 #![tactic(auto)]
 
 ghost use Rattle.std.specs.Prelude.{◌≡◌};
-ghost use Rattle.definitions.specs.Checked.{code_of};
+ghost use Rattle.definitions.specs.Checked.{value};
 ghost use Rattle.definitions.specs.Lists.{all};
 ghost use Rattle.definitions.specs.Refusals.{after_tests};
 ghost use Rattle.definitions_votes.specs.Votes.{votes, votes_tests, ballot_of};
 ghost use Rattle.definitions_votes.specs.Answers.{votes_answer_for};
+ghost use Rattle.votes.specs.Epochs.{numbers_for};
 
 pub mod vote_outcome;
 pub mod vote_sums;
 
-use crate::vote_outcome::{refused, weigh_votes};
-use crate::vote_sums::{VoteSumsAnswer, count_votes};
-use definitions::{Finality, Settings};
+use crate::vote_outcome::{Epochs, OutcomeNumbers, weigh_votes};
+use crate::vote_sums::count_votes;
+use definitions::{Finality, Refusal, Settings};
 use definitions_votes::VotesAnswer;
-use epochs::roots::{epoch_lookup, roots_shaped};
+use epochs::roots::{epoch_root, roots_shaped};
 use epochs::{current_epoch, previous_epoch};
 use refusals::{
     all_below, good_finality, good_registry, good_settings, in_order, registry_shaped,
@@ -29,8 +30,8 @@ pub fn votes_refusal(
     finality: Finality,
     registry: &[u64],
     marks: &[u64],
-) -> u64
-    ensures { result ≡ code_of (votes_tests s roots.now finality registry.now marks.now) }
+) -> Result<(), Refusal>
+    ensures { result ≡ votes_tests s roots.now finality registry.now marks.now }
 {
     in_order(
         &[
@@ -48,41 +49,52 @@ pub fn votes_refusal(
     )
 }
 
+// What is worked out once the tests have passed. Both roots must be there, also where no vote asks for them.
 fn votes_core(
     s: Settings,
     roots: &[u8],
     old: Finality,
     registry: &[u64],
     marks: &[u64],
-) -> VotesAnswer
-    requires { code_of (votes_tests s roots.now old registry.now marks.now) ≡ 0 }
-    ensures { result ≡ votes_answer_for (votes (ballot_of s roots.now old registry.now marks.now)) }
+) -> Result<OutcomeNumbers, Refusal>
+    requires { votes_tests s roots.now old registry.now marks.now ≡ value tt }
+    ensures { result ≡ numbers_for (votes (ballot_of s roots.now old registry.now marks.now)) }
 {
     let slot = old.slot;
     let current = current_epoch(s, slot);
     if current <= 1 {
         let finalized = old.finalized_checkpoint;
-        return VotesAnswer {
-            refusal: 0,
-            count: 1,
-            finalized_epochs: [finalized.epoch, 0, 0],
+        return Ok(OutcomeNumbers {
+            epochs: Epochs {
+                count: 1,
+                first: finalized.epoch,
+                second: 0,
+                third: 0,
+            },
             previous_target: 0,
             current_target: 0,
-        };
+        });
     }
     let previous = previous_epoch(s, slot);
-    let before = epoch_lookup(s, roots, slot, previous);
-    if before != 0 {
-        return refused(4);
-    }
-    let now = epoch_lookup(s, roots, slot, current);
-    if now != 0 {
-        return refused(4);
-    }
-    let VoteSumsAnswer::Value(sums) = count_votes(current, previous, registry, marks) else {
-        return refused(5);
-    };
+    epoch_root(s, roots, slot, previous)?;
+    epoch_root(s, roots, slot, current)?;
+    let sums = count_votes(current, previous, registry, marks)?;
     weigh_votes(s, old, current, sums)
+}
+
+fn votes_after_tests(
+    s: Settings,
+    roots: &[u8],
+    finality: Finality,
+    registry: &[u64],
+    marks: &[u64],
+) -> Result<OutcomeNumbers, Refusal>
+    ensures { result
+        ≡ after_tests (votes_tests s roots.now finality registry.now marks.now)
+        (numbers_for (votes (ballot_of s roots.now finality registry.now marks.now))) }
+{
+    votes_refusal(s, roots, finality, registry, marks)?;
+    votes_core(s, roots, finality, registry, marks)
 }
 
 pub fn unknown_votes(
@@ -96,9 +108,23 @@ pub fn unknown_votes(
         ≡ votes_answer_for (after_tests (votes_tests s roots.now finality registry.now marks.now)
         (votes (ballot_of s roots.now finality registry.now marks.now))) }
 {
-    let refusal = votes_refusal(s, roots, finality, registry, marks);
-    if refusal != 0 {
-        return refused(refusal);
+    match votes_after_tests(s, roots, finality, registry, marks) {
+        Ok(outcome) => {
+            let epochs = outcome.epochs;
+            VotesAnswer {
+                refusal: 0,
+                count: epochs.count,
+                finalized_epochs: [epochs.first, epochs.second, epochs.third],
+                previous_target: outcome.previous_target,
+                current_target: outcome.current_target,
+            }
+        }
+        Err(refusal) => VotesAnswer {
+            refusal: refusal.number(),
+            count: 0,
+            finalized_epochs: [0u64; 3],
+            previous_target: 0,
+            current_target: 0,
+        },
     }
-    votes_core(s, roots, finality, registry, marks)
 }

@@ -1,16 +1,13 @@
-// What votes not yet counted can come to (R-13): the finalized epochs of the four pairs of tests, rising and each once, and the answer.
+// What votes not yet counted can come to (R-13): the finalized epochs of the four pairs of tests, rising and each once, and the two targets' verdicts.
 ghost use Rattle.std.specs.Prelude.{◌≡◌, ◌+◌, ◌^◌, ◌≤◌, ◌<◌, max};
-ghost use Rattle.definitions.specs.Answers.{Answers, SaysTruth};
-ghost use Rattle.definitions.specs.Checked.{value};
 ghost use Rattle.definitions.specs.Rust.Phase0.EpochProcessing.{is_justified};
 ghost use Rattle.definitions_votes.specs.Votes.{finalized_after, verdict, outcome_of};
-ghost use Rattle.definitions_votes.specs.Answers.{verdict_number, turned_away, votes_answer_for};
-ghost use Rattle.votes.specs.Epochs.{insert_into};
+ghost use Rattle.definitions_votes.specs.Answers.{verdict_number};
+ghost use Rattle.votes.specs.Epochs.{insert_into, numbers_of};
 ghost use Rattle.votes.specs.Weighed.{weighed_by, weighed_sums};
 
 use crate::vote_sums::VoteSums;
-use definitions::{Checkpoint, Finality, Settings, Truth};
-use definitions_votes::VotesAnswer;
+use definitions::{Checkpoint, Finality, Refusal, Settings};
 use finality::weighed;
 use totals::raised;
 use weighing::is_justified;
@@ -22,6 +19,14 @@ pub struct Epochs {
     pub first: u64,
     pub second: u64,
     pub third: u64,
+}
+
+// The epochs, and for each target whether its test passes: 0 in no filling, 1 in some, 2 in all.
+#[derive(Clone, Copy)]
+pub struct OutcomeNumbers {
+    pub epochs: Epochs,
+    pub previous_target: u64,
+    pub current_target: u64,
 }
 
 fn finalized_after(old: Finality, epoch: u64, previous: bool, current: bool) -> u64
@@ -128,10 +133,10 @@ fn told(
     previous_most: bool,
     current_fewest: bool,
     current_most: bool,
-) -> VotesAnswer
+) -> OutcomeNumbers
     requires justification_bits_bound { old.justification_bits ≤ 15 }
     requires previous_justified_checkpoint_bound { (old.previous_justified_checkpoint.epoch < 2 ^ 48) × (old.current_justified_checkpoint.epoch < 2 ^ 48) }
-    ensures { result ≡ votes_answer_for (value (outcome_of (finalized_after epoch old) previous_fewest previous_most current_fewest current_most)) }
+    ensures { result ≡ numbers_of (outcome_of (finalized_after epoch old) previous_fewest previous_most current_fewest current_most) }
 {
     let none = Epochs {
         count: 0,
@@ -157,65 +162,54 @@ fn told(
     );
     let previous_target = verdict_number(previous_fewest, previous_most);
     let current_target = verdict_number(current_fewest, current_most);
-    VotesAnswer {
-        refusal: 0,
-        count: list.count,
-        finalized_epochs: [list.first, list.second, list.third],
+    OutcomeNumbers {
+        epochs: list,
         previous_target,
         current_target,
     }
 }
 
-pub fn refused(number: u64) -> VotesAnswer
-    ensures { result ≡ turned_away number }
-{
-    VotesAnswer {
-        refusal: number,
-        count: 0,
-        finalized_epochs: [0u64; 3],
-        previous_target: 0,
-        current_target: 0,
-    }
-}
-
 // The two-thirds test of a target's plain sum.
-fn passes(increment: u64, total: u64, target: u64) -> Truth
-    ensures { SaysTruth (is_justified (max increment target) total) result }
+fn passes(increment: u64, total: u64, target: u64) -> Result<bool, Refusal>
+    ensures { result ≡ is_justified (max increment target) total }
 {
     is_justified(raised(target, increment), total)
 }
 
-fn weigh_sums(increment: u64, total: u64, old: Finality, epoch: u64, sums: VoteSums) -> VotesAnswer
+fn weigh_sums(
+    increment: u64,
+    total: u64,
+    old: Finality,
+    epoch: u64,
+    sums: VoteSums,
+) -> Result<OutcomeNumbers, Refusal>
     requires justification_bits_bound { old.justification_bits ≤ 15 }
     requires previous_justified_checkpoint_bound { (old.previous_justified_checkpoint.epoch < 2 ^ 48) × (old.current_justified_checkpoint.epoch < 2 ^ 48) }
-    ensures { Answers votes_answer_for (weighed_by increment total old epoch sums) result }
+    ensures { result ≡ weighed_by increment total old epoch sums }
 {
-    let Truth::Value(previous_most) = passes(increment, total, sums.previous_most) else {
-        return refused(5);
-    };
-    let Truth::Value(current_most) = passes(increment, total, sums.current_most) else {
-        return refused(5);
-    };
-    let Truth::Value(previous_fewest) = passes(increment, total, sums.previous_fewest) else {
-        return refused(5);
-    };
-    let Truth::Value(current_fewest) = passes(increment, total, sums.current_fewest) else {
-        return refused(5);
-    };
-    told(
+    let previous_most = passes(increment, total, sums.previous_most)?;
+    let current_most = passes(increment, total, sums.current_most)?;
+    let previous_fewest = passes(increment, total, sums.previous_fewest)?;
+    let current_fewest = passes(increment, total, sums.current_fewest)?;
+    Ok(told(
         old,
         epoch,
         previous_fewest,
         previous_most,
         current_fewest,
         current_most,
-    )
+    ))
 }
 
-pub fn weigh_votes(s: Settings, old: Finality, epoch: u64, sums: VoteSums) -> VotesAnswer
+pub fn weigh_votes(
+    s: Settings,
+    old: Finality,
+    epoch: u64,
+    sums: VoteSums,
+) -> Result<OutcomeNumbers, Refusal>
     requires justification_bits_bound { old.justification_bits ≤ 15 }
     requires previous_justified_checkpoint_bound { (old.previous_justified_checkpoint.epoch < 2 ^ 48) × (old.current_justified_checkpoint.epoch < 2 ^ 48) }
-    ensures { Answers votes_answer_for (weighed_sums s old epoch sums) result }
+    ensures { result ≡ weighed_sums s old epoch sums }
 {
     let increment = s.effective_balance_increment;
     let total = raised(sums.active, increment);

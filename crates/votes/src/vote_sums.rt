@@ -1,14 +1,13 @@
 // The five sums that votes not yet counted ask for (R-13), in one pass: who is active, and each target's weight with no unknown flag
 // set and with all set.
 ghost use Rattle.std.specs.Prelude.{◌≡◌, cond, ◌&&◌, not, ◌*◌, ◌/◌, ◌<◌, eqb, length};
-ghost use Rattle.definitions.specs.Answers.{Answers};
 ghost use Rattle.definitions.specs.Record.{decode_one, decode};
 ghost use Rattle.definitions_votes.specs.Filling.{previous_unknown, current_unknown, uniform, none_set, filled_one};
-ghost use Rattle.votes.specs.Sums.{weight, active_at, hits_target, vote_sums_of, added_to, sums_for, Counted};
+ghost use Rattle.votes.specs.Sums.{weight, active_at, hits_target, vote_sums_of, added_to, Counted};
 
 use arithmetic::add64;
 use definitions::{
-    CURRENT_EPOCH_PARTICIPATION, EFFECTIVE_BALANCE, Number, PREVIOUS_EPOCH_PARTICIPATION, SLASHED,
+    CURRENT_EPOCH_PARTICIPATION, EFFECTIVE_BALANCE, PREVIOUS_EPOCH_PARTICIPATION, Refusal, SLASHED,
 };
 use entries::{entry_is_active, flag_is_set};
 
@@ -19,12 +18,6 @@ pub struct VoteSums {
     pub previous_most: u64,
     pub current_fewest: u64,
     pub current_most: u64,
-}
-
-#[derive(Clone, Copy)]
-pub enum VoteSumsAnswer {
-    Value(VoteSums),
-    Refused(u64),
 }
 
 fn previous_unknown(mark: u64) -> bool
@@ -127,24 +120,14 @@ fn entry_sums(current_epoch: u64, previous_epoch: u64, mark: u64, entry: &[u64])
     }
 }
 
-fn added(sums: VoteSums, own: VoteSums) -> VoteSumsAnswer
-    ensures { Answers sums_for (added_to sums own) result }
+fn added(sums: VoteSums, own: VoteSums) -> Result<VoteSums, Refusal>
+    ensures { result ≡ added_to sums own }
 {
-    let Number::Value(active) = add64(sums.active, own.active) else {
-        return VoteSumsAnswer::Refused(5);
-    };
-    let Number::Value(previous_fewest) = add64(sums.previous_fewest, own.previous_fewest) else {
-        return VoteSumsAnswer::Refused(5);
-    };
-    let Number::Value(previous_most) = add64(sums.previous_most, own.previous_most) else {
-        return VoteSumsAnswer::Refused(5);
-    };
-    let Number::Value(current_fewest) = add64(sums.current_fewest, own.current_fewest) else {
-        return VoteSumsAnswer::Refused(5);
-    };
-    let Number::Value(current_most) = add64(sums.current_most, own.current_most) else {
-        return VoteSumsAnswer::Refused(5);
-    };
+    let active = add64(sums.active, own.active)?;
+    let previous_fewest = add64(sums.previous_fewest, own.previous_fewest)?;
+    let previous_most = add64(sums.previous_most, own.previous_most)?;
+    let current_fewest = add64(sums.current_fewest, own.current_fewest)?;
+    let current_most = add64(sums.current_most, own.current_most)?;
     let more = VoteSums {
         active: active,
         previous_fewest: previous_fewest,
@@ -152,7 +135,7 @@ fn added(sums: VoteSums, own: VoteSums) -> VoteSumsAnswer
         current_fewest: current_fewest,
         current_most: current_most,
     };
-    VoteSumsAnswer::Value(more)
+    Ok(more)
 }
 
 pub fn count_votes(
@@ -160,7 +143,7 @@ pub fn count_votes(
     previous_epoch: u64,
     registry: &[u64],
     marks: &[u64],
-) -> VoteSumsAnswer
+) -> Result<VoteSums, Refusal>
     requires registry_len { length registry.now ≡ 10 * (length registry.now / 10) }
     requires marks_len { length marks.now ≡ length registry.now / 10 }
     requires previous_epoch_lt_current_epoch { previous_epoch < current_epoch }
@@ -179,10 +162,8 @@ pub fn count_votes(
         let b = a + 10;
         let mark = marks[i];
         let own = entry_sums(current_epoch, previous_epoch, mark, &registry[a..b]);
-        let VoteSumsAnswer::Value(more) = added(sums, own) else {
-            return VoteSumsAnswer::Refused(5);
-        };
+        let more = added(sums, own)?;
         sums = more;
     }
-    VoteSumsAnswer::Value(sums)
+    Ok(sums)
 }

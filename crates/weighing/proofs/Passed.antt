@@ -6,9 +6,9 @@ use borrow.Author.Tests.{eqb-true}
 use lib.ListN.{length}
 use Rattle.definitions.specs.declared.Finality.{Finality}
 use Rattle.definitions.specs.declared.Settings.{Settings}
-use Rattle.definitions.specs.Checked.{code_of}
+use Rattle.definitions.specs.Checked.{value}
 use Rattle.definitions.specs.LeafRefusals.{weigh_tests}
-use Rattle.laws.proofs.Tests.{in_order_lem}
+use Rattle.laws.proofs.Tests.{in_order-value}
 use Rattle.refusals.proofs.Laws.{settings-shaped, good-settings, GoodFinality, good-finality}
 use Rattle.epochs.proofs.Passed.{SettingsPassed}
 
@@ -17,10 +17,10 @@ pub record WeighPassed (s : Settings) (roots : List ℕ) (f : Finality) : Type 0
   pub long : length roots ≡ 32 * s.slots_per_historical_root
   pub finality : GoodFinality f
 
-pub weigh-passed : (s : Settings) (roots : List ℕ) (f : Finality) → code_of (weigh_tests s roots f) ≡ 0 → WeighPassed s roots f
+pub weigh-passed : (s : Settings) (roots : List ℕ) (f : Finality) → weigh_tests s roots f ≡ value tt → WeighPassed s roots f
 unfolding weigh_tests
 weigh-passed s roots f z =
-    let p = in_order_lem _ _ _ z in
+    let p = in_order-value _ _ _ z in
     record {
       settings = record { shape = settings-shaped s (p.shaped 0); good = good-settings s (p.settings 0) };
       long = eqb-true _ _ (p.shaped 1);

@@ -1,72 +1,47 @@
 -- The weighing is two epochs' tests, one after the other, and the outcome.
-use mathlib.Core.Path.{◌≡◌, refl, ap, ◌∙◌, fun_ext}
-use mathlib.Core.Bool.{Bool, true, false}
+use mathlib.Core.Path.{◌≡◌, refl, ap}
+use mathlib.Core.Bool.{Bool, true, false, cond}
 use mathlib.Core.List.{List}
 use Prim.Native.Nat.{ℕ}
+use Rattle.std.specs.Prelude.{is_some}
+use Rattle.std.specs.declared.option.Option.{Option}
+use Rattle.std.specs.declared.option.Option.TheVariants.{Some, None}
+use Rattle.std.specs.Option.{unwrap_or}
 use Rattle.definitions.specs.declared.Finality.{Finality}
-use Rattle.definitions.specs.declared.FinalityAnswer.{FinalityAnswer}
 use Rattle.definitions.specs.declared.Settings.{Settings}
-use Rattle.definitions.specs.Answers.{Answers, finality_answer_for}
 use Rattle.definitions.specs.Checked.{Checked, value, refused, bind}
 use Rattle.definitions.specs.Document.Phase0.EpochProcessing.{weighed}
 use Rattle.definitions.specs.Rust.Phase0.Helpers.{get_current_epoch, get_previous_epoch}
-use Rattle.definitions.specs.Rust.Phase0.EpochProcessing.{weigh_justification_and_finalization}
-use Rattle.arithmetic.proofs.Laws.{bind-value, bind-refused}
-use Rattle.weighing.specs.Tests.{test_epoch, epoch_test_for}
-use Rattle.weighing.specs.declared.EpochTest.{EpochTest}
-use Rattle.weighing.proofs.Answers.{hands_back, hands_on}
-use Rattle.weighing.proofs.Tests.{tested, untested}
-
--- two things, the second worked out from the first, as one
-pair-bind : {A B C : Type 0} (m : Checked A) (n : A → Checked B) (k : A → B → Checked C) → bind m (λ a. bind (n a) (k a)) ≡ bind {A = A × B} (bind m (λ a. bind (n a) (λ b. value (a, b)))) (λ t. k t.0 t.1)
-unfolding bind
-pair-bind {A} {B} {C} (value a) n k = go (n a)
-  where
-    go : (x : Checked B) → bind x (k a) ≡ bind {A = A × B} (bind x (λ b. value (a, b))) (λ t. k t.0 t.1)
-    go (value b) = refl
-    go (refused r) = refl
-pair-bind (refused r) n k = refl
+use Rattle.definitions.specs.Rust.Phase0.EpochProcessing.{is_justified, root_where, weigh_justification_and_finalization}
+use Rattle.weighing.specs.Tests.{test_epoch}
 
 -- a root is read only where its test passed
-weighed-read : (previous_epoch current_epoch : ℕ) (p c : Bool) {a a' b b' : List ℕ} (old : Finality) → (p ≡ true → a ≡ a') → (c ≡ true → b ≡ b') → weighed previous_epoch current_epoch p c a b old ≡ weighed previous_epoch current_epoch p c a' b' old
+abbrev pub outcome : Settings → Finality → List ℕ → Option (List ℕ) → Option (List ℕ) → Finality
+outcome s old none p c = weighed (get_previous_epoch s old.slot) (get_current_epoch s old.slot) (is_some p) (is_some c) (unwrap_or p none) (unwrap_or c none) old
+
+read-where : (s : Settings) (old : Finality) (none : List ℕ) (p c : Bool) (a b : List ℕ) → weighed (get_previous_epoch s old.slot) (get_current_epoch s old.slot) p c a b old ≡ outcome s old none (cond p (Some a) None) (cond c (Some b) None)
 unfolding weighed
-weighed-read previous_epoch current_epoch true true old f g = rw (g refl)
-weighed-read previous_epoch current_epoch true false old f g = rw (f refl)
-weighed-read previous_epoch current_epoch false true old f g = rw (g refl)
-weighed-read previous_epoch current_epoch false false old f g = refl
+read-where s old none true true a b = refl
+read-where s old none true false a b = refl
+read-where s old none false true a b = refl
+read-where s old none false false a b = refl
 
-abbrev previous_test : Settings → List ℕ → Finality → ℕ → ℕ → Checked (Bool × List ℕ)
-previous_test s roots old total previous = test_epoch s roots old.slot (get_previous_epoch s old.slot) previous total
+-- an epoch's test, and what is done with its root
+test-bind : {B : Type 0} (s : Settings) (roots : List ℕ) (state_slot epoch target total : ℕ) (k : Bool → List ℕ → Checked B) (l : Option (List ℕ) → Checked B) → ((p : Bool) (a : List ℕ) → k p a ≡ l (cond p (Some a) None)) → bind (is_justified target total) (λ p. bind (root_where p s roots state_slot epoch) (k p)) ≡ bind (test_epoch s roots state_slot epoch target total) l
+unfolding test_epoch bind
+test-bind {B} s roots state_slot epoch target total k l h = go (is_justified target total)
+  where
+    rest : (p : Bool) (m : Checked (List ℕ)) → bind m (k p) ≡ bind {A = Option (List ℕ)} (bind m (λ a. value (cond p (Some a) None))) l
+    rest p (value a) = h p a
+    rest p (refused r) = refl
 
-abbrev current_test : Settings → List ℕ → Finality → ℕ → ℕ → Checked (Bool × List ℕ)
-current_test s roots old total current = test_epoch s roots old.slot (get_current_epoch s old.slot) current total
+    go : (m : Checked Bool) → bind m (λ p. bind (root_where p s roots state_slot epoch) (k p)) ≡ bind {A = Option (List ℕ)} (bind m (λ p. bind (root_where p s roots state_slot epoch) (λ a. value (cond p (Some a) None)))) l
+    go (value p) = rest p (root_where p s roots state_slot epoch)
+    go (refused r) = refl
 
--- both epochs of it, and the outcome from their tests and roots
-abbrev outcome : Settings → Finality → Bool × List ℕ → Bool × List ℕ → Finality
-outcome s old p c = weighed (get_previous_epoch s old.slot) (get_current_epoch s old.slot) p.0 c.0 p.1 c.1 old
-
-module _ (s : Settings) (roots : List ℕ) (old : Finality) (total previous current : ℕ) where
-  abbrev pub Ends : FinalityAnswer → Type 0
-  Ends a = a ≡ finality_answer_for (weigh_justification_and_finalization s roots old total previous current) old
-
-  by_tests : weigh_justification_and_finalization s roots old total previous current ≡ bind (previous_test s roots old total previous) (λ p. bind (current_test s roots old total current) (λ c. value (outcome s old p c)))
-  unfolding weigh_justification_and_finalization test_epoch
-  by_tests = pair-bind _ _ _ ∙ ap (bind (previous_test s roots old total previous)) (fun_ext (λ p. pair-bind _ _ _))
-
-  module _ {p : EpochTest} (g : Answers epoch_test_for (previous_test s roots old total previous) p) where
-    pub previous-refused : (p.refusal ≡ 0 → ⊥) → Ends (record { refusal = p.refusal; finality = old })
-    previous-refused z =
-        let u = untested g z in
-        hands_back old (by_tests ∙ bind-refused _ u.is) u.number
-
-    module _ (z : p.refusal ≡ 0) {c : EpochTest} (h : Answers epoch_test_for (current_test s roots old total current) c) where
-      pub current-refused : (c.refusal ≡ 0 → ⊥) → Ends (record { refusal = c.refusal; finality = old })
-      current-refused y =
-          let u = untested h y in
-          hands_back old (by_tests ∙ bind-value _ (tested g z).is ∙ bind-refused _ u.is) u.number
-
-      pub both-tested : c.refusal ≡ 0 → {f : Finality} → f ≡ outcome s old (p.passed, p.root) (c.passed, c.root) → Ends (record { refusal = 0; finality = f })
-      both-tested y e =
-          let a = tested g z in
-          let b = tested h y in
-          hands_on old (by_tests ∙ bind-value _ a.is ∙ bind-value _ b.is) (e ∙ weighed-read _ _ _ _ old a.read b.read)
+module _ (s : Settings) (roots : List ℕ) (old : Finality) (total previous current : ℕ) (none : List ℕ) where
+  pub by_tests : weigh_justification_and_finalization s roots old total previous current ≡ bind (test_epoch s roots old.slot (get_previous_epoch s old.slot) previous total) (λ p. bind (test_epoch s roots old.slot (get_current_epoch s old.slot) current total) (λ c. value (outcome s old none p c)))
+  unfolding weigh_justification_and_finalization
+  by_tests =
+      test-bind s roots old.slot _ previous total _ _ (λ p a.
+      test-bind s roots old.slot _ current total _ _ (λ c b. ap value (read-where s old none p c a b)))

@@ -2,41 +2,29 @@
 #![tactic(auto)]
 
 ghost use Rattle.std.specs.Prelude.{◌≡◌, ◌*◌, ◌<◌, length};
-ghost use Rattle.definitions.specs.Answers.{Answers, SaysTruth, finality_answer_for};
-ghost use Rattle.definitions.specs.Checked.{code_of};
+ghost use Rattle.definitions.specs.Checked.{value};
 ghost use Rattle.definitions.specs.Refusals.{after_tests};
 ghost use Rattle.definitions.specs.LeafRefusals.{weigh_tests};
 ghost use Rattle.definitions.specs.Rust.Phase0.EpochProcessing.{is_justified, weigh_justification_and_finalization};
-ghost use Rattle.weighing.specs.Tests.{test_epoch, epoch_test_for};
+ghost use Rattle.weighing.specs.Tests.{test_epoch};
 
 use arithmetic::mul64;
-use definitions::{Checkpoint, Finality, FinalityAnswer, Number, Settings, Truth};
-use epochs::roots::{epoch_lookup, epoch_root, root_copy, roots_shaped};
+use definitions::{Checkpoint, Finality, Refusal, Settings};
+use epochs::roots::{epoch_root, roots_shaped};
 use epochs::{current_epoch, previous_epoch};
 use finality::weighed;
 use refusals::{good_finality, good_settings, in_order, settings_shaped};
 
 // Whether a target balance is two thirds of the total or more.
-pub fn is_justified(target: u64, total: u64) -> Truth
-    ensures { SaysTruth (is_justified target total) result }
+pub fn is_justified(target: u64, total: u64) -> Result<bool, Refusal>
+    ensures { result ≡ is_justified target total }
 {
-    let Number::Value(left) = mul64(target, 3) else {
-        return Truth::Refused(5);
-    };
-    let Number::Value(right) = mul64(total, 2) else {
-        return Truth::Refused(5);
-    };
-    Truth::Value(right <= left)
+    let left = mul64(target, 3)?;
+    let right = mul64(total, 2)?;
+    Ok(right <= left)
 }
 
-// One epoch's test, and its root where the test passed.
-#[derive(Clone, Copy)]
-pub struct EpochTest {
-    pub refusal: u64,
-    pub passed: bool,
-    pub root: [u8; 32],
-}
-
+// One epoch's test: its root, where the test passed.
 fn test_epoch(
     s: Settings,
     roots: &[u8],
@@ -44,44 +32,21 @@ fn test_epoch(
     epoch: u64,
     target: u64,
     total: u64,
-) -> EpochTest
+) -> Result<Option<[u8; 32]>, Refusal>
     requires roots_len { length roots.now ≡ 32 * s.slots_per_historical_root }
     requires slots_per_historical_root_nonzero { 0 < s.slots_per_historical_root }
-    ensures { Answers epoch_test_for (test_epoch s roots.now state_slot epoch target total) result }
+    ensures { result ≡ test_epoch s roots.now state_slot epoch target total }
 {
-    let none = [0u8; 32];
-    let Truth::Value(passed) = is_justified(target, total) else {
-        return EpochTest {
-            refusal: 5,
-            passed: false,
-            root: none,
-        };
-    };
+    let passed = is_justified(target, total)?;
     if !passed {
-        return EpochTest {
-            refusal: 0,
-            passed: false,
-            root: none,
-        };
+        return Ok(None);
     }
-    let refusal = epoch_lookup(s, roots, state_slot, epoch);
-    if refusal != 0 {
-        return EpochTest {
-            refusal,
-            passed: false,
-            root: none,
-        };
-    }
-    let root = root_copy(epoch_root(s, roots, epoch));
-    EpochTest {
-        refusal: 0,
-        passed: true,
-        root,
-    }
+    let root = epoch_root(s, roots, state_slot, epoch)?;
+    Ok(Some(root))
 }
 
-pub fn weigh_refusal(s: Settings, roots: &[u8], finality: Finality) -> u64
-    ensures { result ≡ code_of (weigh_tests s roots.now finality) }
+pub fn weigh_refusal(s: Settings, roots: &[u8], finality: Finality) -> Result<(), Refusal>
+    ensures { result ≡ weigh_tests s roots.now finality }
 {
     in_order(
         &[settings_shaped(s), roots_shaped(s, roots)],
@@ -98,32 +63,22 @@ pub fn weigh(
     total: u64,
     previous: u64,
     current: u64,
-) -> FinalityAnswer
-    requires { code_of (weigh_tests s roots.now old) ≡ 0 }
-    ensures { result ≡ finality_answer_for (weigh_justification_and_finalization s roots.now old total previous current) old }
+) -> Result<Finality, Refusal>
+    requires { weigh_tests s roots.now old ≡ value tt }
+    ensures { result ≡ weigh_justification_and_finalization s roots.now old total previous current }
 {
     let slot = old.slot;
     let previous_epoch = previous_epoch(s, slot);
     let current_epoch = current_epoch(s, slot);
-    let p = test_epoch(s, roots, slot, previous_epoch, previous, total);
-    if p.refusal != 0 {
-        return FinalityAnswer {
-            refusal: p.refusal,
-            finality: old,
-        };
-    }
-    let c = test_epoch(s, roots, slot, current_epoch, current, total);
-    if c.refusal != 0 {
-        return FinalityAnswer {
-            refusal: c.refusal,
-            finality: old,
-        };
-    }
-    let previous_root = p.root;
-    let current_root = c.root;
-    let finality = weighed(
-        p.passed,
-        c.passed,
+    let p = test_epoch(s, roots, slot, previous_epoch, previous, total)?;
+    let c = test_epoch(s, roots, slot, current_epoch, current, total)?;
+    // read by nobody where the test failed
+    let none = [0u8; 32];
+    let previous_root = p.unwrap_or(none);
+    let current_root = c.unwrap_or(none);
+    Ok(weighed(
+        p.is_some(),
+        c.is_some(),
         Checkpoint {
             epoch: previous_epoch,
             root: previous_root,
@@ -133,11 +88,7 @@ pub fn weigh(
             root: current_root,
         },
         old,
-    );
-    FinalityAnswer {
-        refusal: 0,
-        finality,
-    }
+    ))
 }
 
 pub fn weigh_justification_and_finalization(
@@ -147,14 +98,11 @@ pub fn weigh_justification_and_finalization(
     total: u64,
     previous: u64,
     current: u64,
-) -> FinalityAnswer
+) -> Result<Finality, Refusal>
     ensures { result
-        ≡ finality_answer_for (after_tests (weigh_tests s roots.now finality)
-        (weigh_justification_and_finalization s roots.now finality total previous current)) finality }
+        ≡ after_tests (weigh_tests s roots.now finality)
+        (weigh_justification_and_finalization s roots.now finality total previous current) }
 {
-    let refusal = weigh_refusal(s, roots, finality);
-    if refusal != 0 {
-        return FinalityAnswer { refusal, finality };
-    }
+    weigh_refusal(s, roots, finality)?;
     weigh(s, roots, finality, total, previous, current)
 }

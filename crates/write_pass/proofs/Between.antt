@@ -7,7 +7,7 @@ use lib.Dec.{ltb, eqb}
 use Rattle.definitions.specs.declared.Settings.{Settings}
 use Rattle.definitions.specs.Record.{Validator, FAR_FUTURE_EPOCH}
 use Rattle.definitions.specs.Updates.{with_effective_balance, with_eligibility, with_exit, with_balance}
-use Rattle.definitions.specs.Checked.{value, bind, add64, mul64}
+use Rattle.definitions.specs.Checked.{Checked, value, bind, add64, mul64}
 use Rattle.definitions.specs.Document.Phase0.Helpers.{is_eligible_for_activation_queue}
 use Rattle.definitions.specs.Document.Phase0.EpochProcessing.{queue_eligible, is_ejected, rounded_balance}
 use Rattle.definitions.specs.Document.Altair.EpochProcessing.{rotate_participation}
@@ -154,7 +154,7 @@ turn_later-less n churn v {t} e =
     Is : Turned → Type 0
     Is u = Less v u.validator
 
-    told : {u w : Turned} → Less v u.validator → value u ≡ value w → Less v w.validator
+    told : {u w : Turned} → Less v u.validator → ◌≡◌ {A = Checked Turned} (value u) (value w) → Less v w.validator
     told h e = rw (value_same e) at h
 
     exits : bind (churn_by n.least n.limit churn v.effective_balance) (λ after. bind (add64 after.earliest_exit_epoch n.delay) (λ withdrawable. value (kept after (with_exit after.earliest_exit_epoch withdrawable v)))) ≡ value t → Less v t.validator

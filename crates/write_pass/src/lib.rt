@@ -5,21 +5,22 @@
 
 ghost use Rattle.std.specs.Prelude.{◌≡◌, [], ◌∷◌, ◌++◌, ◌+◌, ◌-◌, ◌*◌, ◌/◌, ◌^◌, ◌≤◌, ◌<◌, length};
 ghost use Rattle.definitions.specs.Record.{decode_one, decode};
+ghost use Rattle.definitions.specs.Checked.{done};
 ghost use Rattle.definitions_close.specs.Amounts.{booked};
 ghost use Rattle.laws.specs.Ran.{Ran};
 ghost use Rattle.rates.specs.Balances.{four};
 ghost use Rattle.write_turn.specs.Sweep.{sweep, dropped};
 ghost use Rattle.write_turn.specs.Steps.{Swept};
 ghost use Rattle.write_turn.specs.Planned.{Planned};
-ghost use Rattle.write_turn.specs.Written.{AnswerFor, TableFor, written_with, later_with, written_by};
-ghost use Rattle.write_pass.specs.Filled.{Opens, BooksPair, left, Fits, nine_by, Between, PutAt, Fills, PairOf};
+ghost use Rattle.write_turn.specs.Written.{PairsFor, TableFor, written_with, later_with, written_by};
+ghost use Rattle.write_pass.specs.Filled.{BooksPair, left, Fits, nine_by, Between, PutAt, Fills, carry_in, pair_in, PairIn};
 
-use definitions::{BALANCE, Deltas, EFFECTIVE_BALANCE, EXIT_EPOCH, ExitQueue, Settings};
-use definitions_electra::{ExitChurn, ExitChurnAnswer};
+use definitions::{BALANCE, Deltas, EFFECTIVE_BALANCE, EXIT_EPOCH, ExitQueue, Refusal, Settings};
+use definitions_electra::ExitChurn;
 use electra_registry::updates::RegistryNumbers;
 use exit_queue::exited;
 use rates::rates_in;
-use rates::reward_balances::{Pairs, PairsAnswer};
+use rates::reward_balances::Pairs;
 use write_turn::{Carry, Course, Plan, write_entry};
 
 // What a penalty took, and what it left.
@@ -27,25 +28,6 @@ use write_turn::{Carry, Course, Plan, write_entry};
 struct Booking {
     taken: u64,
     left: u64,
-}
-
-// Of an accepted close the answer is a value, but at the genesis epoch.
-fn pairs_of(answer: PairsAnswer) -> Pairs
-    ensures { Opens answer result }
-{
-    let PairsAnswer::Value(pairs) = answer else {
-        let none = Deltas {
-            reward: 0,
-            penalty: 0,
-        };
-        return Pairs {
-            source: none,
-            target: none,
-            head: none,
-            inactivity: none,
-        };
-    };
-    pairs
 }
 
 // A reward, then its penalty as far as there is balance.
@@ -121,9 +103,9 @@ pub fn put_amounts(r: Pairs, balance: u64, closing_balance: u64, nine: &mut [u64
     )
 }
 
-fn fill_entry(s: Settings, p: Plan, answer: PairsAnswer, from: &[u64], to: &[u64], nine: &mut [u64])
+fn fill_entry(s: Settings, p: Plan, pairs: Pairs, from: &[u64], to: &[u64], nine: &mut [u64])
     requires planned { Planned s p }
-    requires answer_for { AnswerFor s p (decode_one from.now) answer }
+    requires pairs_for { PairsFor s p (decode_one from.now) pairs }
     requires from_len { (length from.now ≡ 10) × (length to.now ≡ 10) × (length nine.old ≡ 9) }
     requires between { Between s p (decode_one from.now) (decode_one to.now) }
     ensures { nine.new ≡ nine_by s p (decode_one from.now) (decode_one to.now) }
@@ -133,7 +115,6 @@ fn fill_entry(s: Settings, p: Plan, answer: PairsAnswer, from: &[u64], to: &[u64
         put_nine(0, 0, 0, 0, 0, 0, 0, 0, from[BALANCE] - to[BALANCE], nine);
         return;
     }
-    let pairs = pairs_of(answer);
     put_amounts(pairs, from[BALANCE], to[BALANCE], nine)
 }
 
@@ -141,14 +122,14 @@ fn fill_entry(s: Settings, p: Plan, answer: PairsAnswer, from: &[u64], to: &[u64
 fn book_entry(
     s: Settings,
     p: Plan,
-    answer: PairsAnswer,
+    pairs: Pairs,
     i: usize,
     from: &[u64],
     to: &[u64],
     amounts: &mut [u64],
 )
     requires planned { Planned s p }
-    requires answer_for { AnswerFor s p (decode_one from.now) answer }
+    requires pairs_for { PairsFor s p (decode_one from.now) pairs }
     requires from_len { (length from.now ≡ 10) × (length to.now ≡ 10) × (10 * i < 1152921504606846976) }
     requires between { Between s p (decode_one from.now) (decode_one to.now) }
     ensures { PutAt i (nine_by s p (decode_one from.now) (decode_one to.now)) amounts.old amounts.new }
@@ -158,21 +139,13 @@ fn book_entry(
     if amounts.len() < b {
         return;
     }
-    fill_entry(s, p, answer, from, to, &mut amounts[a..b])
+    fill_entry(s, p, pairs, from, to, &mut amounts[a..b])
 }
 
-// 0 or a refusal's number, and where it is 0 the exit queue's pair of the closing registry: every closing exit epoch joins it as it is written,
-// so that no pass over the closing registry follows.
-#[derive(Clone, Copy)]
-pub struct Wrote {
-    pub refusal: u64,
-    pub queue: ExitQueue,
-}
-
-// The same with what was carried.
+// What was carried, and the exit queue's pair of the closing registry: every closing exit epoch joins it as it is written, so that no pass over
+// the closing registry follows.
 #[derive(Clone, Copy)]
 struct Passed {
-    refusal: u64,
     carry: Carry,
     pair: ExitQueue,
 }
@@ -189,14 +162,14 @@ fn write_by(
     closing: &mut [u64],
     amounts: &mut [u64],
     table: &mut [u64],
-) -> Passed
+) -> Result<Passed, Refusal>
     requires planned { Planned s p }
     requires table_for { TableFor s p table.old }
     requires opening_len { (length opening.now ≡ 10 * (length opening.now / 10)) × (length closing.old ≡ length opening.now) }
     requires current_epoch_bound { (p.shared.current_epoch < 2 ^ 48) × (e.epoch < 2 ^ 48) × (first.queue.number ≤ length opening.now) }
-    ensures swept { Swept (sweep (written_by later s p t e) first (decode opening.now)) closing.new result.refusal result.carry }
-    ensures fills { Fills s p opening.now closing.new amounts.old amounts.new result.refusal }
-    ensures pair_of { PairOf closing.new result.refusal result.pair }
+    ensures swept { Swept (sweep (written_by later s p t e) first (decode opening.now)) closing.new (carry_in result) }
+    ensures fills { Fills s p opening.now closing.new amounts.old amounts.new (done result) }
+    ensures pair_in { PairIn closing.new (pair_in result) }
 {
     let n = opening.len() / 10;
     let mut carry = first;
@@ -210,28 +183,18 @@ fn write_by(
         let balance = opening[10 * i + EFFECTIVE_BALANCE];
         let rates = rates_in(s, p.shared, p.source, p.target, p.head, balance, table);
         let from = &opening[a..b];
-        let written = write_entry(later, s, p, t, e, carry, rates, from, &mut closing[a..b]);
-        let refusal = written.refusal;
-        if refusal != 0 {
-            return Passed {
-                refusal: refusal,
-                carry: carry,
-                pair: pair,
-            };
-        }
+        let written = write_entry(later, s, p, t, e, carry, rates, from, &mut closing[a..b])?;
         carry = written.carry;
-        let answer = written.answer;
-        book_entry(s, p, answer, i, from, &closing[a..b], amounts);
+        book_entry(s, p, written.pairs, i, from, &closing[a..b], amounts);
         pair = exited(pair, closing[10 * i + EXIT_EPOCH]);
     }
-    Passed {
-        refusal: 0,
+    Ok(Passed {
         carry: carry,
         pair: pair,
-    }
+    })
 }
 
-// Altair's steps, from the exit queue's pair and the cut's quota.
+// Altair's steps, from the exit queue's pair and the cut's quota: the pair of the closing registry.
 pub fn write_all(
     s: Settings,
     p: Plan,
@@ -241,13 +204,13 @@ pub fn write_all(
     opening: &[u64],
     closing: &mut [u64],
     amounts: &mut [u64],
-) -> Wrote
+) -> Result<ExitQueue, Refusal>
     requires planned { Planned s p }
     requires opening_len { (length opening.now ≡ 10 * (length opening.now / 10)) × (length closing.old ≡ length opening.now) }
     requires current_epoch_bound { (p.shared.current_epoch < 2 ^ 48) × (first.number ≤ length opening.now) }
-    ensures ran { Ran (dropped (sweep (written_with s p t) (first, quota) (decode opening.now))) closing.new result.refusal }
-    ensures fills { Fills s p opening.now closing.new amounts.old amounts.new result.refusal }
-    ensures pair_of { PairOf closing.new result.refusal result.queue }
+    ensures ran { Ran (dropped (sweep (written_with s p t) (first, quota) (decode opening.now))) closing.new (done result) }
+    ensures fills { Fills s p opening.now closing.new amounts.old amounts.new (done result) }
+    ensures pair_in { PairIn closing.new result }
 {
     let none = RegistryNumbers {
         epoch: 0,
@@ -278,12 +241,8 @@ pub fn write_all(
         closing,
         amounts,
         &mut table[0..960],
-    );
-    let pair = passed.pair;
-    Wrote {
-        refusal: passed.refusal,
-        queue: pair,
-    }
+    )?;
+    Ok(passed.pair)
 }
 
 // Electra's steps up to slashings, from its two numbers of the exit queue.
@@ -295,12 +254,12 @@ pub fn write_later(
     opening: &[u64],
     closing: &mut [u64],
     amounts: &mut [u64],
-) -> ExitChurnAnswer
+) -> Result<ExitChurn, Refusal>
     requires planned { Planned s p }
     requires opening_len { (length opening.now ≡ 10 * (length opening.now / 10)) × (length closing.old ≡ length opening.now) }
     requires current_epoch_bound { (p.shared.current_epoch < 2 ^ 48) × (e.epoch < 2 ^ 48) }
-    ensures swept { Swept (sweep (later_with s p e) churn (decode opening.now)) closing.new result.refusal result.churn }
-    ensures fills { Fills s p opening.now closing.new amounts.old amounts.new result.refusal }
+    ensures swept { Swept (sweep (later_with s p e) churn (decode opening.now)) closing.new result }
+    ensures fills { Fills s p opening.now closing.new amounts.old amounts.new (done result) }
 {
     let none = Course {
         limit: 0,
@@ -328,11 +287,7 @@ pub fn write_later(
         closing,
         amounts,
         &mut table[0..960],
-    );
+    )?;
     let carry = passed.carry;
-    let after = carry.churn;
-    ExitChurnAnswer {
-        refusal: passed.refusal,
-        churn: after,
-    }
+    Ok(carry.churn)
 }

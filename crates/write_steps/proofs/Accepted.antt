@@ -11,7 +11,8 @@ use Rattle.definitions.specs.declared.Settings.{Settings}
 use Rattle.definitions.specs.declared.ActivationLimit.{ActivationLimit}
 use Rattle.definitions.specs.Lists.{sum, filter}
 use Rattle.definitions.specs.Record.{Validator, GENESIS_EPOCH}
-use Rattle.definitions.specs.Checked.{overflow, Checked, value, refused, bind, mul64, sum64, map_checked}
+use Rattle.definitions.specs.Checked.{Checked, value, refused, bind, mul64, sum64, map_checked}
+use Rattle.definitions.specs.declared.Refusal.TheVariants.{Overflow}
 use Rattle.definitions.specs.Rust.Phase0.Helpers.{is_active_validator, get_current_epoch, get_previous_epoch, get_active_validator_indices, get_total_balance, get_total_active_balance}
 use Rattle.definitions.specs.Rust.Phase0.EpochProcessing.{is_in_inactivity_leak, limited_registry_updates, process_effective_balance_updates}
 use Rattle.definitions.specs.Rust.Altair.Helpers.{TIMELY_SOURCE_FLAG_INDEX, TIMELY_TARGET_FLAG_INDEX, TIMELY_HEAD_FLAG_INDEX, FlagTotals, flag_totals, is_unslashed_participating, get_unslashed_participating_indices}
@@ -42,7 +43,7 @@ pub record Gave {A : Type 0} (m : Checked A) : Type 0 where
   pub gift : A
   pub gave : m ≡ value gift
 
-pub none-gave : {A : Type 0} {m : Checked A} → m ≡ refused overflow → Gave m → ⊥
+pub none-gave : {A : Type 0} {m : Checked A} → m ≡ refused Overflow → Gave m → ⊥
 none-gave e g = not_value (sym e ∙ g.gave)
 
 pub record Accepted (s : Settings) (slot fin : ℕ) (slashings : List ℕ) (vs : List Validator) : Type 0 where
@@ -68,7 +69,7 @@ sum-small : (xs : List ℕ) {x : ℕ} → sum64 xs ≡ value x → sum xs < 2 ^ 
 unfolding sum64
 sum-small xs {x} e = go (ltb (sum xs) (2 ^ 64)) refl e
   where
-    go : (t : Bool) → ltb (sum xs) (2 ^ 64) ≡ t → cond t (value (sum xs)) (refused overflow) ≡ value x → sum xs < 2 ^ 64
+    go : (t : Bool) → ltb (sum xs) (2 ^ 64) ≡ t → cond t (value (sum xs)) (refused Overflow) ≡ value x → sum xs < 2 ^ 64
     go true q e = ltb-true _ _ q
     go false q e = absurd (not_value e)
 
@@ -254,9 +255,9 @@ module _ (by : ActivationLimit) (s : Settings) (slot fin : ℕ) (ep : Epochs s s
       }
 
   -- so that what is not accepted is refused by 5
-  pub not_accepted : (vs : List Validator) → (Accepted s slot fin ys vs → ⊥) → registry_steps by s slot fin ys vs ≡ refused overflow
+  pub not_accepted : (vs : List Validator) → (Accepted s slot fin ys vs → ⊥) → registry_steps by s slot fin ys vs ≡ refused Overflow
   not_accepted vs n = go (registry_steps by s slot fin ys vs) refl
     where
-      go : (m : Checked (List Validator)) → registry_steps by s slot fin ys vs ≡ m → m ≡ refused overflow
+      go : (m : Checked (List Validator)) → registry_steps by s slot fin ys vs ≡ m → m ≡ refused Overflow
       go (value ws) e = absurd (n (accepted vs e))
       go (refused p) e = ap refused ((only-steps s slot by fin ys vs).why p e)

@@ -8,7 +8,6 @@ use borrow.Author.Tests.{eqb-true, eq-eqb, ne_eqb}
 use lib.Dec.{eqb}
 use lib.ListN.{length, get_or, replicate}
 use Rattle.definitions.specs.declared.Settings.{Settings}
-use Rattle.definitions.specs.declared.Number.{Number}
 use Rattle.definitions.specs.Record.{Validator, nobody}
 use Rattle.definitions.specs.Checked.{Checked, value, bind, map_checked}
 use Rattle.definitions.specs.Rust.Phase0.Helpers.{get_current_epoch, get_previous_epoch, get_total_active_balance}
@@ -29,7 +28,7 @@ use Rattle.write_steps.proofs.Leak.{leak-some}
 use Rattle.write_steps.proofs.Kept.{score-keeps, totals-kept}
 use Rattle.write_steps.proofs.Rewards.{scores}
 
-module _ (s : Settings) (slot fin : ℕ) (vs scored : List Validator) (scored-is : process_inactivity_updates s slot fin vs ≡ value scored) (scored-long : length scored ≡ length vs) {t : Totals} (totals : TotalsOf s (get_current_epoch s slot) (get_previous_epoch s slot) vs t) (leaking : Bool) (leak : leak_of s slot fin ≡ value leaking) (a b c : Number) (adjusted downward upward : ℕ) {es : List (List ℕ)} (are : booked_by_rewards s s.inactivity_penalty_quotient_altair slot fin scored ≡ value es) (i : ℕ) (l : i < length vs) where
+module _ (s : Settings) (slot fin : ℕ) (vs scored : List Validator) (scored-is : process_inactivity_updates s slot fin vs ≡ value scored) (scored-long : length scored ≡ length vs) {t : Totals} (totals : TotalsOf s (get_current_epoch s slot) (get_previous_epoch s slot) vs t) (leaking : Bool) (leak : leak_of s slot fin ≡ value leaking) (a b c : Checked ℕ) (adjusted downward upward : ℕ) {es : List (List ℕ)} (are : booked_by_rewards s s.inactivity_penalty_quotient_altair slot fin scored ≡ value es) (i : ℕ) (l : i < length vs) where
   abbrev current : ℕ
   current = get_current_epoch s slot
 

@@ -14,12 +14,12 @@ use Rattle.slashings.specs.Adjusted.{adjusted_balance}
 use Rattle.slashings.proofs.Adjusted.{slashings-by}
 use Rattle.balances.specs.declared.effective_balances.Thresholds.{Thresholds}
 use Rattle.balances.specs.Thresholds.{thresholds_of}
-use Rattle.balances.proofs.effective_balances.Step.{only-thresholds, updates-by}
+use Rattle.balances.proofs.effective_balances.Step.{updates-by}
 use Rattle.write_turn.specs.Runs.{both}
 use Rattle.write_turn.proofs.Sweeps.Pure.{only-map, map-value, fused}
 use Rattle.write_turn.specs.Planned.{last_of}
 use Rattle.write_steps.specs.RegistrySteps.{last_steps}
-use Rattle.write_steps.proofs.Only.{only-slash, only_update}
+use Rattle.write_steps.proofs.Only.{only-slash, only_update, only-thresholds}
 
 module _ (s : Settings) (multiplier state_slot total : ℕ) (slashings : List ℕ) (vs : List Validator) where
   abbrev last : ℕ → ℕ → ℕ → Validator → Checked Validator

@@ -10,9 +10,14 @@ use lib.ListN.{length}
 use Rattle.definitions.specs.declared.Settings.{Settings}
 use Rattle.definitions.specs.Lists.{every}
 use Rattle.definitions.specs.Record.{Validator, decode}
-use Rattle.definitions.specs.Checked.{value}
+use Rattle.definitions.specs.Checked.{Checked, value, refused, code_of, done}
+use Rattle.definitions.specs.declared.Refusal.{Refusal}
+use Rattle.definitions.specs.declared.Refusal.TheVariants.{Overflow}
 use Rattle.definitions.specs.Rust.Phase0.Helpers.{get_current_epoch, get_previous_epoch, get_validator_churn_limit}
-use Rattle.laws.proofs.Checked.{not_value}
+use Rattle.laws.proofs.Checked.{number_not_zero, not_value, refused_same, value_same}
+use Rattle.arithmetic.proofs.Operations.{OnlyOverflow}
+use Rattle.arithmetic.proofs.Laws.{carried}
+use Rattle.std.specs.Prelude.{IsErr, IsErrAnd}
 use Rattle.laws.proofs.Encode.{length-decode}
 use Rattle.definitions.specs.declared.ExitQueue.{ExitQueue}
 use Rattle.exit_queue.specs.Queue.{Tracks, start_pair}
@@ -30,7 +35,6 @@ use Rattle.survey.specs.Found.{PlainSum, Finds, all_fit}
 use Rattle.survey.proofs.Raised.{raised-totals}
 use Rattle.survey.proofs.Found.{plain-sums}
 use Rattle.write_turn.specs.declared.Plan.{Plan}
-use Rattle.write_steps.specs.declared.PlanAnswer.TheVariants.{Value, Refused}
 use Rattle.write_steps.specs.Numbers.{leak_of, Makes, PlanFor, Lacks, Plans, Found}
 
 pub queue-few : {least : ℕ} (xs : List ℕ) {q : ExitQueue} → length xs ≡ 10 * (length xs / 10) → Tracks least (decode xs) q → q.number ≤ length xs
@@ -63,12 +67,20 @@ found_all s slot ep xs h fit t l q =
       queue = rw q (tracks-start ep.fits h.queue);
     }
 
+-- what answers 0 passed
+pub passed-code : {A : Type 0} (m : Checked A) → code_of m ≡ 0 → done m ≡ value tt
+passed-code (value a) e = refl
+passed-code (refused p) e = absurd (number_not_zero p e)
+
 -- The plan, or that there is none
 module _ {s : Settings} {slot fin : ℕ} {t : Totals} {ys : List ℕ} where
-  pub plan-made : {leaking : Bool} → leak_of s slot fin ≡ value leaking → {adjusted : ℕ} → adjusted_balance s.proportional_slashing_multiplier_altair t.active ys ≡ value adjusted → {thresholds : Thresholds} → thresholds_of s ≡ value thresholds → {p : Plan} → Makes s (get_current_epoch s slot) (get_previous_epoch s slot) leaking t adjusted thresholds.downward thresholds.upward p → Plans s slot fin t ys (Value p)
+  pub plan-made : {leaking : Bool} → leak_of s slot fin ≡ value leaking → {adjusted : ℕ} → adjusted_balance s.proportional_slashing_multiplier_altair t.active ys ≡ value adjusted → {thresholds : Thresholds} → thresholds_of s ≡ value thresholds → {p : Plan} → Makes s (get_current_epoch s slot) (get_previous_epoch s slot) leaking t adjusted thresholds.downward thresholds.upward p → Plans s slot fin t ys (value p)
   plan-made {leaking} l {adjusted} a {thresholds} h {p} m =
       let by : PlanFor s slot fin t ys p = record { leaking = leaking; adjusted = adjusted; thresholds = thresholds; leak = l; times = a; limits = h; makes = m } in
-      record { given = λ r e. subst (λ (k : Plan). PlanFor s slot fin t ys k) (cc) by; number = λ q e. absurd (let z : ◌≡◌ {A = ℕ} 0 1 = cc in omega arith); none = λ q e. absurd (let z : ◌≡◌ {A = ℕ} 0 1 = cc in omega arith) }
+      record { given = λ r e. subst (λ (k : Plan). PlanFor s slot fin t ys k) (value_same e) by; why = λ q e. absurd (not_value (sym e)); none = λ q e. absurd (not_value (sym e)) }
 
-  pub plan_lacks : Lacks s slot fin t ys → Plans s slot fin t ys (Refused 5)
-  plan_lacks h = record { given = λ r e. absurd (let z : ◌≡◌ {A = ℕ} 0 1 = cc in omega arith); number = λ q e. cc; none = λ q e. h }
+  -- one of the three, m, is refused: by 5, as each of them can only be
+  pub plan_lacks : {A : Type 0} {m n : Checked A} → OnlyOverflow m → (m ≡ refused Overflow → Lacks s slot fin t ys) → n ≡ m → {p : Refusal} → n ≡ refused p → {r : Checked Plan} → IsErr r × IsErrAnd r (λ q. q ≡ p) → Plans s slot fin t ys r
+  plan_lacks o lacks h {p} e carries =
+      let why = o.why p (sym h ∙ e) in
+      rw (carried _ carries, why) (record { given = λ r e. absurd (not_value e); why = λ q e. sym (refused_same e); none = λ q e'. lacks (sym h ∙ e ∙ ap refused why) })

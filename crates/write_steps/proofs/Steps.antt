@@ -9,7 +9,6 @@ use lib.Dec.{eqb}
 use lib.ListN.{length}
 use Rattle.definitions.specs.declared.Settings.{Settings}
 use Rattle.definitions.specs.declared.ActivationLimit.{ActivationLimit}
-use Rattle.definitions.specs.declared.Number.{Number}
 use Rattle.definitions.specs.Lists.{range, sum}
 use Rattle.definitions.specs.Record.{Validator}
 use Rattle.definitions.specs.Checked.{Checked, value, refused, bind, map_checked, fold_checked}
@@ -56,7 +55,7 @@ grouped : (by : ActivationLimit) (s : Settings) (state_slot finalized_epoch : �
 unfolding registry_steps last_steps
 grouped by s state_slot finalized_epoch slashings vs = sym (bind-bind _ _ _)
 
-module _ (s : Settings) (slot fin : ℕ) (ep : Epochs s slot) (totals : Totals) (leaking : Bool) (a b c : Number) (adjusted : ℕ) (thresholds : Thresholds) where
+module _ (s : Settings) (slot fin : ℕ) (ep : Epochs s slot) (totals : Totals) (leaking : Bool) (a b c : Checked ℕ) (adjusted : ℕ) (thresholds : Thresholds) where
   abbrev current : ℕ
   current = get_current_epoch s slot
 
@@ -128,7 +127,7 @@ module _ (s : Settings) (slot fin : ℕ) (ep : Epochs s slot) (totals : Totals) 
 
 -- The same of what the code has: the numbers as they were told
 module _ {s : Settings} {slot fin : ℕ} (ep : Epochs s slot) (slashings : List ℕ) {vs : List Validator} where
-  pub steps-run : {t : Totals} {q : ExitQueue} (course : Course) {quota : ℕ} → Found s slot vs t course.limit q → course.finalized_epoch ≡ fin → course.activation_epoch ≡ least_exit s (get_current_epoch s slot) → {p : Plan} → PlanFor s slot fin t slashings p → {xs : List ℕ} {r : ℕ} → Ran (dropped (sweep (written_with s p course) (q, quota) vs)) xs r → RanUnder s slot fin slashings vs course.limit course.bound quota xs r
+  pub steps-run : {t : Totals} {q : ExitQueue} (course : Course) {quota : ℕ} → Found s slot vs t course.limit q → course.finalized_epoch ≡ fin → course.activation_epoch ≡ least_exit s (get_current_epoch s slot) → {p : Plan} → PlanFor s slot fin t slashings p → {xs : List ℕ} {r : Checked (Unit {0})} → Ran (dropped (sweep (written_with s p course) (q, quota) vs)) xs r → RanUnder s slot fin slashings vs course.limit course.bound quota xs r
   steps-run {t} {q} course {quota} found is_fin is_least {p} plan {xs} {r} ran =
       record {
         under = λ by cut.

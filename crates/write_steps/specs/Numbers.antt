@@ -2,9 +2,10 @@
 use Rattle.std.specs.Prelude.{◌≡◌, Bool, false, cond, List, ℕ, ◌*◌, ◌/◌, eqb, length}
 use Rattle.definitions.specs.declared.Settings.{Settings}
 use Rattle.definitions.specs.declared.ActivationLimit.{ActivationLimit}
-use Rattle.definitions.specs.declared.Number.{Number}
 use Rattle.definitions.specs.Record.{Validator, decode}
-use Rattle.definitions.specs.Checked.{Checked, value, refused, number_of, overflow}
+use Rattle.definitions.specs.Checked.{Checked, value, refused}
+use Rattle.definitions.specs.declared.Refusal.{Refusal}
+use Rattle.definitions.specs.declared.Refusal.TheVariants.{Overflow}
 use Rattle.definitions.specs.Rust.Phase0.Helpers.{get_current_epoch, get_previous_epoch, get_validator_churn_limit}
 use Rattle.definitions.specs.Rust.Phase0.EpochProcessing.{is_in_inactivity_leak, activation_limit}
 use Rattle.laws.specs.Cut.{CutAt, eligible_now}
@@ -21,15 +22,13 @@ use Rattle.write_turn.specs.declared.Plan.{Plan}
 use Rattle.write_turn.specs.Planned.{Planned}
 use Rattle.write_pass.specs.Filled.{Filled}
 use Rattle.write_steps.specs.RegistrySteps.{registry_steps}
-use Rattle.write_steps.specs.declared.PlanAnswer.{PlanAnswer}
-use Rattle.write_steps.specs.declared.PlanAnswer.TheVariants.{Value, Refused}
 
 -- no delay is evaluated at the genesis epoch
 unfoldable pub leak_of : Settings → ℕ → ℕ → Checked Bool
 leak_of s slot finalized_epoch = cond (eqb (get_current_epoch s slot) 0) (value false) (is_in_inactivity_leak s slot finalized_epoch)
 
 -- the three that may have left 64 bits and be wanted by nobody are per_increment, denominator and product
-abbrev pub plan_of : Settings → ℕ → ℕ → Bool → Totals → Number → Number → Number → ℕ → ℕ → ℕ → Plan
+abbrev pub plan_of : Settings → ℕ → ℕ → Bool → Totals → Checked ℕ → Checked ℕ → Checked ℕ → ℕ → ℕ → ℕ → Plan
 plan_of s current previous leaking t per_increment denominator product adjusted downward upward =
     record {
       shared = record { current_epoch = current; previous_epoch = previous; total = t.active; leaking = leaking; per_increment = per_increment; denominator = denominator };
@@ -59,14 +58,14 @@ pub record PlanFor (s : Settings) (slot finalized_epoch : ℕ) (t : Totals) (sla
 
 -- one of the three has left 64 bits
 pub data Lacks (s : Settings) (slot finalized_epoch : ℕ) (t : Totals) (slashings : List ℕ) : Type 0 where
-  no_leak : leak_of s slot finalized_epoch ≡ refused overflow → Lacks s slot finalized_epoch t slashings
-  no_adjusted : adjusted_balance s.proportional_slashing_multiplier_altair t.active slashings ≡ refused overflow → Lacks s slot finalized_epoch t slashings
-  no_thresholds : thresholds_of s ≡ refused overflow → Lacks s slot finalized_epoch t slashings
+  no_leak : leak_of s slot finalized_epoch ≡ refused Overflow → Lacks s slot finalized_epoch t slashings
+  no_adjusted : adjusted_balance s.proportional_slashing_multiplier_altair t.active slashings ≡ refused Overflow → Lacks s slot finalized_epoch t slashings
+  no_thresholds : thresholds_of s ≡ refused Overflow → Lacks s slot finalized_epoch t slashings
 
-pub record Plans (s : Settings) (slot finalized_epoch : ℕ) (t : Totals) (slashings : List ℕ) (r : PlanAnswer) : Type 0 where
-  pub given : (p : Plan) → r ≡ Value p → PlanFor s slot finalized_epoch t slashings p
-  pub number : (q : ℕ) → r ≡ Refused q → q ≡ number_of overflow
-  pub none : (q : ℕ) → r ≡ Refused q → Lacks s slot finalized_epoch t slashings
+pub record Plans (s : Settings) (slot finalized_epoch : ℕ) (t : Totals) (slashings : List ℕ) (r : Checked Plan) : Type 0 where
+  pub given : (p : Plan) → r ≡ value p → PlanFor s slot finalized_epoch t slashings p
+  pub why : (q : Refusal) → r ≡ refused q → q ≡ Overflow
+  pub none : (q : Refusal) → r ≡ refused q → Lacks s slot finalized_epoch t slashings
 
 -- What the steps ask of the whole registry, found before them, but for the cut of the activation queue
 pub record Found (s : Settings) (slot : ℕ) (vs : List Validator) (t : Totals) (limit : ℕ) (q : ExitQueue) : Type 0 where
@@ -75,7 +74,7 @@ pub record Found (s : Settings) (slot : ℕ) (vs : List Validator) (t : Totals) 
   pub queue : Tracks (least_exit s (get_current_epoch s slot)) vs q
 
 -- They ran, under every limit of activations whose cut this is: they ask nothing else of it
-pub record RanUnder (s : Settings) (slot finalized_epoch : ℕ) (slashings : List ℕ) (vs : List Validator) (limit bound quota : ℕ) (xs : List ℕ) (r : ℕ) : Type 0 where
+pub record RanUnder (s : Settings) (slot finalized_epoch : ℕ) (slashings : List ℕ) (vs : List Validator) (limit bound quota : ℕ) (xs : List ℕ) (r : Checked (Unit {0})) : Type 0 where
   pub under : (by : ActivationLimit) → CutAt (activation_limit by limit) finalized_epoch (eligible_now s (get_current_epoch s slot) vs) bound quota
       → Ran (registry_steps by s slot finalized_epoch slashings vs) xs r
 

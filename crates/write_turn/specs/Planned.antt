@@ -1,9 +1,8 @@
 -- The shared numbers of a pass, and what scores, rewards and the last three steps do to one validator by them.
-use Rattle.std.specs.Prelude.{ℕ, ◌<◌}
+use Rattle.std.specs.Prelude.{◌≡◌, ℕ, ◌<◌}
 use Rattle.definitions.specs.declared.Settings.{Settings}
 use Rattle.definitions.specs.Record.{Validator}
 use Rattle.definitions.specs.Checked.{Checked, value, mul64}
-use Rattle.definitions.specs.Answers.{Says}
 use Rattle.definitions.specs.Document.Altair.EpochProcessing.{rotate_participation}
 use Rattle.definitions.specs.Rust.Phase0.EpochProcessing.{update_effective_balance}
 use Rattle.definitions.specs.Rust.Altair.EpochProcessing.{update_inactivity_score, reward_and_penalize, slash}
@@ -15,7 +14,7 @@ pub record Planned (s : Settings) (p : Plan) : Type 0 where
   pub shared : SharedBy s p.shared
   pub bias : 0 < s.inactivity_score_bias
   pub quotient : 0 < p.quotient
-  pub product : Says (mul64 s.inactivity_score_bias p.quotient) p.product
+  pub product : p.product ≡ mul64 s.inactivity_score_bias p.quotient
   pub total : 0 < p.shared.total
 
 abbrev pub scored_by : Settings → Plan → Validator → Checked Validator

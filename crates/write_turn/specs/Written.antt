@@ -2,7 +2,7 @@
 use Rattle.std.specs.Prelude.{◌≡◌, cond, List, ℕ, ◌+◌, ◌-◌, ◌≤◌, eqb}
 use Rattle.definitions.specs.declared.Settings.{Settings}
 use Rattle.definitions.specs.Record.{Validator, decode_one}
-use Rattle.definitions.specs.Checked.{Checked, value, bind}
+use Rattle.definitions.specs.Checked.{Checked, value, refused, bind, done}
 use Rattle.laws.specs.Cut.{queued_at, admit_one}
 use Rattle.definitions.specs.declared.ExitQueue.{ExitQueue}
 use Rattle.exit_queue.specs.Queue.{moved}
@@ -12,10 +12,10 @@ use Rattle.definitions_electra.specs.Evaluated.Electra.EpochProcessing.{slash as
 use Rattle.electra_registry.specs.declared.updates.RegistryNumbers.{RegistryNumbers}
 use Rattle.electra_registry.specs.Turns.{turn_by as turn_by_balance}
 use Rattle.rates.specs.declared.Rates.{Rates}
-use Rattle.rates.specs.declared.reward_balances.PairsAnswer.{PairsAnswer}
+use Rattle.rates.specs.declared.reward_balances.Pairs.{Pairs}
 use Rattle.rates.specs.Rated.{Fits}
 use Rattle.rates.specs.Table.{TableOf}
-use Rattle.rates.specs.Balances.{SaysPairs, four_of}
+use Rattle.rates.specs.Balances.{four_of}
 use Rattle.rewards.specs.Shared.{totals_of}
 use Rattle.write_turn.specs.Runs.{Runs}
 use Rattle.write_turn.specs.Sweep.{Turning, after, first, last, along}
@@ -24,7 +24,6 @@ use Rattle.write_turn.specs.declared.Plan.{Plan}
 use Rattle.write_turn.specs.Planned.{scored_by, paid_by, last_by}
 use Rattle.write_turn.specs.declared.Course.{Course}
 use Rattle.write_turn.specs.declared.Carry.{Carry}
-use Rattle.write_turn.specs.declared.Paid.{Paid}
 use Rattle.write_turn.specs.declared.Moved.{Moved}
 use Rattle.write_turn.specs.declared.Written.{Written}
 
@@ -37,8 +36,11 @@ pub record RatesFor (s : Settings) (p : Plan) (balance : ℕ) (rates : Rates) : 
   pub same : rates.effective_balance ≡ balance
 
 -- the four pairs of the validator v once its score is moved, by which rewards are worked out but at the genesis epoch
-pub record AnswerFor (s : Settings) (p : Plan) (v : Validator) (r : PairsAnswer) : Type 0 where
-  pub says : (p.shared.current_epoch ≡ 0 → ⊥) → (scored : Validator) → scored_by s p v ≡ value scored → SaysPairs (four_of s p.quotient p.shared.current_epoch p.shared.previous_epoch (totals_of p.shared p.source) (totals_of p.shared p.target) (totals_of p.shared p.head) scored) r
+pub record PairsFor (s : Settings) (p : Plan) (v : Validator) (pairs : Pairs) : Type 0 where
+  pub are : (p.shared.current_epoch ≡ 0 → ⊥)
+      → (scored : Validator)
+      → scored_by s p v ≡ value scored
+      → four_of s p.quotient p.shared.current_epoch p.shared.previous_epoch (totals_of p.shared p.source) (totals_of p.shared p.target) (totals_of p.shared p.head) scored ≡ value pairs
 
 -- scores and rewards, but at the genesis epoch
 abbrev pub pay_of : Settings → Plan → Validator → Checked Validator
@@ -81,15 +83,23 @@ written_by later s p t n c v = cond (eqb later 0) (queued s p t c v) (churned s 
 
 -- What the functions on one entry promise
 
-pub record Pays (s : Settings) (p : Plan) (before after : List ℕ) (r : Paid) : Type 0 where
-  pub runs : Runs (pay_of s p) before after r.refusal
-  pub answer : r.refusal ≡ 0 → AnswerFor s p (decode_one before) r.answer
+pub record Pays (s : Settings) (p : Plan) (before after : List ℕ) (r : Checked Pairs) : Type 0 where
+  pub runs : Runs (pay_of s p) before after (done r)
+  pub pairs : (x : Pairs) → r ≡ value x → PairsFor s p (decode_one before) x
 
-pub record Moves (s : Settings) (epoch : ℕ) (t : Course) (q : ExitQueue) (left : ℕ) (before after : List ℕ) (r : Moved) : Type 0 where
-  pub steps : Steps (move_with s epoch t) (q, left) before after r.refusal (r.queue, r.left)
-  pub few : r.queue.number ≤ q.number + 1
+abbrev pub moved_of : Checked Moved → Checked (ExitQueue × ℕ)
+moved_of (value m) = value (m.queue, m.left)
+moved_of (refused p) = refused p
 
-pub record Writes (later : ℕ) (s : Settings) (p : Plan) (t : Course) (n : RegistryNumbers) (c : Carry) (before after : List ℕ) (r : Written) : Type 0 where
-  pub steps : Steps (written_by later s p t n) c before after r.refusal r.carry
-  pub few : r.carry.queue.number ≤ c.queue.number + 1
-  pub answer : r.refusal ≡ 0 → AnswerFor s p (decode_one before) r.answer
+pub record Moves (s : Settings) (epoch : ℕ) (t : Course) (q : ExitQueue) (left : ℕ) (before after : List ℕ) (r : Checked Moved) : Type 0 where
+  pub steps : Steps (move_with s epoch t) (q, left) before after (moved_of r)
+  pub few : (m : Moved) → r ≡ value m → m.queue.number ≤ q.number + 1
+
+abbrev pub written_of : Checked Written → Checked Carry
+written_of (value w) = value w.carry
+written_of (refused p) = refused p
+
+pub record Writes (later : ℕ) (s : Settings) (p : Plan) (t : Course) (n : RegistryNumbers) (c : Carry) (before after : List ℕ) (r : Checked Written) : Type 0 where
+  pub steps : Steps (written_by later s p t n) c before after (written_of r)
+  pub few : (w : Written) → r ≡ value w → w.carry.queue.number ≤ c.queue.number + 1
+  pub pairs : (w : Written) → r ≡ value w → PairsFor s p (decode_one before) w.pairs

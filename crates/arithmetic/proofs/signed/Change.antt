@@ -8,10 +8,9 @@ use lib.IntN.{ℤ, pos, negsuc, sub_ℕ, ◌-ℤ◌}
 use mir.Syntax.{w64}
 use mir.Val.{SFits, to_z, of_z}
 use mir.Facts.{to_z_pos, to_z-of_z}
-use Rattle.definitions.specs.Checked.{signed_overflow, Checked, value, refused}
-use Rattle.definitions.specs.declared.Change.{Change}
-use Rattle.definitions.specs.declared.Change.TheVariants.{Value, Refused}
-use Rattle.definitions.specs.NetChange.{fits_signed, net_change, change_for}
+use Rattle.definitions.specs.Checked.{Checked, value, refused}
+use Rattle.definitions.specs.declared.Refusal.TheVariants.{SignedOverflow}
+use Rattle.definitions.specs.NetChange.{fits_signed, net_change}
 use Rattle.laws.proofs.Checked.{not_value, value_same}
 
 -- -1 - n, as the machine works it out
@@ -33,39 +32,22 @@ module _ (n : ℕ) (l : n < 2 ^ 63) where
 -- the leaf's two cases, each with a difference that fits or does not
 
 module _ (opening closing : ℕ) where
-  pub gain : opening ≤ closing → closing - opening < 2 ^ 63 → Value (pos (closing - opening)) ≡ change_for (net_change opening closing)
+  pub gain : opening ≤ closing → closing - opening < 2 ^ 63 → value (pos (closing - opening)) ≡ net_change opening closing
   unfolding net_change fits_signed
   gain l f = rw (le-ltb closing opening l, lt-ltb (closing - opening) (2 ^ 63) f)
 
-  pub gain-wide : opening ≤ closing → 2 ^ 63 ≤ closing - opening → Refused 7 ≡ change_for (net_change opening closing)
+  pub gain-wide : opening ≤ closing → 2 ^ 63 ≤ closing - opening → refused SignedOverflow ≡ net_change opening closing
   unfolding net_change fits_signed
   gain-wide l f = rw (le-ltb closing opening l, le-ltb (closing - opening) (2 ^ 63) f)
 
   module _ {loss : ℕ} (is : loss ≡ opening - suc closing) (l : closing < opening) where
-    pub loses : loss < 2 ^ 63 → Value (negsuc loss) ≡ change_for (net_change opening closing)
+    pub loses : loss < 2 ^ 63 → value (negsuc loss) ≡ net_change opening closing
     unfolding net_change fits_signed
     loses f = rw (lt-ltb closing opening l, ← is, lt-ltb loss (2 ^ 63) f)
 
-    pub loses-wide : 2 ^ 63 ≤ loss → Refused 7 ≡ change_for (net_change opening closing)
+    pub loses-wide : 2 ^ 63 ≤ loss → refused SignedOverflow ≡ net_change opening closing
     unfolding net_change fits_signed
     loses-wide f = rw (lt-ltb closing opening l, ← is, le-ltb loss (2 ^ 63) f)
-
--- what an answer says of the definition
-
-clash : {z : ℤ} {q : ℕ} → Value z ≡ Refused q → ⊥
-clash p = let none : ◌≡◌ {A = ℕ} 0 1 = cc in omega arith
-
-pub given : (m : Checked ℤ) {r : Change} {z : ℤ} → r ≡ change_for m → r ≡ Value z → m ≡ value z
-given (value y) e v = let same : Value y ≡ Value _ = sym e ∙ v in cc
-given (refused q) e v = absurd (clash (sym v ∙ e))
-
-pub wide : (opening closing : ℕ) {r : Change} {q : ℕ} → r ≡ change_for (net_change opening closing) → r ≡ Refused q → net_change opening closing ≡ refused signed_overflow
-unfolding net_change
-wide opening closing {r} {q} e v = go (fits_signed (sub_ℕ closing opening)) e
-  where
-    go : (fits : Bool) → r ≡ change_for (cond fits (value (sub_ℕ closing opening)) (refused signed_overflow)) → cond fits (value (sub_ℕ closing opening)) (refused signed_overflow) ≡ refused signed_overflow
-    go true f = absurd (clash (sym f ∙ v))
-    go false f = refl
 
 -- a net change that was given is the same number once it has gone through 64 bits
 
@@ -74,7 +56,7 @@ unfolding fits_signed
 fits-machine (pos n) e = record { sfits = ltb-true n (2 ^ 63) e }
 fits-machine (negsuc n) e = record { sfits = ltb-true n (2 ^ 63) e }
 
-fits-given : (fits : Bool) (d : ℤ) {z : ℤ} → (fits ≡ true → SFits w64 d) → cond fits (value d) (refused signed_overflow) ≡ value z → SFits w64 z
+fits-given : (fits : Bool) (d : ℤ) {z : ℤ} → (fits ≡ true → SFits w64 d) → cond fits (value d) (refused SignedOverflow) ≡ value z → SFits w64 z
 fits-given true d f e = subst (SFits w64) (value_same e) (f refl)
 fits-given false d f e = absurd (not_value e)
 
@@ -89,6 +71,6 @@ pub difference : (opening closing : ℕ) {z : ℤ} → net_change opening closin
 unfolding net_change
 difference opening closing {z} e = go (fits_signed (sub_ℕ closing opening)) e
   where
-    go : (fits : Bool) → cond fits (value (sub_ℕ closing opening)) (refused signed_overflow) ≡ value z → z ≡ sub_ℕ closing opening
+    go : (fits : Bool) → cond fits (value (sub_ℕ closing opening)) (refused SignedOverflow) ≡ value z → z ≡ sub_ℕ closing opening
     go true f = sym (value_same f)
     go false f = absurd (not_value f)

@@ -1,9 +1,9 @@
-use Rattle.arithmetic.proofs.Laws.{said-value, said_overflow}
-use Rattle.arithmetic.proofs.Operations.{sub64-given, sub64-refused}
+use native.Mathlib.Omega.{arith}
+use borrow.Author.Tests.{le-leb, lt-leb}
+use Rattle.definitions.specs.Checked.{sub64}
+use Rattle.arithmetic.proofs.Operations.{told}
 use Rattle.arithmetic.proofs.sub64.Goals as goal
 
-pub returns-then-a-b : goal.returns-then-a-b
-returns-then-a-b c = said_overflow (sub64-refused _ _ c.if-a-b.true)
-
 pub returns : goal.returns
-returns c = said-value (sub64-given _ _ c.if-a-b.false)
+unfolding sub64
+returns c = told _ _ _ c.ok_or.ensures.value c.checked_sub.ensures (λ p. le-leb _ _ p) (λ p. lt-leb _ _ (omega (arith, p)))

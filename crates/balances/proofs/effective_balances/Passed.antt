@@ -1,4 +1,4 @@
--- What the tests give once passed. `x` is the number that their code gave.
+-- What the tests give once passed. `x` is what their code answered.
 use mathlib.Core.Bool.{true}
 use mathlib.Core.List.{List}
 use mathlib.Core.Path.{◌≡◌, sym, ◌∙◌}
@@ -6,9 +6,9 @@ use Prim.Native.Nat.{ℕ}
 use borrow.Author.Tests.{eqb-true}
 use lib.ListN.{length}
 use Rattle.definitions.specs.declared.Settings.{Settings}
-use Rattle.definitions.specs.Checked.{code_of}
+use Rattle.definitions.specs.Checked.{Checked, value}
 use Rattle.definitions.specs.Refusals.{good_settings, effective_balance_tests}
-use Rattle.laws.proofs.Tests.{in_order_lem}
+use Rattle.laws.proofs.Tests.{in_order-value}
 use Rattle.refusals.proofs.Laws.{RegistryShape, registry-shaped}
 
 pub record EffectiveBalancePassed (s : Settings) (opening closing : List ℕ) : Type 0 where
@@ -16,8 +16,8 @@ pub record EffectiveBalancePassed (s : Settings) (opening closing : List ℕ) : 
   pub shape : RegistryShape opening
   pub same : length closing ≡ length opening
 
-pub effective_balance-passed : (s : Settings) (opening closing : List ℕ) {x : ℕ} → x ≡ code_of (effective_balance_tests s opening closing) → x ≡ 0 → EffectiveBalancePassed s opening closing
+pub effective_balance-passed : (s : Settings) (opening closing : List ℕ) {x : Checked (Unit {0})} → x ≡ effective_balance_tests s opening closing → x ≡ value tt → EffectiveBalancePassed s opening closing
 unfolding effective_balance_tests
 effective_balance-passed s opening closing e z =
-    let p = in_order_lem _ _ _ (sym e ∙ z) in
+    let p = in_order-value _ _ _ (sym e ∙ z) in
     record { good = p.settings 0; shape = registry-shaped opening (p.shaped 1); same = eqb-true (length closing) (length opening) (p.shaped 2) }

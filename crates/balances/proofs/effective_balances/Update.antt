@@ -5,12 +5,13 @@ use borrow.Author.Tests.{lt-ltb, le-ltb}
 use Rattle.definitions.specs.declared.Settings.{Settings}
 use Rattle.definitions.specs.Record.{Validator}
 use Rattle.definitions.specs.Updates.{with_effective_balance}
-use Rattle.definitions.specs.Checked.{value, refused, overflow, bind, add64}
+use Rattle.definitions.specs.Checked.{value, refused, bind, add64}
+use Rattle.definitions.specs.declared.Refusal.{Refusal}
 use Rattle.definitions.specs.Document.Phase0.EpochProcessing.{rounded_balance}
 use Rattle.definitions.specs.Rust.Phase0.EpochProcessing.{update_effective_balance}
 
 module _ (s : Settings) (downward upward : ℕ) (v : Validator) where
-  pub low-refused : add64 v.balance downward ≡ refused overflow → update_effective_balance s downward upward v ≡ refused overflow
+  pub low-refused : {p : Refusal} → add64 v.balance downward ≡ refused p → update_effective_balance s downward upward v ≡ refused p
   unfolding update_effective_balance bind
   low-refused h = rw h
 
@@ -20,7 +21,7 @@ module _ (s : Settings) (downward upward : ℕ) (v : Validator) where
     low-moved l = rw (h, lt-ltb _ _ l)
 
     module _ (l : v.effective_balance ≤ low) where
-      pub high-refused : add64 v.effective_balance upward ≡ refused overflow → update_effective_balance s downward upward v ≡ refused overflow
+      pub high-refused : {p : Refusal} → add64 v.effective_balance upward ≡ refused p → update_effective_balance s downward upward v ≡ refused p
       unfolding update_effective_balance bind
       high-refused g = rw (h, le-ltb _ _ l, g)
 

@@ -1,14 +1,14 @@
+use mathlib.Core.Path.{sym, ◌∙◌}
 use Rattle.definitions.specs.Rust.Phase0.Helpers.{increase_balance}
 use Rattle.laws.proofs.Encode.{ten}
-use Rattle.arithmetic.proofs.Operations.{only-add64}
-use Rattle.arithmetic.proofs.Laws.{says-value, says_overflow, bind-value, bind-refused}
+use Rattle.arithmetic.proofs.Laws.{bind-value, bind-refused, carried}
 use Rattle.laws.proofs.Loops.Checking.{settles-value, settles-refused}
 use Rattle.balances.proofs.entry_increase_balance.Goals as goal
 
-pub returns-in_default : goal.returns-in_default
+pub returns-in_err-balance : goal.returns-in_err-balance
 unfolding increase_balance
-returns-in_default c = settles-refused _ c.requires (bind-refused _ (says_overflow c.add64.ensures (only-add64 _ _) c.in_default.is).0)
+returns-in_err-balance c = rw (carried _ c.from_residual.ensures) (settles-refused _ c.requires (bind-refused _ (sym c.add64.ensures ∙ c.in_err-balance.was)))
 
 pub returns : goal.returns
 unfolding increase_balance
-returns c = settles-value _ (bind-value _ (says-value c.add64.ensures c.in-Value.is)) (rw (ten c.args.entry.now c.requires))
+returns c = settles-value _ (bind-value _ (sym c.add64.ensures ∙ c.in_ok-balance.was)) (rw (ten c.args.entry.now c.requires))

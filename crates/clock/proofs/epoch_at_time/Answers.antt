@@ -1,27 +1,27 @@
 -- the tests have passed
 use mathlib.Core.Path.{refl}
-use Rattle.epochs.proofs.Answers.{then-says, refused_says}
+use Rattle.refusals.proofs.Answers.{then-answers, refused-answers}
 use Rattle.definitions_clock.specs.Calls.{epoch_at_time}
 use Rattle.clock.proofs.Passed.{SecondPassed, second-went}
-use Rattle.clock.proofs.epoch_at_time.Goals.{Else-refusal-ne0}
+use Rattle.clock.proofs.epoch_at_time.Goals.{In_ok-second_refusal}
 use Rattle.clock.proofs.epoch_at_time.Goals as goal
 
-passed : (c : Else-refusal-ne0) → SecondPassed c.args.c c.args.second
-passed c = second-went _ _ c.second_refusal-refusal.ensures c.if-refusal-ne0.false
+passed : (c : In_ok-second_refusal) → SecondPassed c.args.c c.args.second
+passed c = second-went _ _ c.second_refusal.ensures c.in_ok-second_refusal.was
 
-pub returns-then-refusal-ne0 : goal.returns-then-refusal-ne0
+pub returns-in_err-second_refusal : goal.returns-in_err-second_refusal
 unfolding epoch_at_time
-returns-then-refusal-ne0 c = refused_says _ c.second_refusal-refusal.ensures _ c.if-refusal-ne0.true
+returns-in_err-second_refusal c = refused-answers _ c.second_refusal.ensures _ c.in_err-second_refusal.was c.from_residual.ensures
 
 pub overflow_sub-result : goal.overflow_sub-result
-overflow_sub-result c = (passed (goal.at.overflow_sub-result c).Else-refusal-ne0).begun
+overflow_sub-result c = (passed (goal.at.overflow_sub-result c).In_ok-second_refusal).begun
 
 pub nonzero_div-result : goal.nonzero_div-result
-nonzero_div-result c = (passed (goal.at.nonzero_div-result c).Else-refusal-ne0).clock.seconds
+nonzero_div-result c = (passed (goal.at.nonzero_div-result c).In_ok-second_refusal).clock.seconds
 
 pub nonzero_div-result-2 : goal.nonzero_div-result-2
-nonzero_div-result-2 c = (passed (goal.at.nonzero_div-result-2 c).Else-refusal-ne0).clock.slots
+nonzero_div-result-2 c = (passed (goal.at.nonzero_div-result-2 c).In_ok-second_refusal).clock.slots
 
 pub returns : goal.returns
 unfolding epoch_at_time
-returns c = then-says _ c.second_refusal-refusal.ensures c.if-refusal-ne0.false refl
+returns c = then-answers _ c.second_refusal.ensures c.in_ok-second_refusal.was refl

@@ -2,8 +2,8 @@ use native.Mathlib.Omega.{arith}
 use Rattle.clock.proofs.Steps.{mul_fits, add_fits, goes_on, stops}
 use Rattle.clock.proofs.epoch_last_slot.Goals as goal
 
-pub returns-in_default : goal.returns-in_default
-returns-in_default c = stops _ _ (mul_fits _ _ c.mul64.ensures) c.in_default.is (omega arith)
+pub returns-in_err-first : goal.returns-in_err-first
+returns-in_err-first c = stops _ _ (mul_fits _ _ c.mul64.ensures) c.in_err-first.was (omega arith) c.from_residual.ensures
 
 pub returns : goal.returns
-returns c = goes_on _ (mul_fits _ _ c.mul64.ensures) c.in-Value.is (λ e. rw e) (add_fits _ _ c.add64.ensures)
+returns c = goes_on _ (mul_fits _ _ c.mul64.ensures) c.in_ok-first.was (λ e. rw e) (add_fits _ _ c.add64.ensures)

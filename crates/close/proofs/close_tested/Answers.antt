@@ -1,10 +1,10 @@
 -- the call under these rules
-use mathlib.Core.Path.{◌≡◌, refl, sym}
+use mathlib.Core.Path.{◌≡◌, refl, sym, ◌∙◌}
 use native.Mathlib.Omega.{arith}
 use Rattle.definitions.specs.declared.Rules.{Rules}
 use Rattle.definitions.specs.declared.ActivationLimit.TheVariants.{Churn}
 use Rattle.definitions.specs.Close.{Call, close_tests}
-use Rattle.definitions.specs.Checked.{code_of}
+use Rattle.definitions.specs.Checked.{value}
 use Rattle.refusals.proofs.Laws.{small, good-settings}
 use Rattle.registry.proofs.Epochs.{Epochs, epochs}
 use Rattle.close.specs.Called.{called}
@@ -23,7 +23,7 @@ call r finality registry slashings roots closing_registry closing_slashings = ca
 ep : (c : Start) → Epochs c.args.s c.args.finality.slot
 ep c = let p = c.requires.tested.settings in epochs c.args.s c.args.finality.slot p.good (small _ p.small)
 
-tested : (r : Rules) (c : After-survey_registry-found) → code_of (record_tests (call r c.args.finality c.args.registry.now c.args.slashings.now c.args.roots.now c.args.closing_registry.now c.args.closing_slashings.now)) ≡ 0 → c.survey_registry-found.result.refusal ≡ code_of (close_tests (call r c.args.finality c.args.registry.now c.args.slashings.now c.args.roots.now c.args.closing_registry.now c.args.closing_slashings.now))
+tested : (r : Rules) (c : After-survey_registry-found) → record_tests (call r c.args.finality c.args.registry.now c.args.slashings.now c.args.roots.now c.args.closing_registry.now c.args.closing_slashings.now) ≡ value tt → c.survey_registry-found.result.tested ≡ close_tests (call r c.args.finality c.args.registry.now c.args.slashings.now c.args.roots.now c.args.closing_registry.now c.args.closing_slashings.now)
 tested r c z = entries-tested Churn (call r c.args.finality c.args.registry.now c.args.slashings.now c.args.roots.now c.args.closing_registry.now c.args.closing_slashings.now) (sym z) refl c.survey_registry-found.ensures.tested
 
 pub current_epoch-current-requires : goal.current_epoch-current-requires
@@ -38,9 +38,9 @@ pub survey_registry-found-requires : goal.survey_registry-found-requires
 survey_registry-found-requires c =
     record { registry_len = c.requires.tested.registry; current_epoch_bound = omega (arith, c.current_epoch-current.ensures, (ep (goal.at.survey_registry-found-requires c).Start).small); kept_len = c.requires.kept_len }
 
-pub returns-then-refusal-ne0 : goal.returns-then-refusal-ne0
-returns-then-refusal-ne0 c =
-    record { under = λ r u z. tests-refused (call r c.args.finality c.args.registry.now c.args.slashings.now c.args.roots.now c.args.closing_registry.now c.args.closing_slashings.now) (tested r (goal.at.returns-then-refusal-ne0 c).After-survey_registry-found z) (λ y. omega (arith, c.if-refusal-ne0.true)) c.none_raised.ensures }
+pub returns-in-Err : goal.returns-in-Err
+returns-in-Err c =
+    record { under = λ r u z. tests-refused (call r c.args.finality c.args.registry.now c.args.slashings.now c.args.roots.now c.args.closing_registry.now c.args.closing_slashings.now) (sym (tested r (goal.at.returns-in-Err c).After-survey_registry-found z) ∙ c.in-Err.is) c.number.ensures c.none_raised.ensures }
 
 pub close_surveyed-closed-requires : goal.close_surveyed-closed-requires
 close_surveyed-closed-requires c =
@@ -48,4 +48,4 @@ close_surveyed-closed-requires c =
 
 pub returns : goal.returns
 returns c =
-    record { under = λ r u z. steps-closed (call r c.args.finality c.args.registry.now c.args.slashings.now c.args.roots.now c.args.closing_registry.now c.args.closing_slashings.now) (tested r (goal.at.returns c).After-survey_registry-found z) (omega (arith, c.if-refusal-ne0.false)) u c.close_surveyed-closed.ensures.steps_closed }
+    record { under = λ r u z. steps-closed (call r c.args.finality c.args.registry.now c.args.slashings.now c.args.roots.now c.args.closing_registry.now c.args.closing_slashings.now) (sym (tested r (goal.at.returns c).After-survey_registry-found z) ∙ c.in_default.is) u c.close_surveyed-closed.ensures.steps_closed }

@@ -11,10 +11,10 @@ unfolding close_step unwritten
 returns-then-done-eq9 c = rw (eq-eqb _ _ c.if-done-eq9.true)
 
 pub returns-then-done-gt7 : goal.returns-then-done-gt7
-returns-then-done-gt7 c = let a = c.args in too_late (step_called a.number a.running (full_called a.rules a.finality a.queue a.registry.now a.slashings.now a.roots.now a.closing_registry.now a.closing_slashings.now a.amounts.now)) c.if-done-eq9.false c.if-done-gt7.true
+returns-then-done-gt7 c = let a = c.args in rw c.turned_away.ensures (too_late (step_called a.number a.running (full_called a.rules a.finality a.queue a.registry.now a.slashings.now a.roots.now a.closing_registry.now a.closing_slashings.now a.amounts.now)) c.if-done-eq9.false c.if-done-gt7.true)
 
 pub returns-then-number-done : goal.returns-then-number-done
-returns-then-number-done c = let a = c.args in another (step_called a.number a.running (full_called a.rules a.finality a.queue a.registry.now a.slashings.now a.roots.now a.closing_registry.now a.closing_slashings.now a.amounts.now)) c.if-done-eq9.false c.if-number-done.true
+returns-then-number-done c = let a = c.args in rw c.turned_away-then-number-done.ensures (another (step_called a.number a.running (full_called a.rules a.finality a.queue a.registry.now a.slashings.now a.roots.now a.closing_registry.now a.closing_slashings.now a.amounts.now)) c.if-done-eq9.false c.if-number-done.true)
 
 pub returns-then-done-eq0 : goal.returns-then-done-eq0
 returns-then-done-eq0 c = let a = c.args in c.first_call.ensures.is a.number a.running c.if-done-eq0.true ∙ in_turn_lem (step_called a.number a.running (full_called a.rules a.finality a.queue a.registry.now a.slashings.now a.roots.now a.closing_registry.now a.closing_slashings.now a.amounts.now)) c.if-done-eq9.false c.if-done-gt7.false c.if-number-done.false

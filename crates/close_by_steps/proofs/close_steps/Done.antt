@@ -9,7 +9,9 @@ use Rattle.definitions.specs.declared.ExitQueue.{ExitQueue}
 use Rattle.definitions.specs.declared.CloseAnswer.{CloseAnswer}
 use Rattle.definitions.specs.declared.FullAnswer.{FullAnswer}
 use Rattle.definitions.specs.Record.{BeaconState, encode, decode}
-use Rattle.definitions.specs.Checked.{Checked, value, refused, bind, code_of, settle}
+use Rattle.definitions.specs.declared.Refusal.{Refusal}
+use Rattle.definitions.specs.Checked.{Checked, value, refused, number_of, bind, settle}
+use Rattle.definitions.specs.Checked as checked
 use Rattle.definitions.specs.ExitQueue.{queue_of}
 use Rattle.definitions.specs.Raised.{raised_totals, raised_unless_refused, close_answer_for}
 use Rattle.definitions.specs.Refusals.{after_tests}
@@ -17,7 +19,7 @@ use Rattle.definitions.specs.Close.{step}
 use Rattle.definitions_close.specs.FinalizingTest.{finalizing_test}
 use Rattle.definitions_close.specs.declared.RunningAnswer.{RunningAnswer}
 use Rattle.definitions_close.specs.CloseBySteps.{StepOutcome, step_after, amounts_by}
-use Rattle.laws.proofs.Checked.{number_not_zero}
+use Rattle.laws.proofs.Checked.{number_not_zero, not_value, refused_same}
 use Rattle.laws.proofs.Encode.{decode-encode}
 use Rattle.close_by_steps.specs.Later.{LaterRan}
 use Rattle.close_by_steps.specs.Called.{ended_answer, first_by, later_by, later_of}
@@ -54,20 +56,20 @@ module _ (s : Settings) (f : Finality) (q : ExitQueue) (registry slashings lent 
       go (refused p) k = absurd (number_not_zero p (sym (ap (λ (a : CloseAnswer). a.refusal) k) ∙ n))
 
 -- a later one
-module _ (done : ℕ) (s : Settings) (so_far : FullAnswer) (orders : ℕ) (f : Finality) (q : ExitQueue) (registry slashings roots before before_slashings lent : List ℕ) {closing closing_slashings amounts : List ℕ} {x : ℕ}
+module _ (done : ℕ) (s : Settings) (so_far : FullAnswer) (orders : ℕ) (f : Finality) (q : ExitQueue) (registry slashings roots before before_slashings lent : List ℕ) {closing closing_slashings amounts : List ℕ} {x : Checked (Unit {0})}
     (h : LaterRan done s (state_now so_far.finality before before_slashings roots) lent closing closing_slashings amounts x) where
   abbrev st : BeaconState
   st = state_now so_far.finality before before_slashings roots
 
-  pub later-refused : (x ≡ 0 → ⊥) → {a b c : List ℕ} → a ≡ registry → b ≡ slashings → c ≡ replicate (length amounts) 0 → length amounts ≡ length lent → {answer : RunningAnswer} → answer ≡ ended_answer x f q orders → step_outcome answer a b c ≡ later_of done s so_far orders f q registry slashings roots before before_slashings lent
+  pub later-refused : {p : Refusal} → x ≡ refused p → {a b c : List ℕ} → a ≡ registry → b ≡ slashings → c ≡ replicate (length amounts) 0 → length amounts ≡ length lent → {number : ℕ} → number ≡ number_of p → {answer : RunningAnswer} → answer ≡ ended_answer number f q orders → step_outcome answer a b c ≡ later_of done s so_far orders f q registry slashings roots before before_slashings lent
   unfolding later_by
-  later-refused n {a} {b} {c} i j k l {answer} y = rw (y, i, j, k, l) (go (step s st (step_after done)) h.code)
+  later-refused {p} n {a} {b} {c} i j k l {number} told {answer} y = rw (y, i, j, k, l, told) (go (step s st (step_after done)) (sym n ∙ h.is))
     where
-      go : (w : Checked BeaconState) → x ≡ code_of w → step_outcome (ended_answer x f q orders) registry slashings (replicate (length lent) 0) ≡ later_by done so_far orders f q registry slashings lent (settle (amounts_by (step_after done) s st lent) (replicate (length lent) 0)) w
-      go (value after) e = absurd (n e)
-      go (refused p) e = ap (λ (u : ℕ). step_outcome (ended_answer u f q orders) registry slashings (replicate (length lent) 0)) e
+      go : (w : Checked BeaconState) → refused p ≡ checked.done w → step_outcome (ended_answer (number_of p) f q orders) registry slashings (replicate (length lent) 0) ≡ later_by done so_far orders f q registry slashings lent (settle (amounts_by (step_after done) s st lent) (replicate (length lent) 0)) w
+      go (value after) e = absurd (not_value e)
+      go (refused r) e = ap (λ (u : Refusal). step_outcome (ended_answer (number_of u) f q orders) registry slashings (replicate (length lent) 0)) (refused_same e)
 
-  pub later-goes : x ≡ 0 → {after : ExitQueue} → after ≡ queue_of (decode closing) → step_outcome (record { refusal = 0; ended = 0; running = record { done = done + 1; answer = record { refusal = 0; finality = so_far.finality; queue = after; raised = so_far.raised; test = so_far.test }; orders = orders } }) closing closing_slashings amounts ≡ later_of done s so_far orders f q registry slashings roots before before_slashings lent
+  pub later-goes : x ≡ value tt → {after : ExitQueue} → after ≡ queue_of (decode closing) → step_outcome (record { refusal = 0; ended = 0; running = record { done = done + 1; answer = record { refusal = 0; finality = so_far.finality; queue = after; raised = so_far.raised; test = so_far.test }; orders = orders } }) closing closing_slashings amounts ≡ later_of done s so_far orders f q registry slashings roots before before_slashings lent
   unfolding later_by
   later-goes n {after} y = go (step s st (step_after done)) refl
     where
@@ -83,4 +85,4 @@ module _ (done : ℕ) (s : Settings) (so_far : FullAnswer) (orders : ℕ) (f : F
           ∙ ap (λ (xs : List ℕ). made next.finality (queue_of next.validators) xs closing_slashings amounts) k.0
           ∙ ap (λ (xs : List ℕ). made next.finality (queue_of next.validators) (encode next.validators) xs amounts) k.1
           ∙ ap (made next.finality (queue_of next.validators) (encode next.validators) next.slashings) k.3
-      go (refused p) e = absurd (number_not_zero p (sym (h.code ∙ ap code_of e) ∙ n))
+      go (refused p) e = absurd (not_value (sym (ap checked.done e) ∙ sym h.is ∙ n))

@@ -15,7 +15,9 @@ use Rattle.definitions.specs.Checked.{Checked, value, refused}
 use Rattle.definitions.specs.Rust.Altair.EpochProcessing.{process_slashings}
 use Rattle.definitions_close.specs.Amounts.{taken_by_slashings, nines}
 use Rattle.definitions_close.specs.CloseBySteps.{eights}
-use Rattle.laws.proofs.Checked.{value_same, number_not_zero}
+use Rattle.definitions.specs.declared.Refusal.{Refusal}
+use Rattle.laws.proofs.Checked.{value_same, not_value}
+use Rattle.laws.proofs.Loops.Ran.{ran-refused, ran-by}
 use Rattle.laws.proofs.Encode.{length-encode, length-decode, decode-encode}
 use Rattle.laws.specs.Ran.{Ran}
 use Rattle.laws.proofs.Loops.Entry.{number-at}
@@ -152,14 +154,14 @@ module _ (s : Settings) (multiplier state_slot : ℕ) (slashings before lent : L
   abbrev n : ℕ
   n = length before / 10
 
-  pub slashings-refused : {after amounts : List ℕ} {r : ℕ} → Ran (process_slashings s multiplier state_slot slashings (decode before)) after r → (r ≡ 0 → ⊥) → SlashingsBooked s multiplier state_slot slashings before after lent amounts r
-  slashings-refused h z = record { ran = h; books = λ q. absurd (z q) }
+  pub slashings-refused : {after amounts : List ℕ} {r : Checked (Unit {0})} {p : Refusal} → Ran (process_slashings s multiplier state_slot slashings (decode before)) after r → r ≡ refused p → SlashingsBooked s multiplier state_slot slashings before after lent amounts (refused p)
+  slashings-refused h z = record { ran = ran-refused (ran-by h z); books = λ q. absurd (not_value q) }
 
-  given : (m : Checked (List Validator)) {after : List ℕ} → Ran m after 0 → (ws : List Validator) × ((m ≡ value ws) × (after ≡ encode ws))
+  given : (m : Checked (List Validator)) {after : List ℕ} → Ran m after (value tt) → (ws : List Validator) × ((m ≡ value ws) × (after ≡ encode ws))
   given (value ws) h = (ws, (refl, h.held ws refl))
-  given (refused r) h = absurd (number_not_zero r (sym h.code))
+  given (refused r) h = absurd (not_value (sym h.is))
 
-  pub slashings-taken : {after kept amounts : List ℕ} → Ran (process_slashings s multiplier state_slot slashings (decode before)) after 0 → NinthsPut before lent kept → NinthsTaken after kept amounts → SlashingsBooked s multiplier state_slot slashings before after lent amounts 0
+  pub slashings-taken : {after kept amounts : List ℕ} → Ran (process_slashings s multiplier state_slot slashings (decode before)) after (value tt) → NinthsPut before lent kept → NinthsTaken after kept amounts → SlashingsBooked s multiplier state_slot slashings before after lent amounts (value tt)
   slashings-taken {after} {kept} {amounts} h p t = record { ran = h; books = λ z ts q. books ts q }
     where
       vs : List Validator

@@ -9,12 +9,13 @@ use lib.ListN.{length, get_or, set, replicate, length-map, length-append, length
 use Rattle.definitions.specs.declared.Settings.{Settings}
 use Rattle.definitions.specs.declared.Deltas.{Deltas}
 use Rattle.definitions.specs.Record.{Validator, decode_one, decode, nobody}
-use Rattle.definitions.specs.Checked.{overflow, Checked, value, refused, map_checked, fold_checked}
+use Rattle.definitions.specs.Checked.{Checked, value, refused, map_checked, fold_checked}
+use Rattle.definitions.specs.declared.Refusal.{Refusal}
 use Rattle.definitions.specs.Rust.Phase0.Helpers.{get_current_epoch, get_previous_epoch}
 use Rattle.definitions.specs.Rust.Altair.Helpers.{FlagTotals, flag_index_deltas, inactivity_penalty_deltas}
 use Rattle.definitions.specs.Rust.Altair.EpochProcessing.{all_deltas, reward_and_penalize}
 use Rattle.definitions_close.specs.Amounts.{booked, booked_by_rewards, nines}
-use Rattle.laws.proofs.Checked.{value_same, bound}
+use Rattle.laws.proofs.Checked.{not_value, value_same, bound}
 use Rattle.laws.proofs.Encode.{length-decode, encode-decode}
 use Rattle.arithmetic.proofs.Laws.{bind-value}
 use Rattle.laws.proofs.Loops.Entry.{entry_at, put_at}
@@ -48,17 +49,17 @@ module _ (s : Settings) (quotient current previous : ℕ) (source target head : 
   fours = four_of s quotient current previous source target head
 
   module _ (e : List ℕ) (ten : length e ≡ 10) where
-    stays : {nine : List ℕ} → f (decode_one e) ≡ refused overflow → BooksEntry f g e e nine 5
-    stays h = record { settles = settles-refused f ten h; books = λ z. absurd (omega (arith, z)) }
+    stays : {p : Refusal} {nine : List ℕ} → f (decode_one e) ≡ refused p → BooksEntry f g e e nine (refused p)
+    stays h = record { settles = settles-refused f ten h; books = λ z. absurd (not_value z) }
 
-    pub four-refused : {nine : List ℕ} → fours (decode_one e) ≡ refused overflow → BooksEntry f g e e nine 5
+    pub four-refused : {p : Refusal} {nine : List ℕ} → fours (decode_one e) ≡ refused p → BooksEntry f g e e nine (refused p)
     four-refused h = stays (pairs-refused s quotient current previous source target head (decode_one e) h)
 
     module _ {p : Pairs} (h : fours (decode_one e) ≡ value p) where
-      pub balance-refused : {nine : List ℕ} → fold_checked applied_balance (get_or e 6 0) (four p) ≡ refused overflow → BooksEntry f g e e nine 5
+      pub balance-refused : {q : Refusal} {nine : List ℕ} → fold_checked applied_balance (get_or e 6 0) (four p) ≡ refused q → BooksEntry f g e e nine (refused q)
       balance-refused k = stays (not_paid s quotient current previous source target head (decode_one e) h k)
 
-      pub entry-booked : {nine : List ℕ} {x : ℕ} → fold_checked applied_balance (get_or e 6 0) (four p) ≡ value x → nine ≡ booked (get_or e 6 0) (four p) ++ ((left (get_or e 6 0) (four p) - x) ∷ []) → BooksEntry f g e (set e 6 x) nine 0
+      pub entry-booked : {nine : List ℕ} {x : ℕ} → fold_checked applied_balance (get_or e 6 0) (four p) ≡ value x → nine ≡ booked (get_or e 6 0) (four p) ++ ((left (get_or e 6 0) (four p) - x) ∷ []) → BooksEntry f g e (set e 6 x) nine (value tt)
       unfolding eight_of
       entry-booked {nine} {x} k n =
           let is = (applied (get_or e 6 0) (four p) k).is in
@@ -100,7 +101,7 @@ pub booking_none : {f : Validator → Checked Validator} {g : Validator → Chec
 booking_none {f} a b c = record { checking = checking-none f a; first = a; long = b; below = omega arith; small = c; held = λ j l. absurd (omega arith) }
 
 module _ {f : Validator → Checked Validator} {g : Validator → Checked (List ℕ)} {n : ℕ} {xs₀ : List ℕ} {i : ℕ} {xs amounts : List ℕ} (b : Booking f g n xs₀ i xs amounts) where
-  pub booking_all : n ≤ i → n ≡ length xs₀ / 10 → BooksAll f g xs₀ xs amounts 0
+  pub booking_all : n ≤ i → n ≡ length xs₀ / 10 → BooksAll f g xs₀ xs amounts (value tt)
   booking_all l e =
       record {
         ran = checking-all b.checking l;
@@ -115,11 +116,11 @@ module _ {f : Validator → Checked Validator} {g : Validator → Checked (List 
     pub booking_nine : length (nine_at amounts i) ≡ 9
     booking_nine = nine-nine n amounts i b.long l
 
-    module _ {e m : List ℕ} {r : ℕ} (h : BooksEntry f g (entry_at xs i) e m r) where
-      pub booking_stop : {ys zs : List ℕ} → (r ≡ 0 → ⊥) → BooksAll f g xs₀ ys zs r
-      booking_stop z = record { ran = checking-stop b.checking l h.settles z; long = λ q. absurd (z q); books = λ q. absurd (z q) }
+    module _ {e m : List ℕ} {r : Checked (Unit {0})} (h : BooksEntry f g (entry_at xs i) e m r) where
+      pub booking_stop : {ys zs : List ℕ} {p : Refusal} → r ≡ refused p → BooksAll f g xs₀ ys zs (refused p)
+      booking_stop z = record { ran = checking-stop b.checking l h.settles z; long = λ q. absurd (not_value q); books = λ q. absurd (not_value q) }
 
-      pub booking_more : r ≡ 0 → length m ≡ 9 → Booking f g n xs₀ (i + 1) (put_at xs i e) (put_nine amounts i m)
+      pub booking_more : r ≡ value tt → length m ≡ 9 → Booking f g n xs₀ (i + 1) (put_at xs i e) (put_nine amounts i m)
       booking_more z nine =
           record {
             checking = checking-more b.checking l h.settles z;
@@ -153,7 +154,7 @@ module _ (s : Settings) (quotient state_slot finalized_epoch : ℕ) (xs : List �
   many : length vs ≡ length xs / 10
   many = length-decode (length xs / 10) xs ten
 
-  pub genesis-booked : {current : ℕ} → current ≡ get_current_epoch s state_slot → current ≡ 0 → (lent : List ℕ) {amounts : List ℕ} → length lent ≡ 9 * (length xs / 10) → amounts ≡ replicate (length lent) 0 → RewardsBooked s quotient state_slot finalized_epoch xs xs amounts 0
+  pub genesis-booked : {current : ℕ} → current ≡ get_current_epoch s state_slot → current ≡ 0 → (lent : List ℕ) {amounts : List ℕ} → length lent ≡ 9 * (length xs / 10) → amounts ≡ replicate (length lent) 0 → RewardsBooked s quotient state_slot finalized_epoch xs xs amounts (value tt)
   unfolding booked_by_rewards
   genesis-booked e z lent l a =
       record {
@@ -169,8 +170,8 @@ module _ (s : Settings) (quotient state_slot finalized_epoch : ℕ) (xs : List �
     abbrev totals : Checked StepTotals
     totals = step_totals s state_slot finalized_epoch current previous vs
 
-    pub refused-booked : {after amounts : List ℕ} → totals ≡ refused overflow → RewardsBooked s quotient state_slot finalized_epoch xs after amounts 5
-    refused-booked h = record { ran = rewards-refused s state_slot finalized_epoch vs e p quotient n h; books = λ z. absurd (omega (arith, z)) }
+    pub refused-booked : {after amounts : List ℕ} {q : Refusal} → totals ≡ refused q → RewardsBooked s quotient state_slot finalized_epoch xs after amounts (refused q)
+    refused-booked h = record { ran = rewards-refused s state_slot finalized_epoch vs e p quotient n h; books = λ z. absurd (not_value z) }
 
     module _ {t : StepTotals} (h : totals ≡ value t) where
       abbrev by : Validator → Checked (List ℕ)
@@ -180,10 +181,10 @@ module _ (s : Settings) (quotient state_slot finalized_epoch : ℕ) (xs : List �
       unfolding booked_by_rewards eight_of
       booked-from = rw (← e, ← p, ne_eqb current 0 n) (by-totals s state_slot finalized_epoch vs e p (λ source target head. map_checked (eight_of s quotient current previous source target head) vs) ∙ bind-value _ h)
 
-      pub step-booked : {after amounts : List ℕ} {r : ℕ} → BooksAll (reward_and_penalize s quotient current previous (source_totals s t) (target_totals s t) (head_totals s t)) by xs after amounts r → RewardsBooked s quotient state_slot finalized_epoch xs after amounts r
+      pub step-booked : {after amounts : List ℕ} {r : Checked (Unit {0})} → BooksAll (reward_and_penalize s quotient current previous (source_totals s t) (target_totals s t) (head_totals s t)) by xs after amounts r → RewardsBooked s quotient state_slot finalized_epoch xs after amounts r
       step-booked {after} {amounts} {r} k = record { ran = rewards-by s state_slot finalized_epoch vs e p quotient n h k.ran; books = books }
         where
-          books : r ≡ 0 → (es : List (List ℕ)) → booked_by_rewards s quotient state_slot finalized_epoch vs ≡ value es → amounts ≡ nines es (map (λ v. 0) vs)
+          books : r ≡ value tt → (es : List (List ℕ)) → booked_by_rewards s quotient state_slot finalized_epoch vs ≡ value es → amounts ≡ nines es (map (λ v. 0) vs)
           books z es q =
               let each = sym booked-from ∙ q in
               let size = each-length by vs each in

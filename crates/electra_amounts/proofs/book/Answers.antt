@@ -1,5 +1,4 @@
 use mathlib.Core.Path.{refl}
-use Prim.Native.Nat.{◌-◌}
 use native.Mathlib.Omega.{arith}
 use Rattle.electra_amounts.proofs.Booking.{booking_more, booking_all}
 use Rattle.electra_amounts.proofs.book.Goals as goal

@@ -1,4 +1,3 @@
-use Prim.Native.Nat.{◌-◌}
 use Rattle.electra_amounts.proofs.Spreading.{spreading_none, spreading_more, spreading_all}
 use Rattle.electra_amounts.proofs.spread.Goals as goal
 

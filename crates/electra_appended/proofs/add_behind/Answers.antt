@@ -7,7 +7,7 @@ add_deposits-requires c =
     let h = c.requires.buffers in
     let long = c.copy_front.auto.to in
     let some = (good-settings c.args.rules.settings c.requires.settings_value.0).positive.effective_balance_increment in
-    record { registry_len = (omega (arith, long, h.room), omega (arith, long, h.room_too), rw c.new_numbers-k.ensures some); places_value = (rw h.table at c.clear.ensures, h.keys, c.requires.settings_value.1) }
+    record { registry_len = (omega (arith, long, h.room), omega (arith, long, h.room_too), rw c.new_numbers-k.ensures some); places_value = (rw h.table at (c.fill.ensures.after (λ y e. e)), h.keys, c.requires.settings_value.1) }
 
 pub returns : goal.returns
 returns c =

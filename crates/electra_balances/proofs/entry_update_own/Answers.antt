@@ -1,4 +1,3 @@
-use borrow.Author.Rules.{rules}
 use Rattle.electra_balances.proofs.Turns.{settles-own}
 use Rattle.electra_balances.proofs.entry_update_own.Goals as goal
 

@@ -1,5 +1,4 @@
 use Prim.Native.Nat.{◌-◌}
-use borrow.Author.Rules.{rules}
 use Rattle.electra_balances.proofs.Turns.{Updating}
 use Rattle.electra_balances.proofs.update_all.Given as goal
 

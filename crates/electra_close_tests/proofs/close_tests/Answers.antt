@@ -1,5 +1,4 @@
-use mathlib.Core.Path.{ap, ◌∙◌}
-use Rattle.definitions.specs.Checked.{code_of}
+use mathlib.Core.Path.{◌∙◌}
 use Rattle.definitions_electra_close.specs.Close.{electra_tests}
 use Rattle.electra_close_tests.proofs.Halves.{in_halves}
 use Rattle.electra_close_tests.proofs.close_tests.Goals as goal
@@ -8,4 +7,4 @@ pub returns : goal.returns
 unfolding electra_tests
 returns c =
     let told = rw (c.closing_shaped-roomy.ensures, c.room_for-room.ensures, c.lent_shaped-shaped.ensures, c.good_electra.ensures, c.good_finality.ensures, c.good_registry.ensures, c.good_compounding.ensures, c.good_deposits.ensures) at c.in_order.ensures in
-    told ∙ ap code_of (in_halves _ _ _ _)
+    told ∙ in_halves _ _ _ _

@@ -1,4 +1,5 @@
 use Rattle.std.proofs.Common.{refl, arith}
+use Rattle.arithmetic.proofs.Laws.{carried}
 use Rattle.electra_consolidations.proofs.Consolidating.{source-placed, target-placed, going_none, going_left, going_stop, going_more, going_all}
 use Rattle.electra_consolidations.proofs.Moves.{booking_none, booking_left, booking_stop, booking_more, booking_all}
 use Rattle.electra_consolidations.proofs.consolidate_all.Goals as goal
@@ -23,27 +24,27 @@ book_move-requires c =
     let p = c.loop-i.invariant.1 in
     (source-placed _ _ _ (omega arith) p, target-placed _ _ _ (omega arith) p, omega (arith, c.loop-i.invariant.2.long))
 
-pub consolidation_turn-refusal-requires : goal.consolidation_turn-refusal-requires
-consolidation_turn-refusal-requires c =
+pub consolidation_turn-requires : goal.consolidation_turn-requires
+consolidation_turn-requires c =
     let p = c.loop-i.invariant.1 in
     (c.loop-i.invariant.2.long, source-placed _ _ _ (omega arith) p, target-placed _ _ _ (omega arith) p)
 
-pub returns-then-refusal-ne0 : goal.returns-then-refusal-ne0
-returns-then-refusal-ne0 c =
+pub returns-in_err-consolidation_turn : goal.returns-in_err-consolidation_turn
+returns-in_err-consolidation_turn c =
     let g = c.loop-i.invariant.2 in
     let p = c.loop-i.invariant.1 in
     let stopped = c.stops_at.ensures in
-    let ran = c.consolidation_turn-refusal.ensures in
-    record { consolidates = going_stop g (omega (arith, c.loop-i-test.true, c.loop-i.invariant.0)) refl refl stopped c.if-stops_at.false ran c.if-refusal-ne0.true; moves_booked = booking_stop g c.loop-i.invariant.3 (omega (arith, c.loop-i-test.true, c.loop-i.invariant.0)) refl refl stopped c.if-stops_at.false (source-placed _ _ _ (omega (arith, c.loop-i-test.true, c.loop-i.invariant.0)) p) (target-placed _ _ _ (omega (arith, c.loop-i-test.true, c.loop-i.invariant.0)) p) c.moved_from-moved.ensures c.book_move.ensures ran c.if-refusal-ne0.true }
+    let ran = c.consolidation_turn.ensures in
+    rw (carried _ c.from_residual.ensures) (record { consolidates = going_stop g (omega (arith, c.loop-i-test.true, c.loop-i.invariant.0)) refl refl stopped c.if-stops_at.false ran c.in_err-consolidation_turn.was; moves_booked = booking_stop g c.loop-i.invariant.3 (omega (arith, c.loop-i-test.true, c.loop-i.invariant.0)) refl refl stopped c.if-stops_at.false (source-placed _ _ _ (omega (arith, c.loop-i-test.true, c.loop-i.invariant.0)) p) (target-placed _ _ _ (omega (arith, c.loop-i-test.true, c.loop-i.invariant.0)) p) c.moved_from-moved.ensures c.book_move.ensures ran })
 
 pub loop-i-preserved : goal.loop-i-preserved
 loop-i-preserved c =
     let g = c.loop-i.invariant.2 in
     let p = c.loop-i.invariant.1 in
     let stopped = c.stops_at.ensures in
-    let ran = c.consolidation_turn-refusal.ensures in
-    let more = going_more g (omega (arith, c.loop-i-test.true, c.loop-i.invariant.0)) refl refl stopped c.if-stops_at.false ran c.if-refusal-ne0.false c.consolidation_turn-refusal.auto.registry in
-    let booked = booking_more g c.loop-i.invariant.3 (omega (arith, c.loop-i-test.true, c.loop-i.invariant.0)) refl refl stopped c.if-stops_at.false (source-placed _ _ _ (omega (arith, c.loop-i-test.true, c.loop-i.invariant.0)) p) (target-placed _ _ _ (omega (arith, c.loop-i-test.true, c.loop-i.invariant.0)) p) c.moved_from-moved.ensures c.book_move.ensures ran c.if-refusal-ne0.false in
+    let ran = c.consolidation_turn.ensures in
+    let more = going_more g (omega (arith, c.loop-i-test.true, c.loop-i.invariant.0)) refl refl stopped c.if-stops_at.false ran c.in_ok-consolidation_turn.was c.consolidation_turn.auto.registry in
+    let booked = booking_more g c.loop-i.invariant.3 (omega (arith, c.loop-i-test.true, c.loop-i.invariant.0)) refl refl stopped c.if-stops_at.false (source-placed _ _ _ (omega (arith, c.loop-i-test.true, c.loop-i.invariant.0)) p) (target-placed _ _ _ (omega (arith, c.loop-i-test.true, c.loop-i.invariant.0)) p) c.moved_from-moved.ensures c.book_move.ensures ran c.in_ok-consolidation_turn.was in
     (c.loop-i.invariant.0, p, more, booked)
 
 pub returns : goal.returns

@@ -2,43 +2,55 @@ use Rattle.std.proofs.Common.{arith}
 use Rattle.laws.proofs.Bounds.{bounds}
 use Rattle.refusals.proofs.Laws.{good-settings}
 use Rattle.electra_refusals.proofs.Passed.{ConsolidationsPassed, consolidations-passed}
-use Rattle.electra_consolidations.proofs.Closing.{placed_of, call-refused, call-done}
-use Rattle.electra_consolidations.proofs.process_pending_consolidations.Goals.{Else-refusal-ne0}
+use Rattle.electra_consolidations.proofs.Closing.{placed_of, call-refused, call-done, call-undone}
+use Rattle.electra_consolidations.proofs.process_pending_consolidations.Goals.{In_default}
 use Rattle.electra_consolidations.proofs.process_pending_consolidations.Goals as goal
 
 -- behind the tests
-passed : (c : Else-refusal-ne0) → let a = c.args in ConsolidationsPassed a.rules a.state_slot a.registry.now a.consolidations.now a.closing_registry.now a.closing_consolidations.now
-passed c = consolidations-passed _ _ _ _ _ _ c.consolidations_tests-refusal.ensures c.if-refusal-ne0.false
+passed : (c : In_default) → let a = c.args in ConsolidationsPassed a.rules a.state_slot a.registry.now a.consolidations.now a.closing_registry.now a.closing_consolidations.now
+passed c = consolidations-passed _ _ _ _ _ _ c.consolidations_tests.ensures c.in_default.is
 
-pub returns-then-refusal-ne0 : goal.returns-then-refusal-ne0
-returns-then-refusal-ne0 c = call-refused _ _ _ _ _ c.consolidations_tests-refusal.ensures c.if-refusal-ne0.true
+pub returns-in-Err : goal.returns-in-Err
+returns-in-Err c = rw c.number.ensures (call-refused _ _ _ _ _ c.consolidations_tests.ensures c.in-Err.is)
 
-pub copy-requires : goal.copy-requires
-copy-requires c = (passed (goal.at.copy-requires c).Else-refusal-ne0).same
+pub copy_from_slice-requires : goal.copy_from_slice-requires
+copy_from_slice-requires c = (passed (goal.at.copy_from_slice-requires c).In_default).same
 
 pub current_epoch-next_epoch-requires : goal.current_epoch-next_epoch-requires
-current_epoch-next_epoch-requires c = (good-settings _ (passed (goal.at.current_epoch-next_epoch-requires c).Else-refusal-ne0).settings.good).positive.slots_per_epoch
+current_epoch-next_epoch-requires c = (good-settings _ (passed (goal.at.current_epoch-next_epoch-requires c).In_default).settings.good).positive.slots_per_epoch
 
 pub overflow_add-next_epoch : goal.overflow_add-next_epoch
-overflow_add-next_epoch c = let p = passed (goal.at.overflow_add-next_epoch c).Else-refusal-ne0 in omega (arith, (bounds _ _ p.settings).next_epoch, c.current_epoch-next_epoch.ensures)
+overflow_add-next_epoch c =
+    let p = passed (goal.at.overflow_add-next_epoch c).In_default in
+    omega (arith, (bounds _ _ p.settings).next_epoch, c.current_epoch-next_epoch.ensures)
 
 pub consolidate_all-done-requires : goal.consolidate_all-done-requires
 consolidate_all-done-requires c =
-    let p = passed (goal.at.consolidate_all-done-requires c).Else-refusal-ne0 in
-    record { registry_len = (rw c.copy.ensures p.shape.long, p.queue.long); pairs_value = placed_of _ _ p.indices }
+    let p = passed (goal.at.consolidate_all-done-requires c).In_default in
+    record { registry_len = (rw c.copy_from_slice.ensures.after p.shape.long, p.queue.long); pairs_value = placed_of _ _ p.indices }
 
-pub put_back-requires : goal.put_back-requires
-put_back-requires c = omega (arith, (passed (goal.at.put_back-requires c).Else-refusal-ne0).same)
-
-pub overflow_mul-done : goal.overflow_mul-done
-overflow_mul-done c =
-    omega (arith, c.consolidate_all-done.ensures.consolidates.most, (passed (goal.at.overflow_mul-done c).Else-refusal-ne0).queue.few)
+pub overflow_mul-count : goal.overflow_mul-count
+overflow_mul-count c =
+    let p = passed (goal.at.overflow_mul-count c).In_default in
+    omega (arith, c.consolidate_all-done.ensures.consolidates.most _ c.in-Ok.is, p.queue.few)
 
 pub keep_rest-requires : goal.keep_rest-requires
 keep_rest-requires c =
-    ((passed (goal.at.keep_rest-requires c).Else-refusal-ne0).same_queue, omega (arith, c.consolidate_all-done.ensures.consolidates.most))
+    let p = passed (goal.at.keep_rest-requires c).In_default in
+    (p.same_queue, omega (arith, c.consolidate_all-done.ensures.consolidates.most _ c.in-Ok.is))
 
-pub returns : goal.returns
-returns c =
-    let p = passed (goal.at.returns c).Else-refusal-ne0 in
-    call-done _ _ _ _ _ c.consolidations_tests-refusal.ensures c.if-refusal-ne0.false p.settings p.queue.long (rw (c.copy.ensures, c.current_epoch-next_epoch.ensures) at c.consolidate_all-done.ensures.consolidates) c.put_back.ensures c.keep_rest.ensures
+pub returns-in-Ok : goal.returns-in-Ok
+returns-in-Ok c =
+    let p = passed (goal.at.returns-in-Ok c).In_default in
+    call-done _ _ _ _ _ c.consolidations_tests.ensures c.in_default.is p.settings (rw (c.copy_from_slice.ensures.after, c.current_epoch-next_epoch.ensures) at c.consolidate_all-done.ensures.consolidates) p.queue.long c.in-Ok.is c.keep_rest.ensures
+
+pub copy_from_slice-requires-in-Err-done : goal.copy_from_slice-requires-in-Err-done
+copy_from_slice-requires-in-Err-done c = omega (arith, (passed (goal.at.copy_from_slice-requires-in-Err-done c).In_default).same)
+
+pub keep_rest-requires-in-Err-done : goal.keep_rest-requires-in-Err-done
+keep_rest-requires-in-Err-done c = ((passed (goal.at.keep_rest-requires-in-Err-done c).In_default).same_queue, omega arith)
+
+pub returns-in-Err-done : goal.returns-in-Err-done
+returns-in-Err-done c =
+    let p = passed (goal.at.returns-in-Err-done c).In_default in
+    rw c.number-in-Err-done.ensures (call-undone _ _ _ _ _ c.consolidations_tests.ensures c.in_default.is p.settings (rw (c.copy_from_slice.ensures.after, c.current_epoch-next_epoch.ensures) at c.consolidate_all-done.ensures.consolidates) c.in-Err-done.is c.copy_from_slice-in-Err-done.ensures.after c.keep_rest-in-Err-done.ensures)

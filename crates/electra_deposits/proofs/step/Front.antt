@@ -6,6 +6,7 @@ use native.Mathlib.Omega.{arith}
 use lib.ListN.{length, take, drop, replicate, length-append, length-drop, take-append-drop}
 use lib.Seq.{length-take-le, take_at, drop_at}
 use Rattle.definitions.specs.Record.{Validator, encode_one, encode, decode}
+use Rattle.definitions.specs.Checked.{Checked}
 use Rattle.laws.proofs.Encode.{length-encode, length-decode, encode-decode, decode-encode}
 use Rattle.definitions_electra.specs.Calls.{over}
 use Rattle.definitions_electra.specs.Record.{decode_deposits}
@@ -85,7 +86,7 @@ module _ (q : QueueNumbers) (registry ds xs : List ℕ) {ys : List ℕ} (copied 
   pub front_long : length registry ≡ 10 * (length registry / 10) → length (take (length registry - 0) ys) ≡ 10 * (length (take (length registry - 0) ys) / 10)
   front_long l = rw whole l
 
-  pub fronted : {e : List ℕ} {r : Deposited} → length e ≡ length (take (length registry - 0) ys) → Deposits (alone q (take (length registry - 0) ys) ds) e r → Fronted (alone q registry ds) (length registry) xs (e ++ drop (length registry - 0) ys) r
+  pub fronted : {e : List ℕ} {r : Checked Deposited} → length e ≡ length (take (length registry - 0) ys) → Deposits (alone q (take (length registry - 0) ys) ds) e r → Fronted (alone q registry ds) (length registry) xs (e ++ drop (length registry - 0) ys) r
   fronted {e} l h =
       let z : length registry - 0 ≡ length registry = omega arith in
       let m : length e ≡ length registry = l ∙ ap length whole in

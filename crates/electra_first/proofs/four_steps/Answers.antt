@@ -1,5 +1,5 @@
 -- what the tests gave
-use mathlib.Core.Path.{◌≡◌, refl, ◌∙◌}
+use mathlib.Core.Path.{◌≡◌, refl, sym, ap, ◌∙◌}
 use Prim.Native.Nat.{◌-◌, ◌*◌, ◌/◌, ◌<◌, ◌^◌}
 use lib.ListN.{length, take, length-take}
 use native.Mathlib.Omega.{arith}
@@ -7,8 +7,8 @@ use borrow.Author.Rules.{rules}
 use Rattle.definitions.specs.Record.{decode}
 use Rattle.refusals.proofs.Laws.{good-settings}
 use Rattle.electra_refusals.proofs.Passed.{good-electra}
-use Rattle.arithmetic.proofs.Laws.{says-value, says_overflow}
-use Rattle.arithmetic.proofs.Answers.{tells_truth, answers-value, answers_overflow}
+use Rattle.definitions.specs.Checked.{refused, done}
+use Rattle.arithmetic.proofs.Laws.{carried}
 use Rattle.slashings.proofs.Adjusted.{only-adjusted}
 use Rattle.rewards_step.proofs.flag_rewards.Totals.{total-least}
 use Rattle.registry.proofs.Epochs.{Epochs, epochs}
@@ -47,17 +47,19 @@ previous_epoch-previous-requires c = (good-settings _ c.requires.rules_value.2).
 pub leak_of-requires : goal.leak_of-requires
 leak_of-requires c = ((good-settings _ c.requires.rules_value.2).positive.slots_per_epoch, c.current_epoch-current.ensures)
 
-pub returns-in_default : goal.returns-in_default
-returns-in_default c =
+pub returns-in_err-leaking : goal.returns-in_err-leaking
+returns-in_err-leaking c =
     let a = c.args in
-    let no = (answers_overflow tells_truth c.leak_of.ensures (only-leak _ _ _) c.in_default.is).0 in
-    four-refused a.rules a.s a.state_slot a.finalized_epoch a.slashings.now a.churn c.requires.rules_value.3 c.requires.rules_value.0 (ep (goal.at.returns-in_default c).Start) (decode a.opening.now) (λ (g : Accepted-at c.args.rules c.args.s c.args.state_slot c.args.finalized_epoch c.args.slashings.now c.args.opening.now). none-gave no g.sums.leak) refl
+    let e = sym c.leak_of.ensures ∙ c.in_err-leaking.was in
+    let o = (only-leak _ _ _).why _ e in
+    four-refused a.rules a.s a.state_slot a.finalized_epoch a.slashings.now a.churn c.requires.rules_value.3 c.requires.rules_value.0 (ep (goal.at.returns-in_err-leaking c).Start) (decode a.opening.now) (λ (g : Accepted-at c.args.rules c.args.s c.args.state_slot c.args.finalized_epoch c.args.slashings.now c.args.opening.now). none-gave (e ∙ ap refused o) g.sums.leak) (carried _ c.from_residual.ensures ∙ ap refused o)
 
-pub returns-in_default-adjusted_balance : goal.returns-in_default-adjusted_balance
-returns-in_default-adjusted_balance c =
+pub returns-in_err-adjusted : goal.returns-in_err-adjusted
+returns-in_err-adjusted c =
     let a = c.args in
-    let no = (says_overflow c.adjusted_balance.ensures (only-adjusted _ _ _) c.in_default-adjusted_balance.is).0 in
-    four-refused a.rules a.s a.state_slot a.finalized_epoch a.slashings.now a.churn c.requires.rules_value.3 c.requires.rules_value.0 (ep (goal.at.returns-in_default-adjusted_balance c).Start) (decode a.opening.now) (λ (g : Accepted-at c.args.rules c.args.s c.args.state_slot c.args.finalized_epoch c.args.slashings.now c.args.opening.now). none-gave no (g.adjusted _)) refl
+    let e = sym c.adjusted_balance.ensures ∙ c.in_err-adjusted.was in
+    let o = (only-adjusted _ _ _).why _ e in
+    four-refused a.rules a.s a.state_slot a.finalized_epoch a.slashings.now a.churn c.requires.rules_value.3 c.requires.rules_value.0 (ep (goal.at.returns-in_err-adjusted c).Start) (decode a.opening.now) (λ (g : Accepted-at c.args.rules c.args.s c.args.state_slot c.args.finalized_epoch c.args.slashings.now c.args.opening.now). none-gave (e ∙ ap refused o) (g.adjusted _)) (carried _ c.from_residual-in_err-adjusted.ensures ∙ ap refused o)
 
 pub nonzero_div-increments : goal.nonzero_div-increments
 nonzero_div-increments c = (good-settings _ c.requires.rules_value.2).positive.effective_balance_increment
@@ -82,24 +84,23 @@ overflow_mul-nines c = omega (arith, c.well_formed.1.1.1.1.1.1.1.0)
 pub slice_bounds-write_later-end : goal.slice_bounds-write_later-end
 slice_bounds-write_later-end c = omega (arith, c.requires.opening_len)
 
-pub write_later-done-requires : goal.write_later-done-requires
-write_later-done-requires c =
+pub write_later-requires : goal.write_later-requires
+write_later-requires c =
     let a = c.requires in
     let m = c.make_plan-p.ensures in
-    record { planned = m.planned; opening_len = (a.opening_len.0, a.opening_len.1); current_epoch_bound = (rw m.is (small (goal.at.write_later-done-requires c).After-make_plan-p), rw c.numbers_by-n.ensures (small (goal.at.write_later-done-requires c).After-make_plan-p)) }
+    record { planned = m.planned; opening_len = (a.opening_len.0, a.opening_len.1); current_epoch_bound = (rw m.is (small (goal.at.write_later-requires c).After-make_plan-p), rw c.numbers_by-n.ensures (small (goal.at.write_later-requires c).After-make_plan-p)) }
 
-pub returns-then-done-ne0 : goal.returns-then-done-ne0
-returns-then-done-ne0 c =
+pub returns-in_err-after : goal.returns-in_err-after
+returns-in_err-after c =
     let a = c.args in
     let now = c.current_epoch-current.ensures in
-    by-refused a.rules a.s a.state_slot a.finalized_epoch a.slashings.now a.churn c.requires.rules_value.3 c.requires.rules_value.0 (ep (goal.at.returns-then-done-ne0 c).Start) (eps (goal.at.returns-then-done-ne0 c).Start) a.opening.now c.requires.totals_of _ (answers-value tells_truth c.leak_of.ensures c.in-Value.is) _ (says-value c.adjusted_balance.ensures c.in-Value-adjusted_balance.is) now c.previous_epoch-previous.ensures c.make_plan-p.ensures c.numbers_by-n.ensures c.write_later-done.ensures.swept c.if-done-ne0.true
+    by-refused a.rules a.s a.state_slot a.finalized_epoch a.slashings.now a.churn c.requires.rules_value.3 c.requires.rules_value.0 (ep (goal.at.returns-in_err-after c).Start) (eps (goal.at.returns-in_err-after c).Start) a.opening.now c.requires.totals_of _ (sym c.leak_of.ensures ∙ c.in_ok-leaking.was) _ (sym c.adjusted_balance.ensures ∙ c.in_ok-adjusted.was) now c.previous_epoch-previous.ensures c.make_plan-p.ensures c.numbers_by-n.ensures c.write_later.ensures.swept c.in_err-after.was (carried _ c.from_residual-in_err-after.ensures)
 
 pub returns : goal.returns
 returns c =
     let a = c.args in
     let now = c.current_epoch-current.ensures in
-    let wrote = c.write_later-done in
-    let z = c.if-done-ne0.false in
+    let wrote = c.write_later in
     let long = c.requires.opening_len in
     let nines : length (take (9 * (length a.opening.now / 10) - 0) a.amounts.now) ≡ 9 * (length a.opening.now / 10) = simp length-take (omega (arith, long)) in
-    by-ran a.rules a.s a.state_slot a.finalized_epoch a.slashings.now a.churn c.requires.rules_value.3 c.requires.rules_value.0 (ep (goal.at.returns c).Start) (eps (goal.at.returns c).Start) a.opening.now c.requires.totals_of _ (answers-value tells_truth c.leak_of.ensures c.in-Value.is) _ (says-value c.adjusted_balance.ensures c.in-Value-adjusted_balance.is) now c.previous_epoch-previous.ensures c.make_plan-p.ensures c.numbers_by-n.ensures wrote.ensures.swept long.0 (wrote.auto.closing ∙ long.1) _ (wrote.ensures.fills.filled z nines) refl c.spread.ensures (back_long (9 * (length a.opening.now / 10) - 0) wrote.new.amounts a.amounts.now wrote.auto.amounts ∙ long.2)
+    by-ran a.rules a.s a.state_slot a.finalized_epoch a.slashings.now a.churn c.requires.rules_value.3 c.requires.rules_value.0 (ep (goal.at.returns c).Start) (eps (goal.at.returns c).Start) a.opening.now c.requires.totals_of _ (sym c.leak_of.ensures ∙ c.in_ok-leaking.was) _ (sym c.adjusted_balance.ensures ∙ c.in_ok-adjusted.was) now c.previous_epoch-previous.ensures c.make_plan-p.ensures c.numbers_by-n.ensures wrote.ensures.swept long.0 (wrote.auto.closing ∙ long.1) _ (wrote.ensures.fills.filled (ap done c.in_ok-after.was) nines) refl c.spread.ensures (back_long (9 * (length a.opening.now / 10) - 0) wrote.new.amounts a.amounts.now wrote.auto.amounts ∙ long.2) c.in_ok-after.was

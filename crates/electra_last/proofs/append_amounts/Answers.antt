@@ -1,5 +1,4 @@
 use mathlib.Core.Path.{refl}
-use Prim.Native.Nat.{◌-◌}
 use native.Mathlib.Omega.{arith}
 use Rattle.electra_last.proofs.Appending.{appending_more, appending_all}
 use Rattle.electra_last.proofs.append_amounts.Goals as goal

@@ -1,5 +1,4 @@
 use mathlib.Core.Path.{sym}
-use Prim.Native.Nat.{◌-◌}
 use native.Mathlib.Omega.{arith}
 use Rattle.definitions_electra.specs.Refusals.{good_deposit, good_deposits}
 use Rattle.laws_electra.proofs.Deposits.{none, length-deposits, deposit-tested}

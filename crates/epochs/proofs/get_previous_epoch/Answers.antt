@@ -1,12 +1,14 @@
-use Rattle.epochs.proofs.Answers.{then-says, refused_says}
+use mathlib.Core.Path.{ap}
+use Rattle.definitions.specs.Checked.{value}
+use Rattle.refusals.proofs.Answers.{then-answers, refused-answers}
 use Rattle.epochs.proofs.Passed.{slot-passed}
 use Rattle.epochs.proofs.get_previous_epoch.Goals as goal
 
-pub returns-then-refusal-ne0 : goal.returns-then-refusal-ne0
-returns-then-refusal-ne0 c = refused_says _ c.slot_refusal-refusal.ensures _ c.if-refusal-ne0.true
+pub returns-in_err-slot_refusal : goal.returns-in_err-slot_refusal
+returns-in_err-slot_refusal c = refused-answers _ c.slot_refusal.ensures _ c.in_err-slot_refusal.was c.from_residual.ensures
 
 pub previous_epoch-requires : goal.previous_epoch-requires
-previous_epoch-requires c = (slot-passed _ _ c.slot_refusal-refusal.ensures c.if-refusal-ne0.false).settings.good.positive.slots_per_epoch
+previous_epoch-requires c = (slot-passed _ _ c.slot_refusal.ensures c.in_ok-slot_refusal.was).settings.good.positive.slots_per_epoch
 
 pub returns : goal.returns
-returns c = then-says _ c.slot_refusal-refusal.ensures c.if-refusal-ne0.false c.previous_epoch.ensures
+returns c = then-answers _ c.slot_refusal.ensures c.in_ok-slot_refusal.was (ap value c.previous_epoch.ensures)

@@ -19,10 +19,10 @@ pub exit_by-numbers : (s : Settings) (state_slot : ℕ) (vs : List Validator) (i
 unfolding initiate_validator_exit exit_queue_epoch exit_at queue_epoch bind
 exit_by-numbers s state_slot vs index e f = rw (e, f)
 
-leaves-value : {m : Checked (List Validator)} {vs : List Validator} {before after : List ℕ} → m ≡ value vs → after ≡ encode vs → Leaves m before after 0
+leaves-value : {m : Checked (List Validator)} {vs : List Validator} {before after : List ℕ} → m ≡ value vs → after ≡ encode vs → Leaves m before after (value tt)
 leaves-value h e = rw h (record { ran = ran-value e; kept = λ p q. absurd (not_value (sym q)) })
 
 module _ (least limit delay n : ℕ) (xs : List ℕ) (i : ℕ) (long : length xs ≡ 10 * n) (l : i < n) where
-  pub exit-known : (get_or xs (10 * i + 4) 0 ≡ FAR_FUTURE_EPOCH → ⊥) → Leaves (exit_at least limit delay (decode xs) i) xs xs 0
+  pub exit-known : (get_or xs (10 * i + 4) 0 ≡ FAR_FUTURE_EPOCH → ⊥) → Leaves (exit_at least limit delay (decode xs) i) xs xs (value tt)
   unfolding exit_at
   exit-known f = leaves-value (rw (ne_eqb _ FAR_FUTURE_EPOCH (λ e. f (number-at n xs i long l 4 (omega arith) ∙ e)))) (sym (encode-decode n xs long))

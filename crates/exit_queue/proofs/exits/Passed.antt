@@ -5,11 +5,11 @@ use Prim.Native.Nat.{ℕ, ◌+◌, ◌/◌, ◌^◌, ◌<◌}
 use borrow.Author.Tests.{ltb-true}
 use lib.ListN.{length}
 use Rattle.definitions.specs.declared.Settings.{Settings}
-use Rattle.definitions.specs.Checked.{value, code_of}
+use Rattle.definitions.specs.Checked.{Checked, value}
 use Rattle.definitions.specs.LeafRefusals.{exit_tests}
 use Rattle.definitions.specs.Document.Phase0.Helpers as document
 use Rattle.definitions.specs.Rust.Phase0.Helpers.{compute_activation_exit_epoch, get_current_epoch}
-use Rattle.laws.proofs.Tests.{in_order_lem}
+use Rattle.laws.proofs.Tests.{in_order-value}
 use Rattle.leaf_refusals.proofs.registry_refusals.Passed.{SlotRegistry, slot-registry}
 use Rattle.laws.proofs.Bounds.{bounds, given}
 
@@ -19,10 +19,10 @@ pub record ExitPassed (s : Settings) (state_slot index : ℕ) (registry : List �
   pub fits : get_current_epoch s state_slot + 1 + s.max_seed_lookahead < 2 ^ 64
   pub least : compute_activation_exit_epoch s (get_current_epoch s state_slot) ≡ value (get_current_epoch s state_slot + 1 + s.max_seed_lookahead)
 
-pub exit-passed : (s : Settings) (state_slot index : ℕ) (registry : List ℕ) {x : ℕ} → x ≡ code_of (exit_tests s state_slot index registry) → x ≡ 0 → ExitPassed s state_slot index registry
+pub exit-passed : (s : Settings) (state_slot index : ℕ) (registry : List ℕ) {x : Checked (Unit {0})} → x ≡ exit_tests s state_slot index registry → x ≡ value tt → ExitPassed s state_slot index registry
 unfolding exit_tests document.compute_activation_exit_epoch
 exit-passed s state_slot index registry e z =
-    let p = in_order_lem _ _ _ (sym e ∙ z) in
+    let p = in_order-value _ _ _ (sym e ∙ z) in
     let k = slot-registry s state_slot registry p in
     record {
       others = k;

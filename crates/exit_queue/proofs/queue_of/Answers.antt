@@ -1,4 +1,3 @@
-use Prim.Native.Nat.{◌-◌}
 use native.Mathlib.Omega.{arith}
 use Rattle.exit_queue.proofs.QueueOf.{tracking_none, tracking_few, tracking_more, tracking_all}
 use Rattle.exit_queue.proofs.queue_of.Goals as goal

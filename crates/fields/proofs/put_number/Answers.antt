@@ -1,16 +1,13 @@
-use Prim.Native.Nat.{◌-◌, ◌%◌}
+use mathlib.Core.Path.{◌∙◌}
 use native.Mathlib.Omega.{arith}
-use Rattle.fields.proofs.Bytes.{little_none, little_more}
-use Rattle.fields.proofs.Stores.{storing-none, storing-one, storing-all}
+use Rattle.definitions_file.specs.File.{little_endian}
+use Rattle.laws_file.proofs.Numbers.{length_little}
+use Rattle.fields.proofs.Bytes.{written-number}
+use Rattle.fields.proofs.Stores.{sets-copied}
 use Rattle.fields.proofs.put_number.Goals as goal
 
-pub loop-k-init : goal.loop-k-init
-loop-k-init c = (omega arith, storing-none _ _ _ _ (omega arith))
-
-pub loop-k-preserved : goal.loop-k-preserved
-loop-k-preserved c =
-    let l = c.loop-k in
-    (omega arith, storing-one l.invariant.1 (l.left % 256) _ _ (little_more (8 - l.k) _ l.left (omega arith)) (omega arith))
-
 pub returns : goal.returns
-returns c = storing-all c.loop-k.invariant.1 (little_none _ _ (omega arith))
+returns c =
+    let a = c.args in
+    let long = length_little 8 a.n in
+    sets-copied a.file.now (little_endian 8 a.n) a.at _ (c.copy_from_slice.ensures.after ∙ c.to_le_bytes.ensures ∙ written-number a.n) (omega (arith, long)) (omega (arith, long))

@@ -1,23 +1,22 @@
 -- The header's ten numbers: compared one by one, and what follows for test 6.
-use mathlib.Core.Path.{◌≡◌}
-use mathlib.Core.Bool.{Bool, true, ◌&&◌}
+use mathlib.Core.Path.{◌≡◌, refl, ap}
+use mathlib.Core.Bool.{Bool, ◌&&◌}
 use mathlib.Core.List.{List, [], ◌∷◌}
-use Prim.Native.Nat.{ℕ, ◌+◌, ◌≤◌, ◌<◌}
-use native.Mathlib.Numerals.{add-one}
+use Prim.Native.Nat.{ℕ}
 use lib.Dec.{lit<, leb, eqb}
-use lib.ListN.{length, get_or, drop, drop_of_length-le}
-use lib.Seq.{drop-cons}
+use lib.ListN.{length, get_or}
+use lib.Pointwise.{pointwise}
 use Rattle.definitions.specs.Lists.{every}
 use Rattle.definitions_file.specs.File.{numbers_from_bytes, header, file_length, same_numbers, good_header}
 use Rattle.laws_file.proofs.Numbers.{number-at}
 
-pub same_none : (xs ys : List ℕ) (i : ℕ) → length xs ≤ i → length ys ≤ i → same_numbers (drop i xs) (drop i ys) ≡ true
+-- the comparison of two arrays
+pub same-pointwise : (xs ys : List ℕ) → pointwise eqb xs ys ≡ same_numbers xs ys
 unfolding same_numbers
-same_none xs ys i l m = rw (drop_of_length-le xs l, drop_of_length-le ys m)
-
-pub same_more : (xs ys : List ℕ) (i : ℕ) → i < length xs → i < length ys → same_numbers (drop i xs) (drop i ys) ≡ (eqb (get_or xs i 0) (get_or ys i 0) && same_numbers (drop (i + 1) xs) (drop (i + 1) ys))
-unfolding same_numbers
-same_more xs ys i l m = rw (add-one i, drop-cons xs i 0 l, drop-cons ys i 0 m)
+same-pointwise [] [] = refl
+same-pointwise [] (y ∷ ys) = refl
+same-pointwise (x ∷ xs) [] = refl
+same-pointwise (x ∷ xs) (y ∷ ys) = ap (λ (t : Bool). eqb x y && t) (same-pointwise xs ys)
 
 -- Test 6 by the ten numbers found
 

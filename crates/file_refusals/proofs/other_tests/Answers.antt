@@ -1,6 +1,5 @@
-use mathlib.Core.Path.{ap, ◌∙◌}
+use mathlib.Core.Path.{◌∙◌}
 use native.Mathlib.Omega.{arith}
-use Rattle.definitions.specs.Checked.{code_of}
 use Rattle.definitions_file.specs.File.{contents_of}
 use Rattle.laws_file.proofs.Passed.{Header, good-header}
 use Rattle.file_refusals.proofs.ReadTests.{shape-tested}
@@ -16,7 +15,7 @@ returns c =
     let n = c.read_counts-counts.ensures in
     let a = c.args in
     rw (c.settings_shaped.ensures, c.good_settings.ensures, c.good_finality.ensures, c.read_finality-f.ensures, c.read_settings-s.ensures, n.0, n.1, n.2) at c.in_order.ensures
-    ∙ ap code_of (shape-tested a.bytes.now a.registry.now a.slashings.now _ _)
+    ∙ shape-tested a.bytes.now a.registry.now a.slashings.now _ _
 
 pub read_counts-counts-requires : goal.read_counts-counts-requires
 read_counts-counts-requires c = (head (goal.at.read_counts-counts-requires c).Start).enough

@@ -1,13 +1,12 @@
 use mathlib.Core.Path.{refl}
-use Rattle.arithmetic.proofs.Laws.{next, stop}
+use Rattle.arithmetic.proofs.Laws.{next, passes-on}
 use Rattle.definitions.specs.Rust.Phase0.EpochProcessing.{is_in_inactivity_leak}
-use Rattle.finality.proofs.Passed.{only-delay}
 use Rattle.finality.proofs.inactivity_leak.Goals as goal
 
-pub returns-in_default : goal.returns-in_default
+pub returns-in_err-delay : goal.returns-in_err-delay
 unfolding is_in_inactivity_leak
-returns-in_default c = stop _ (only-delay _ _ _) c.finality_delay.ensures c.in_default.is refl
+returns-in_err-delay c = passes-on _ c.finality_delay.ensures c.in_err-delay.was c.from_residual.ensures
 
 pub returns : goal.returns
 unfolding is_in_inactivity_leak
-returns c = next _ c.finality_delay.ensures c.in-Value.is (record { is = refl })
+returns c = next _ c.finality_delay.ensures c.in_ok-delay.was refl

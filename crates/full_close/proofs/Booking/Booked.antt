@@ -7,9 +7,8 @@ use native.Mathlib.Omega.{arith}
 use lib.ListN.{length, get_or, take, drop}
 use Rattle.definitions.specs.declared.Settings.{Settings}
 use Rattle.definitions.specs.declared.ActivationLimit.{ActivationLimit}
-use Rattle.definitions.specs.declared.Number.{Number}
 use Rattle.definitions.specs.Record.{Validator, decode, nobody}
-use Rattle.definitions.specs.Checked.{value, map_checked}
+use Rattle.definitions.specs.Checked.{Checked, value, map_checked}
 use Rattle.definitions.specs.Rust.Phase0.Helpers.{get_current_epoch, get_previous_epoch}
 use Rattle.definitions.specs.Rust.Phase0.EpochProcessing.{is_in_inactivity_leak}
 use Rattle.laws.proofs.Encode.{length-decode}
@@ -50,7 +49,7 @@ module _ {by : ActivationLimit} {s : Settings} {slot fin : ℕ} {ys : List ℕ} 
         eight = λ i l. (by-rewards w).eight i (omega (arith, l, (by-rewards w).long));
       }
 
-  module _ (ep : Epochs s slot) {t : Totals} (totals : TotalsOf s (get_current_epoch s slot) (get_previous_epoch s slot) vs t) (leaking : Bool) (leak : leak_of s slot fin ≡ value leaking) (a b c : Number) (adjusted : ℕ) (thresholds : Thresholds) where
+  module _ (ep : Epochs s slot) {t : Totals} (totals : TotalsOf s (get_current_epoch s slot) (get_previous_epoch s slot) vs t) (leaking : Bool) (leak : leak_of s slot fin ≡ value leaking) (a b c : Checked ℕ) (adjusted : ℕ) (thresholds : Thresholds) where
     abbrev current : ℕ
     current = get_current_epoch s slot
 

@@ -1,8 +1,12 @@
-use borrow.Author.Tests.{eq-eqb, ne_eqb}
+use Rattle.definitions.specs.Refusals.{after_tests}
+use Rattle.arithmetic.proofs.Laws.{next, passes-on}
+use mathlib.Core.Path.{refl}
 use Rattle.full_close.proofs.first_refusal.Goals as goal
 
-pub returns-then-first-eq0 : goal.returns-then-first-eq0
-returns-then-first-eq0 c = rw (eq-eqb _ 0 c.if-first-eq0.true)
+pub returns-in_err-first : goal.returns-in_err-first
+unfolding after_tests
+returns-in_err-first c = passes-on _ refl c.in_err-first.was c.from_residual.ensures
 
 pub returns : goal.returns
-returns c = rw (ne_eqb _ 0 c.if-first-eq0.false)
+unfolding after_tests
+returns c = next _ refl c.in_ok-first.was refl

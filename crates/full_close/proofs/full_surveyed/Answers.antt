@@ -21,7 +21,7 @@ close_surveyed-stepped-requires c =
 
 pub returns-then-answer-ne0 : goal.returns-then-answer-ne0
 returns-then-answer-ne0 c =
-    full-refused c.close_surveyed-stepped.ensures.steps_closed c.if-answer-ne0.true refl refl refl refl refl (c.clear.ensures ∙ ap (λ (n : ℕ). replicate n 0) c.close_surveyed-stepped.auto.amounts)
+    full-refused c.close_surveyed-stepped.ensures.steps_closed c.if-answer-ne0.true refl refl refl refl refl (c.fill.ensures.after (λ y e. e) ∙ ap (λ (n : ℕ). replicate n 0) c.close_surveyed-stepped.auto.amounts)
 
 pub finalizing_test-test-requires : goal.finalizing_test-test-requires
 finalizing_test-test-requires c =

@@ -40,7 +40,7 @@ module _ (s : Settings) (slot limit : ℕ) where
   made-both : {us vs ws : List Validator} → Made us vs → Made vs ws → Made us ws
   made-both a b = record { exits = then a.exits b.exits; stays = b.stays }
 
-  made-given : {vs ws : List Validator} → limit_of s slot vs ≡ limit → value vs ≡ value ws → Made vs ws
+  made-given : {vs ws : List Validator} → limit_of s slot vs ≡ limit → ◌≡◌ {A = Checked (List Validator)} (value vs) (value ws) → Made vs ws
   made-given {vs} e p = record { exits = kept (ap (map exit_of) (sym (value_same p))); stays = ap (limit_of s slot) (sym (value_same p)) ∙ e }
 
   made_kept : (vs ws : List Validator) → limit_of s slot vs ≡ limit → map exit_of ws ≡ map exit_of vs → map (active s slot) ws ≡ map (active s slot) vs → Made vs ws

@@ -1,7 +1,7 @@
 -- One exit joins an epoch that fewer than the churn limit hold, or opens one that nobody holds: no epoch below FAR comes to be held by more
 -- than the limit, unless it was before. So do exits one after the other.
 use mathlib.Core.Path.{◌≡◌, ap}
-use mathlib.Core.Logic.{◌⊎◌, inl, inr, ⊎_elim}
+use mathlib.Core.Logic.{inl, inr, ⊎_elim}
 use mathlib.Core.List.{[], List, ◌∷◌}
 use Prim.Native.Nat.{ℕ, max, ◌≤◌, ◌<◌}
 use native.Mathlib.Omega.{arith}

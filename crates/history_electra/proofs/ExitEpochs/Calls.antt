@@ -120,7 +120,7 @@ module _ (r : ElectraRules) (activation : ℕ) where
       (of-both (is_active_validator v (current_epoch_of r a) && leb v.effective_balance r.settings.ejection_balance) (exit-chain r a index)
       (either (λ c. Chained (value []) a.churn c.churn) (is_eligible_for_activation (finalized_epoch_of a) v) same same))
     where
-      same : {c : ElectraState} → value c ≡ value b → Chained (value []) c.churn b.churn
+      same : {c : ElectraState} → ◌≡◌ {A = Checked ElectraState} (value c) (value b) → Chained (value []) c.churn b.churn
       same e = none (ap (λ (st : ElectraState). st.churn) (sym (value_same e)))
 
   from-gave : (a : ElectraState) (index : ℕ) (is : List ℕ) {es fs : List Exit} {b : ElectraState} → here a index ≡ value es
@@ -153,7 +153,7 @@ registry-chain r a b e = go (compute_activation_exit_epoch r.settings (current_e
 abbrev Pair : ElectraState → ElectraState → Type 0
 Pair a b = b.churn ≡ a.churn
 
-pair : {c b : ElectraState} → value c ≡ value b → Pair c b
+pair : {c b : ElectraState} → ◌≡◌ {A = Checked ElectraState} (value c) (value b) → Pair c b
 pair e = ap (λ (st : ElectraState). st.churn) (sym (value_same e))
 
 kept_pair : (r : ElectraRules) (a b : ElectraState) (k : Step) → electra_step r a (kept k) ≡ value b → Pair a b

@@ -7,7 +7,8 @@ use Prim.Native.Nat.{ℕ, ◌+◌, ◌≤◌}
 use native.Mathlib.Omega.{arith}
 use Rattle.definitions.specs.Record.{Validator}
 use Rattle.definitions.specs.Updates.{with_balance, with_effective_balance}
-use Rattle.definitions.specs.Checked.{value, refused, bad_shape}
+use Rattle.definitions.specs.Checked.{value, refused}
+use Rattle.definitions.specs.declared.Refusal.TheVariants.{BadShape}
 use Rattle.definitions_electra.specs.declared.ExitChurn.{ExitChurn}
 use Rattle.definitions_electra.specs.Record.{ElectraState, with_churn}
 use Rattle.history.proofs.Computing.{computing}
@@ -40,14 +41,14 @@ exits c slot p balance = (false, exiting (rules 4 1 c) (value tt) (with slot p (
 unfoldable pub run : List Event
 run =
     event (closes 10 (pair 0 0) (holds 11 ∷ holds 32 ∷ [])) ∷
-    event (true, exiting (rules 4 1 10) (refused bad_shape) (with 0 (pair 9 6) (holds 9 ∷ [])) 0) ∷
+    event (true, exiting (rules 4 1 10) (refused BadShape) (with 0 (pair 9 6) (holds 9 ∷ [])) 0) ∷
     event (exits 10 0 (pair 9 6) 9) ∷
     []
 
 abbrev calls : List (Bool × Called)
 calls =
     closes 10 (pair 0 0) (holds 11 ∷ holds 32 ∷ []) ∷
-    (true, exiting (rules 4 1 10) (refused bad_shape) (with 0 (pair 9 6) (holds 9 ∷ [])) 0) ∷
+    (true, exiting (rules 4 1 10) (refused BadShape) (with 0 (pair 9 6) (holds 9 ∷ [])) 0) ∷
     exits 10 0 (pair 9 6) 9 ∷
     []
 

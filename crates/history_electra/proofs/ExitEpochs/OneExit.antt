@@ -8,7 +8,8 @@ use native.Mathlib.Omega.{arith}
 use borrow.Author.Tests.{ltb-true, ltb-false, leb-true, eqb-true, eqb-false, lt-ltb}
 use lib.Dec.{T, leb, ltb, eqb, leb→le}
 use Rattle.definitions.specs.Lists.{filter, all, sum}
-use Rattle.definitions.specs.Checked.{value, overflow, bind, sub64}
+use Rattle.definitions.specs.Checked.{value, bind, sub64}
+use Rattle.definitions.specs.declared.Refusal.TheVariants.{Overflow}
 use Rattle.definitions_electra.specs.declared.ExitChurn.{ExitChurn}
 use Rattle.definitions_electra.specs.Document.Electra.Helpers.{to_consume}
 use Rattle.definitions_electra.specs.Evaluated.Electra.Helpers.{further_epochs, churned}
@@ -28,7 +29,7 @@ Made e = churned e.least e.limit e.before e.balance ≡ value e.after
 
 sub64-value : (a b : ℕ) {x : ℕ} → sub64 a b ≡ value x → x + b ≡ a
 unfolding sub64
-sub64-value a b p = let g = checked_value {n = a - b} overflow (leb b a) p in omega (arith, leb-true b a g.0, g.1)
+sub64-value a b p = let g = checked_value {n = a - b} Overflow (leb b a) p in omega (arith, leb-true b a g.0, g.1)
 
 -- what was above goes to a later epoch
 further : (earliest available limit balance : ℕ) {after : ExitChurn} → further_epochs earliest available limit balance ≡ value after → earliest < epoch after

@@ -14,7 +14,7 @@ use Rattle.definitions.specs.Refusals.{after_tests, good_finality, justification
 use Rattle.definitions_close.specs.FinalizingTest.{finalizing_test}
 use Rattle.definitions_close.specs.Justification.{justification_answer_for, less_test}
 use Rattle.laws.proofs.Checked.{number_not_zero}
-use Rattle.laws.proofs.Tests.{in_order_lem}
+use Rattle.laws.proofs.Tests.{in_order-value}
 use Rattle.refusals.proofs.Laws.{good-settings}
 
 with-test : {r a : JustificationAnswer} → less_test r ≡ less_test a → r.test ≡ a.test → r ≡ a
@@ -41,10 +41,10 @@ pub record Passed (s : Settings) (old : Finality) : Type 0 where
   pub epoch : 0 < s.slots_per_epoch
   pub finality : good_finality old ≡ true
 
-passed-by : (s : Settings) (roots : List ℕ) (old : Finality) (registry : List ℕ) → code_of (justification_tests s roots old registry) ≡ 0 → Passed s old
+passed-by : (s : Settings) (roots : List ℕ) (old : Finality) (registry : List ℕ) → justification_tests s roots old registry ≡ value tt → Passed s old
 unfolding justification_tests
 passed-by s roots old registry z =
-    let p = in_order_lem _ _ _ z in
+    let p = in_order-value _ _ _ z in
     record { epoch = (good-settings s (p.settings 0)).positive.slots_per_epoch; finality = p.recorded 0 }
 
 pub tests-passed : (s : Settings) (roots : List ℕ) (old : Finality) (registry : List ℕ) (work : Checked Finality) {x : ℕ} → x ≡ code_of (after_tests (justification_tests s roots old registry) work) → x ≡ 0 → Passed s old
@@ -52,5 +52,5 @@ unfolding after_tests bind
 tests-passed s roots old registry work e z = go (justification_tests s roots old registry) refl (sym e ∙ z)
   where
     go : (t : Checked (Unit {0})) → justification_tests s roots old registry ≡ t → code_of (bind t (λ _. work)) ≡ 0 → Passed s old
-    go (value u) q k = passed-by s roots old registry (ap code_of q)
+    go (value u) q k = passed-by s roots old registry q
     go (refused p) q k = absurd (number_not_zero p k)

@@ -44,7 +44,7 @@ module _ (s : Settings) (state_slot : ℕ) where
   abbrev Kept : List Validator → List Validator → Type 0
   Kept vs ws = map activation ws ≡ map activation vs
 
-  given-kept : {vs ws : List Validator} → value vs ≡ value ws → Kept vs ws
+  given-kept : {vs ws : List Validator} → ◌≡◌ {A = Checked (List Validator)} (value vs) (value ws) → Kept vs ws
   given-kept p = ap (map activation) (sym (value_same p))
 
   exit-kept : (vs : List Validator) (i : ℕ) {ws : List Validator} → initiate_validator_exit s state_slot vs i ≡ value ws → Kept vs ws

@@ -39,7 +39,7 @@ told {B} h g k vs ws p = sym (through ws) ∙ ap (map g) p ∙ through vs
     through (u ∷ us) = ap₂ ◌∷◌ (k u) (through us)
 
 -- the value given outright
-outright : {B : Type 0} (h : Validator → B) {v w : Validator} → value v ≡ value w → h w ≡ h v
+outright : {B : Type 0} (h : Validator → B) {v w : Validator} → ◌≡◌ {A = Checked Validator} (value v) (value w) → h w ≡ h v
 outright h p = ap h (sym (value_same p))
 
 -- the score alone

@@ -11,7 +11,7 @@ use Rattle.definitions.specs.declared.ActivationLimit.{ActivationLimit}
 use Rattle.definitions.specs.Lists.{range}
 use Rattle.definitions.specs.Record.{Validator, nobody, FAR_FUTURE_EPOCH}
 use Rattle.definitions.specs.Updates.{with_eligibility, with_activation, with_exit}
-use Rattle.definitions.specs.Checked.{value, fold_checked}
+use Rattle.definitions.specs.Checked.{Checked, value, fold_checked}
 use Rattle.definitions.specs.Document.Phase0.Helpers.{is_eligible_for_activation_queue}
 use Rattle.definitions.specs.Document.Phase0.EpochProcessing.{queue_eligible, is_ejected, activation_queue, activate_at, dequeued}
 use Rattle.definitions.specs.Rust.Phase0.Helpers.{get_current_epoch, get_validator_churn_limit, initiate_validator_exit}
@@ -21,7 +21,7 @@ use Rattle.laws.specs.Frames.{without_epochs}
 use Rattle.laws.proofs.Tests.{either}
 
 -- what is given outright
-pub same-value : {B : Type 0} (h : Validator → B) {vs ws : List Validator} → value vs ≡ value ws → map h ws ≡ map h vs
+pub same-value : {B : Type 0} (h : Validator → B) {vs ws : List Validator} → ◌≡◌ {A = Checked (List Validator)} (value vs) (value ws) → map h ws ≡ map h vs
 same-value h p = ap (map h) (sym (value_same p))
 
 -- h reads neither exit nor withdrawable epoch

@@ -7,11 +7,12 @@ use native.Mathlib.Omega.{arith}
 use lib.ListN.{length}
 use lib.Dec.{ltb}
 use Rattle.definitions.specs.Lists.{filter, sum}
-use Rattle.definitions.specs.Checked.{value, refused, overflow, sum64}
+use Rattle.definitions.specs.Checked.{value, refused, sum64}
+use Rattle.definitions.specs.declared.Refusal.TheVariants.{Overflow}
 
 pub sum64-same : (xs ys : List ℕ) → sum xs ≡ sum ys → sum64 xs ≡ sum64 ys
 unfolding sum64
-sum64-same xs ys e = ap (λ (t : ℕ). cond (ltb t (2 ^ 64)) (value t) (refused overflow)) e
+sum64-same xs ys e = ap (λ (t : ℕ). cond (ltb t (2 ^ 64)) (value t) (refused Overflow)) e
 
 module _ {A : Type 0} (p : A → Bool) where
   pub sum-filter : (w : A → ℕ) (vs : List A) → sum (map w (filter p vs)) ≡ sum (map (λ v. cond (p v) (w v) 0) vs)

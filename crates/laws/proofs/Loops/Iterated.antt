@@ -6,6 +6,7 @@ use native.Mathlib.Omega.{arith}
 use native.Mathlib.Nat.{add-zero, zero-add}
 use lib.ListN.{length}
 use Rattle.definitions.specs.Checked.{Checked, value, refused, bind, fold_checked}
+use Rattle.definitions.specs.declared.Refusal.{Refusal}
 use Rattle.definitions.specs.Lists.{range}
 use Rattle.definitions.specs.Record.{Validator, decode}
 use Rattle.laws.proofs.Encode.{length-decode, encode-decode}
@@ -49,18 +50,18 @@ module _ {f : List Validator → ℕ → Checked (List Validator)} {n : ℕ} {xs
   count : length (decode xs₀) ≡ n
   count = length-decode n xs₀ g.begun
 
-  pub iterated-all : n ≤ i → Ran (fold_checked f (decode xs₀) (range 0 (length (decode xs₀)))) xs 0
+  pub iterated-all : n ≤ i → Ran (fold_checked f (decode xs₀) (range 0 (length (decode xs₀)))) xs (value tt)
   iterated-all l =
       let e : length (decode xs₀) ≡ i = omega (arith, count) in
       rw (e, g.held) (ran-value (sym (encode-decode n xs g.long)))
 
   -- the turn leaves ys and answers r
-  module _ (l : i < n) {ys : List ℕ} {r : ℕ} (h : Ran (f (decode xs) i) ys r) where
-    pub iterated-more : r ≡ 0 → length ys ≡ length xs → Iterated f n xs₀ (i + 1) ys
+  module _ (l : i < n) {ys : List ℕ} {r : Checked (Unit {0})} (h : Ran (f (decode xs) i) ys r) where
+    pub iterated-more : r ≡ value tt → length ys ≡ length xs → Iterated f n xs₀ (i + 1) ys
     unfolding fold_checked bind range
     iterated-more z k = record { begun = g.begun; below = omega arith; long = omega (arith, k, g.long); held = rw (turn f (decode xs₀) (decode xs) i 0 g.held, ran-gave h z) }
 
-    pub iterated-stop : {zs : List ℕ} → (r ≡ 0 → ⊥) → Ran (fold_checked f (decode xs₀) (range 0 (length (decode xs₀)))) zs r
+    pub iterated-stop : {zs : List ℕ} {p : Refusal} → r ≡ refused p → Ran (fold_checked f (decode xs₀) (range 0 (length (decode xs₀)))) zs (refused p)
     iterated-stop z =
         let e : length (decode xs₀) ≡ i + suc (n - suc i) = omega (arith, count) in
         rw (e, turn f (decode xs₀) (decode xs) i (n - suc i) g.held) (ran-stop h _ z)

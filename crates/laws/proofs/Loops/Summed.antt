@@ -8,7 +8,8 @@ use borrow.Author.Tests.{lt-ltb, le-ltb}
 use lib.ListN.{length, get_or, take, drop, length-map, take-append-drop, get_or-map}
 use lib.Seq.{take-suc, take_all}
 use Rattle.definitions.specs.Lists.{sum}
-use Rattle.definitions.specs.Checked.{value, refused, overflow, sum64}
+use Rattle.definitions.specs.Checked.{value, refused, sum64}
+use Rattle.definitions.specs.declared.Refusal.TheVariants.{Overflow}
 use Rattle.definitions.specs.Record.{Validator, decode_one, decode, nobody}
 use Rattle.laws.proofs.Encode.{length-decode}
 use Rattle.laws.proofs.Loops.Entry.{entry_at}
@@ -27,7 +28,7 @@ pub sum64-given : (ys : List ℕ) → sum ys < 2 ^ 64 → sum64 ys ≡ value (su
 unfolding sum64
 sum64-given ys h = rw (lt-ltb (sum ys) (2 ^ 64) h)
 
-pub sum64-refused : (ys : List ℕ) → 2 ^ 64 ≤ sum ys → sum64 ys ≡ refused overflow
+pub sum64-refused : (ys : List ℕ) → 2 ^ 64 ≤ sum ys → sum64 ys ≡ refused Overflow
 unfolding sum64
 sum64-refused ys h = rw (le-ltb (sum ys) (2 ^ 64) h)
 
@@ -55,7 +56,7 @@ module _ {ys : List ℕ} {i total : ℕ} (g : Added ys i total) where
     pub added_more : {t : ℕ} → t ≡ total + x → t < 2 ^ 64 → Added ys (i + 1) t
     added_more h f = record { below = omega arith; fits = f; held = h ∙ next }
 
-    pub added-over : 2 ^ 64 ≤ total + x → sum64 ys ≡ refused overflow
+    pub added-over : 2 ^ 64 ≤ total + x → sum64 ys ≡ refused Overflow
     added-over f =
         let s = sum-append (take (i + 1) ys) (drop (i + 1) ys) in
         sum64-refused ys (omega (arith, next, s, ap sum (take-append-drop (i + 1) ys)))
@@ -83,5 +84,5 @@ module _ {w : Validator → ℕ} {n : ℕ} {xs : List ℕ} {i total : ℕ} (g : 
     pub summed-more : {t : ℕ} → t ≡ total + x → t < 2 ^ 64 → Summed w n xs (i + 1) t
     summed-more h f = record { at = reading_more g.at l; added = added_more g.added (omega (arith, long)) (w nobody) weight h f }
 
-    pub summed-over : 2 ^ 64 ≤ total + x → sum64 (map w (decode xs)) ≡ refused overflow
+    pub summed-over : 2 ^ 64 ≤ total + x → sum64 (map w (decode xs)) ≡ refused Overflow
     summed-over f = added-over g.added (omega (arith, long)) (w nobody) weight f

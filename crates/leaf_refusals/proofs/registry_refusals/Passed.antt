@@ -1,4 +1,4 @@
--- What the tests of a call that is lent a registry give once passed. `x` is the number that their code gave.
+-- What the tests of a call that is lent a registry give once passed. `x` is what their code answered.
 use mathlib.Core.Bool.{Bool}
 use mathlib.Core.List.{List, [], ◌∷◌}
 use mathlib.Core.Path.{◌≡◌, sym, ◌∙◌}
@@ -7,12 +7,12 @@ use borrow.Author.Tests.{eqb-true, leb-true, le-leb}
 use lib.ListN.{length}
 use Rattle.definitions.specs.declared.Settings.{Settings}
 use Rattle.definitions.specs.Lists.{every}
-use Rattle.definitions.specs.Checked.{code_of}
+use Rattle.definitions.specs.Checked.{Checked, value}
 use Rattle.definitions.specs.LeafRefusals.{slot_registry_tests, participation_tests}
 use Rattle.definitions.specs.Refusals.{in_order, settings_shaped, registry_shaped, is_small, good_settings, good_registry, registry_tests}
 use Rattle.definitions.specs.RegisterOrder.{registry_to_tests}
 use Rattle.laws.specs.Bounds.{Passed}
-use Rattle.laws.proofs.Tests.{InOrder, in_order_lem}
+use Rattle.laws.proofs.Tests.{InOrder, in_order-value}
 use Rattle.refusals.proofs.Laws.{PositiveDivisors, good-settings, RegistryShape, registry-shaped, small}
 
 -- settings, slot and registry
@@ -30,18 +30,18 @@ slot-registry s state_slot registry p =
       shape = registry-shaped registry (p.shaped 1);
     }
 
-pub slot_registry_passed : (s : Settings) (state_slot : ℕ) (registry : List ℕ) {x : ℕ} → x ≡ code_of (slot_registry_tests s state_slot registry) → x ≡ 0 → SlotRegistry s state_slot registry
+pub slot_registry_passed : (s : Settings) (state_slot : ℕ) (registry : List ℕ) {x : Checked (Unit {0})} → x ≡ slot_registry_tests s state_slot registry → x ≡ value tt → SlotRegistry s state_slot registry
 unfolding slot_registry_tests
-slot_registry_passed s state_slot registry e z = slot-registry s state_slot registry (in_order_lem _ _ _ (sym e ∙ z))
+slot_registry_passed s state_slot registry e z = slot-registry s state_slot registry (in_order-value _ _ _ (sym e ∙ z))
 
 pub record ParticipationPassed (s : Settings) (state_slot flag_index epoch : ℕ) (registry : List ℕ) : Type 0 where
   pub others : SlotRegistry s state_slot registry
   pub flag : flag_index ≤ 2
 
-pub participation_passed : (s : Settings) (state_slot flag_index epoch : ℕ) (registry : List ℕ) {x : ℕ} → x ≡ code_of (participation_tests s state_slot flag_index epoch registry) → x ≡ 0 → ParticipationPassed s state_slot flag_index epoch registry
+pub participation_passed : (s : Settings) (state_slot flag_index epoch : ℕ) (registry : List ℕ) {x : Checked (Unit {0})} → x ≡ participation_tests s state_slot flag_index epoch registry → x ≡ value tt → ParticipationPassed s state_slot flag_index epoch registry
 unfolding participation_tests
 participation_passed s state_slot flag_index epoch registry e z =
-    let p = in_order_lem _ _ _ (sym e ∙ z) in
+    let p = in_order-value _ _ _ (sym e ∙ z) in
     record { others = slot-registry s state_slot registry p; flag = leb-true flag_index 2 (p.shaped 2) }
 
 -- with a finalized epoch
@@ -65,10 +65,10 @@ module _ (s : Settings) (state_slot finalized_epoch : ℕ) (opening closing : Li
     pub opened : FinalizedPassed s state_slot finalized_epoch opening
     pub same : length closing ≡ length opening
 
-  pub registry-passed : {x : ℕ} → x ≡ code_of (registry_tests s state_slot finalized_epoch opening closing) → x ≡ 0 → RegistryPassed
+  pub registry-passed : {x : Checked (Unit {0})} → x ≡ registry_tests s state_slot finalized_epoch opening closing → x ≡ value tt → RegistryPassed
   unfolding registry_tests
   registry-passed e z =
-      let p = in_order_lem _ _ _ (sym e ∙ z) in
+      let p = in_order-value _ _ _ (sym e ∙ z) in
       record { opened = finalized-passed s state_slot finalized_epoch opening p; same = eqb-true (length closing) (length opening) (p.shaped 2) }
 
 -- With a stop

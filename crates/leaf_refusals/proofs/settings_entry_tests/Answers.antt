@@ -2,12 +2,12 @@ use borrow.Author.Tests.{eq-eqb, ne_eqb}
 use Rattle.definitions.specs.Lists.{every}
 use Rattle.definitions.specs.LeafRefusals.{settings_entry_tests}
 use Rattle.definitions.specs.Refusals.{in_order}
-use Rattle.laws.proofs.Tests.{shape-failed}
+use Rattle.leaf_refusals.proofs.Shape.{shape-refused}
 use Rattle.leaf_refusals.proofs.settings_entry_tests.Goals as goal
 
 pub returns-then-entry-ne10 : goal.returns-then-entry-ne10
 unfolding settings_entry_tests
-returns-then-entry-ne10 c = shape-failed _ _ _ 1 (ne_eqb _ _ c.if-entry-ne10.true)
+returns-then-entry-ne10 c = shape-refused _ _ _ 1 (ne_eqb _ _ c.if-entry-ne10.true)
 
 pub returns : goal.returns
 unfolding settings_entry_tests in_order every

@@ -12,7 +12,7 @@ found c = few _ c.read_header-h.ensures c.if-bytes-gt-MOST_INPUT.false
 pub returns-then-bytes-gt-MOST_INPUT : goal.returns-then-bytes-gt-MOST_INPUT
 returns-then-bytes-gt-MOST_INPUT c =
     let q = c.put_refused.ensures in
-    long-enough _ c.if-text-lt-LONGEST_LISTING.false (long-listed _ c.if-bytes-gt-MOST_INPUT.true q.put) (omega (arith, q.upper_bound, c.if-text-lt-LONGEST_LISTING.false)) c.put_refused.auto.text
+    long-enough _ c.if-text-lt-LONGEST_LISTING.false (long-listed _ c.if-bytes-gt-MOST_INPUT.true (rw c.number.ensures at q.put)) (omega (arith, q.upper_bound, c.if-text-lt-LONGEST_LISTING.false)) c.put_refused.auto.text
 
 pub list_record-requires : goal.list_record-requires
 list_record-requires c =

@@ -12,8 +12,9 @@ use Rattle.definitions.specs.Checked.{Checked, value, refused, code_of}
 use Rattle.definitions.specs.Raised.{raised_totals, raised_unless_refused}
 use Rattle.definitions.specs.Close.{Call, close_tests, limited_tests, closed, close}
 use Rattle.laws.proofs.Checked.{number_not_zero}
-use Rattle.laws.proofs.Tests.{both, in_order_lem}
+use Rattle.laws.proofs.Tests.{both, in_order-value}
 use Rattle.refusals.proofs.Laws.{good-settings}
+use Rattle.laws_file.proofs.Codes.{no-refusal}
 use Rattle.refusals.proofs.Answers.{tested}
 
 -- where nothing is refused, the totals' flags are told
@@ -33,7 +34,7 @@ pub accepted : (c : Call) → (close c).refusal ≡ 0 → Accepted c
 unfolding close closed limited_tests good_rules
 accepted c e =
     let s = c.rules.settings in
-    let p = in_order_lem _ _ _ (tested (close_tests c) _ e) in
+    let p = in_order-value _ _ _ (tested (close_tests c) _ (no-refusal (closed c) e)) in
     let good = (both (good_settings s) (is_altair c.rules || good_bellatrix c.rules.bellatrix) (p.settings 0)).0 in
     record {
       epochs = (good-settings s good).positive.slots_per_epoch;

@@ -9,18 +9,19 @@ use lib.Dec.{eqb}
 use Rattle.definitions.specs.declared.Settings.{Settings}
 use Rattle.definitions.specs.declared.ExitQueue.{ExitQueue}
 use Rattle.definitions.specs.Record.{encode, decode, FAR_FUTURE_EPOCH}
-use Rattle.definitions.specs.Checked.{Checked, value, refused, code_of}
+use Rattle.definitions.specs.declared.Refusal.{Refusal}
+use Rattle.definitions.specs.Checked.{Checked, value, refused}
 use Rattle.definitions.specs.ExitQueue.{queue_of}
 use Rattle.definitions.specs.Rules.{settings_under}
 use Rattle.definitions.specs.Rust.Phase0.Helpers.{compute_epoch_at_slot, get_current_epoch, get_validator_churn_limit}
 use Rattle.definitions.specs.Document.Phase0.Helpers as document
 use Rattle.definitions_close.specs.declared.Running.{Running}
+use Rattle.definitions_close.specs.CloseBySteps.{turned_away}
 use Rattle.definitions_close.specs.Orders.{orders_in, NinthCall, ninth_tests, carries_out, ninth_in_turn, carry_out}
 use Rattle.laws.proofs.Encode.{decode-encode}
 use Rattle.laws.specs.Bounds.{Passed}
 use Rattle.laws.proofs.Bounds.{given}
 use Rattle.refusals.proofs.Laws.{small, good-settings}
-use Rattle.refusals.proofs.Answers.{passed}
 use Rattle.definitions_close.specs.Calls.{ninth_outcome}
 use Rattle.orders.specs.Tried.{order_by, AllTried}
 use Rattle.orders.proofs.Tried.{orders-are}
@@ -45,18 +46,14 @@ module _ (s : Settings) (period : ℕ) (running : Running) (registry orders answ
       let pair = tried.queue ∙ ap (λ (xs : List ℕ). queue_of (decode xs)) register ∙ ap queue_of (decode-encode _) in
       rw (pair, register, tried.answers, o.1)
 
-module _ (n : NinthCall) {x : ℕ} (e : x ≡ code_of (ninth_tests n)) (d : n.running.done ≡ 8) where
+module _ (n : NinthCall) {x : Checked (Unit {0})} (e : x ≡ ninth_tests n) (d : n.running.done ≡ 8) where
   at-eight : (eqb n.running.done 9 ≡ false) × (eqb n.running.done 8 ≡ true)
   at-eight = (ap (λ (k : ℕ). eqb k 9) d, ap (λ (k : ℕ). eqb k 8) d)
 
-  pub turned-away : (x ≡ 0 → ⊥) → ninth_outcome (record { refusal = x; ended = 0; running = n.running }) n.closing_registry n.answers ≡ carry_out n
+  pub not_carried : {p : Refusal} → x ≡ refused p → ninth_outcome (turned_away p n.running) n.closing_registry n.answers ≡ carry_out n
   unfolding carry_out ninth_in_turn
-  turned-away z = rw (at-eight.0, at-eight.1) (go (ninth_tests n) e)
-    where
-      go : (m : Checked (Unit {0})) → x ≡ code_of m → ninth_outcome (record { refusal = x; ended = 0; running = n.running }) n.closing_registry n.answers ≡ ninth_in_turn n m
-      go (value u) q = absurd (z q)
-      go (refused r) q = rw q
+  not_carried z = rw (at-eight.0, at-eight.1, sym e ∙ z)
 
-  pub carries-out : x ≡ 0 → carried_under (settings_under n.rules) n.period n.running n.closing_registry n.orders n.answers ≡ carry_out n
+  pub carries-out : x ≡ value tt → carried_under (settings_under n.rules) n.period n.running n.closing_registry n.orders n.answers ≡ carry_out n
   unfolding carry_out ninth_in_turn carries_out carried_under
-  carries-out z = rw (at-eight.0, at-eight.1, passed (ninth_tests n) e z)
+  carries-out z = rw (at-eight.0, at-eight.1, sym e ∙ z)

@@ -1,40 +1,49 @@
--- The tests of the ninth call, one group after the other. `x` is the number that the code of a group gave.
-use mathlib.Core.Path.{◌≡◌, sym, ◌∙◌}
+-- The tests of the ninth call, one group after the other. `x` is what the code of a group answered.
+use mathlib.Core.Path.{◌≡◌, sym, ap, ◌∙◌}
 use Prim.Native.Nat.{ℕ, ◌*◌, ◌/◌, ◌%◌}
 use native.Mathlib.Omega.{arith}
 use borrow.Author.Tests.{leb-true, eqb-true, lt-ltb}
 use lib.Dec.{eqb}
 use lib.ListN.{length}
-use Rattle.definitions.specs.Checked.{code_of}
+use Rattle.definitions.specs.declared.Refusal.{Refusal}
+use Rattle.definitions.specs.Checked.{Checked, value, refused, done}
 use Rattle.definitions.specs.Rules.{settings_under}
 use Rattle.definitions_close.specs.QueueCalls.{then_queue}
 use Rattle.definitions_close.specs.Orders.{room, NinthCall, ninth_tests}
 use Rattle.laws.proofs.Rules.{shaped-under, good-under}
-use Rattle.laws.proofs.Tests.{both, in_order_lem, in_order-value}
+use Rattle.laws.proofs.Tests.{both, in_order-value}
 use Rattle.refusals.proofs.Laws.{registry-shaped, good-finality}
 use Rattle.validator_exit.specs.declared.Seen.{Seen}
-use Rattle.validator_exit.specs.Exits.{Sees}
-use Rattle.validator_exit.specs.Found.{found_tests}
+use Rattle.validator_exit.specs.Exits.{sees}
+use Rattle.validator_exit.specs.Found.{pair_test}
+use Rattle.validator_exit.proofs.Tests.{pass-tested, pass-found}
 use Rattle.validator_exit.proofs.queue_tests.Queue.{queue-passed}
-use Rattle.validator_exit.proofs.queue_tests.Found.{early-refused, found-code}
+use Rattle.validator_exit.proofs.queue_tests.Found.{early-refused, entry-refused, pair-code}
 use Rattle.orders.specs.Ninth.{lent_tests, Ready}
 
-module _ (n : NinthCall) {x : ℕ} (e : x ≡ code_of (lent_tests n.rules n.period n.running.answer.finality n.running.orders n.closing_registry n.orders n.answers)) where
-  pub lent-refuses : (x ≡ 0 → ⊥) → x ≡ code_of (ninth_tests n)
+module _ (n : NinthCall) {x : Checked (Unit {0})} (e : x ≡ lent_tests n.rules n.period n.running.answer.finality n.running.orders n.closing_registry n.orders n.answers) where
+  pub lent-refuses : {p : Refusal} → x ≡ refused p → ninth_tests n ≡ refused p
   unfolding lent_tests ninth_tests then_queue
   lent-refuses z = early-refused _ _ _ n.running.answer.queue n.closing_registry e z
 
-  pub lent-long : x ≡ 0 → length n.closing_registry ≡ 10 * (length n.closing_registry / 10)
-  unfolding lent_tests
-  lent-long z = (registry-shaped n.closing_registry ((in_order_lem _ _ _ (sym e ∙ z)).shaped 1)).long
+  -- before the registry is looked at
+  module _ (z : x ≡ value tt) where
+    pub lent-long : length n.closing_registry ≡ 10 * (length n.closing_registry / 10)
+    unfolding lent_tests
+    lent-long = (registry-shaped n.closing_registry ((in_order-value _ _ _ (sym e ∙ z)).shaped 1)).long
 
-  -- the registry's entries, and 8
-  pub found-tests : x ≡ 0 → {epoch : ℕ} {seen : Seen} {t : ℕ} → Sees epoch n.closing_registry seen → t ≡ found_tests seen.refusal n.running.answer.queue seen.queue → t ≡ code_of (ninth_tests n)
-  unfolding lent_tests ninth_tests then_queue
-  found-tests z h r = found-code _ _ _ n.running.answer.queue n.closing_registry e z h.tested h.queue r
+    -- the registry's entries, and 8
+    module _ (epoch : ℕ) {pass : Checked Seen} (f : pass ≡ sees epoch n.closing_registry) where
+      pub pass-refuses : {p : Refusal} → pass ≡ refused p → ninth_tests n ≡ refused p
+      unfolding lent_tests ninth_tests then_queue
+      pass-refuses y = entry-refused _ _ _ n.running.answer.queue n.closing_registry e z (pass-tested epoch n.closing_registry f) (ap done y)
+
+      pub pair-tests : {g : Seen} {t : Checked (Unit {0})} → pass ≡ value g → t ≡ pair_test n.running.answer.queue g.queue → t ≡ ninth_tests n
+      unfolding lent_tests ninth_tests then_queue
+      pair-tests y h = pair-code _ _ _ n.running.answer.queue n.closing_registry e z (pass-tested epoch n.closing_registry f) (ap done y) (pass-found epoch n.closing_registry f y).1 h
 
 -- all passed
-pub ready : (n : NinthCall) {x : ℕ} → x ≡ code_of (ninth_tests n) → x ≡ 0 → Ready (settings_under n.rules) n.running n.closing_registry n.orders n.answers
+pub ready : (n : NinthCall) {x : Checked (Unit {0})} → x ≡ ninth_tests n → x ≡ value tt → Ready (settings_under n.rules) n.running n.closing_registry n.orders n.answers
 unfolding ninth_tests then_queue
 ready n e z =
     let k = queue-passed _ n.running.answer.queue n.closing_registry e z in

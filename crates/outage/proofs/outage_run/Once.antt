@@ -15,6 +15,7 @@ use Rattle.listing.proofs.Closing.{same-refusal, same-finality, same-registry}
 use Rattle.definitions_file.specs.OutageRun.{head_of, closed_with, close_once}
 use Rattle.listing_lines.specs.Sizes.{longest_head}
 use Rattle.outage.specs.Went.{Went}
+use Rattle.laws_file.proofs.Codes.{no-refusal}
 use Rattle.refusals.proofs.Answers.{same-buffer}
 
 module _ (c : Contents) (xs ys : List ℕ) (l : length xs ≡ length c.registry) (m : length ys ≡ length c.slashings) where
@@ -28,7 +29,7 @@ module _ (c : Contents) (xs ys : List ℕ) (l : length xs ≡ length c.registry)
 
   same-slashings : (close (call_of c xs ys)).refusal ≡ 0 → (close (call_of c xs ys)).closing_slashings ≡ (close (closing c)).closing_slashings
   unfolding close closed
-  same-slashings e = same-buffer _ (close_tests (call_of c xs ys)) _ c.slashings ys c.slashings e ∙ rw same_tests
+  same-slashings e = same-buffer _ (close_tests (call_of c xs ys)) _ c.slashings ys c.slashings (no-refusal _ e) ∙ rw same_tests
 
   module _ {r : CloseAnswer} {us vs : List ℕ} (e : outcome r us vs ≡ close (call_of c xs ys)) where
     code : (close (closing c)).refusal ≡ r.refusal

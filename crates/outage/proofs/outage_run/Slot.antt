@@ -13,12 +13,13 @@ use Rattle.definitions.specs.Rules.{settings_under}
 use Rattle.definitions_file.specs.File.{Contents}
 use Rattle.definitions.specs.Close.{Step, Call, state_of, step, limited_up_to, limited_epoch, close_tests, limited_tests, closed, close}
 use Rattle.laws.proofs.Checked.{bound, number_not_zero, value_same}
-use Rattle.laws.proofs.Tests.{in_order_lem}
+use Rattle.laws.proofs.Tests.{in_order-value}
 use Rattle.refusals.proofs.Laws.{good-finality}
 use Rattle.laws.proofs.Frame.Slot.{slot_step}
 use Rattle.definitions_file.specs.Listing.{closing}
 use Rattle.definitions_file.specs.OutageRun.{close_once}
 use Rattle.outage.specs.Went.{Went}
+use Rattle.laws_file.proofs.Codes.{no-refusal}
 use Rattle.refusals.proofs.Answers.{tested}
 
 slot-steps : (s : Settings) (ks : List Step) (st after : BeaconState) → fold_checked (step s) st ks ≡ value after → after.finality.slot ≡ st.finality.slot
@@ -35,7 +36,7 @@ slot_kept c after e = slot-steps (settings_under c.rules) _ (state_of c) after (
 slot_small : (c : Call) → (close c).refusal ≡ 0 → c.finality.slot < 2 ^ 48
 unfolding close closed limited_tests
 slot_small c e =
-    let p = in_order_lem _ _ _ (tested (close_tests c) _ e) in
+    let p = in_order-value _ _ _ (tested (close_tests c) _ (no-refusal (closed c) e)) in
     (good-finality c.finality (p.recorded 0)).slot
 
 settled-slot : (c : Call) (m : Checked BeaconState) → closed c ≡ m → code_of m ≡ 0 → (settle m (state_of c)).finality.slot ≡ c.finality.slot

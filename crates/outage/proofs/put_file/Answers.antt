@@ -37,7 +37,7 @@ pub returns-then-not-good_tail : goal.returns-then-not-good_tail
 returns-then-not-good_tail c =
     let p = c.put_refused-then-not-good_tail.ensures in
     record {
-      put = rw (text-tail c.args.file.now c.args.tail.now (opened (goal.at.returns-then-not-good_tail c).Else-read-ne0).accepted (fails (tested (goal.at.returns-then-not-good_tail c).After-good_tail) (ap not c.if-not-good_tail.true))) p.put;
+      put = rw (text-tail c.args.file.now c.args.tail.now (opened (goal.at.returns-then-not-good_tail c).Else-read-ne0).accepted (fails (tested (goal.at.returns-then-not-good_tail c).After-good_tail) (ap not c.if-not-good_tail.true))) (rw c.number.ensures at p.put);
       inside = omega (arith, p.upper_bound, c.requires.bytes);
     }
 

@@ -24,19 +24,19 @@ put_run-requires c =
     record {
       ready = ready x o c.put_bytes.auto.file (simp (length-take, length-drop) (omega (arith, t.long))) c.read_numbers.auto.numbers;
       room = room x o (omega (arith, n, t.few));
-      opening_value = (shaped x o c.copy.ensures, c.copy.ensures);
-      opening_in_bounds = omega (arith, n, t.few, c.copy.auto.to, x.openings, x.few, x.bytes);
+      opening_value = (shaped x o c.copy_from_slice.ensures.after, c.copy_from_slice.ensures.after);
+      opening_in_bounds = omega (arith, n, t.few, c.copy_from_slice.auto.self, x.openings, x.few, x.bytes);
     }
 
 pub returns : goal.returns
 returns c =
     let x = c.requires.exact in
     let o = c.requires.opened in
-    let run = text-run c.args.file.now c.args.tail.now o.accepted (filled x o c.copy.ensures c.file_roots-read_roots.ensures c.put_bytes.ensures) (planned x o c.args.tail.now c.read_numbers.ensures) c.read_number-epochs.ensures.0 c.requires.tail_value in
+    let run = text-run c.args.file.now c.args.tail.now o.accepted (filled x o c.copy_from_slice.ensures.after c.file_roots-read_roots.ensures c.put_bytes.ensures) (planned x o c.args.tail.now c.read_numbers.ensures) c.read_number-epochs.ensures.0 c.requires.tail_value in
     printed-same run c.put_run.ensures
 
-pub copy-requires : goal.copy-requires
-copy-requires c = omega (arith, c.requires.exact.openings, c.requires.exact.entries)
+pub copy_from_slice-requires : goal.copy_from_slice-requires
+copy_from_slice-requires c = omega (arith, c.requires.exact.openings, c.requires.exact.entries)
 
 pub file_roots-read_roots-requires : goal.file_roots-read_roots-requires
 file_roots-read_roots-requires c = c.requires.exact.header

@@ -21,7 +21,7 @@ returns-then-h-ne0 c =
     let a = c.args in
     let p = c.put_refused.ensures in
     record {
-      put = rw (text-headless a.file.now a.tail.now (headless a.file.now c.read_header-h.ensures c.if-h-ne0.true)) p.put;
+      put = rw (text-headless a.file.now a.tail.now (headless a.file.now c.read_header-h.ensures c.if-h-ne0.true)) (rw c.number.ensures at p.put);
       inside = omega (arith, p.upper_bound, c.requires.bytes);
     }
 

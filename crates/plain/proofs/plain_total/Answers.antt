@@ -1,10 +1,10 @@
 use Rattle.definitions.specs.Plain.{plain_total}
 use Rattle.plain.proofs.plain_total.Goals as goal
 
-pub returns-in-Value : goal.returns-in-Value
+pub returns-in-Ok : goal.returns-in-Ok
 unfolding plain_total
-returns-in-Value c = rw c.in-Value.is
+returns-in-Ok c = rw c.in-Ok.is
 
-pub returns-in-Refused : goal.returns-in-Refused
+pub returns-in-Err : goal.returns-in-Err
 unfolding plain_total
-returns-in-Refused c = rw c.in-Refused.is
+returns-in-Err c = rw (c.in-Err.is, c.number.ensures)

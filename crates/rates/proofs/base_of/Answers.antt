@@ -1,10 +1,8 @@
-use Rattle.rewards.proofs.base_rewards.Base.{only-per_increment}
-use Rattle.arithmetic.proofs.Laws.{chain}
-use borrow.Author.Rules.{rules}
+use Rattle.arithmetic.proofs.Laws.{next, passes-on}
 use Rattle.rates.proofs.base_of.Goals as goal
 
-pub returns-in_default : goal.returns-in_default
-returns-in_default c = search (rules, chain, only-per_increment)
+pub returns-in_err-reward : goal.returns-in_err-reward
+returns-in_err-reward c = passes-on _ c.requires.per_increment c.in_err-reward.was c.from_residual.ensures
 
 pub returns : goal.returns
-returns c = search (rules, chain)
+returns c = next _ c.requires.per_increment c.in_ok-reward.was c.mul64.ensures

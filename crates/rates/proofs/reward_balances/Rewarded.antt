@@ -7,7 +7,8 @@ use lib.Dec.{ltb}
 use lib.ListN.{length, set}
 use Rattle.definitions.specs.declared.Deltas.{Deltas}
 use Rattle.definitions.specs.declared.Settings.{Settings}
-use Rattle.definitions.specs.Checked.{Refusal, Checked, value, refused, bind, add64, fold_checked}
+use Rattle.definitions.specs.Checked.{Checked, value, refused, bind, add64, fold_checked}
+use Rattle.definitions.specs.declared.Refusal.{Refusal}
 use Rattle.definitions.specs.Record.{Validator, decode_one, encode_one}
 use Rattle.definitions.specs.Updates.{with_balance}
 use Rattle.definitions.specs.Rust.Phase0.Helpers.{increase_balance, decrease_balance}

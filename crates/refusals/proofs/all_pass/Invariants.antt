@@ -1,10 +1,8 @@
-use mathlib.Core.Bool.{Bool}
-use Prim.Native.Nat.{◌-◌}
+use mathlib.Core.Bool.{Bool, not}
+use Prim.Native.Nat.{ℕ}
+use lib.Dec.{ltb, eqb}
 use Rattle.refusals.proofs.All.{Passed}
 use Rattle.refusals.proofs.all_pass.Given as goal
 
-abbrev pub invariant-loop-i : goal.invariant-loop-i
-invariant-loop-i l = Passed (λ (t : Bool). t) l.tests l.i
-
-abbrev pub decreases-loop-i : goal.decreases-loop-i
-decreases-loop-i l = l.i-end - l.i
+abbrev pub invariant-loop-test : goal.invariant-loop-test
+invariant-loop-test l = Passed (λ (t : Bool). t) l.tests l.test-index

@@ -3,6 +3,7 @@ use mathlib.Core.Path.{◌≡◌, refl, sym, ap}
 use Prim.Native.Nat.{ℕ}
 use native.Mathlib.Omega.{arith}
 use Rattle.definitions.specs.Record.{decode}
+use Rattle.definitions.specs.Checked.{code_of}
 use Rattle.definitions.specs.Raised.{raised_totals, close_answer_for}
 use Rattle.definitions.specs.Rust.Phase0.EpochProcessing.{reset_slashings}
 use Rattle.definitions.specs.Rust.Altair.EpochProcessing.{process_justification_and_finalization}
@@ -34,16 +35,16 @@ write_registry-wrote-requires c =
     let opening = good-finality c.args.finality c.requires.tested.finality in
     record { s_value = (c.requires.tested.settings.good, rw slot (small _ c.requires.tested.settings.small), omega (arith, finalized, opening.finalized)); opening_len = (c.requires.tested.registry, c.requires.closing_registry_len); finds = rw slot c.requires.finds }
 
-pub returns-then-wrote-ne0 : goal.returns-then-wrote-ne0
-returns-then-wrote-ne0 c =
-    record { limited_worked = worked-refused _ _ _ _ _ _ (justified (goal.at.returns-then-wrote-ne0 c).After-justification_core-justified) (given (goal.at.returns-then-wrote-ne0 c).Else-justified-ne0) c.write_registry-wrote.ensures.ran _ (λ z. omega (arith, c.if-wrote-ne0.true)) c.answer_with-refused.ensures; books = record { booked = λ z. absurd (omega (arith, c.if-wrote-ne0.true, answered _ _ _ c.answer_with-refused.ensures, z)) }; pair_of = record { pair = λ z. absurd (omega (arith, c.if-wrote-ne0.true, answered _ _ _ c.answer_with-refused.ensures, z)) } }
+pub returns-in-Err : goal.returns-in-Err
+returns-in-Err c =
+    record { limited_worked = worked-refused _ _ _ _ _ _ (justified (goal.at.returns-in-Err c).After-justification_core-justified) (given (goal.at.returns-in-Err c).Else-justified-ne0) c.write_registry-wrote.ensures.ran _ c.in-Err.is c.answer_with-refused.ensures; books = record { booked = λ z. absurd (answered _ _ _ c.answer_with-refused.ensures z) }; pair_of = record { pair = λ z. absurd (answered _ _ _ c.answer_with-refused.ensures z) } }
 
-pub returns : goal.returns
-returns c =
-    let slot = slot_kept c.args.limit _ _ _ c.args.slashings.now _ (justified (goal.at.returns c).After-justification_core-justified) (given (goal.at.returns c).Else-justified-ne0) in
+pub returns-in-Ok : goal.returns-in-Ok
+returns-in-Ok c =
+    let slot = slot_kept c.args.limit _ _ _ c.args.slashings.now _ (justified (goal.at.returns-in-Ok c).After-justification_core-justified) (given (goal.at.returns-in-Ok c).Else-justified-ne0) in
     let wrote = c.write_registry-wrote.ensures in record {
-      limited_worked = worked-done _ _ _ _ _ _ (justified (goal.at.returns c).After-justification_core-justified) (given (goal.at.returns c).Else-justified-ne0) wrote.ran (omega (arith, c.if-wrote-ne0.false))
-          (ap (λ (slot : ℕ). reset_slashings c.args.s slot c.args.slashings.now) (sym slot)) (omega (arith, given (goal.at.returns c).Else-justified-ne0)) refl refl;
-      books = record { booked = λ z. wrote.books.booked (omega (arith, c.if-wrote-ne0.false)) };
-      pair_of = record { pair = λ z. wrote.pair_of.pair (omega (arith, c.if-wrote-ne0.false)) };
+      limited_worked = worked-done _ _ _ _ _ _ (justified (goal.at.returns-in-Ok c).After-justification_core-justified) (given (goal.at.returns-in-Ok c).Else-justified-ne0) wrote.ran c.in-Ok.is
+          (ap (λ (slot : ℕ). reset_slashings c.args.s slot c.args.slashings.now) (sym slot)) (omega (arith, given (goal.at.returns-in-Ok c).Else-justified-ne0)) refl refl;
+      books = record { booked = λ z. wrote.books.booked (ap code_of c.in-Ok.is) };
+      pair_of = record { pair = λ z. wrote.pair_in.pair _ c.in-Ok.is };
     }

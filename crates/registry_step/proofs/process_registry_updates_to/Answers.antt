@@ -5,8 +5,8 @@ use Rattle.selection.proofs.Picking.{blank-length, blank_part}
 use Rattle.registry_step.proofs.Tests.{step-refused}
 use Rattle.registry_step.proofs.process_registry_updates_to.Goals as goal
 
-pub returns-then-refusal-ne0 : goal.returns-then-refusal-ne0
-returns-then-refusal-ne0 c = let a = c.args in step-refused Churn a.stop a.s a.state_slot a.finalized_epoch a.queue a.opening.now a.closing.now c.step_tests-refusal.ensures c.if-refusal-ne0.true
+pub returns-in-Err : goal.returns-in-Err
+returns-in-Err c = let a = c.args in step-refused Churn a.stop a.s a.state_slot a.finalized_epoch a.queue a.opening.now a.closing.now c.step_tests.ensures c.in-Err.is c.number.ensures
 
 pub step_surveyed-requires : goal.step_surveyed-requires
-step_surveyed-requires c = record { closing_value = sym c.step_tests-refusal.ensures ∙ c.if-refusal-ne0.false; kept_len = (blank-length 64 64 (omega arith), blank_part 64 64 (omega arith) (omega arith)) }
+step_surveyed-requires c = record { closing_value = sym c.step_tests.ensures ∙ c.in_default.is; kept_len = (blank-length 64 64 (omega arith), blank_part 64 64 (omega arith) (omega arith)) }

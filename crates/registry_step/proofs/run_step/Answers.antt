@@ -1,4 +1,3 @@
-use native.Mathlib.Omega.{arith}
 use Rattle.definitions.specs.RegisterOrder.{limited_updates_to}
 use Rattle.registry_step.proofs.Run.{run-restored, run-done}
 use Rattle.registry_step.proofs.run_step.Goals as goal
@@ -8,18 +7,18 @@ update_registry-done-requires c =
     record {
       s_value = c.requires.s_value;
       state_slot_bound = c.requires.state_slot_bound;
-      opening_len = (c.requires.opening_len.0, c.copy.ensures);
+      opening_len = (c.requires.opening_len.0, c.copy_from_slice.ensures.after);
       stop_in_bounds = c.requires.stop_in_bounds;
       queue_value = c.requires.queue_value;
       finds = c.requires.finds;
     }
 
-pub returns-then-done-ne0 : goal.returns-then-done-ne0
-returns-then-done-ne0 c =
+pub returns-in-Err : goal.returns-in-Err
+returns-in-Err c =
     let a = c.args in
-    run-restored (limited_updates_to a.limit a.stop a.s a.state_slot a.finalized_epoch) _ c.update_registry-done.ensures (λ z. omega (arith, z, c.if-done-ne0.true)) c.copy-then-done-ne0.ensures
+    run-restored (limited_updates_to a.limit a.stop a.s a.state_slot a.finalized_epoch) _ c.update_registry-done.ensures c.put_back.ensures c.in-Err.is c.number.ensures
 
 pub returns : goal.returns
 returns c =
     let a = c.args in
-    run-done (limited_updates_to a.limit a.stop a.s a.state_slot a.finalized_epoch) _ c.update_registry-done.ensures (omega (arith, c.if-done-ne0.false)) c.queue_of-after.ensures
+    run-done (limited_updates_to a.limit a.stop a.s a.state_slot a.finalized_epoch) _ c.update_registry-done.ensures c.put_back.ensures c.in_default.is c.queue_of-after.ensures

@@ -3,9 +3,8 @@ use mathlib.Core.List.{List, map}
 use mathlib.Core.Path.{◌≡◌, refl}
 use Prim.Native.Nat.{ℕ, ◌≤◌, max}
 use native.Mathlib.Omega.{arith}
-use Rattle.definitions.specs.declared.DeltasAnswer.{DeltasAnswer}
+use Rattle.definitions.specs.declared.Deltas.{Deltas}
 use Rattle.definitions.specs.declared.Settings.{Settings}
-use Rattle.definitions.specs.Answers.{SaysDeltas}
 use Rattle.definitions.specs.Checked.{Checked, value, refused, bind, sum64}
 use Rattle.definitions.specs.Lists.{filter}
 use Rattle.definitions.specs.Record.{Validator}
@@ -37,6 +36,6 @@ module _ (s : Settings) (state_slot finalized_epoch : ℕ) (vs : List Validator)
   unfolding flag_totals get_unslashed_participating_indices get_total_active_balance
   totals-first k = rw (← e, ← p) (three _ _ _ (flag_totals_of s) k)
 
-  pub flag-index : (v : Validator) {r : DeltasAnswer} → SaysDeltas (bind (get_total_balance s (filter (is_unslashed_participating current flag_index previous) vs)) (λ participating. flag_deltas_from s state_slot finalized_epoch vs current previous flag_index participating v)) r → SaysDeltas (get_flag_index_deltas s state_slot finalized_epoch vs flag_index v) r
+  pub flag-index : (v : Validator) {r : Checked Deltas} → r ≡ bind (get_total_balance s (filter (is_unslashed_participating current flag_index previous) vs)) (λ participating. flag_deltas_from s state_slot finalized_epoch vs current previous flag_index participating v) → r ≡ get_flag_index_deltas s state_slot finalized_epoch vs flag_index v
   unfolding get_flag_index_deltas
   flag-index v h = rw (← e, ← p, totals-first (λ t. flag_index_deltas s current previous flag_index t v)) h

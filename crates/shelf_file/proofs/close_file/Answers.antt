@@ -1,5 +1,5 @@
 use mathlib.Core.Bool.{true}
-use mathlib.Core.Path.{◌≡◌, ap}
+use mathlib.Core.Path.{◌≡◌, sym, ap, ◌∙◌}
 use Prim.Native.Nat.{ℕ, ◌+◌, ◌*◌, ◌≤◌}
 use native.Mathlib.Omega.{arith}
 use borrow.Author.Tests.{eqb-true}
@@ -9,7 +9,6 @@ use lib.Seq.{length-take-le}
 use Rattle.definitions_file.specs.File.{version_of, contents_of, good_header}
 use Rattle.laws.proofs.Tests.{both}
 use Rattle.refusals.proofs.All.{fails, passes}
-use Rattle.refusals.proofs.Answers.{passed}
 use Rattle.laws_file.proofs.Passed.{good-header}
 use Rattle.shelf_file.specs.Parts.{Counts, Counted}
 use Rattle.shelf_file.proofs.Parts.{counts-long}
@@ -41,16 +40,16 @@ closing-room c = let k = counts c in omega (arith, counts-long k, k, c.requires.
 
 pub returns-then-not-on_shelf : goal.returns-then-not-on_shelf
 returns-then-not-on_shelf c =
-    let f = off_shelf c.args.fork c.args.bellatrix c.args.file.now (fails c.on_shelf.ensures (ap not c.if-not-on_shelf.true)) c.args.part.now in
+    let f = off_shelf c.args.fork c.args.bellatrix c.args.file.now (fails c.on_shelf.ensures (ap not c.if-not-on_shelf.true)) c.number.ensures c.args.part.now in
     record { value = f.number; part_after = f.part }
 
-pub file_tests-refusal-requires : goal.file_tests-refusal-requires
+pub file_tests-requires : goal.file_tests-requires
 unfolding contents_of
-file_tests-refusal-requires c = record { counted = counted (goal.at.file_tests-refusal-requires c).After-read_counts-counts; settings_value = c.read_settings-settings.ensures }
+file_tests-requires c = record { counted = counted (goal.at.file_tests-requires c).After-read_counts-counts; settings_value = c.read_settings-settings.ensures }
 
-pub returns-then-refusal-ne0 : goal.returns-then-refusal-ne0
-returns-then-refusal-ne0 c =
-    let f = refused-tests c.args.fork c.args.bellatrix c.args.file.now c.file_tests-refusal.ensures c.if-refusal-ne0.true c.args.part.now in
+pub returns-in-Err : goal.returns-in-Err
+returns-in-Err c =
+    let f = refused-tests c.args.fork c.args.bellatrix c.args.file.now (sym c.file_tests.ensures ∙ c.in-Err.is) c.number-in-Err.ensures c.args.part.now in
     record { value = f.number; part_after = f.part }
 
 pub slice_bounds-close_passed-end-2 : goal.slice_bounds-close_passed-end-2
@@ -60,7 +59,7 @@ slice_bounds-close_passed-end-2 c =
 pub close_passed-requires : goal.close_passed-requires
 unfolding contents_of
 close_passed-requires c =
-    record { counted = counted (goal.at.close_passed-requires c).After-read_counts-counts; settings_value = (c.read_settings-settings.ensures, passed _ c.file_tests-refusal.ensures c.if-refusal-ne0.false); closing_len = (length-take-le _ c.args.closing_numbers.now (closing-room (goal.at.close_passed-requires c).After-read_counts-counts), c.requires.part_len) }
+    record { counted = counted (goal.at.close_passed-requires c).After-read_counts-counts; settings_value = (c.read_settings-settings.ensures, sym c.file_tests.ensures ∙ c.in_default.is); closing_len = (length-take-le _ c.args.closing_numbers.now (closing-room (goal.at.close_passed-requires c).After-read_counts-counts), c.requires.part_len) }
 
 pub returns : goal.returns
 returns c =

@@ -16,5 +16,5 @@ returns c =
     let p = c.requires.counted in
     let k = p.counts in
     let t = c.read_tests-tested in
-    let e = c.rules_refusal.ensures ∙ ap (λ (r : Rules). rules_refusal r t.result.refusal) (same-rules a.rules.fork a.rules.bellatrix a.file.now a.rules c.requires.settings_value refl refl) in
-    tested a.rules.fork a.rules.bellatrix a.file.now k.header k.second _ _ (front_length p ∙ k.registry) (behind-length p) e t.ensures.number
+    let e = c.rules_refusal.ensures ∙ ap (λ (r : Rules). rules_refusal r t.result.tested) (same-rules a.rules.fork a.rules.bellatrix a.file.now a.rules c.requires.settings_value refl refl) in
+    tested a.rules.fork a.rules.bellatrix a.file.now k.header k.second _ _ (front_length p ∙ k.registry) (behind-length p) e t.ensures.is

@@ -1,19 +1,18 @@
 use mathlib.Core.Path.{ap}
 use native.Mathlib.Omega.{arith}
-use borrow.Author.Rules.{rules}
-use Rattle.definitions.specs.declared.Number.TheVariants.{Value}
-use Rattle.arithmetic.proofs.Laws.{next, chain}
+use Rattle.definitions.specs.Checked.{value}
+use Rattle.arithmetic.proofs.Laws.{next, passes-on}
 use Rattle.slashings.specs.Adjusted.{adjusted_balance}
 use Rattle.slashings.proofs.adjusted_balance.Goals as goal
 
-pub returns-in_default : goal.returns-in_default
+pub returns-in_err-slashed : goal.returns-in_err-slashed
 unfolding adjusted_balance
-returns-in_default c = search (rules, chain)
+returns-in_err-slashed c = passes-on _ c.slashed_balance.ensures c.in_err-slashed.was c.from_residual.ensures
 
-pub returns-in_default-mul64 : goal.returns-in_default-mul64
+pub returns-in_err-product : goal.returns-in_err-product
 unfolding adjusted_balance
-returns-in_default-mul64 c = search (rules, chain)
+returns-in_err-product c = next _ c.slashed_balance.ensures c.in_ok-slashed.was (passes-on _ c.mul64.ensures c.in_err-product.was c.from_residual-in_err-product.ensures)
 
 pub returns : goal.returns
 unfolding adjusted_balance
-returns c = next _ c.slashed_balance.ensures c.in-Value.is (next _ c.mul64.ensures c.in-Value-mul64.is (record { is = ap Value (omega (arith, c.min-adjusted.ensures)) }))
+returns c = next _ c.slashed_balance.ensures c.in_ok-slashed.was (next _ c.mul64.ensures c.in_ok-product.was (ap value (omega (arith, c.min-adjusted.ensures))))

@@ -1,9 +1,5 @@
-use Prim.Native.Nat.{◌-◌}
 use Rattle.laws.proofs.Loops.Summed.{Added}
 use Rattle.slashings.proofs.slashed_balance.Given as goal
 
-abbrev pub invariant-loop-i : goal.invariant-loop-i
-invariant-loop-i l = Added l.slashings l.i l.sum
-
-abbrev pub decreases-loop-i : goal.decreases-loop-i
-decreases-loop-i l = l.n - l.i
+abbrev pub invariant-loop-amount : goal.invariant-loop-amount
+invariant-loop-amount l = Added l.slashings l.amount-index l.sum

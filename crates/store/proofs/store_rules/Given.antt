@@ -7,13 +7,14 @@ use native.Mathlib.Omega.{arith}
 use lib.ListN.{get_or, drop}
 use lib.Seq.{get_or-drop}
 use Rattle.definitions.specs.declared.Rules.{Rules}
-use Rattle.definitions.specs.Checked.{Checked, value, refused, Refusal, bind, number_of, code_of}
+use Rattle.definitions.specs.Checked.{Checked, value, refused, bind, number_of}
+use Rattle.definitions.specs.declared.Refusal.{Refusal}
 use Rattle.definitions.specs.Rules.{good_rules}
 use Rattle.definitions_close.specs.declared.RulesAnswer.{RulesAnswer}
 use Rattle.definitions_close.specs.Store.{Entry, Store, entries_from, entries, good_entries, rules_at, rules_answer_for}
 use Rattle.definitions_close.specs.StoreClose.{StoreCall, store_call_shaped, rules_at_slot, rules_for}
 use Rattle.laws.proofs.Checked.{number_not_zero}
-use Rattle.laws.proofs.Tests.{both, test, all-at, in_order_lem}
+use Rattle.laws.proofs.Tests.{both, test, all-at, in_order-value}
 use Rattle.refusals.proofs.Answers.{after-passed, after-refused}
 use Rattle.refusals.proofs.Laws.{good-settings}
 use Rattle.store.proofs.store_entries.Entries.{blank, length-entries, entry-at}
@@ -66,23 +67,22 @@ module _ (n : ℕ) (xs : List ℕ) (l : 0 < n) where
   unfolding rules_at_slot bind
   at_slot slot = rw (last_entry n xs l, last-slots)
 
--- x is the number of tests 1 and 2
-module _ (store : Store) (registry slashings roots closing_registry closing_slashings amounts : List ℕ) {x : ℕ} (e : x ≡ code_of (tests_with store registry slashings roots closing_registry closing_slashings amounts)) where
+-- x is what tests 1 and 2 answered
+module _ (store : Store) (registry slashings roots closing_registry closing_slashings amounts : List ℕ) {x : Checked (Unit {0})} (e : x ≡ tests_with store registry slashings roots closing_registry closing_slashings amounts) where
   -- passed: so have the store's
-  pub with-passed : x ≡ 0 → StorePassed store
+  pub with-passed : x ≡ value tt → StorePassed store
   unfolding tests_with
   with-passed z =
-      let q = in_order_lem _ _ _ (sym e ∙ z) in
+      let q = in_order-value _ _ _ (sym e ∙ z) in
       record { shape = store-shaped store (test _ (q.shaped 0) 0); entries-good = q.settings 0 }
 
   module _ (slot : ℕ) where
-    pub with-refused : (x ≡ 0 → ⊥) → turned_away x ≡ rules_answer_for (rules_with store slot registry slashings roots closing_registry closing_slashings amounts)
+    pub with-refused : {p : Refusal} {k : ℕ} → x ≡ refused p → k ≡ number_of p → turned_away k ≡ rules_answer_for (rules_with store slot registry slashings roots closing_registry closing_slashings amounts)
     unfolding rules_with
-    with-refused z =
+    with-refused z n =
         let tests = tests_with store registry slashings roots closing_registry closing_slashings amounts in
-        let r = after-refused tests (rules_at_slot slot (entries store)) e z in
-        rw r.is (ap turned_away r.number)
+        rw (after-refused tests (rules_at_slot slot (entries store)) e z, n)
 
-    pub with-rules : x ≡ 0 → rules_with store slot registry slashings roots closing_registry closing_slashings amounts ≡ rules_at_slot slot (entries store)
+    pub with-rules : x ≡ value tt → rules_with store slot registry slashings roots closing_registry closing_slashings amounts ≡ rules_at_slot slot (entries store)
     unfolding rules_with
     with-rules z = after-passed _ _ e z

@@ -1,11 +1,13 @@
-use Rattle.laws.proofs.Tests.{shape-failed}
+use Rattle.definitions.specs.Lists.{every}
+use Rattle.definitions.specs.Refusals.{in_order}
+use Rattle.definitions_close.specs.Calls.{lent}
 use Rattle.store.proofs.Passed.{no_room}
 use Rattle.store_steps.specs.Called.{ninth_tests_with}
 use Rattle.store_steps.proofs.ninth_tests.Goals as goal
 
 pub returns-then-store-n : goal.returns-then-store-n
-unfolding ninth_tests_with
-returns-then-store-n c = shape-failed _ _ _ 0 (no_room _ c.if-store-n.true)
+unfolding ninth_tests_with in_order every
+returns-then-store-n c = let a = c.args in rw (no_room (lent a.store.now a.count) c.if-store-n.true)
 
 pub returns : goal.returns
 unfolding ninth_tests_with

@@ -22,7 +22,7 @@ returns-then-done-eq9 c = rw (eq-eqb _ _ c.if-done-eq9.true)
 
 pub returns-then-done-ne8 : goal.returns-then-done-ne8
 unfolding store_carry_out
-returns-then-done-ne8 c = rw (ne_eqb _ _ c.if-done-eq9.false, ne_eqb _ _ c.if-done-ne8.true)
+returns-then-done-ne8 c = rw (ne_eqb _ _ c.if-done-eq9.false, ne_eqb _ _ c.if-done-ne8.true, c.turned_away.ensures)
 
 pub returns-then-refusal-ne0 : goal.returns-then-refusal-ne0
 returns-then-refusal-ne0 c =

@@ -21,7 +21,7 @@ returns-then-done-eq9 c = rw (eq-eqb _ _ c.if-done-eq9.true)
 
 pub returns-then-not-in_turn : goal.returns-then-not-in_turn
 returns-then-not-in_turn c =
-    out_of_turn (call (goal.at.returns-then-not-in_turn c).Start) c.if-done-eq9.false (fails c.in_turn.ensures (ap not c.if-not-in_turn.true))
+    rw c.turned_away.ensures (out_of_turn (call (goal.at.returns-then-not-in_turn c).Start) c.if-done-eq9.false (fails c.in_turn.ensures (ap not c.if-not-in_turn.true)))
 
 pub returns-then-done-eq0 : goal.returns-then-done-eq0
 returns-then-done-eq0 c =

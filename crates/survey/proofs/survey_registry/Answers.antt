@@ -1,4 +1,4 @@
-use Rattle.std.proofs.Common.{◌+◌, ◌-◌, ◌*◌, ◌<◌, arith}
+use Rattle.std.proofs.Common.{◌+◌, ◌*◌, ◌<◌, arith}
 use Rattle.laws.proofs.Loops.Reading.{reading_ten}
 use Rattle.selection.proofs.Kept.{kept_same}
 use Rattle.survey.proofs.Found.{seeing_none, room-active, room-queue, seeing_more, seeing_all}

@@ -1,7 +1,6 @@
 -- Every accepted close: its amounts are a value, they add up, and the eight of rewards are those of the delta leaves, cut.
 use mathlib.Core.Path.{◌≡◌, refl, ap, ◌∙◌}
 use mathlib.Core.List.{List}
-use Prim.Native.Nat.{◌-◌}
 use lib.ListN.{take}
 use Rattle.definitions.specs.declared.ActivationLimit.{ActivationLimit}
 use Rattle.definitions.specs.declared.Settings.{Settings}

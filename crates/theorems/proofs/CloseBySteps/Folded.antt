@@ -8,7 +8,8 @@ use lib.ListN.{take, drop, take-append-drop}
 use lib.Seq.{take-suc, drop-cons}
 use Rattle.definitions.specs.declared.Settings.{Settings}
 use Rattle.definitions.specs.Record.{BeaconState}
-use Rattle.definitions.specs.Checked.{Refusal, value, refused, bind, fold_checked}
+use Rattle.definitions.specs.Checked.{value, refused, bind, fold_checked}
+use Rattle.definitions.specs.declared.Refusal.{Refusal}
 use Rattle.definitions.specs.Close.{Step, justification_step, inactivity_step, rewards_step, registry_step, slashings_step, effective_balances_step, slashings_reset_step, participation_flags_step, steps, step, close_up_to, limited_up_to, process_epoch, limited_epoch}
 use Rattle.definitions_close.specs.CloseBySteps.{step_after}
 use Rattle.laws.proofs.Frame.Frames.{frames}

@@ -19,7 +19,7 @@ use Rattle.laws.proofs.Encode.{decode-encode}
 use Rattle.theorems.specs.CloseBySteps.Desk.{Desk, acts, arrived, ninth_call, Carries, NineCalls, CarriedOut, AfterNine}
 use Rattle.laws_close.proofs.Passed.{full-passed}
 use Rattle.theorems.proofs.CloseBySteps.Tests.{shaped_as, long_as}
-use Rattle.theorems.proofs.CloseBySteps.Turns.{UnderWay, desk_at, On, waiting, onward, ended}
+use Rattle.theorems.proofs.CloseBySteps.Turns.{UnderWay, desk_at, waiting, onward, ended}
 use Rattle.theorems.proofs.CloseBySteps.Eight.{stopped-done, onward-gives, Over, Way, under, over, any_way}
 
 module _ (c : FullCall) (st : BeaconState) (count : ℕ) (orders : List ℕ) (u : UnderWay c 8 st) (period : ℕ) (answers : List ℕ) where

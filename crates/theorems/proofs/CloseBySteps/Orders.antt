@@ -9,7 +9,8 @@ use lib.ListN.{length, get_or}
 use Rattle.definitions.specs.declared.Settings.{Settings}
 use Rattle.definitions.specs.Record.{Validator, nobody, FAR_FUTURE_EPOCH}
 use Rattle.definitions.specs.Updates.{with_exit}
-use Rattle.definitions.specs.Checked.{no_exit, too_early, Checked, value, refused, settle}
+use Rattle.definitions.specs.Checked.{Checked, value, refused, settle}
+use Rattle.definitions.specs.declared.Refusal.TheVariants.{NoExit, TooEarly}
 use Rattle.definitions.specs.Rust.Phase0.Helpers.{is_active_validator, get_current_epoch, initiate_validator_exit}
 use Rattle.definitions_close.specs.Orders.{Order, may_exit, is_due, process_voluntary_exit, carried_out}
 use Rattle.laws.proofs.Checked.{not_value}
@@ -35,7 +36,7 @@ order-exits s state_slot period vs o {ws} p = go (may_exit epoch vs i) refl (is_
     v : Validator
     v = get_or vs i nobody
 
-    go : (t : Bool) → may_exit epoch vs i ≡ t → (due : Bool) → cond t (cond due (initiate_validator_exit s state_slot vs i) (refused too_early)) (refused no_exit) ≡ value ws → Exits s state_slot vs i ws
+    go : (t : Bool) → may_exit epoch vs i ≡ t → (due : Bool) → cond t (cond due (initiate_validator_exit s state_slot vs i) (refused TooEarly)) (refused NoExit) ≡ value ws → Exits s state_slot vs i ws
     go true q true e =
         let a = both (ltb i (length vs) && is_active_validator v epoch) (eqb v.exit_epoch FAR_FUTURE_EPOCH) q in
         let b = both (ltb i (length vs)) (is_active_validator v epoch) a.0 in

@@ -12,7 +12,6 @@ use Rattle.definitions.specs.Lists.{all, every}
 use Rattle.definitions.specs.Record.{BeaconState, encode}
 use Rattle.definitions.specs.Checked.{value, bind}
 use Rattle.definitions.specs.Refusals.{in_order, registry_shaped, good_finality, good_validator, good_registry}
-use Rattle.definitions.specs.Rules.{good_rules}
 use Rattle.definitions.specs.ExitQueue.{queue_of, is_queue_of, queue_test}
 use Rattle.definitions.specs.Close.{Step, step, state_of, close_tests, limited_tests}
 use Rattle.definitions_close.specs.FullClose.{FullCall, full_tests, limited_full_tests}

@@ -10,7 +10,8 @@ use lib.ListN.{length, replicate}
 use Rattle.definitions.specs.declared.FullAnswer.{FullAnswer}
 use Rattle.definitions.specs.declared.Finality.{Finality}
 use Rattle.definitions.specs.Record.{Validator, BeaconState, encode}
-use Rattle.definitions.specs.Checked.{Refusal, number_of, Checked, value, refused, bind, fold_checked, settle}
+use Rattle.definitions.specs.Checked.{number_of, Checked, value, refused, bind, fold_checked, settle}
+use Rattle.definitions.specs.declared.Refusal.{Refusal}
 use Rattle.definitions.specs.Refusals.{after_tests, closing_buffer}
 use Rattle.definitions.specs.Raised.{none_raised, raised_totals, raised_unless_refused}
 use Rattle.definitions.specs.ExitQueue.{queue_of}

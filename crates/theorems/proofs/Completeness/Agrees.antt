@@ -7,7 +7,8 @@ use Rattle.definitions.specs.declared.ActivationLimit.{ActivationLimit}
 use Rattle.definitions.specs.declared.ActivationLimit.TheVariants.{Churn, AtMost}
 use Rattle.definitions.specs.declared.Settings.{Settings}
 use Rattle.definitions.specs.Record.{Validator, BeaconState}
-use Rattle.definitions.specs.Checked.{Refusal, value}
+use Rattle.definitions.specs.Checked.{value}
+use Rattle.definitions.specs.declared.Refusal.{Refusal}
 use Rattle.definitions.specs.Rules.{settings_under, in_place}
 use Rattle.definitions.specs.Document.Phase0.Helpers.{compute_activation_exit_epoch, get_current_epoch, get_previous_epoch, get_total_balance, get_total_active_balance}
 use Rattle.definitions.specs.Document.Phase0.EpochProcessing as document_epoch
@@ -25,7 +26,7 @@ use Rattle.theorems.specs.Completeness.DocumentIn64Bits as in64
 use Rattle.theorems.specs.Completeness.DocumentIn64Bits.{FlagTotals}
 use Rattle.theorems.specs.Completeness.Complete.{StepAgreesIn64Bits, CloseAgreesIn64Bits, DenebAgreesIn64Bits}
 use Rattle.laws.proofs.Checked.{fold_checked-value}
-use Rattle.agreement.proofs.Agrees.{Agrees, Overflow, OverflowOrNoRoot, value-agrees, equal-agrees, bind-agrees, cond-agrees, add64-agrees, mul64-agrees, map-agrees, fold_agrees}
+use Rattle.agreement.proofs.Agrees.{Agrees, IsOverflow, IsOverflowOrNoRoot, value-agrees, equal-agrees, bind-agrees, cond-agrees, add64-agrees, mul64-agrees, map-agrees, fold_agrees}
 use Rattle.agreement.proofs.Helpers.{activation-exit-epoch, total-balance, total_active_balance, leak, kept-validators}
 use Rattle.agreement.proofs.Deltas.{base_reward, inactivity-deltas}
 use Rattle.agreement.proofs.Rewards.{apply-delta}
@@ -39,7 +40,7 @@ use Rattle.agreement.proofs.Close.{slashings-reset, participation_flags}
 
 -- Inactivity
 
-score : (s : Settings) (state_slot finalized_epoch : ℕ) (v : Validator) → Agrees Overflow (in64.update_inactivity_score s state_slot finalized_epoch v) (document.update_inactivity_score s state_slot finalized_epoch v)
+score : (s : Settings) (state_slot finalized_epoch : ℕ) (v : Validator) → Agrees IsOverflow (in64.update_inactivity_score s state_slot finalized_epoch v) (document.update_inactivity_score s state_slot finalized_epoch v)
 unfolding in64.update_inactivity_score document.update_inactivity_score rust.moved_score rust.recovered_score
 score s state_slot finalized_epoch v =
     let hit = is_unslashed_participating (get_current_epoch s state_slot) 1 (get_previous_epoch s state_slot) v in
@@ -47,7 +48,7 @@ score s state_slot finalized_epoch v =
     (bind-agrees _ (cond-agrees hit value-agrees (add64-agrees _ _)) (bind-agrees _ (leak s _ _) value-agrees))
     value-agrees
 
-inactivity : (l : ActivationLimit) (s : Settings) (st : BeaconState) → Agrees Overflow (in64.limited_step l s st inactivity_step) (document.process_inactivity_updates s st)
+inactivity : (l : ActivationLimit) (s : Settings) (st : BeaconState) → Agrees IsOverflow (in64.limited_step l s st inactivity_step) (document.process_inactivity_updates s st)
 unfolding in64.limited_step in64.process_inactivity_updates document.process_inactivity_updates
 inactivity l s st =
     let genesis = eqb (get_current_epoch s st.finality.slot) 0 in
@@ -63,11 +64,11 @@ totals_of s state_slot vs flag_index =
       active = get_total_active_balance s state_slot vs;
     }
 
-pub flag-totals : (s : Settings) (state_slot : ℕ) (vs : List Validator) (flag_index : ℕ) → Agrees Overflow (in64.flag_totals s state_slot vs flag_index) (totals_of s state_slot vs flag_index)
+pub flag-totals : (s : Settings) (state_slot : ℕ) (vs : List Validator) (flag_index : ℕ) → Agrees IsOverflow (in64.flag_totals s state_slot vs flag_index) (totals_of s state_slot vs flag_index)
 unfolding in64.flag_totals
 flag-totals s state_slot vs flag_index = bind-agrees _ (total-balance s _) (bind-agrees _ (total_active_balance s _ _) value-agrees)
 
-delta_of_one : (s : Settings) (state_slot finalized_epoch : ℕ) (vs : List Validator) (flag_index : ℕ) (v : Validator) → Agrees Overflow (in64.flag_index_deltas s state_slot finalized_epoch flag_index (totals_of s state_slot vs flag_index) v) (document_helpers.flag_index_deltas s state_slot finalized_epoch vs flag_index v)
+delta_of_one : (s : Settings) (state_slot finalized_epoch : ℕ) (vs : List Validator) (flag_index : ℕ) (v : Validator) → Agrees IsOverflow (in64.flag_index_deltas s state_slot finalized_epoch flag_index (totals_of s state_slot vs flag_index) v) (document_helpers.flag_index_deltas s state_slot finalized_epoch vs flag_index v)
 unfolding in64.flag_index_deltas document_helpers.flag_index_deltas rust_helpers.hit_deltas rust_helpers.miss_deltas
 delta_of_one s state_slot finalized_epoch vs flag_index v =
     let previous_epoch = get_previous_epoch s state_slot in
@@ -80,17 +81,17 @@ delta_of_one s state_slot finalized_epoch vs flag_index v =
     (cond-agrees (eqb flag_index document_helpers.TIMELY_HEAD_FLAG_INDEX) value-agrees (bind-agrees _ (mul64-agrees _ _) value-agrees))))
     value-agrees
 
-pub delta-agrees : (s : Settings) (state_slot finalized_epoch : ℕ) (vs : List Validator) (flag_index : ℕ) (v : Validator) → Agrees Overflow (in64.deltas_of_one s state_slot finalized_epoch vs flag_index v) (document_helpers.flag_index_deltas s state_slot finalized_epoch vs flag_index v)
+pub delta-agrees : (s : Settings) (state_slot finalized_epoch : ℕ) (vs : List Validator) (flag_index : ℕ) (v : Validator) → Agrees IsOverflow (in64.deltas_of_one s state_slot finalized_epoch vs flag_index v) (document_helpers.flag_index_deltas s state_slot finalized_epoch vs flag_index v)
 unfolding in64.deltas_of_one
 delta-agrees s state_slot finalized_epoch vs flag_index v =
     bind-agrees _ (flag-totals s _ _ _) (delta_of_one s state_slot finalized_epoch vs flag_index v)
 
-pub flag-list : (s : Settings) (state_slot finalized_epoch : ℕ) (vs : List Validator) (flag_index : ℕ) → Agrees Overflow (in64.get_flag_index_deltas s state_slot finalized_epoch vs flag_index) (get_flag_index_deltas s state_slot finalized_epoch vs flag_index)
+pub flag-list : (s : Settings) (state_slot finalized_epoch : ℕ) (vs : List Validator) (flag_index : ℕ) → Agrees IsOverflow (in64.get_flag_index_deltas s state_slot finalized_epoch vs flag_index) (get_flag_index_deltas s state_slot finalized_epoch vs flag_index)
 unfolding in64.get_flag_index_deltas get_flag_index_deltas
 flag-list s state_slot finalized_epoch vs flag_index =
     bind-agrees _ (flag-totals s _ _ _) (map-agrees (delta_of_one s state_slot finalized_epoch vs flag_index) vs)
 
-rewards : (l : ActivationLimit) (s : Settings) (st : BeaconState) → Agrees Overflow (in64.limited_step l s st rewards_step) (document.process_rewards_and_penalties s s.inactivity_penalty_quotient_altair st)
+rewards : (l : ActivationLimit) (s : Settings) (st : BeaconState) → Agrees IsOverflow (in64.limited_step l s st rewards_step) (document.process_rewards_and_penalties s s.inactivity_penalty_quotient_altair st)
 unfolding in64.limited_step in64.process_rewards_and_penalties by_lists.get_inactivity_penalty_deltas rust_helpers.get_inactivity_penalty_deltas document.process_rewards_and_penalties get_inactivity_penalty_deltas document.apply_deltas
 rewards l s st =
     let genesis = eqb (get_current_epoch s st.finality.slot) 0 in
@@ -104,22 +105,22 @@ rewards l s st =
 
 -- Registry
 
-activate : (s : Settings) (state_slot : ℕ) (vs : List Validator) (index : ℕ) → let epoch = compute_activation_exit_epoch s (get_current_epoch s state_slot) in Agrees Overflow (in64.activate_at s state_slot vs index) (document_epoch.activate_at epoch vs index)
+activate : (s : Settings) (state_slot : ℕ) (vs : List Validator) (index : ℕ) → let epoch = compute_activation_exit_epoch s (get_current_epoch s state_slot) in Agrees IsOverflow (in64.activate_at s state_slot vs index) (document_epoch.activate_at epoch vs index)
 unfolding in64.activate_at
 activate s state_slot vs index = bind-agrees _ (activation-exit-epoch s _) value-agrees
 
-registry : (l : ActivationLimit) (s : Settings) (st : BeaconState) → Agrees Overflow (in64.limited_step l s st registry_step) (limited_registry l s st)
+registry : (l : ActivationLimit) (s : Settings) (st : BeaconState) → Agrees IsOverflow (in64.limited_step l s st registry_step) (limited_registry l s st)
 unfolding in64.limited_step in64.limited_registry_updates document_epoch.process_registry_updates document_epoch.dequeued deneb.process_registry_updates deneb.get_validator_activation_churn_limit
 registry Churn s st = bind-agrees _ (bind-agrees _ (fold_agrees (registry-at s _) _ _) (fold_agrees (activate s _) _ _)) value-agrees
 registry (AtMost maximum) s st = bind-agrees _ (bind-agrees _ (fold_agrees (registry-at s _) _ _) (fold_agrees (activate s _) _ _)) value-agrees
 
 -- Effective balances
 
-balance : (s : Settings) (v : Validator) → Agrees Overflow (in64.update_effective_balance s v) (document_epoch.update_effective_balance s v)
+balance : (s : Settings) (v : Validator) → Agrees IsOverflow (in64.update_effective_balance s v) (document_epoch.update_effective_balance s v)
 unfolding in64.update_effective_balance
 balance s v = bind-agrees _ (mul64-agrees _ _) (bind-agrees _ (mul64-agrees _ _) (effective-balance s v))
 
-effective-balances : (l : ActivationLimit) (s : Settings) (st : BeaconState) → Agrees Overflow (in64.limited_step l s st effective_balances_step) (document_epoch.process_effective_balance_updates s st)
+effective-balances : (l : ActivationLimit) (s : Settings) (st : BeaconState) → Agrees IsOverflow (in64.limited_step l s st effective_balances_step) (document_epoch.process_effective_balance_updates s st)
 unfolding in64.limited_step in64.process_effective_balance_updates document_epoch.process_effective_balance_updates
 effective-balances l s st = bind-agrees _ (map-agrees (balance s) _) value-agrees
 
@@ -127,14 +128,14 @@ effective-balances l s st = bind-agrees _ (map-agrees (balance s) _) value-agree
 
 -- 4 from justification alone
 abbrev StepAnswers : Step → Refusal → Type 0
-StepAnswers justification_step = OverflowOrNoRoot
-StepAnswers inactivity_step = Overflow
-StepAnswers rewards_step = Overflow
-StepAnswers registry_step = Overflow
-StepAnswers slashings_step = Overflow
-StepAnswers effective_balances_step = Overflow
-StepAnswers slashings_reset_step = Overflow
-StepAnswers participation_flags_step = Overflow
+StepAnswers justification_step = IsOverflowOrNoRoot
+StepAnswers inactivity_step = IsOverflow
+StepAnswers rewards_step = IsOverflow
+StepAnswers registry_step = IsOverflow
+StepAnswers slashings_step = IsOverflow
+StepAnswers effective_balances_step = IsOverflow
+StepAnswers slashings_reset_step = IsOverflow
+StepAnswers participation_flags_step = IsOverflow
 
 pub each_step : (l : ActivationLimit) (s : Settings) (st : BeaconState) (k : Step) → Agrees (StepAnswers k) (in64.limited_step l s st k) (limited_document_step l s st k)
 unfolding in64.limited_step

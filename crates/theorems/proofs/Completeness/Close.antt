@@ -10,7 +10,8 @@ use Rattle.definitions.specs.declared.ActivationLimit.{ActivationLimit}
 use Rattle.definitions.specs.declared.Settings.{Settings}
 use Rattle.definitions.specs.Record.{Validator, BeaconState}
 use Rattle.definitions.specs.Updates.{with_validators}
-use Rattle.definitions.specs.Checked.{overflow, Checked, value, refused, bind, fold_checked}
+use Rattle.definitions.specs.Checked.{Checked, value, refused, bind, fold_checked}
+use Rattle.definitions.specs.declared.Refusal.TheVariants.{Overflow}
 use Rattle.definitions.specs.Document.Phase0.Helpers.{get_current_epoch}
 use Rattle.definitions.specs.Document.Altair.EpochProcessing as document
 use Rattle.definitions.specs.Close as Rust
@@ -20,7 +21,7 @@ use Rattle.laws.specs.Bounds.{Passed}
 use Rattle.theorems.specs.Completeness.DocumentIn64Bits as in64
 use Rattle.theorems.specs.Completeness.Rows.{FinalizedAhead, Row, nobody_eligible, nobody_hits, no_validators, CloseRow, at_inactivity, at_effective_balances}
 use Rattle.theorems.specs.Completeness.Complete.{StepParts, NoRewardsRow, CloseParts, CompleteClose}
-use Rattle.agreement.proofs.Agrees.{Agrees, Overflow, not_refused, value-agrees, bind-agrees}
+use Rattle.agreement.proofs.Agrees.{Agrees, IsOverflow, not_refused, value-agrees, bind-agrees}
 use Rattle.agreement.proofs.Close.{each_step as agrees-step}
 use Rattle.theorems.proofs.Completeness.Laws.{refused_or_parted}
 use Rattle.theorems.proofs.Completeness.Agrees.{each_step}
@@ -43,7 +44,7 @@ along l s (k ∷ ks) st p = go (Rust.limited_step l s st k) refl (complete-step 
     go (value st') e (inl q) rest =
         ⊎_elim (λ f. inl (rw (← q, e) f)) (λ f. inr (later e f)) (rest st' (rw (kept_step l s st st' k e).slot p))
 
-met-refused : {l : ActivationLimit} {s : Settings} {st : BeaconState} {ks : List Step} → Met l s st ks → fold_checked (Rust.limited_step l s) st ks ≡ refused overflow
+met-refused : {l : ActivationLimit} {s : Settings} {st : BeaconState} {ks : List Step} → Met l s st ks → fold_checked (Rust.limited_step l s) st ks ≡ refused Overflow
 unfolding fold_checked bind
 met-refused (here q) = rw q.rust
 met-refused (later e m) = rw e (met-refused m)
@@ -108,7 +109,7 @@ met-listed l s st (later a (later b (later c (later d (later e (later f (later g
 
 -- The document's 64-bit close, once justification has given a value
 
-after-justification : (l : ActivationLimit) (s : Settings) (st : BeaconState) → let later = inactivity_step ∷ rewards_step ∷ registry_step ∷ slashings_step ∷ effective_balances_step ∷ slashings_reset_step ∷ participation_flags_step ∷ [] in Agrees Overflow (fold_checked (in64.limited_step l s) st later) (foldl (limited_document_step l s) st later)
+after-justification : (l : ActivationLimit) (s : Settings) (st : BeaconState) → let later = inactivity_step ∷ rewards_step ∷ registry_step ∷ slashings_step ∷ effective_balances_step ∷ slashings_reset_step ∷ participation_flags_step ∷ [] in Agrees IsOverflow (fold_checked (in64.limited_step l s) st later) (foldl (limited_document_step l s) st later)
 unfolding fold_checked
 after-justification l s st =
     bind-agrees _ (each_step l s _ inactivity_step)
@@ -119,7 +120,7 @@ after-justification l s st =
     (bind-agrees _ (each_step l s _ slashings_reset_step)
     (bind-agrees _ (each_step l s _ participation_flags_step) value-agrees))))))
 
-epoch-agrees : (l : ActivationLimit) (s : Settings) (st justified : BeaconState) → Rust.limited_step l s st justification_step ≡ value justified → Agrees Overflow (in64.limited_epoch l s st) (limited_document l s st)
+epoch-agrees : (l : ActivationLimit) (s : Settings) (st justified : BeaconState) → Rust.limited_step l s st justification_step ≡ value justified → Agrees IsOverflow (in64.limited_epoch l s st) (limited_document l s st)
 unfolding in64.limited_epoch fold_checked bind in64.limited_step
 epoch-agrees l s st justified e = rw (e, (agrees-step l s st justification_step).same justified e) (after-justification l s justified)
 

@@ -3,7 +3,8 @@ use mathlib.Core.Path.{◌≡◌, refl, sym, ap, ◌∙◌}
 use mathlib.Core.Logic.{◌⊎◌, inl, inr, ⊎_elim}
 use Rattle.definitions.specs.declared.ActivationLimit.TheVariants.{Churn}
 use Rattle.definitions.specs.Record.{BeaconState}
-use Rattle.definitions.specs.Checked.{Refusal, Checked, value, refused, bind}
+use Rattle.definitions.specs.Checked.{Checked, value, refused, bind}
+use Rattle.definitions.specs.declared.Refusal.{Refusal}
 use Rattle.definitions.specs.Refusals.{after_tests, closing_buffer}
 use Rattle.definitions.specs.Raised.{raised_unless_refused}
 use Rattle.definitions.specs.Rules.{settings_under}
@@ -14,8 +15,6 @@ use Rattle.theorems.specs.Completeness.Complete.{CloseParts}
 use Rattle.theorems.specs.Completeness.Calls.{registry_of, slashings_of, outcome_by, DocumentClosed, CloseCall}
 use Rattle.laws.proofs.Checked.{bound}
 use Rattle.laws.proofs.Bounds.{close_passed}
-use Rattle.agreement.proofs.Registry.{registry}
-use Rattle.agreement.proofs.Slashings.{slashings}
 use Rattle.agreement.proofs.Close.{close-agrees}
 use Rattle.agreement.proofs.Restored.{restored}
 use Rattle.theorems.proofs.Completeness.Close.{complete-close}

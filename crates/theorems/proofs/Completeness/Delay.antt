@@ -9,7 +9,8 @@ use lib.Dec.{leb}
 use Rattle.definitions.specs.declared.Settings.{Settings}
 use Rattle.definitions.specs.declared.Deltas.{Deltas}
 use Rattle.definitions.specs.Record.{Validator}
-use Rattle.definitions.specs.Checked.{overflow, value, refused, bind, sub64}
+use Rattle.definitions.specs.Checked.{value, refused, bind, sub64}
+use Rattle.definitions.specs.declared.Refusal.TheVariants.{Overflow}
 use Rattle.definitions.specs.Document.Phase0.Helpers.{is_active_validator, get_current_epoch, get_previous_epoch}
 use Rattle.definitions.specs.Document.Phase0.EpochProcessing as document
 use Rattle.definitions.specs.Document.Phase0.EpochProcessing.{is_eligible}
@@ -92,7 +93,7 @@ unfolding is_unslashed_participating is_eligible
 hit_eligible s state_slot flag_index v h = active-eligible (is_active_validator v (get_previous_epoch s state_slot)) _ _ _ h
 
 module _ (s : Settings) (state_slot finalized_epoch : ℕ) (a : get_previous_epoch s state_slot < finalized_epoch) where
-  pub leak-refused : is_in_inactivity_leak s state_slot finalized_epoch ≡ refused overflow
+  pub leak-refused : is_in_inactivity_leak s state_slot finalized_epoch ≡ refused Overflow
   unfolding is_in_inactivity_leak get_finality_delay sub64 bind
   leak-refused = rw (lt-leb finalized_epoch (get_previous_epoch s state_slot) a)
 
@@ -100,7 +101,7 @@ module _ (s : Settings) (state_slot finalized_epoch : ℕ) (a : get_previous_epo
   unfolding in64.update_inactivity_score
   score-refused v p = rw (p, leak-refused) (never-then _ (λ score. never_first _ never-refused))
 
-  pub totals-refused : (vs : List Validator) (flag_index : ℕ) → flag_totals s state_slot finalized_epoch vs flag_index ≡ refused overflow
+  pub totals-refused : (vs : List Validator) (flag_index : ℕ) → flag_totals s state_slot finalized_epoch vs flag_index ≡ refused Overflow
   unfolding flag_totals
   totals-refused vs flag_index =
       refuses (flag-totals s _ _ _ flag_index)
@@ -111,7 +112,7 @@ module _ (s : Settings) (state_slot finalized_epoch : ℕ) (a : get_previous_epo
   deltas-refused flag_index t v h =
       rw (hit_eligible s state_slot flag_index v h, h, leak-refused) (never-then _ (λ base. never_first _ never-refused))
 
-  pub delta-refused : (vs : List Validator) (flag_index : ℕ) (v : Validator) → get_flag_index_deltas s state_slot finalized_epoch vs flag_index v ≡ refused overflow
+  pub delta-refused : (vs : List Validator) (flag_index : ℕ) (v : Validator) → get_flag_index_deltas s state_slot finalized_epoch vs flag_index v ≡ refused Overflow
   unfolding get_flag_index_deltas bind
   delta-refused vs flag_index v = rw (totals-refused vs flag_index)
 

@@ -6,9 +6,11 @@ use mathlib.Core.Logic.{◌⊎◌, inl, inr}
 use Prim.Native.Nat.{ℕ}
 use native.Mathlib.Omega.{arith}
 use Rattle.definitions.specs.Lists.{filter}
-use Rattle.definitions.specs.Checked.{Refusal, overflow, Checked, value, refused, bind, map_checked, fold_checked}
+use Rattle.definitions.specs.Checked.{Checked, value, refused, bind, map_checked, fold_checked}
+use Rattle.definitions.specs.declared.Refusal.{Refusal}
+use Rattle.definitions.specs.declared.Refusal.TheVariants.{Overflow}
 use Rattle.laws.proofs.Checked.{not_value, bound}
-use Rattle.agreement.proofs.Agrees.{Agrees, Overflow, value-agrees, bind-agrees}
+use Rattle.agreement.proofs.Agrees.{Agrees, IsOverflow, value-agrees, bind-agrees}
 use Rattle.theorems.specs.Completeness.ListByList.{zip_checked}
 
 -- Two checked evaluations
@@ -56,7 +58,7 @@ never_first k h = record { never = λ b e. h.never _ (bound _ k e).gave }
 pub never-then : {A B : Type 0} (m : Checked A) {k : A → Checked B} → ((a : A) → Never (k a)) → Never (bind m k)
 never-then m h = record { never = λ b e. (h _).never b (bound m _ e).then }
 
-pub refuses : {A : Type 0} {m : Checked A} {x : A} → Agrees Overflow m x → Never m → m ≡ refused overflow
+pub refuses : {A : Type 0} {m : Checked A} {x : A} → Agrees IsOverflow m x → Never m → m ≡ refused Overflow
 refuses {m = value a} h n = absurd (n.never a refl)
 refuses {m = refused r} h n = ap refused (h.only r refl)
 
@@ -84,6 +86,6 @@ passes-all {f} p h (x ∷ xs) e = go (p x) refl e (passes-all p h xs)
     go false q g rest = rw (h x q, rest g)
 
 -- where one evaluation refuses, the other refuses too, or they part
-pub refused_or_parted : {A L : Type 0} {m : Checked A} (d : Checked A) {x : A} → m ≡ refused overflow → Agrees Overflow d x → ((a : A) → d ≡ value a → L) → (m ≡ d) ⊎ (L × (d ≡ value x))
+pub refused_or_parted : {A L : Type 0} {m : Checked A} (d : Checked A) {x : A} → m ≡ refused Overflow → Agrees IsOverflow d x → ((a : A) → d ≡ value a → L) → (m ≡ d) ⊎ (L × (d ≡ value x))
 refused_or_parted (value a) e h l = inr (l a refl, ap value (sym (h.same a refl)))
 refused_or_parted (refused r) e h l = inl (e ∙ ap refused (sym (h.only r refl)))

@@ -20,7 +20,7 @@ use Rattle.definitions.specs.Rust.Altair.EpochProcessing as by_validator
 use Rattle.theorems.specs.Completeness.ListByList as by_lists
 use Rattle.theorems.specs.Completeness.ListByList.{zip_checked, SameByLists, LeavesOfOne}
 use Rattle.laws.proofs.Checked.{bound}
-use Rattle.agreement.proofs.Agrees.{Agrees, Overflow, value-agrees, bind-agrees, map-agrees, fold_agrees}
+use Rattle.agreement.proofs.Agrees.{Agrees, IsOverflow, value-agrees, bind-agrees, map-agrees, fold_agrees}
 use Rattle.agreement.proofs.Deltas.{totals_of, flag-totals, flag-deltas, inactivity-deltas}
 use Rattle.agreement.proofs.Rewards.{map_same, apply-delta}
 use Rattle.laws_close.proofs.Amounts.Lists.{each_at}
@@ -86,7 +86,7 @@ module _ (s : Settings) (quotient state_slot finalized_epoch : ℕ) (vs : List V
       bind (by_lists.get_inactivity_penalty_deltas s quotient state_slot vs) (λ inactivity.
       fold_checked (zip_checked by_validator.apply_delta) vs (source ∷ target ∷ head ∷ inactivity ∷ [])))))
 
-  flag-list : (flag_index : ℕ) → Agrees Overflow (by_lists.get_flag_index_deltas s state_slot finalized_epoch vs flag_index) (map (document.flag_index_deltas s state_slot finalized_epoch vs flag_index) vs)
+  flag-list : (flag_index : ℕ) → Agrees IsOverflow (by_lists.get_flag_index_deltas s state_slot finalized_epoch vs flag_index) (map (document.flag_index_deltas s state_slot finalized_epoch vs flag_index) vs)
   unfolding by_lists.get_flag_index_deltas
   flag-list flag_index =
       bind-agrees _ (flag-totals s state_slot finalized_epoch vs flag_index) (map-agrees (flag-deltas s state_slot finalized_epoch vs flag_index) vs)
@@ -96,7 +96,7 @@ module _ (s : Settings) (quotient state_slot finalized_epoch : ℕ) (vs : List V
   flag-gives flag_index =
       gives-bind _ (flag-totals s state_slot finalized_epoch vs flag_index) ∙ ap (λ t. totals flag_index && t) (gives-map _ vs)
 
-  penalty-list : Agrees Overflow (by_lists.get_inactivity_penalty_deltas s quotient state_slot vs) (map (document.inactivity_penalty_deltas s quotient state_slot) vs)
+  penalty-list : Agrees IsOverflow (by_lists.get_inactivity_penalty_deltas s quotient state_slot vs) (map (document.inactivity_penalty_deltas s quotient state_slot) vs)
   unfolding by_lists.get_inactivity_penalty_deltas of_one.get_inactivity_penalty_deltas
   penalty-list = map-agrees (inactivity-deltas s quotient state_slot) vs
 
@@ -107,14 +107,14 @@ module _ (s : Settings) (quotient state_slot finalized_epoch : ℕ) (vs : List V
   abbrev all_applied : List Validator → Checked (List Validator)
   all_applied ws = fold_checked (zip_checked by_validator.apply_delta) ws (map (λ g. map g vs) plain)
 
-  applied-list : Agrees Overflow (all_applied vs) (map rewarded vs)
+  applied-list : Agrees IsOverflow (all_applied vs) (map rewarded vs)
   applied-list =
-      subst (λ ws. Agrees Overflow (all_applied ws) (map rewarded vs)) (sym (map_same vs)) (fold_zip_agrees apply-delta (λ v. v) plain vs)
+      subst (λ ws. Agrees IsOverflow (all_applied ws) (map rewarded vs)) (sym (map_same vs)) (fold_zip_agrees apply-delta (λ v. v) plain vs)
 
   applied-gives : gives (all_applied vs) ≡ all (λ v. gives (applied v)) vs
   applied-gives = ap (λ ws. gives (all_applied ws)) (map_same vs) ∙ gives_fold_zip apply-delta (λ v. v) plain vs
 
-  lists_agree : Agrees Overflow lists (map rewarded vs)
+  lists_agree : Agrees IsOverflow lists (map rewarded vs)
   lists_agree =
       bind-agrees _ (flag-list 0) (bind-agrees _ (flag-list 1) (bind-agrees _ (flag-list 2) (bind-agrees _ penalty-list applied-list)))
 
@@ -131,7 +131,7 @@ module _ (s : Settings) (quotient state_slot finalized_epoch : ℕ) (vs : List V
   abbrev one : Validator → Checked Validator
   one = by_validator.reward_and_penalize s quotient (get_current_epoch s state_slot) (get_previous_epoch s state_slot) (totals_of s state_slot finalized_epoch vs 0) (totals_of s state_slot finalized_epoch vs 1) (totals_of s state_slot finalized_epoch vs 2)
 
-  one-agrees : (v : Validator) → Agrees Overflow (one v) (rewarded v)
+  one-agrees : (v : Validator) → Agrees IsOverflow (one v) (rewarded v)
   unfolding by_validator.reward_and_penalize by_validator.all_deltas
   one-agrees v =
       let flag = flag-deltas s state_slot finalized_epoch vs in
@@ -162,7 +162,7 @@ module _ (s : Settings) (quotient state_slot finalized_epoch : ℕ) (vs : List V
       let reward = by_validator.reward_and_penalize s quotient (get_current_epoch s state_slot) (get_previous_epoch s state_slot) in
       bind (total 0) (λ source. bind (total 1) (λ target. bind (total 2) (λ head. map_checked (reward source target head) vs)))
 
-  validators_agree : Agrees Overflow validators (map rewarded vs)
+  validators_agree : Agrees IsOverflow validators (map rewarded vs)
   validators_agree =
       let total = flag-totals s state_slot finalized_epoch vs in
       bind-agrees _ (total 0) (bind-agrees _ (total 1) (bind-agrees _ (total 2) (map-agrees one-agrees vs)))

@@ -3,16 +3,17 @@ use mathlib.Core.Path.{◌≡◌, refl, sym, ap, ap₂, ◌∙◌}
 use mathlib.Core.Bool.{Bool, true, false, ◌&&◌, false≢true}
 use mathlib.Core.List.{List, [], ◌∷◌, map, foldl}
 use Rattle.definitions.specs.Lists.{all}
-use Rattle.definitions.specs.Checked.{Refusal, Checked, value, refused, bind, map_checked, fold_checked}
+use Rattle.definitions.specs.Checked.{Checked, value, refused, bind, map_checked, fold_checked}
+use Rattle.definitions.specs.declared.Refusal.{Refusal}
 use Rattle.theorems.specs.Completeness.ListByList.{zip_checked}
-use Rattle.agreement.proofs.Agrees.{Agrees, Overflow, value-agrees, bind-agrees}
+use Rattle.agreement.proofs.Agrees.{Agrees, IsOverflow, value-agrees, bind-agrees}
 
 -- whether it gives a value
 abbrev pub gives : {A : Type 0} → Checked A → Bool
 gives (value a) = true
 gives (refused r) = false
 
-pub same-value : {A : Type 0} (m d : Checked A) {x : A} → Agrees Overflow m x → Agrees Overflow d x → gives m ≡ gives d → m ≡ d
+pub same-value : {A : Type 0} (m d : Checked A) {x : A} → Agrees IsOverflow m x → Agrees IsOverflow d x → gives m ≡ gives d → m ≡ d
 same-value (value a) (value b) h g e = ap value (sym (h.same a refl) ∙ g.same b refl)
 same-value (refused r) (refused q) h g e = ap refused (h.only r refl ∙ sym (g.only q refl))
 same-value (value a) (refused r) h g e = absurd (false≢true (sym e))

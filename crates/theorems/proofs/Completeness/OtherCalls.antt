@@ -12,21 +12,20 @@ use Rattle.definitions.specs.declared.CloseAnswer.{CloseAnswer}
 use Rattle.definitions.specs.Lists.{every}
 use Rattle.definitions.specs.Record.{BeaconState, decode}
 use Rattle.definitions.specs.Updates.{with_finality}
-use Rattle.definitions.specs.Checked.{Refusal, bad_file, wrong_queue, Checked, value, refused, bind, number_of, code_of}
+use Rattle.definitions.specs.Checked.{Checked, value, refused, bind, code_of}
+use Rattle.definitions.specs.declared.Refusal.TheVariants.{BadFile, WrongQueue}
 use Rattle.definitions.specs.Raised.{raised_totals, raised_unless_refused, close_answer_for}
 use Rattle.definitions.specs.Refusals.{in_order, after_tests, justification_tests}
 use Rattle.definitions.specs.Rust.Altair.EpochProcessing as rust
-use Rattle.definitions.specs.Close.{justification_step, step, limited_step}
+use Rattle.definitions.specs.Close.{limited_step}
 use Rattle.definitions.specs.ExitQueue.{is_queue_of, queue_test}
 use Rattle.definitions_file.specs.File.{Contents, contents_of, queue_in, good_header, write_tests, read_tests, read_file, read}
 use Rattle.laws.proofs.Tests.{tested}
-use Rattle.agreement.specs.Agreement.{document_step}
 use Rattle.agreement.specs.Restored.{OneOf}
 use Rattle.theorems.specs.Completeness.Calls.{justification_in64_bits, JustificationCall, JustificationCalls, FileCalls}
 use Rattle.theorems.specs.Completeness.DocumentIn64Bits as in64
 use Rattle.agreement.proofs.Justification.{justification}
 use Rattle.agreement.proofs.Registry.{registry}
-use Rattle.agreement.proofs.Slashings.{slashings}
 use Rattle.agreement.proofs.Restored.{low, high, one_left, one_right, tests-number, work-number}
 
 not_zero : (n : ℕ) → OneOf n (1 ∷ 2 ∷ 3 ∷ 4 ∷ 5 ∷ []) → n ≡ 0 → ⊥
@@ -91,7 +90,7 @@ justification-calls s st registry answer e h =
 -- Files
 
 abbrev eight : Bool → Checked (Unit {0})
-eight t = cond t (value tt) (refused wrong_queue)
+eight t = cond t (value tt) (refused WrongQueue)
 
 -- 1, 2 or 3, and 8 once they have passed
 record_number : (a b d : List Bool) (e : Bool) → OneOf (code_of (bind (in_order a b d) (λ _. eight e))) (0 ∷ 1 ∷ 2 ∷ 3 ∷ 8 ∷ [])
@@ -105,11 +104,11 @@ record_number a b d e = go (every a) (every b) (every d) e
     go true true true false = inr (inr (inr (inr (inl refl))))
     go true true true true = inl refl
 
-read_number : (header : Bool) (a b d : List Bool) (e : Bool) (c : Contents) → OneOf (code_of (bind (cond header (bind (in_order a b d) (λ _. eight e)) (refused bad_file)) (λ _. value c))) (0 ∷ 1 ∷ 2 ∷ 3 ∷ 6 ∷ 8 ∷ [])
+read_number : (header : Bool) (a b d : List Bool) (e : Bool) (c : Contents) → OneOf (code_of (bind (cond header (bind (in_order a b d) (λ _. eight e)) (refused BadFile)) (λ _. value c))) (0 ∷ 1 ∷ 2 ∷ 3 ∷ 6 ∷ 8 ∷ [])
 unfolding in_order bind
 read_number header a b d e c = go header (every a) (every b) (every d) e
   where
-    go : (h a b d e : Bool) → OneOf (code_of (bind (cond h (bind (tested a b d) (λ _. eight e)) (refused bad_file)) (λ _. value c))) (0 ∷ 1 ∷ 2 ∷ 3 ∷ 6 ∷ 8 ∷ [])
+    go : (h a b d e : Bool) → OneOf (code_of (bind (cond h (bind (tested a b d) (λ _. eight e)) (refused BadFile)) (λ _. value c))) (0 ∷ 1 ∷ 2 ∷ 3 ∷ 6 ∷ 8 ∷ [])
     go false a b d e = inr (inr (inr (inr (inl refl))))
     go true false b d e = inr (inl refl)
     go true true false d e = inr (inr (inl refl))

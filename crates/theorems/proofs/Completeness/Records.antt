@@ -1,6 +1,6 @@
 -- The smallest records of docs/DIFFERENCES.md, by computing.
 use mathlib.Core.Path.{refl}
-use mathlib.Core.List.{List, [], zip_with}
+use mathlib.Core.List.{List, zip_with}
 use mathlib.Core.Logic.{inl}
 use Prim.Native.Nat.{ℕ}
 use native.Mathlib.Omega.{arith}

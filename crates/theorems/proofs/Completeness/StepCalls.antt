@@ -12,13 +12,15 @@ use Rattle.definitions.specs.declared.Rules.{Rules}
 use Rattle.definitions.specs.Lists.{every}
 use Rattle.definitions.specs.Record.{Validator, BeaconState, encode, decode}
 use Rattle.definitions.specs.Updates.{with_validators, with_slashings}
-use Rattle.definitions.specs.Checked.{Refusal, bad_shape, bad_record, overflow, Checked, value, refused, bind, number_of}
+use Rattle.definitions.specs.Checked.{Checked, value, refused, bind, number_of}
+use Rattle.definitions.specs.declared.Refusal.{Refusal}
+use Rattle.definitions.specs.declared.Refusal.TheVariants.{BadShape, BadRecord, Overflow}
 use Rattle.definitions.specs.Refusals.{in_order, after_tests, closing_buffer, registry_tests, effective_balance_tests, slashings_reset_tests, rotation_tests}
 use Rattle.definitions.specs.Rules.{settings_under, rewards_tests, slashings_tests}
 use Rattle.definitions.specs.RegisterOrder.{registry_to_tests}
 use Rattle.definitions.specs.Rust.Phase0.EpochProcessing.{process_registry_updates, reset_slashings}
 use Rattle.definitions.specs.Rust.Altair.EpochProcessing as rust
-use Rattle.definitions.specs.Close.{on_validators, finalized_epoch_of, Step, inactivity_step, rewards_step, registry_step, slashings_step, effective_balances_step, slashings_reset_step, participation_flags_step, step, limited_step}
+use Rattle.definitions.specs.Close.{on_validators, finalized_epoch_of, Step, inactivity_step, rewards_step, registry_step, slashings_step, effective_balances_step, slashings_reset_step, participation_flags_step, limited_step}
 use Rattle.agreement.specs.Agreement.{document_step}
 use Rattle.laws.specs.Bounds.{Passed}
 use Rattle.agreement.specs.Restored.{OneOf}
@@ -28,7 +30,7 @@ use Rattle.theorems.specs.Completeness.Calls.{LimitedStepCall, registry_of, slas
 use Rattle.laws.proofs.Tests.{tested, in_order-value}
 use Rattle.laws.specs.Stopped.{kept_from}
 use Rattle.laws.proofs.ActivationQueue.Stopped.{stopped}
-use Rattle.agreement.proofs.Agrees.{Agrees, Overflow, not_refused}
+use Rattle.agreement.proofs.Agrees.{Agrees, IsOverflow, not_refused}
 use Rattle.agreement.proofs.Bellatrix.{under}
 use Rattle.laws.proofs.Bounds.{tests-passed, rules-passed}
 use Rattle.agreement.proofs.Inactivity.{inactivity}
@@ -37,7 +39,7 @@ use Rattle.agreement.proofs.Registry.{registry}
 use Rattle.agreement.proofs.Slashings.{slashings}
 use Rattle.agreement.proofs.EffectiveBalances.{effective-balances}
 use Rattle.agreement.proofs.Close.{slashings-reset, participation_flags}
-use Rattle.agreement.proofs.Restored.{restored, low, high, one_left, tests-number, work-number}
+use Rattle.agreement.proofs.Restored.{low, high, one_left, tests-number, work-number}
 use Rattle.theorems.proofs.Completeness.Steps.{complete-step}
 
 -- the contract's work, on the whole state
@@ -94,7 +96,7 @@ three a b d q e =
     let n = tests-number a b d q e in
     (inr (one_left (number_of q) (1 ∷ 2 ∷ 3 ∷ []) (5 ∷ []) n), n)
 
-five : (q : Refusal) → q ≡ overflow → Works (0 ∷ 1 ∷ 2 ∷ 3 ∷ 5 ∷ []) q
+five : (q : Refusal) → q ≡ Overflow → Works (0 ∷ 1 ∷ 2 ∷ 3 ∷ 5 ∷ []) q
 five q e = (rw e (inr (inr (inr (inr (inl refl))))), work-number q (inl e))
 
 -- the tests of flag rotation, which is lent no settings, answer 1 or 3
@@ -103,8 +105,8 @@ unfolding in_order every
 one_or_three a d q e = go (every a) (every d) e
   where
     go : (a d : Bool) → tested a true d ≡ refused q → Tests (0 ∷ 1 ∷ 3 ∷ []) q
-    go false d e = let p : q ≡ bad_shape = cc in rw p (inr (inl refl), inl refl)
-    go true false e = let p : q ≡ bad_record = cc in rw p (inr (inr (inl refl)), inr (inr (inl refl)))
+    go false d e = let p : q ≡ BadShape = cc in rw p (inr (inl refl), inl refl)
+    go true false e = let p : q ≡ BadRecord = cc in rw p (inr (inr (inl refl)), inr (inr (inl refl)))
     go true true e = absurd (not_refused e)
 
 -- a step over the registry
@@ -113,7 +115,7 @@ on-registry st tests work h = widen encode registry_of (λ vs. with_validators v
 
 module _ (l : ActivationLimit) (s : Settings) (st : BeaconState) (contents : BeaconState → List ℕ) {opening closing after : List ℕ} {r : ℕ} where
   -- which refuses with 5 alone
-  pub step_call : (k : Step) (a b d : List Bool) {document : BeaconState} → Agrees Overflow (limited_step l s st k) document → (k ≡ registry_step → in_order a b d ≡ value tt → Passed s st.finality.slot) → Closes contents (in_order a b d) (limited_step l s st k) opening closing after r → LimitedStepCall l s document st k contents (0 ∷ 1 ∷ 2 ∷ 3 ∷ 5 ∷ []) (in_order a b d) opening closing after r
+  pub step_call : (k : Step) (a b d : List Bool) {document : BeaconState} → Agrees IsOverflow (limited_step l s st k) document → (k ≡ registry_step → in_order a b d ≡ value tt → Passed s st.finality.slot) → Closes contents (in_order a b d) (limited_step l s st k) opening closing after r → LimitedStepCall l s document st k contents (0 ∷ 1 ∷ 2 ∷ 3 ∷ 5 ∷ []) (in_order a b d) opening closing after r
   step_call k a b d h p c =
       record {
         by_number = by_number contents (inl refl) five (in_order a b d) (limited_step l s st k) (three a b d) h c;

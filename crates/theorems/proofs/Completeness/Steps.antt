@@ -13,8 +13,9 @@ use Rattle.definitions.specs.declared.ActivationLimit.{ActivationLimit}
 use Rattle.definitions.specs.declared.Settings.{Settings}
 use Rattle.definitions.specs.declared.Deltas.{Deltas}
 use Rattle.definitions.specs.Record.{Validator, BeaconState}
-use Rattle.definitions.specs.Checked.{overflow, value, refused, bind, map_checked, fold_checked}
-use Rattle.definitions.specs.Document.Phase0.Helpers.{get_current_epoch, get_previous_epoch, get_validator_churn_limit}
+use Rattle.definitions.specs.Checked.{value, refused, bind, map_checked, fold_checked}
+use Rattle.definitions.specs.declared.Refusal.TheVariants.{Overflow}
+use Rattle.definitions.specs.Document.Phase0.Helpers.{get_current_epoch, get_previous_epoch}
 use Rattle.definitions.specs.Document.Phase0.EpochProcessing as document_epoch
 use Rattle.definitions.specs.Document.Phase0.EpochProcessing.{is_eligible, activation_queue, dequeued}
 use Rattle.definitions.specs.Document.Altair.Helpers.{get_unslashed_participating_indices}
@@ -30,7 +31,7 @@ use Rattle.theorems.specs.Completeness.DocumentIn64Bits as in64
 use Rattle.theorems.specs.Completeness.Rows.{hits, hitters, FinalizedAhead, downward, upward, Row, nobody_eligible, nobody_hits, no_validators}
 use Rattle.theorems.specs.Completeness.Complete.{StepParts, CompleteStep, EveryRow}
 use Rattle.laws.proofs.Checked.{bound, map-alike}
-use Rattle.agreement.proofs.Agrees.{Agrees, Overflow, not_refused}
+use Rattle.agreement.proofs.Agrees.{Agrees, IsOverflow, not_refused}
 use Rattle.laws.proofs.Fits.{mul64-fits}
 use Rattle.laws.proofs.Bounds.{given}
 use Rattle.agreement.proofs.EffectiveBalances.{effective-balances}
@@ -46,7 +47,7 @@ module _ (l : ActivationLimit) where
   Settled s st k = (Rust.limited_step l s st k ≡ in64.limited_step l s st k) ⊎ StepParts l s st k
 
   -- where the Rust's refuses, it is enough to list the record on which the other gives a value
-  rust-refused : (s : Settings) (st : BeaconState) (k : Step) → Rust.limited_step l s st k ≡ refused overflow → Agrees Overflow (in64.limited_step l s st k) (limited_document_step l s st k) → ((st' : BeaconState) → in64.limited_step l s st k ≡ value st' → Row s st k) → Settled s st k
+  rust-refused : (s : Settings) (st : BeaconState) (k : Step) → Rust.limited_step l s st k ≡ refused Overflow → Agrees IsOverflow (in64.limited_step l s st k) (limited_document_step l s st k) → ((st' : BeaconState) → in64.limited_step l s st k ≡ value st' → Row s st k) → Settled s st k
   rust-refused s st k e h met =
       ⊎_elim (λ p. inl p) (λ p. inr (record { row = p.0; rust = e; document = p.1 })) (refused_or_parted (in64.limited_step l s st k) e h met)
 
@@ -71,11 +72,11 @@ module _ (l : ActivationLimit) where
     started : eqb (get_current_epoch s st.finality.slot) 0 ≡ false
     started = ne_eqb (get_current_epoch s st.finality.slot) 0 (λ e. omega arith)
 
-    pub inactivity-refused : Rust.limited_step l s st inactivity_step ≡ refused overflow
+    pub inactivity-refused : Rust.limited_step l s st inactivity_step ≡ refused Overflow
     unfolding Rust.limited_step rust.process_inactivity_updates bind
     inactivity-refused = rw (started, leak-refused s _ _ a.ahead)
 
-    rewards-refused : Rust.limited_step l s st rewards_step ≡ refused overflow
+    rewards-refused : Rust.limited_step l s st rewards_step ≡ refused Overflow
     unfolding Rust.limited_step rust.process_rewards_and_penalties bind
     rewards-refused = rw (started, totals-refused s _ _ a.ahead st.validators 0)
 
@@ -145,11 +146,11 @@ module _ (l : ActivationLimit) where
   both-fit s st d u = inl (rw (mul64-fits _ _ d, mul64-fits _ _ u, map-alike (balance-same s d u) st.validators))
 
   module _ (s : Settings) (st : BeaconState) where
-    downward-refused : 2 ^ 64 ≤ downward s → Rust.limited_step l s st effective_balances_step ≡ refused overflow
+    downward-refused : 2 ^ 64 ≤ downward s → Rust.limited_step l s st effective_balances_step ≡ refused Overflow
     unfolding Rust.limited_step rust_epoch.process_effective_balance_updates bind
     downward-refused d = rw (mul64-refused _ _ d)
 
-    upward-refused : 2 ^ 64 ≤ upward s → Rust.limited_step l s st effective_balances_step ≡ refused overflow
+    upward-refused : 2 ^ 64 ≤ upward s → Rust.limited_step l s st effective_balances_step ≡ refused Overflow
     unfolding Rust.limited_step rust_epoch.process_effective_balance_updates
     upward-refused u =
         refuses (effective-balances l s st)
@@ -160,7 +161,7 @@ module _ (l : ActivationLimit) where
     balance-refused (inl d) v = rw (mul64-refused _ _ d) (never_first _ never-refused)
     balance-refused (inr u) v = rw (mul64-refused _ _ u) (never-then _ (λ d. never_first _ never-refused))
 
-    one-leaves : Rust.limited_step l s st effective_balances_step ≡ refused overflow → (2 ^ 64 ≤ downward s) ⊎ (2 ^ 64 ≤ upward s) → Settled s st effective_balances_step
+    one-leaves : Rust.limited_step l s st effective_balances_step ≡ refused Overflow → (2 ^ 64 ≤ downward s) ⊎ (2 ^ 64 ≤ upward s) → Settled s st effective_balances_step
     one-leaves e p =
         rust-refused s st effective_balances_step e (each_step l s st effective_balances_step)
         (λ st' g. no_validators (empty-registry s st st' (balance-refused p) g) p)
@@ -190,7 +191,7 @@ unfolding in64.update_inactivity_score
 skips s state_slot finalized_epoch v p = rw p
 
 module _ (l : ActivationLimit) where
-  rows-refused : (s : Settings) (st : BeaconState) (k : Step) → Row s st k → Rust.limited_step l s st k ≡ refused overflow
+  rows-refused : (s : Settings) (st : BeaconState) (k : Step) → Row s st k → Rust.limited_step l s st k ≡ refused Overflow
   rows-refused s st inactivity_step (nobody_eligible a e) = inactivity-refused l s st a
   rows-refused s st rewards_step (nobody_hits a e f g) = rewards-refused l s st a
   rows-refused s st justification_step x = elim x [ ]

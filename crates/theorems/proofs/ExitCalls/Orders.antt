@@ -9,7 +9,8 @@ use lib.ListN.{get_or}
 use Rattle.definitions.specs.declared.Settings.{Settings}
 use Rattle.definitions.specs.Lists.{all}
 use Rattle.definitions.specs.Record.{Validator, nobody, encode, decode}
-use Rattle.definitions.specs.Checked.{bad_shape, no_exit, too_early, number_of, Checked, value, refused, code_of, settle}
+use Rattle.definitions.specs.Checked.{number_of, Checked, value, refused, code_of, settle}
+use Rattle.definitions.specs.declared.Refusal.TheVariants.{BadShape, NoExit, TooEarly}
 use Rattle.definitions.specs.Rules.{settings_under}
 use Rattle.definitions.specs.Rust.Phase0.Helpers.{get_current_epoch, initiate_validator_exit}
 use Rattle.laws.proofs.Encode.{decode-encode}
@@ -39,7 +40,7 @@ module _ (s : Settings) (slot period : ℕ) where
       exit-at : Checked (List Validator)
       exit-at = initiate_validator_exit s slot vs o.validator
 
-      go : (a b : Bool) (m : Checked (List Validator)) → exit-at ≡ m → Tried vs (settle (cond a (cond b m (refused too_early)) (refused no_exit)) vs)
+      go : (a b : Bool) (m : Checked (List Validator)) → exit-at ≡ m → Tried vs (settle (cond a (cond b m (refused TooEarly)) (refused NoExit)) vs)
       go false b m e = nothing vs
       go true false m e = nothing vs
       go true true (refused r) e = nothing vs
@@ -87,7 +88,7 @@ module _ (c : NinthCall) where
   unfolding carry_out ninth_in_turn carries_out
   carries = go (has_ended c.running) (eqb c.running.done 8) refl (ninth_tests c) refl
     where
-      go : (a b : Bool) → eqb c.running.done 8 ≡ b → (t : Checked (Unit {0})) → ninth_tests c ≡ t → Exits (orders_meet c) vs (decode (cond a (untried (says_ended c.running) c) (cond b (ninth_in_turn c t) (untried (turned_away bad_shape c.running) c))).closing_registry)
+      go : (a b : Bool) → eqb c.running.done 8 ≡ b → (t : Checked (Unit {0})) → ninth_tests c ≡ t → Exits (orders_meet c) vs (decode (cond a (untried (says_ended c.running) c) (cond b (ninth_in_turn c t) (untried (turned_away BadShape c.running) c))).closing_registry)
       go true b p t q = kept refl
       go false false p t q = kept refl
       go false true p (refused r) q = kept refl

@@ -11,12 +11,14 @@ use lib.ListN.{length}
 use Rattle.definitions.specs.declared.ActivationLimit.{ActivationLimit}
 use Rattle.definitions.specs.declared.ActivationLimit.TheVariants.{Churn}
 use Rattle.definitions.specs.Record.{Validator, BeaconState, decode}
-use Rattle.definitions.specs.Checked.{Refusal, bad_shape, wrong_queue, Checked, value, refused, bind, number_of}
+use Rattle.definitions.specs.Checked.{Checked, value, refused, bind, number_of}
+use Rattle.definitions.specs.declared.Refusal.{Refusal}
+use Rattle.definitions.specs.declared.Refusal.TheVariants.{BadShape, WrongQueue}
 use Rattle.definitions.specs.Refusals.{after_tests, closing_buffer}
 use Rattle.definitions.specs.Raised.{raised_unless_refused}
 use Rattle.definitions.specs.ExitQueue.{queue_of, is_queue_of, queue_test}
 use Rattle.definitions.specs.Close.{state_of, limited_tests, closed, close, limited_epoch}
-use Rattle.definitions_close.specs.Amounts.{amounts, limited_closing_amounts}
+use Rattle.definitions_close.specs.Amounts.{limited_closing_amounts}
 use Rattle.definitions_close.specs.FinalizingTest.{finalizing_test}
 use Rattle.definitions_close.specs.FullClose.{FullCall, limited_full_tests, settings_of, limited_fully_closed, closing_queue, full_close, limited_full_close}
 use Rattle.laws.proofs.Encode.{decode-encode}
@@ -60,9 +62,9 @@ tests l c = go (eqb (length c.amounts) (9 * (length c.call.registry / 10))) (lim
     vs = decode c.call.registry
 
     go : (a : Bool) (m : Checked (Unit {0})) (b : Bool) → eqb (length c.amounts) (9 * (length c.call.registry / 10)) ≡ a → limited_tests l c.call ≡ m → is_queue_of c.queue vs ≡ b → Tests l c
-    go false m b p q z = turned bad_shape (inl refl) (rw p)
+    go false m b p q z = turned BadShape (inl refl) (rw p)
     go true (refused r) b p q z = turned r (close-number l c r q) (rw (p, q))
-    go true (value u) false p q z = turned wrong_queue (inr (inr (inr (inl refl)))) (rw (p, q, z))
+    go true (value u) false p q z = turned WrongQueue (inr (inr (inr (inl refl)))) (rw (p, q, z))
     go true (value u) true p q z = passed (record { long = eqb-true _ _ p; queue = is-queue c.queue vs z }) (rw (p, q, z))
 
 -- What comes back

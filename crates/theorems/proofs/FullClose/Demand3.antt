@@ -7,7 +7,7 @@ use lib.Dec.{T, eqb, eqb→eq}
 use Rattle.definitions.specs.Record.{BeaconState}
 use Rattle.definitions.specs.Close.{Outcome, close}
 use Rattle.definitions_close.specs.FullClose.{FullCall, full_close}
-use Rattle.history.specs.Events.{accepted, Least, Premises, Claim}
+use Rattle.history.specs.Events.{Least, Premises, Claim}
 use Rattle.history.specs.Demand3.{event}
 use Rattle.history.proofs.Shape.{Shaped, EachShaped}
 use Rattle.history.proofs.Premises.{least}

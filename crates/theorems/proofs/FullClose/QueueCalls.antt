@@ -8,7 +8,9 @@ use Rattle.definitions.specs.declared.Settings.{Settings}
 use Rattle.definitions.specs.declared.ExitQueue.{ExitQueue}
 use Rattle.definitions.specs.declared.QueueAnswer.{QueueAnswer}
 use Rattle.definitions.specs.Record.{Validator, BeaconState, encode, decode}
-use Rattle.definitions.specs.Checked.{Refusal, Checked, value, refused, wrong_queue, bind}
+use Rattle.definitions.specs.Checked.{Checked, value, refused, bind}
+use Rattle.definitions.specs.declared.Refusal.{Refusal}
+use Rattle.definitions.specs.declared.Refusal.TheVariants.{WrongQueue}
 use Rattle.definitions.specs.Refusals.{after_tests, closing_buffer}
 use Rattle.definitions.specs.LeafRefusals.{exit_tests}
 use Rattle.definitions.specs.ExitQueue.{queue_of, is_queue_of, queue_test}
@@ -51,7 +53,7 @@ turned p work h =
       stays = λ _. ap (λ (a : QueueAnswer). a.queue) h.answer;
     }
 
-wrong-pair : (tests : Checked (Unit {0})) (work : Checked (List Validator)) {queue : ExitQueue} {opening closing after : List ℕ} {r : QueueAnswer} → tests ≡ value tt → is_queue_of queue (decode opening) ≡ false → QueueCloses (refused wrong_queue) work queue opening closing after r → WrongPair tests queue opening closing after r
+wrong-pair : (tests : Checked (Unit {0})) (work : Checked (List Validator)) {queue : ExitQueue} {opening closing after : List ℕ} {r : QueueAnswer} → tests ≡ value tt → is_queue_of queue (decode opening) ≡ false → QueueCloses (refused WrongQueue) work queue opening closing after r → WrongPair tests queue opening closing after r
 unfolding after_tests bind closing_buffer
 wrong-pair tests work {queue} {opening} t f h =
     record {
@@ -67,11 +69,11 @@ with-queue (refused p) work k h = record { pair = turned p work h; rest = inr (k
 with-queue (value u) work {queue} {opening} {closing} {after} {r} {Rest} k h = go (is_queue_of queue (decode opening)) refl h
   where
     test : Bool → Checked (Unit {0})
-    test b = cond b (value tt) (refused wrong_queue)
+    test b = cond b (value tt) (refused WrongQueue)
 
     go : (b : Bool) → is_queue_of queue (decode opening) ≡ b → QueueCloses (test b) work queue opening closing after r → QueueCall Rest (value u) queue opening closing after r
     go true f h = record { pair = worked work (is-queue queue (decode opening) f) h; rest = inr (k (closes-of h)) }
-    go false f h = record { pair = turned wrong_queue work h; rest = inl (wrong-pair (value u) work refl f h) }
+    go false f h = record { pair = turned WrongQueue work h; rest = inl (wrong-pair (value u) work refl f h) }
 
 pub queue-calls : (s : Settings) (st : BeaconState) (queue : ExitQueue) (opening closing after : List ℕ) (r : QueueAnswer) → QueueCalls s st queue opening closing after r
 queue-calls s st queue opening closing after r =

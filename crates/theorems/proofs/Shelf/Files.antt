@@ -1,7 +1,7 @@
 -- Every file on a shelf, by what its tests and the eight steps answered.
 use mathlib.Core.Path.{◌≡◌, refl, sym, ap, ◌∙◌}
 use mathlib.Core.Bool.{Bool, true, false, ◌&&◌}
-use mathlib.Core.List.{List, [], ◌∷◌}
+use mathlib.Core.List.{[], ◌∷◌}
 use mathlib.Core.Logic.{◌⊎◌, inl, inr}
 use Prim.Native.Nat.{ℕ, ◌≤◌}
 use native.Mathlib.Omega.{arith}
@@ -10,7 +10,9 @@ use lib.Dec.{eqb}
 use Rattle.definitions.specs.declared.ActivationLimit.TheVariants.{Churn}
 use Rattle.definitions.specs.declared.Settings.{Settings}
 use Rattle.definitions.specs.Record.{BeaconState}
-use Rattle.definitions.specs.Checked.{Refusal, bad_file, Checked, value, refused, bind, number_of}
+use Rattle.definitions.specs.Checked.{Checked, value, refused, bind, number_of}
+use Rattle.definitions.specs.declared.Refusal.{Refusal}
+use Rattle.definitions.specs.declared.Refusal.TheVariants.{BadFile}
 use Rattle.definitions.specs.Refusals.{after_tests, closing_buffer}
 use Rattle.definitions.specs.Rules.{settings_under}
 use Rattle.definitions.specs.Close.{close_tests}
@@ -31,7 +33,7 @@ use Rattle.theorems.proofs.Completeness.Close.{complete-close}
 use Rattle.theorems.proofs.Completeness.StepCalls.{step-complete}
 use Rattle.theorems.specs.FullClose.ByNumber.{FullAccepted}
 use Rattle.theorems.proofs.FullClose.ByNumber.{Tests, passed, turned, tests, lent-tests, full-by_number}
-use Rattle.theorems.specs.Shelf.Files.{OnShelf, Defined, whole, outcome_of, FileByNumber, FileCall, FileCalls}
+use Rattle.theorems.specs.Shelf.Files.{OnShelf, Defined, whole, outcome_of, FileByNumber, FileCalls}
 use Rattle.theorems.proofs.Shelf.SameClose.{same_tests, same_number, same-part}
 
 -- its header is good, and of version 2
@@ -41,7 +43,7 @@ on_shelf f = good_header f.file && eqb (version_of f.file) 2
 abbrev Turned : ℕ → Type 0
 Turned n = OneOf n (6 ∷ 1 ∷ 2 ∷ 3 ∷ 8 ∷ [])
 
-six-tests : (f : OnShelf) → on_shelf f ≡ false → file_tests f.fork f.pair f.file ≡ refused bad_file
+six-tests : (f : OnShelf) → on_shelf f ≡ false → file_tests f.fork f.pair f.file ≡ refused BadFile
 unfolding file_tests
 six-tests f e = rw e
 
@@ -69,7 +71,7 @@ tested f = go (on_shelf f) refl
 
     go : (b : Bool) → on_shelf f ≡ b → Tested f
     go true p = by p (tests Churn (whole f))
-    go false p = refuses bad_file (inl refl) (six-tests f p)
+    go false p = refuses BadFile (inl refl) (six-tests f p)
 
 on-shelf : (f : OnShelf) → file_tests f.fork f.pair f.file ≡ value tt → on_shelf f ≡ true
 on-shelf f t = go (on_shelf f) refl

@@ -11,7 +11,8 @@ use lib.Seq.{take_at, drop_at, length-take-le}
 use Rattle.definitions.specs.declared.Bellatrix.{Bellatrix}
 use Rattle.definitions.specs.Lists.{sum}
 use Rattle.definitions.specs.Record.{BeaconState}
-use Rattle.definitions.specs.Checked.{Checked, value, refused, bad_shape, number_of}
+use Rattle.definitions.specs.Checked.{Checked, value, refused, number_of}
+use Rattle.definitions.specs.declared.Refusal.TheVariants.{BadShape}
 use Rattle.definitions.specs.Refusals.{closing_buffer}
 use Rattle.definitions.specs.Rules.{is_altair, in_place, settings_under}
 use Rattle.definitions.specs.ExitQueue.{queue_of}
@@ -24,7 +25,7 @@ use Rattle.laws_file.proofs.Numbers.{length_little, length_to_bytes}
 use Rattle.laws_file.proofs.Tests.{write_good}
 use Rattle.round_trip.proofs.ReadAgain.{closed-written}
 use Rattle.shelf_file.proofs.Tests.{passes}
-use Rattle.theorems.specs.Shelf.Files.{part_at, Defined, file_on, ShelfCall, ShelfCalls}
+use Rattle.theorems.specs.Shelf.Files.{part_at, Defined, file_on, ShelfCalls}
 use Rattle.theorems.proofs.Shelf.Roots.{Rooted, closed-whole}
 use Rattle.theorems.proofs.Shelf.Files.{file-calls}
 
@@ -97,7 +98,7 @@ shape_zero : (s : Shelf) → shelf_refusal s ≡ 0 → shelf_shaped s ≡ true
 unfolding shelf_refusal
 shape_zero s e = go (shelf_shaped s) e
   where
-    go : (t : Bool) → cond t 0 (number_of bad_shape) ≡ 0 → t ≡ true
+    go : (t : Bool) → cond t 0 (number_of BadShape) ≡ 0 → t ≡ true
     go true e = refl
     go false e = absurd (omega (arith, e))
 
@@ -105,7 +106,7 @@ shape_one : (s : Shelf) → shelf_refusal s ≡ 1 → shelf_shaped s ≡ false
 unfolding shelf_refusal
 shape_one s e = go (shelf_shaped s) e
   where
-    go : (t : Bool) → cond t 0 (number_of bad_shape) ≡ 1 → t ≡ false
+    go : (t : Bool) → cond t 0 (number_of BadShape) ≡ 1 → t ≡ false
     go true e = absurd (omega (arith, e))
     go false e = refl
 
@@ -114,7 +115,7 @@ module _ (fork : ℕ) (pair : Bellatrix) (s : Shelf) (answers closing : List ℕ
   unfolding shelf_refusal
   number = rw z (go (shelf_shaped s))
     where
-      go : (t : Bool) → OneOf (cond t 0 (number_of bad_shape)) (0 ∷ 1 ∷ [])
+      go : (t : Bool) → OneOf (cond t 0 (number_of BadShape)) (0 ∷ 1 ∷ [])
       go true = inl refl
       go false = inr (inl refl)
 

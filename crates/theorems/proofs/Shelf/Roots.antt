@@ -2,7 +2,7 @@
 use mathlib.Core.Path.{◌≡◌, refl, sym, ap, ◌∙◌, subst}
 use mathlib.Core.Bool.{Bool, true, false, cond, ◌&&◌, false≢true}
 use mathlib.Core.List.{List, [], ◌∷◌}
-use Prim.Native.Nat.{ℕ, ◌+◌, ◌*◌, ◌%◌, ◌<◌}
+use Prim.Native.Nat.{ℕ, ◌+◌, ◌*◌, ◌<◌}
 use native.Mathlib.Nat.{mod-lt}
 use native.Mathlib.Omega.{arith}
 use lib.Dec.{leb, eqb}
@@ -13,7 +13,7 @@ use Rattle.definitions.specs.declared.Finality.{Finality}
 use Rattle.definitions.specs.Record.{Validator, BeaconState, GENESIS_EPOCH}
 use Rattle.definitions.specs.Checked.{value, fold_checked}
 use Rattle.definitions.specs.Document.Phase0.Helpers as document
-use Rattle.definitions.specs.Document.Phase0.EpochProcessing.{bit, justified_bits, finalized_by, weighed}
+use Rattle.definitions.specs.Document.Phase0.EpochProcessing.{bit, finalized_by, weighed}
 use Rattle.definitions.specs.Rust.Phase0.Helpers.{get_current_epoch, get_block_root}
 use Rattle.definitions.specs.Rust.Phase0.EpochProcessing.{root_where, weigh_justification_and_finalization}
 use Rattle.definitions.specs.Rust.Altair.EpochProcessing.{process_justification_and_finalization}
@@ -22,7 +22,7 @@ use Rattle.laws.proofs.Checked.{value_same, bound}
 use Rattle.laws.proofs.Tests.{either}
 use Rattle.laws.proofs.Frame.Frames.{frames}
 use Rattle.laws_close.proofs.Kept.{kept_step}
-use Rattle.epochs.proofs.roots.Lookups.{epoch-value}
+use Rattle.agreement.proofs.Justification.{block_root}
 
 abbrev Whole : Checkpoint → Type 0
 Whole c = length c.root ≡ 32
@@ -56,7 +56,7 @@ module _ (s : Settings) (roots : List ℕ) (l : length roots ≡ 32 * s.slots_pe
   unfolding document.get_block_root document.get_block_root_at_slot
   found-whole slot epoch e =
       let at = document.compute_start_slot_at_epoch s epoch in
-      sym (ap length (epoch-value s roots slot epoch e).is) ∙ simp (length-take, length-drop) (omega (arith, l, mod-lt at p))
+      sym (ap length ((block_root s roots slot epoch).same _ e)) ∙ simp (length-take, length-drop) (omega (arith, l, mod-lt at p))
 
   where_whole : (t : Bool) (slot epoch : ℕ) {root : List ℕ} → root_where t s roots slot epoch ≡ value root → t ≡ true → length root ≡ 32
   unfolding root_where

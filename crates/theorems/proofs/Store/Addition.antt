@@ -10,7 +10,7 @@ use lib.Dec.{leb}
 use lib.ListN.{length, take, drop, length-append, length-drop}
 use lib.Seq.{take-add, take_at, drop_at, length-take-le}
 use Rattle.definitions.specs.Lists.{all, every}
-use Rattle.definitions.specs.Checked.{value, bind, code_of}
+use Rattle.definitions.specs.Checked.{value, bind}
 use Rattle.definitions.specs.Refusals.{in_order, after_tests}
 use Rattle.definitions.specs.Rules.{rules_shaped, good_rules}
 use Rattle.definitions_close.specs.Store.{Entry, Store, entry_of, numbers_of, entries_from, entries, room, last_of, store_shaped, good_entries, store_tests, entry_for, rules_at, read_rules, addition_tests, with_entry, add_entry}
@@ -115,4 +115,4 @@ pub additions : Additions
 unfolding add_entry after_tests
 additions s new t e =
     let b = bound (addition_tests s new) (λ _. value (with_entry s new)) e in
-    subst (Grown s new) (value_same b.then) (grown s new (addition_passed s new (sym (ap code_of b.gave)) refl))
+    subst (Grown s new) (value_same b.then) (grown s new (addition_passed s new refl b.gave))

@@ -2,7 +2,7 @@
 use mathlib.Core.Bool.{true}
 use mathlib.Core.Path.{◌≡◌, refl, sym, ap, subst, ◌∙◌}
 use Prim.Native.Nat.{ℕ, ◌/◌}
-use Rattle.definitions.specs.Checked.{Checked, value, code_of}
+use Rattle.definitions.specs.Checked.{Checked, value}
 use Rattle.definitions.specs.Refusals.{after_tests}
 use Rattle.definitions_close.specs.Store.{Entry, Store, entries, last_of, of_last, keeps, read_rules, addition_tests, with_entry, add_entry}
 use Rattle.laws.proofs.Checked.{bound}
@@ -18,7 +18,7 @@ kept : (s : Store) (e new : Entry) {t : Store} → last_of (entries s) ≡ value
 unfolding add_entry after_tests of_last
 kept s e new last added =
     let b = bound (addition_tests s new) (λ _. value (with_entry s new)) added in
-    let p = addition_passed s new (sym (ap code_of b.gave)) refl in
+    let p = addition_passed s new refl b.gave in
     keeps_same e.rules.settings new.rules.settings (subst (λ (m : Checked Entry). of_last (λ f. keeps f.rules.settings new.rules.settings) m ≡ true) last p.shape.kept)
 
 pub closes_before : ClosesBefore

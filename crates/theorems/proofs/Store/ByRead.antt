@@ -7,7 +7,9 @@ use lib.ListN.{length}
 use Rattle.definitions.specs.declared.Settings.{Settings}
 use Rattle.definitions.specs.declared.Rules.{Rules}
 use Rattle.definitions.specs.Lists.{every}
-use Rattle.definitions.specs.Checked.{Refusal, bad_shape, value, refused, bind, number_of}
+use Rattle.definitions.specs.Checked.{value, refused, bind, number_of}
+use Rattle.definitions.specs.declared.Refusal.{Refusal}
+use Rattle.definitions.specs.declared.Refusal.TheVariants.{BadShape}
 use Rattle.definitions.specs.Refusals.{in_order, after_tests, closing_buffer, registry_shaped, roots_shaped, slashings_shaped, same_length}
 use Rattle.definitions.specs.Raised.{raised_unless_refused}
 use Rattle.definitions.specs.Rules.{rules_shaped}
@@ -47,16 +49,16 @@ module _ (c : StoreCall) (rules : Rules) where
   shaped_by s =
       every (rules_shaped rules ∷ registry_shaped c.registry ∷ roots_shaped s c.roots ∷ slashings_shaped s c.slashings ∷ closing)
 
-  pub shape-refused : cond (amounts_shaped c.registry c.amounts) (shaped_by rules.settings) false ≡ false → full_tests (call_by c rules) ≡ refused bad_shape
+  pub shape-refused : cond (amounts_shaped c.registry c.amounts) (shaped_by rules.settings) false ≡ false → full_tests (call_by c rules) ≡ refused BadShape
   unfolding limited_full_tests limited_tests in_order bind
   shape-refused h = go (amounts_shaped c.registry c.amounts) refl h
     where
-      go : (a : Bool) → amounts_shaped c.registry c.amounts ≡ a → cond a (shaped_by rules.settings) false ≡ false → full_tests (call_by c rules) ≡ refused bad_shape
+      go : (a : Bool) → amounts_shaped c.registry c.amounts ≡ a → cond a (shaped_by rules.settings) false ≡ false → full_tests (call_by c rules) ≡ refused BadShape
       go true p h = rw (p, h)
       go false p h = rw p
 
   -- the close with a store is refused with 1: so is the close by rules with the same S and L as the last entry's
-  unlent : (e : Entry) → store_shaped c.store ≡ true → last_of (entries c.store) ≡ value e → Same rules.settings e.rules.settings → store_call_shaped c ≡ false → full_tests (call_by c rules) ≡ refused bad_shape
+  unlent : (e : Entry) → store_shaped c.store ≡ true → last_of (entries c.store) ≡ value e → Same rules.settings e.rules.settings → store_call_shaped c ≡ false → full_tests (call_by c rules) ≡ refused BadShape
   unfolding store_call_shaped of_last every
   unlent e s l same h =
       let roots = ap (λ (n : ℕ). eqb (length c.roots) (32 * n)) same.roots in
@@ -100,4 +102,4 @@ closes_by_read c e rules last read = go (store_call_shaped c) refl
 
     go : (t : Bool) → store_call_shaped c ≡ t → store_close c ≡ full_close (call_by c rules)
     go true p = rw (p, r.good, last, r.found, r.is)
-    go false p = rw p (sym (refused-close c rules bad_shape (unlent c rules e r.shaped last same p)))
+    go false p = rw p (sym (refused-close c rules BadShape (unlent c rules e r.shaped last same p)))

@@ -6,7 +6,8 @@ use native.Mathlib.Omega.{arith}
 use borrow.Author.Tests.{le-leb}
 use Rattle.definitions.specs.declared.Rules.{Rules}
 use Rattle.definitions.specs.Lists.{all, filter, every}
-use Rattle.definitions.specs.Checked.{bad_shape, bad_settings, value, refused, bind}
+use Rattle.definitions.specs.Checked.{value, refused, bind}
+use Rattle.definitions.specs.declared.Refusal.TheVariants.{BadShape, BadSettings}
 use Rattle.definitions.specs.Refusals.{in_order, after_tests, registry_shaped, roots_shaped, slashings_shaped}
 use Rattle.definitions.specs.Rules.{rules_shaped, good_rules}
 use Rattle.definitions.specs.Close.{limited_tests}
@@ -53,14 +54,14 @@ module _ (c : FullCall) where
   one_lent = rw (one-shaped r)
 
   -- neither passes
-  neither : store_call_shaped (with_one_entry c) ≡ false → full_tests c ≡ refused bad_shape
+  neither : store_call_shaped (with_one_entry c) ≡ false → full_tests c ≡ refused BadShape
   unfolding every
   neither h =
       shape-refused (with_one_entry c) r
       (unruly (rules_shaped r) (registry_shaped c.call.registry) (roots_shaped r.settings c.call.roots) (slashings_shaped r.settings c.call.slashings) (every (closing (with_one_entry c) r)) (amounts_shaped c.call.registry c.amounts) (sym one_lent ∙ h))
 
   -- both pass, and 2 is next
-  unsettled : store_call_shaped (with_one_entry c) ≡ true → good_rules r ≡ false → full_tests c ≡ refused bad_settings
+  unsettled : store_call_shaped (with_one_entry c) ≡ true → good_rules r ≡ false → full_tests c ≡ refused BadSettings
   unfolding limited_full_tests limited_tests in_order bind every
   unsettled h g =
       let t = test (rules_shaped r ∷ registry_shaped c.call.registry ∷ amounts_shaped c.call.registry c.amounts ∷ by_settings ∷ closing (with_one_entry c) r) (sym one_lent ∙ h) in
@@ -72,6 +73,6 @@ unfolding store_close close_by rules_for after_tests in_order bind every
 one_entry_lem c = go (store_call_shaped (with_one_entry c)) refl (good_rules c.call.rules) refl
   where
     go : (t : Bool) → store_call_shaped (with_one_entry c) ≡ t → (g : Bool) → good_rules c.call.rules ≡ g → store_close (with_one_entry c) ≡ full_close c
-    go false p g q = rw p (sym (refused-close (with_one_entry c) c.call.rules bad_shape (neither c p)))
-    go true p false q = rw (p, one-good c.call.rules, q) (sym (refused-close (with_one_entry c) c.call.rules bad_settings (unsettled c p q)))
+    go false p g q = rw p (sym (refused-close (with_one_entry c) c.call.rules BadShape (neither c p)))
+    go true p false q = rw (p, one-good c.call.rules, q) (sym (refused-close (with_one_entry c) c.call.rules BadSettings (unsettled c p q)))
     go true p true q = rw (p, one-good c.call.rules, q, one-read c.call.rules c.call.finality.slot)

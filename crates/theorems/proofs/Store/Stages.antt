@@ -9,7 +9,9 @@ use lib.ListN.{length}
 use Rattle.definitions.specs.declared.Rules.{Rules}
 use Rattle.definitions.specs.Lists.{every}
 use Rattle.definitions.specs.Record.{BeaconState, decode}
-use Rattle.definitions.specs.Checked.{Refusal, bad_shape, bad_settings, no_entry, Checked, value, refused, bind, number_of}
+use Rattle.definitions.specs.Checked.{Checked, value, refused, bind, number_of}
+use Rattle.definitions.specs.declared.Refusal.{Refusal}
+use Rattle.definitions.specs.declared.Refusal.TheVariants.{BadShape, BadSettings, NoEntry}
 use Rattle.definitions.specs.Refusals.{in_order, after_tests, registry_shaped, roots_shaped, slashings_shaped, same_length, good_finality, good_registry}
 use Rattle.definitions.specs.Rules.{settings_under, rules_shaped, good_rules}
 use Rattle.definitions.specs.ExitQueue.{is_queue_of, queue_test}
@@ -107,25 +109,25 @@ module _ (c : StoreCall) (rules : Rules) (n : Entered c rules) where
 
 -- Turned away: 1, 2 or 13
 
-last-refused : (es : List Entry) (r : Refusal) → last_of es ≡ refused r → r ≡ no_entry
+last-refused : (es : List Entry) (r : Refusal) → last_of es ≡ refused r → r ≡ NoEntry
 unfolding last_of
 last-refused [] r e = cc
 last-refused (f ∷ []) r e = absurd (not_value (sym e))
 last-refused (f ∷ g ∷ es) r e = last-refused (g ∷ es) r e
 
-at-refused : (epoch : ℕ) (es : List Entry) (r : Refusal) → rules_at epoch es ≡ refused r → r ≡ no_entry
+at-refused : (epoch : ℕ) (es : List Entry) (r : Refusal) → rules_at epoch es ≡ refused r → r ≡ NoEntry
 unfolding rules_at entry_for bind
 at-refused epoch es r e = go (entry_for epoch es) refl e
   where
-    go : (m : Checked Entry) → entry_for epoch es ≡ m → bind m (λ f. value f.rules) ≡ refused r → r ≡ no_entry
+    go : (m : Checked Entry) → entry_for epoch es ≡ m → bind m (λ f. value f.rules) ≡ refused r → r ≡ NoEntry
     go (value f) p e = absurd (not_value (sym e))
     go (refused q) p e = let same : q ≡ r = cc in sym same ∙ last-refused _ q p
 
-slot-refused : (slot : ℕ) (es : List Entry) (r : Refusal) → rules_at_slot slot es ≡ refused r → r ≡ no_entry
+slot-refused : (slot : ℕ) (es : List Entry) (r : Refusal) → rules_at_slot slot es ≡ refused r → r ≡ NoEntry
 unfolding rules_at_slot bind
 slot-refused slot es r e = go (last_of es) refl e
   where
-    go : (m : Checked Entry) → last_of es ≡ m → bind m (λ f. rules_at (slot / f.rules.settings.slots_per_epoch) es) ≡ refused r → r ≡ no_entry
+    go : (m : Checked Entry) → last_of es ≡ m → bind m (λ f. rules_at (slot / f.rules.settings.slots_per_epoch) es) ≡ refused r → r ≡ NoEntry
     go (value f) p e = at-refused (slot / f.rules.settings.slots_per_epoch) es r e
     go (refused q) p e = let same : q ≡ r = cc in sym same ∙ last-refused es q p
 
@@ -134,8 +136,8 @@ unfolding rules_for after_tests in_order bind every
 turned-number c r e = go (store_call_shaped c) (good_entries (entries c.store)) e
   where
     go : (s g : Bool) → bind (in_order (s ∷ []) (g ∷ []) []) (λ _. rules_at_slot c.finality.slot (entries c.store)) ≡ refused r → OneOf (number_of r) (1 ∷ 2 ∷ 13 ∷ [])
-    go false g e = let is : r ≡ bad_shape = cc in rw is (inl refl)
-    go true false e = let is : r ≡ bad_settings = cc in rw is (inr (inl refl))
+    go false g e = let is : r ≡ BadShape = cc in rw is (inl refl)
+    go true false e = let is : r ≡ BadSettings = cc in rw is (inr (inl refl))
     go true true e = rw (slot-refused c.finality.slot (entries c.store) r e) (inr (inr (inl refl)))
 
 pub stages : Stages

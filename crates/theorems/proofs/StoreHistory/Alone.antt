@@ -1,5 +1,5 @@
 -- A call that is turned away alone writes nothing: only 4 and 5 come after the tests.
-use mathlib.Core.Path.{◌≡◌, refl, sym, ap, ◌∙◌}
+use mathlib.Core.Path.{◌≡◌, refl}
 use mathlib.Core.Bool.{Bool, true, false, cond}
 use mathlib.Core.List.{[], ◌∷◌}
 use mathlib.Core.Logic.{◌⊎◌, inl, inr, ⊎_elim}
@@ -10,14 +10,16 @@ use lib.Dec.{eqb}
 use Rattle.definitions.specs.declared.ActivationLimit.TheVariants.{Churn}
 use Rattle.definitions.specs.declared.Rules.{Rules}
 use Rattle.definitions.specs.Record.{BeaconState}
-use Rattle.definitions.specs.Checked.{Refusal, bad_shape, number_of, Checked, value, refused, bind}
+use Rattle.definitions.specs.Checked.{number_of, Checked, value, refused, bind}
+use Rattle.definitions.specs.declared.Refusal.{Refusal}
+use Rattle.definitions.specs.declared.Refusal.TheVariants.{BadShape}
 use Rattle.definitions.specs.Refusals.{after_tests, closing_buffer}
 use Rattle.definitions.specs.Close.{state_of}
 use Rattle.definitions_close.specs.FullClose.{settings_of}
 use Rattle.definitions_close.specs.CloseBySteps.{StepCall, StepOutcome, is_first, has_ended, in_turn, says_ended, turned_away, found, step_tests, step_after, stepped, stepped_amounts, running_after, unwritten, step_in_turn, close_step}
 use Rattle.definitions_close.specs.Orders.{NinthCall, NinthOutcome, untried, ninth_tests, carries_out, ninth_in_turn, carry_out}
 use Rattle.definitions_close.specs.StoreClose.{rules_for}
-use Rattle.definitions_close.specs.StoreSteps.{StoreStepCall, step_of, step_by, store_found, step_refused, store_step_by, store_step, StoreNinthCall, ninth_of, ninth_by, ninth_rules, carry_by, store_carry_out}
+use Rattle.definitions_close.specs.StoreSteps.{step_of, step_by, store_found, step_refused, store_step_by, store_step, ninth_of, ninth_by, ninth_rules, carry_by, store_carry_out}
 use Rattle.agreement.specs.Restored.{OneOf}
 use Rattle.agreement.proofs.Restored.{work-number}
 use Rattle.agreement.proofs.Close.{each_step}
@@ -81,7 +83,7 @@ unfolding carry_out ninth_in_turn carries_out
 carry-alone c = go (has_ended c.running) (eqb c.running.done 8) (ninth_tests c)
   where
     out : Bool → Bool → Checked (Unit {0}) → NinthOutcome
-    out a b t = cond a (untried (says_ended c.running) c) (cond b (ninth_in_turn c t) (untried (turned_away bad_shape c.running) c))
+    out a b t = cond a (untried (says_ended c.running) c) (cond b (ninth_in_turn c t) (untried (turned_away BadShape c.running) c))
 
     go : (a b : Bool) (t : Checked (Unit {0})) → ((out a b t).answer.refusal ≡ 0 → ⊥) → out a b t ≡ untried (record { refusal = (out a b t).answer.refusal; ended = 0; running = c.running }) c
     go true b t k = absurd (k refl)
@@ -94,7 +96,7 @@ unfolding store_carry_out carry_by
 ninth-alone c = go (has_ended c.running) (eqb c.running.done 8) (ninth_rules c)
   where
     out : Bool → Bool → Checked Rules → NinthOutcome
-    out a b m = cond a (untried (says_ended c.running) (ninth_of c)) (cond b (carry_by c m) (untried (turned_away bad_shape c.running) (ninth_of c)))
+    out a b m = cond a (untried (says_ended c.running) (ninth_of c)) (cond b (carry_by c m) (untried (turned_away BadShape c.running) (ninth_of c)))
 
     go : (a b : Bool) (m : Checked Rules) → ((out a b m).answer.refusal ≡ 0 → ⊥) → out a b m ≡ untried (record { refusal = (out a b m).answer.refusal; ended = 0; running = c.running }) (ninth_of c)
     go true b m k = absurd (k refl)

@@ -6,7 +6,7 @@ use native.Mathlib.Omega.{arith}
 use lib.Dec.{eqb→eq}
 use Rattle.definitions.specs.declared.Rules.{Rules}
 use Rattle.definitions.specs.Checked.{Checked, value, refused, number_of, settle}
-use Rattle.definitions_close.specs.FullClose.{FullOutcome, full_close}
+use Rattle.definitions_close.specs.FullClose.{FullOutcome}
 use Rattle.definitions_close.specs.Store.{no_rules}
 use Rattle.definitions_close.specs.StoreClose.{StoreCall, call_by, rules_for, close_by, store_close}
 use Rattle.laws.proofs.Checked.{number_not_zero}

@@ -4,7 +4,8 @@ use mathlib.Core.List.{List, [], ◌∷◌, map}
 use mathlib.Core.Path.{◌≡◌, refl, sym, subst}
 use lib.Dec.{eqb, eqb→eq}
 use Rattle.definitions.specs.declared.Rules.{Rules}
-use Rattle.definitions.specs.Checked.{Checked, value, refused, bad_shape, number_of, settle}
+use Rattle.definitions.specs.Checked.{Checked, value, refused, number_of, settle}
+use Rattle.definitions.specs.declared.Refusal.TheVariants.{BadShape}
 use Rattle.definitions_close.specs.FullClose.{FullOutcome, full_close}
 use Rattle.definitions_close.specs.CloseBySteps.{says_ended, has_ended, turned_away}
 use Rattle.definitions_close.specs.Orders.{untried, carry_out}
@@ -39,7 +40,7 @@ steps-by c d list h f (refused r) e =
     (λ t. absurd (number_not_zero r (eqb→eq (number_of r) 0 t)))
 
 -- turned away, the ninth call leaves the register as it was lent
-carries-by : (c : StoreNinthCall) (a b : Bool) (m : Checked Rules) → Shaped (calls.event (calls.carrying (ninth_by c (settle m no_rules)) (cond a (untried (says_ended c.running) (ninth_of c)) (cond b (carry_by c m) (untried (turned_away bad_shape c.running) (ninth_of c))))))
+carries-by : (c : StoreNinthCall) (a b : Bool) (m : Checked Rules) → Shaped (calls.event (calls.carrying (ninth_by c (settle m no_rules)) (cond a (untried (says_ended c.running) (ninth_of c)) (cond b (carry_by c m) (untried (turned_away BadShape c.running) (ninth_of c))))))
 unfolding carry_by
 carries-by c true b m t = kept refl
 carries-by c false false m t = kept refl

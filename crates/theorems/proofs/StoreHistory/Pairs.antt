@@ -1,5 +1,5 @@
 -- Each call tests the pair of the record that it finds, and hands back that of the registry that it leaves.
-use mathlib.Core.Path.{◌≡◌, refl, sym, ap, ◌∙◌}
+use mathlib.Core.Path.{◌≡◌, refl, sym, ap}
 use mathlib.Core.Bool.{Bool, true, false, cond}
 use mathlib.Core.List.{List, [], ◌∷◌}
 use Prim.Native.Nat.{ℕ}
@@ -7,8 +7,9 @@ use native.Mathlib.Omega.{arith}
 use lib.Dec.{eqb}
 use Rattle.definitions.specs.declared.ExitQueue.{ExitQueue}
 use Rattle.definitions.specs.declared.Rules.{Rules}
-use Rattle.definitions.specs.Record.{Validator, BeaconState, encode, decode}
-use Rattle.definitions.specs.Checked.{Refusal, bad_shape, Checked, value, refused, wrong_queue, bind, code_of}
+use Rattle.definitions.specs.Record.{Validator, BeaconState, decode}
+use Rattle.definitions.specs.Checked.{Checked, value, refused, bind, code_of}
+use Rattle.definitions.specs.declared.Refusal.TheVariants.{BadShape, WrongQueue}
 use Rattle.definitions.specs.Refusals.{in_order, registry_shaped, good_registry, after_tests, closing_buffer}
 use Rattle.definitions.specs.ExitQueue.{queue_of, is_queue_of, queue_test}
 use Rattle.definitions.specs.Close.{close_tests}
@@ -16,12 +17,11 @@ use Rattle.definitions_close.specs.declared.RunningAnswer.{RunningAnswer}
 use Rattle.definitions_close.specs.Amounts.{amounts_shaped}
 use Rattle.definitions_close.specs.FullClose.{FullCall, full_tests, limited_full_tests}
 use Rattle.theorems.proofs.FullClose.ByNumber.{full-by_number}
-use Rattle.definitions_close.specs.CloseBySteps.{StepCall, is_first, in_turn, has_ended, so_far, found, step_tests, stepped, ended_by, goes_on, running_after, unwritten, step_in_turn, close_step, says_ended, turned_away}
+use Rattle.definitions_close.specs.CloseBySteps.{StepCall, in_turn, has_ended, so_far, found, step_tests, stepped, goes_on, running_after, unwritten, step_in_turn, close_step, says_ended, turned_away}
 use Rattle.definitions_close.specs.Orders.{NinthCall, ninth_tests, carries_out, ninth_in_turn, carry_out, untried}
-use Rattle.definitions_close.specs.FullClose.{FullOutcome, full_close}
 use Rattle.definitions_close.specs.QueueCalls.{found_queue, queue_after}
-use Rattle.definitions_close.specs.StoreClose.{StoreCall, call_by, rules_for, turned_away as turned, close_by, store_close}
-use Rattle.definitions_file.specs.File.{Contents, contents_of, queue_in, file_of, read_tests, read_file, read, write_tests, written}
+use Rattle.definitions_close.specs.StoreClose.{call_by, rules_for, close_by, store_close}
+use Rattle.definitions_file.specs.File.{contents_of, queue_in, file_of, read_tests, read_file, read, write_tests, written}
 use Rattle.laws_file.proofs.Tests.{write_good, is-file}
 use Rattle.laws_file.proofs.Passed.{read-passed}
 use Rattle.definitions_close.specs.StoreSteps.{StoreStepCall, step_of, step_by, store_so_far, store_found, step_refused, store_step_by, store_step, StoreNinthCall, ninth_of, ninth_by, ninth_rules, carry_by, store_carry_out}
@@ -38,7 +38,7 @@ pair_is : (q : ExitQueue) (vs : List Validator) {u : Unit {0}} → queue_test q 
 unfolding queue_test
 pair_is q vs e = go (is_queue_of q vs) refl e
   where
-    go : (t : Bool) → is_queue_of q vs ≡ t → {u : Unit {0}} → cond t (value tt) (refused wrong_queue) ≡ value u → q ≡ queue_of vs
+    go : (t : Bool) → is_queue_of q vs ≡ t → {u : Unit {0}} → cond t (value tt) (refused WrongQueue) ≡ value u → q ≡ queue_of vs
     go true p e = is-queue q vs p
     go false p e = absurd (not_value e)
 
@@ -46,7 +46,7 @@ full-pair : (c : FullCall) {u : Unit {0}} → full_tests c ≡ value u → c.que
 unfolding limited_full_tests
 full-pair c e = go (amounts_shaped c.call.registry c.amounts) e
   where
-    go : (t : Bool) {u : Unit {0}} → cond t (bind (close_tests c.call) (λ _. queue_test c.queue (decode c.call.registry))) (refused bad_shape) ≡ value u → c.queue ≡ queue_of (decode c.call.registry)
+    go : (t : Bool) {u : Unit {0}} → cond t (bind (close_tests c.call) (λ _. queue_test c.queue (decode c.call.registry))) (refused BadShape) ≡ value u → c.queue ≡ queue_of (decode c.call.registry)
     go true e = pair_is c.queue (decode c.call.registry) (bound (close_tests c.call) (λ _. queue_test c.queue (decode c.call.registry)) e).then
     go false e = absurd (not_value e)
 
@@ -61,7 +61,7 @@ step-pair : (c : StepCall) → Called (close_step c).answer (found c).queue (fou
 unfolding close_step unwritten
 step-pair c = go (has_ended c.running) (in_turn c)
   where
-    go : (e t : Bool) → let out = cond e (unwritten (says_ended c.running) c) (cond t (step_in_turn c) (unwritten (turned_away bad_shape c.running) c)) in Called out.answer (found c).queue (found c).call.registry out.closing_registry
+    go : (e t : Bool) → let out = cond e (unwritten (says_ended c.running) c) (cond t (step_in_turn c) (unwritten (turned_away BadShape c.running) c)) in Called out.answer (found c).queue (found c).call.registry out.closing_registry
     go true t = record { accepts = λ z. absurd (omega (arith, z.1)); hands_back = λ z. absurd (omega (arith, z.1)) }
     go false true = in_turn_lem c (step_tests c) (stepped c) refl refl
     go false false = record { accepts = λ z. absurd (omega (arith, z.0)); hands_back = λ z. absurd (omega (arith, z.0)) }
@@ -80,7 +80,7 @@ ninth-pair : (c : NinthCall) → Called (carry_out c).answer c.running.answer.qu
 unfolding carry_out
 ninth-pair c = go (has_ended c.running) (eqb c.running.done 8)
   where
-    go : (e t : Bool) → let out = cond e (untried (says_ended c.running) c) (cond t (ninth_in_turn c (ninth_tests c)) (untried (turned_away bad_shape c.running) c)) in Called out.answer c.running.answer.queue c.closing_registry out.closing_registry
+    go : (e t : Bool) → let out = cond e (untried (says_ended c.running) c) (cond t (ninth_in_turn c (ninth_tests c)) (untried (turned_away BadShape c.running) c)) in Called out.answer c.running.answer.queue c.closing_registry out.closing_registry
     go true t = record { accepts = λ z. absurd (omega (arith, z.1)); hands_back = λ z. absurd (omega (arith, z.1)) }
     go false true = ninth-tested c (ninth_tests c) refl
     go false false = record { accepts = λ z. absurd (omega (arith, z.0)); hands_back = λ z. absurd (omega (arith, z.0)) }
@@ -112,7 +112,7 @@ pub step-pairs : StepPairs
 unfolding store_step unwritten
 step-pairs c = go (has_ended c.running) (in_turn (step_of c))
   where
-    go : (e t : Bool) → let out = cond e (unwritten (says_ended c.running) (step_of c)) (cond t (store_step_by c (rules_for (store_found c))) (unwritten (turned_away bad_shape c.running) (step_of c))) in Called out.answer (store_found c).queue (store_found c).registry out.closing_registry
+    go : (e t : Bool) → let out = cond e (unwritten (says_ended c.running) (step_of c)) (cond t (store_step_by c (rules_for (store_found c))) (unwritten (turned_away BadShape c.running) (step_of c))) in Called out.answer (store_found c).queue (store_found c).registry out.closing_registry
     go true t = record { accepts = λ z. absurd (omega (arith, z.1)); hands_back = λ z. absurd (omega (arith, z.1)) }
     go false true = step_by_lem c (rules_for (store_found c))
     go false false = record { accepts = λ z. absurd (omega (arith, z.0)); hands_back = λ z. absurd (omega (arith, z.0)) }
@@ -126,7 +126,7 @@ pub ninth-pairs : NinthPairs
 unfolding store_carry_out
 ninth-pairs c = go (has_ended c.running) (eqb c.running.done 8)
   where
-    go : (e t : Bool) → let out = cond e (untried (says_ended c.running) (ninth_of c)) (cond t (carry_by c (ninth_rules c)) (untried (turned_away bad_shape c.running) (ninth_of c))) in Called out.answer c.running.answer.queue c.closing_registry out.closing_registry
+    go : (e t : Bool) → let out = cond e (untried (says_ended c.running) (ninth_of c)) (cond t (carry_by c (ninth_rules c)) (untried (turned_away BadShape c.running) (ninth_of c))) in Called out.answer c.running.answer.queue c.closing_registry out.closing_registry
     go true t = record { accepts = λ z. absurd (omega (arith, z.1)); hands_back = λ z. absurd (omega (arith, z.1)) }
     go false true = carry-by c (ninth_rules c)
     go false false = record { accepts = λ z. absurd (omega (arith, z.0)); hands_back = λ z. absurd (omega (arith, z.0)) }

@@ -3,7 +3,7 @@
 use mathlib.Core.Bool.{Bool, true, false, cond, false≢true}
 use mathlib.Core.List.{List, [], ◌∷◌}
 use mathlib.Core.Path.{◌≡◌, refl, sym, ap, ◌∙◌, subst}
-use Prim.Native.Nat.{ℕ, ◌+◌, ◌≤◌}
+use Prim.Native.Nat.{ℕ, ◌≤◌}
 use native.Mathlib.Omega.{arith}
 use borrow.Author.Tests.{eq-eqb, ne_eqb, eqb-true}
 use lib.Dec.{eqb}
@@ -12,7 +12,8 @@ use Rattle.definitions.specs.declared.Settings.{Settings}
 use Rattle.definitions.specs.declared.Rules.{Rules}
 use Rattle.definitions.specs.Lists.{every}
 use Rattle.definitions.specs.Record.{BeaconState, encode}
-use Rattle.definitions.specs.Checked.{Refusal, number_of, Checked, value, refused, bind, fold_checked}
+use Rattle.definitions.specs.Checked.{number_of, Checked, value, refused, bind, fold_checked}
+use Rattle.definitions.specs.declared.Refusal.{Refusal}
 use Rattle.definitions.specs.Refusals.{in_order, after_tests, length_is, is_small, registry_shaped}
 use Rattle.definitions.specs.Raised.{none_raised}
 use Rattle.definitions.specs.Rules.{settings_under, rules_shaped, good_rules}

@@ -1,7 +1,6 @@
 -- The test's number tells the checkpoint: only the first step writes it.
 use mathlib.Core.Path.{◌≡◌, refl, sym, ap, ◌∙◌, subst}
 use mathlib.Core.Bool.{Bool, true, false, cond}
-use mathlib.Core.List.{List, [], ◌∷◌}
 use mathlib.Core.Logic.{◌⊎◌, inl, inr}
 use Prim.Native.Nat.{ℕ}
 use borrow.Author.Tests.{eqb-true, eqb-false}
@@ -16,13 +15,13 @@ use Rattle.definitions.specs.Refusals.{after_tests}
 use Rattle.definitions.specs.Rules.{is_altair, in_place, settings_under}
 use Rattle.definitions.specs.Document.Phase0.Helpers.{get_current_epoch, compute_epoch_at_slot}
 use Rattle.definitions.specs.Rust.Altair.EpochProcessing.{process_justification_and_finalization}
-use Rattle.definitions.specs.Close.{Step, justification_step, inactivity_step, rewards_step, registry_step, slashings_step, effective_balances_step, slashings_reset_step, participation_flags_step, step, limited_step, state_of, limited_up_to, process_epoch, limited_epoch}
+use Rattle.definitions.specs.Close.{justification_step, inactivity_step, rewards_step, registry_step, slashings_step, effective_balances_step, slashings_reset_step, participation_flags_step, step, limited_step, state_of, limited_up_to, process_epoch, limited_epoch}
 use Rattle.definitions_close.specs.FinalizingTest.{finalizing_test}
 use Rattle.definitions_close.specs.FullClose.{FullCall, settings_of, full_tests, limited_fully_closed, full_close, limited_full_close}
-use Rattle.definitions_close.specs.StoreClose.{StoreCall, call_by, rules_for, close_by, store_close}
+use Rattle.definitions_close.specs.StoreClose.{call_by, rules_for, close_by, store_close}
 use Rattle.laws.proofs.Checked.{value_same, bound}
 use Rattle.theorems.specs.Amounts.Laws.{set_by}
-use Rattle.theorems.specs.CloseBySteps.Desk.{Desk, Act, Closed, eight_done, was_refused}
+use Rattle.theorems.specs.CloseBySteps.Desk.{Desk, Closed, eight_done, was_refused}
 use Rattle.theorems.specs.StoreHistory.Steps.{acts}
 use Rattle.theorems.specs.StoreHistory.Test.{CloseTells, StoreCloseTells, StepsTell}
 use Rattle.theorems.proofs.Completeness.Told.{step-sets}

@@ -8,7 +8,8 @@ use Rattle.definitions.specs.declared.Deltas.{Deltas}
 use Rattle.definitions.specs.declared.Bellatrix.{Bellatrix}
 use Rattle.definitions.specs.declared.Rules.{Rules}
 use Rattle.definitions.specs.Record.{Validator, BeaconState}
-use Rattle.definitions.specs.Checked.{value, refused, overflow}
+use Rattle.definitions.specs.Checked.{value, refused}
+use Rattle.definitions.specs.declared.Refusal.TheVariants.{Overflow}
 use Rattle.definitions.specs.Rules.{settings_under, in_place}
 use Rattle.definitions.specs.Document.ByFork.{document_under}
 use Rattle.definitions.specs.Document.Altair.Helpers as DocumentHelpers
@@ -37,7 +38,7 @@ DenebAgreesIn64Bits =
 
 pub record StepParts (l : ActivationLimit) (s : Settings) (st : BeaconState) (k : Step) : Type 0 where
   pub row : Row s st k
-  pub rust : Rust.limited_step l s st k ≡ refused overflow
+  pub rust : Rust.limited_step l s st k ≡ refused Overflow
   pub document : In64Bits.limited_step l s st k ≡ value (limited_document_step l s st k)
 
 -- registry alone asks for the tests, which keep the activation epoch in 64 bits
@@ -49,7 +50,7 @@ CompleteStep =
 -- The rows are no wider than they need be
 pub record EveryRow (l : ActivationLimit) (s : Settings) (st : BeaconState) : Type 0 where
   -- at each the Rust answers 5
-  pub refuses : (k : Step) → Row s st k → Rust.limited_step l s st k ≡ refused overflow
+  pub refuses : (k : Step) → Row s st k → Rust.limited_step l s st k ≡ refused Overflow
   -- at the first and the third the document leaves the state as it was
   pub inactivity : Row s st inactivity_step → In64Bits.limited_step l s st inactivity_step ≡ value st
   pub effective_balances : Row s st effective_balances_step → In64Bits.limited_step l s st effective_balances_step ≡ value st
@@ -62,7 +63,7 @@ pub record EveryRow (l : ActivationLimit) (s : Settings) (st : BeaconState) : Ty
 
 pub record LeafParts (s : Settings) (state_slot finalized_epoch : ℕ) (vs : List Validator) (flag_index : ℕ) (v : Validator) : Type 0 where
   pub row : LeafRow s state_slot finalized_epoch flag_index v
-  pub rust : RustHelpers.get_flag_index_deltas s state_slot finalized_epoch vs flag_index v ≡ refused overflow
+  pub rust : RustHelpers.get_flag_index_deltas s state_slot finalized_epoch vs flag_index v ≡ refused Overflow
   pub document : In64Bits.deltas_of_one s state_slot finalized_epoch vs flag_index v
       ≡ value (DocumentHelpers.flag_index_deltas s state_slot finalized_epoch vs flag_index v)
 
@@ -74,7 +75,7 @@ CompleteLeaf =
 
 pub record EveryLeafRow (s : Settings) (state_slot finalized_epoch : ℕ) (vs : List Validator) (flag_index : ℕ) (v : Validator) : Type 0 where
   pub refuses : LeafRow s state_slot finalized_epoch flag_index v
-      → RustHelpers.get_flag_index_deltas s state_slot finalized_epoch vs flag_index v ≡ refused overflow
+      → RustHelpers.get_flag_index_deltas s state_slot finalized_epoch vs flag_index v ≡ refused Overflow
   -- where the document goes on the two part
   pub parts : (d : Deltas) → LeafRow s state_slot finalized_epoch flag_index v
       → In64Bits.deltas_of_one s state_slot finalized_epoch vs flag_index v ≡ value d
@@ -84,7 +85,7 @@ pub record EveryLeafRow (s : Settings) (state_slot finalized_epoch : ℕ) (vs : 
 
 pub record CloseParts (l : ActivationLimit) (s : Settings) (st : BeaconState) : Type 0 where
   pub row : CloseRow s st
-  pub rust : Rust.limited_epoch l s st ≡ refused overflow
+  pub rust : Rust.limited_epoch l s st ≡ refused Overflow
   pub document : In64Bits.limited_epoch l s st ≡ value (limited_document l s st)
 
 abbrev pub CompleteClose : Type 0

@@ -4,7 +4,8 @@ use Rattle.definitions.specs.declared.ActivationLimit.TheVariants.{Churn}
 use Rattle.definitions.specs.declared.Settings.{Settings}
 use Rattle.definitions.specs.declared.Checkpoint.{Checkpoint}
 use Rattle.definitions.specs.Record.{nobody, FAR_FUTURE_EPOCH}
-use Rattle.definitions.specs.Checked.{value, refused, overflow}
+use Rattle.definitions.specs.Checked.{value, refused}
+use Rattle.definitions.specs.declared.Refusal.TheVariants.{Overflow}
 use Rattle.definitions.specs.Rules.{«BELLATRIX», settings_under, altair_rules}
 use Rattle.definitions.specs.Close as Rust
 use Rattle.definitions.specs.Close.{finalized_epoch_of, inactivity_step, rewards_step, registry_step, effective_balances_step, Call, state_of, close_tests}
@@ -111,16 +112,16 @@ pub record Parting (turned : Call → Call) : Type 0 where
   pub missed_leaf : let c = turned missed in let st = state_of c in
       LeafParts (settings_under c.rules) c.finality.slot (finalized_epoch_of st) st.validators 0 (get_or st.validators 0 nobody)
   pub missed_close : let s = settings_under (turned missed).rules in let st = state_of (turned missed) in
-      (Rust.process_epoch s st ≡ refused overflow) × (In64Bits.process_epoch s st ≡ refused overflow)
+      (Rust.process_epoch s st ≡ refused Overflow) × (In64Bits.process_epoch s st ≡ refused Overflow)
   pub wide_tests : close_tests (turned wide) ≡ value tt
   pub effective_balances : StepParts Churn (settings_under (turned wide).rules) (state_of (turned wide)) effective_balances_step
   pub wide_close : CloseParts Churn (settings_under (turned wide).rules) (state_of (turned wide))
   -- in a row, and both refuse
   pub heavy_tests : close_tests (turned heavy) ≡ value tt
   pub heavy_row : Row (settings_under (turned heavy).rules) (state_of (turned heavy)) rewards_step
-  pub heavy_document : In64Bits.step (settings_under (turned heavy).rules) (state_of (turned heavy)) rewards_step ≡ refused overflow
+  pub heavy_document : In64Bits.step (settings_under (turned heavy).rules) (state_of (turned heavy)) rewards_step ≡ refused Overflow
   -- why the steps are said of what passes the tests: without them registry would part, too
-  pub untested_rust : Rust.step (settings_under (turned untested).rules) (state_of (turned untested)) registry_step ≡ refused overflow
+  pub untested_rust : Rust.step (settings_under (turned untested).rules) (state_of (turned untested)) registry_step ≡ refused Overflow
   pub untested_document : In64Bits.step (settings_under (turned untested).rules) (state_of (turned untested)) registry_step ≡ value (state_of (turned untested))
 
 pub record Records : Type 0 where

@@ -1,10 +1,8 @@
-use Rattle.totals.specs.Totals.{balance_for}
+use Rattle.totals.proofs.WithRaised.{balance_given, balance-refused}
 use Rattle.totals.proofs.balance_of.Goals as goal
 
-pub returns-in-Value : goal.returns-in-Value
-unfolding balance_for
-returns-in-Value c = rw c.in-Value.is
+pub returns-in_err-total : goal.returns-in_err-total
+returns-in_err-total c = balance-refused c.in_err-total.was c.from_residual.ensures
 
-pub returns-in-Refused : goal.returns-in-Refused
-unfolding balance_for
-returns-in-Refused c = rw c.in-Refused.is
+pub returns : goal.returns
+returns c = balance_given c.in_ok-total.was

@@ -1,47 +1,54 @@
--- A call tests 1, 2 and what of 3 is no entry, by `first`; then one pass tests the entries and finds the pair. `x` is the number that the first
--- tests' code gave.
+-- A call tests 1, 2 and what of 3 is no entry, by `first`; then one pass tests the entries and finds the pair. `x` is what the first
+-- tests answered.
 use mathlib.Core.Path.{◌≡◌, refl, sym, ◌∙◌}
-use mathlib.Core.Bool.{Bool, true, false, cond, ◌&&◌}
+use mathlib.Core.Bool.{Bool, cond}
 use mathlib.Core.List.{List, [], ◌∷◌, ◌++◌}
 use Prim.Native.Nat.{ℕ}
-use borrow.Author.Tests.{eqb-true, eqb-false}
-use lib.Dec.{eqb}
 use Rattle.definitions.specs.declared.ExitQueue.{ExitQueue}
+use Rattle.definitions.specs.declared.Refusal.{Refusal}
+use Rattle.definitions.specs.declared.Refusal.TheVariants.{BadRecord}
 use Rattle.definitions.specs.Lists.{every}
 use Rattle.definitions.specs.Record.{decode}
-use Rattle.definitions.specs.Checked.{Checked, code_of}
+use Rattle.definitions.specs.Checked.{Checked, value, refused, bind}
 use Rattle.definitions.specs.Refusals.{in_order, good_registry}
 use Rattle.definitions.specs.ExitQueue.{queue_of}
 use Rattle.definitions_close.specs.QueueCalls.{then_queue}
-use Rattle.laws.proofs.Tests.{and_true, record_refused, record_tested}
-use Rattle.validator_exit.specs.Found.{found_tests}
+use Rattle.laws.proofs.Checked.{not_value}
+use Rattle.laws.proofs.Tests.{and_true}
+use Rattle.validator_exit.specs.Found.{pair_test, found_tests}
+use Rattle.validator_exit.proofs.queue_tests.Recorded.{recorded-refused, recorded-tested}
 use Rattle.validator_exit.proofs.queue_tests.Queue.{refused-sooner, tested-queue}
 
 -- nothing was refused: neither an entry
-pub found_passed : (tested : ℕ) (queue found : ExitQueue) {t : ℕ} → t ≡ found_tests tested queue found → t ≡ 0 → tested ≡ 0
-unfolding found_tests
-found_passed tested queue found {t} h z = go (eqb tested 0) refl h
-  where
-    go : (b : Bool) → eqb tested 0 ≡ b → t ≡ cond b (cond (eqb queue.last_epoch found.last_epoch && eqb queue.number found.number) 0 8) tested → tested ≡ 0
-    go true g h = eqb-true tested 0 g
-    go false g h = sym h ∙ z
+pub found_passed : (tested : Checked (Unit {0})) (queue found : ExitQueue) {t : Checked (Unit {0})} → t ≡ found_tests tested queue found → t ≡ value tt → tested ≡ value tt
+unfolding found_tests bind
+found_passed (value u) queue found h z = refl
+found_passed (refused p) queue found h z = absurd (not_value (sym h ∙ z))
 
-module _ (shaped settings first : List Bool) (queue : ExitQueue) (registry : List ℕ) {x : ℕ} (e : x ≡ code_of (in_order shaped settings first)) where
+module _ (shaped settings first : List Bool) (queue : ExitQueue) (registry : List ℕ) {x : Checked (Unit {0})} (e : x ≡ in_order shaped settings first) where
   abbrev others : Checked (Unit {0})
   others = in_order shaped settings (first ++ (good_registry registry ∷ []))
 
-  pub early-refused : (x ≡ 0 → ⊥) → x ≡ code_of (then_queue others queue registry)
-  early-refused z = refused-sooner others queue registry (record_refused shaped settings first (good_registry registry ∷ []) e z) z
+  pub early-refused : {p : Refusal} → x ≡ refused p → then_queue others queue registry ≡ refused p
+  early-refused z = refused-sooner others queue registry refl (recorded-refused shaped settings first (good_registry registry ∷ []) e z)
 
-  module _ (z : x ≡ 0) {tested : ℕ} (h : tested ≡ cond (good_registry registry) 0 3) where
-    pub entries-code : tested ≡ code_of others
+  module _ (z : x ≡ value tt) {tested : Checked (Unit {0})} (h : tested ≡ cond (good_registry registry) (value tt) (refused BadRecord)) where
+    pub entries-code : tested ≡ others
     unfolding every
-    entries-code = h ∙ sym (record_tested shaped settings first (good_registry registry ∷ []) e z ∙ rw (and_true (good_registry registry)))
+    entries-code = h ∙ sym (recorded-tested shaped settings first (good_registry registry ∷ []) e z ∙ rw (and_true (good_registry registry)))
 
-    pub found-code : {found : ExitQueue} {t : ℕ} → (tested ≡ 0 → found ≡ queue_of (decode registry)) → t ≡ found_tests tested queue found → t ≡ code_of (then_queue others queue registry)
-    unfolding found_tests
-    found-code {found} {t} f k = go (eqb tested 0) refl k
+    -- an entry failed
+    pub entry-refused : {p : Refusal} → tested ≡ refused p → then_queue others queue registry ≡ refused p
+    entry-refused y = refused-sooner others queue registry entries-code y
+
+    -- none did, and the pair was tested
+    pub pair-code : tested ≡ value tt → {found : ExitQueue} {t : Checked (Unit {0})} → found ≡ queue_of (decode registry) → t ≡ pair_test queue found → t ≡ then_queue others queue registry
+    pair-code y f k = tested-queue others queue registry entries-code y f k
+
+    pub found-code : {found : ExitQueue} {t : Checked (Unit {0})} → (tested ≡ value tt → found ≡ queue_of (decode registry)) → t ≡ found_tests tested queue found → t ≡ then_queue others queue registry
+    unfolding found_tests bind
+    found-code {found} {t} f k = go tested refl k
       where
-        go : (b : Bool) → eqb tested 0 ≡ b → t ≡ cond b (cond (eqb queue.last_epoch found.last_epoch && eqb queue.number found.number) 0 8) tested → t ≡ code_of (then_queue others queue registry)
-        go true g k = let y = eqb-true tested 0 g in tested-queue others queue registry entries-code y (f y) k
-        go false g k = k ∙ refused-sooner others queue registry entries-code (eqb-false tested 0 g)
+        go : (m : Checked (Unit {0})) → tested ≡ m → t ≡ bind m (λ _. pair_test queue found) → t ≡ then_queue others queue registry
+        go (value u) y k = pair-code y (f y) k
+        go (refused p) y k = k ∙ sym (entry-refused y)

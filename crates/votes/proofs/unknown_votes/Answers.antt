@@ -1,8 +1,8 @@
-use Rattle.votes.proofs.Answered.{ends-refused, ends-after}
+use Rattle.votes.proofs.Answered.{answer-given, answer-lost}
 use Rattle.votes.proofs.unknown_votes.Goals as goal
 
-pub returns-then-refusal-ne0 : goal.returns-then-refusal-ne0
-returns-then-refusal-ne0 c = ends-refused _ _ c.votes_refusal-refusal.ensures c.if-refusal-ne0.true c.refused.ensures
+pub returns-in-Ok : goal.returns-in-Ok
+returns-in-Ok c = answer-given _ _ c.votes_after_tests.ensures c.in-Ok.is
 
-pub returns : goal.returns
-returns c = ends-after _ _ c.votes_refusal-refusal.ensures c.if-refusal-ne0.false c.votes_core.ensures
+pub returns-in-Err : goal.returns-in-Err
+returns-in-Err c = answer-lost _ _ c.votes_after_tests.ensures c.in-Err.is c.number.ensures

@@ -8,8 +8,7 @@ use lib.Dec.{ltb, eqb}
 use lib.ListN.{length}
 use Rattle.definitions_votes.specs.Votes.{insert_rising, sorted_once}
 use Rattle.votes.specs.declared.vote_outcome.Epochs.{Epochs}
-use Rattle.definitions_votes.specs.declared.VotesAnswer.{VotesAnswer}
-use Rattle.definitions_votes.specs.Answers.{first_three}
+use Rattle.votes.specs.declared.vote_outcome.OutcomeNumbers.{OutcomeNumbers}
 use Rattle.votes.specs.Epochs.{four, epochs_for, insert_into}
 
 length-insert : (e : ℕ) (xs : List ℕ) → length (insert_rising e xs) ≤ length xs + 1
@@ -74,11 +73,6 @@ four_inserted a b c d {n} {o} {p} {q} e f g h =
     first : insert_into d (four 0 0 0 0) ≡ epochs_for (insert_rising d [])
     first = ap (insert_into d) no-epochs ∙ insert-into d [] (omega arith)
 
--- the answer from the list's numbers
-abbrev answer_of : Epochs → ℕ → ℕ → VotesAnswer
-answer_of l previous current =
-    record { refusal = 0; count = l.count; finalized_epochs = l.first ∷ l.second ∷ l.third ∷ []; previous_target = previous; current_target = current }
-
-pub told-answer : (xs : List ℕ) {l : Epochs} {a a' b b' : ℕ} → l ≡ epochs_for xs → a ≡ a' → b ≡ b' → answer_of l a b ≡ record { refusal = 0; count = length xs; finalized_epochs = first_three xs; previous_target = a'; current_target = b' }
-unfolding epochs_for first_three
-told-answer xs p q r = rw (p, q, r)
+-- the numbers of an outcome
+pub told-numbers : (xs : List ℕ) {l : Epochs} {a a' b b' : ℕ} → l ≡ epochs_for xs → a ≡ a' → b ≡ b' → ◌≡◌ {A = OutcomeNumbers} (record { epochs = l; previous_target = a; current_target = b }) (record { epochs = epochs_for xs; previous_target = a'; current_target = b' })
+told-numbers xs p q r = λ i. record { epochs = p i; previous_target = q i; current_target = r i }

@@ -7,24 +7,21 @@ use native.Mathlib.Omega.{arith}
 use borrow.Author.Tests.{ltb-true, ltb-false}
 use lib.Dec.{ltb}
 use lib.ListN.{length, get_or, length-map, get_or-map}
-use Rattle.definitions.specs.Checked.{value, refused, Refusal, bind, add64}
+use Rattle.definitions.specs.Checked.{Checked, value, refused, bind, add64}
+use Rattle.definitions.specs.declared.Refusal.{Refusal}
+use Rattle.definitions.specs.declared.Refusal.TheVariants.{Overflow}
 use Rattle.definitions.specs.Record.{Validator, decode_one, decode, nobody}
-use Rattle.laws.proofs.Checked.{not_value, value_same, bound, add64-value, add64-below}
+use Rattle.laws.proofs.Checked.{not_value, value_same, refused_same, bound, add64-value, add64-below}
 use Rattle.laws.proofs.Encode.{length-decode}
-use Rattle.arithmetic.proofs.Answers.{Tells}
-use Rattle.arithmetic.proofs.Operations.{}
+use Rattle.arithmetic.proofs.Operations.{OnlyOverflow, only-bind, only-add64, only-value}
 use Rattle.laws.proofs.Loops.Entry.{entry_at}
 use Rattle.laws.proofs.Loops.Reading.{Reading, reading_none, reading_more, reading_is}
 use Rattle.laws.proofs.Loops.Summed.{Added, added_none, added_more, added-over, added-all}
 use Rattle.definitions_votes.specs.Filling.{Filling, none_set, all_set, filled_one, filled}
 use Rattle.definitions_votes.proofs.Filled.{length-filled, filled_at}
 use Rattle.votes.specs.declared.vote_sums.VoteSums.{VoteSums}
-use Rattle.votes.specs.declared.vote_sums.VoteSumsAnswer.TheVariants.{Value, Refused}
-use Rattle.votes.specs.Sums.{weight, active_at, hits_target, vote_sums_of, added_to, sums_for, sum_in, PlainSums, Counted}
+use Rattle.votes.specs.Sums.{weight, active_at, hits_target, vote_sums_of, added_to, sum_in, PlainSums, Counted}
 use Rattle.laws.proofs.Fits.{add64-fits}
-
-pub tells_sums : Tells sums_for Value Refused
-tells_sums = record { of-value = λ x. refl; of-refused = λ p. refl; one_value = λ x y e. cc; one_number = λ p q e. cc; apart = λ x q e. (let z : ◌≡◌ {A = ℕ} 0 1 = cc in omega arith) }
 
 -- one weight of the filled registry
 abbrev weights : (Validator → Bool) → List ℕ → Filling → List ℕ → List ℕ
@@ -144,10 +141,17 @@ module _ {current previous n : ℕ} {xs marks : List ℕ} {i : ℕ} {t : VoteSum
           current_most = sum_fits g.current_most l (part (λ r. r.current_most)) s.current_most;
         }))
 
+-- only overflow refuses
+only-added : (t own : VoteSums) {p : Refusal} → added_to t own ≡ refused p → p ≡ Overflow
+unfolding added_to
+only-added t own {p} e =
+    let o : OnlyOverflow (added_to t own) = only-bind (only-add64 _ _) (λ a. only-bind (only-add64 _ _) (λ b. only-bind (only-add64 _ _) (λ c. only-bind (only-add64 _ _) (λ d. only-bind (only-add64 _ _) (λ e. only-value _))))) in
+    o.why p e
+
 -- what the loop returns
 module _ {current previous : ℕ} {marks : List ℕ} {vs : List Validator} where
-  pub counted-value : {t : VoteSums} → PlainSums current previous marks vs t → Counted current previous marks vs (Value t)
-  counted-value s = record { given = λ u e. rw (← tells_sums.one_value _ u e) s; number = λ q e. absurd (tells_sums.apart _ q e); over = λ q e u z. tells_sums.apart _ q e }
+  pub counted-value : {t : VoteSums} → PlainSums current previous marks vs t → Counted current previous marks vs (value t)
+  counted-value s = record { given = λ u e. rw (← value_same e) s; why = λ p e. absurd (not_value (sym e)); over = λ p e u z. not_value (sym e) }
 
-  pub counted-refused : ((t : VoteSums) → PlainSums current previous marks vs t → ⊥) → Counted current previous marks vs (Refused 5)
-  counted-refused n = record { given = λ u e. absurd (tells_sums.apart u 5 (sym e)); number = λ q e. cc; over = λ q e t s. n t s }
+  pub counted-refused : (t own : VoteSums) {p : Refusal} {r : Checked VoteSums} → added_to t own ≡ refused p → ((u : VoteSums) → PlainSums current previous marks vs u → ⊥) → r ≡ refused p → Counted current previous marks vs r
+  counted-refused t own {p} e n h = record { given = λ u d. absurd (not_value (sym h ∙ d)); why = λ q d. refused_same (sym d ∙ h) ∙ only-added t own e; over = λ q d u s. n u s }

@@ -1,8 +1,12 @@
-use Rattle.weighing.proofs.Answers.{refused-first, then_works}
+use mathlib.Core.Path.{sym, ◌∙◌}
+use Rattle.refusals.proofs.Answers.{then-answers, refused-answers}
 use Rattle.weighing.proofs.weigh_justification_and_finalization.Goals as goal
 
-pub returns-then-refusal-ne0 : goal.returns-then-refusal-ne0
-returns-then-refusal-ne0 c = refused-first _ _ _ c.weigh_refusal-refusal.ensures c.if-refusal-ne0.true
+pub returns-in_err-weigh_refusal : goal.returns-in_err-weigh_refusal
+returns-in_err-weigh_refusal c = refused-answers _ c.weigh_refusal.ensures _ c.in_err-weigh_refusal.was c.from_residual.ensures
+
+pub weigh-requires : goal.weigh-requires
+weigh-requires c = sym c.weigh_refusal.ensures ∙ c.in_ok-weigh_refusal.was
 
 pub returns : goal.returns
-returns c = then_works _ _ _ c.weigh_refusal-refusal.ensures c.if-refusal-ne0.false c.weigh.ensures
+returns c = then-answers _ c.weigh_refusal.ensures c.in_ok-weigh_refusal.was c.weigh.ensures

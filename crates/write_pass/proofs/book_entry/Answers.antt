@@ -8,7 +8,7 @@ returns-then-amounts-b c = record { long = λ l. absurd (omega (arith, l, c.if-a
 pub fill_entry-requires : goal.fill_entry-requires
 fill_entry-requires c =
     let a = c.requires in
-    record { planned = a.planned; answer_for = a.answer_for; from_len = (a.from_len.0, a.from_len.1, nine-part c.args.amounts.now c.args.i (omega (arith, c.if-amounts-b.false))); between = a.between }
+    record { planned = a.planned; pairs_for = a.pairs_for; from_len = (a.from_len.0, a.from_len.1, nine-part c.args.amounts.now c.args.i (omega (arith, c.if-amounts-b.false))); between = a.between }
 
 pub returns : goal.returns
 returns c = put-part c.args.amounts.now c.args.i c.fill_entry.auto.nine c.fill_entry.ensures

@@ -19,8 +19,7 @@ pub put_amounts-requires : goal.put_amounts-requires
 put_amounts-requires c =
     let a = c.requires in
     let n = c.if-h-eq0.false in
-    let g = c.pairs_of-pairs.ensures in
-    record { nine_len = a.from_len.2; fits = (paid-fits a.between n a.answer_for g, paid-left a.between n a.answer_for g) }
+    record { nine_len = a.from_len.2; fits = (paid-fits a.between n a.pairs_for, paid-left a.between n a.pairs_for) }
 
 pub returns : goal.returns
-returns c = c.put_amounts.ensures ∙ paid-nine c.requires.between c.if-h-eq0.false c.requires.answer_for c.pairs_of-pairs.ensures
+returns c = c.put_amounts.ensures ∙ paid-nine c.requires.between c.if-h-eq0.false c.requires.pairs_for

@@ -1,10 +1,8 @@
+use mathlib.Core.Path.{sym, ◌∙◌}
 use Rattle.refusals.proofs.Laws.{good-settings}
-use Rattle.arithmetic.proofs.Laws.{says-value, says_overflow}
-use Rattle.arithmetic.proofs.Answers.{tells_truth, answers-value, answers_overflow}
 use Rattle.slashings.proofs.Adjusted.{only-adjusted}
-use Rattle.balances.proofs.effective_balances.Step.{tells_thresholds, only-thresholds}
 use Rattle.write_steps.specs.Numbers.{no_leak, no_adjusted, no_thresholds}
-use Rattle.write_steps.proofs.Only.{only-leak}
+use Rattle.write_steps.proofs.Only.{only-leak, only-thresholds}
 use Rattle.write_steps.proofs.Made.{plan-made, plan_lacks}
 use Rattle.write_steps.proofs.plan_for.Goals as goal
 
@@ -17,17 +15,17 @@ previous_epoch-previous-requires c = (good-settings _ c.requires.0).positive.slo
 pub leak_of-requires : goal.leak_of-requires
 leak_of-requires c = ((good-settings _ c.requires.0).positive.slots_per_epoch, c.current_epoch-current.ensures)
 
-pub returns-in_default : goal.returns-in_default
-returns-in_default c = plan_lacks (no_leak (answers_overflow tells_truth c.leak_of.ensures (only-leak _ _ _) c.in_default.is).0)
+pub returns-in_err-leaking : goal.returns-in_err-leaking
+returns-in_err-leaking c = plan_lacks (only-leak _ _ _) no_leak c.leak_of.ensures c.in_err-leaking.was c.from_residual.ensures
 
-pub returns-in_default-adjusted_balance : goal.returns-in_default-adjusted_balance
-returns-in_default-adjusted_balance c = plan_lacks (no_adjusted (says_overflow c.adjusted_balance.ensures (only-adjusted _ _ _) c.in_default-adjusted_balance.is).0)
+pub returns-in_err-adjusted : goal.returns-in_err-adjusted
+returns-in_err-adjusted c = plan_lacks (only-adjusted _ _ _) no_adjusted c.adjusted_balance.ensures c.in_err-adjusted.was c.from_residual-in_err-adjusted.ensures
 
 pub hysteresis-requires : goal.hysteresis-requires
 hysteresis-requires c = (good-settings _ c.requires.0).positive.hysteresis_quotient
 
-pub returns-in_default-hysteresis : goal.returns-in_default-hysteresis
-returns-in_default-hysteresis c = plan_lacks (no_thresholds (answers_overflow tells_thresholds c.hysteresis.ensures (only-thresholds _) c.in_default-hysteresis.is).0)
+pub returns-in_err-thresholds : goal.returns-in_err-thresholds
+returns-in_err-thresholds c = plan_lacks (only-thresholds _) no_thresholds c.hysteresis.ensures c.in_err-thresholds.was c.from_residual-in_err-thresholds.ensures
 
 pub make_plan-p-requires : goal.make_plan-p-requires
 make_plan-p-requires c =
@@ -36,7 +34,7 @@ make_plan-p-requires c =
 
 pub returns : goal.returns
 returns c =
-    plan-made (answers-value tells_truth c.leak_of.ensures c.in-Value.is)
-    (says-value c.adjusted_balance.ensures c.in-Value-adjusted_balance.is)
-    (answers-value tells_thresholds c.hysteresis.ensures c.in-Value-hysteresis.is)
+    plan-made (sym c.leak_of.ensures ∙ c.in_ok-leaking.was)
+    (sym c.adjusted_balance.ensures ∙ c.in_ok-adjusted.was)
+    (sym c.hysteresis.ensures ∙ c.in_ok-thresholds.was)
     (rw (c.current_epoch-current.ensures, c.previous_epoch-previous.ensures) at c.make_plan-p.ensures)

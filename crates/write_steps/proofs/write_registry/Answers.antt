@@ -6,7 +6,8 @@ use native.Mathlib.Omega.{arith}
 use Rattle.definitions.specs.Record.{decode}
 use Rattle.refusals.proofs.All.{fails, passes}
 use Rattle.refusals.proofs.Laws.{good-settings}
-use Rattle.refusals.proofs.buffers.Chained.{ran_overflow}
+use Rattle.laws.proofs.Checked.{not_value}
+use Rattle.laws.proofs.Loops.Ran.{ran-refused}
 use Rattle.registry.proofs.Epochs.{Epochs, epochs}
 use Rattle.write_steps.proofs.Accepted.{Accepted, not_accepted}
 use Rattle.write_steps.proofs.Made.{plain-fit, found_all}
@@ -32,7 +33,7 @@ current-small c =
 pub returns-then-not-all_fit : goal.returns-then-not-all_fit
 returns-then-not-all_fit c =
     let over = fails c.all_fit.ensures (ap not c.if-not-all_fit.true) in
-    record { ran = ran_overflow (not_accepted _ _ _ _ (ep (goal.at.returns-then-not-all_fit c).Start) _ _ (λ (g : Accepted-at c.args.s c.args.state_slot c.args.finalized_epoch c.args.slashings.now c.args.opening.now). true≢false (sym (plain-fit c.requires.finds g.plain) ∙ over))); books = record { booked = λ z. absurd (omega (arith, z)) }; pair_of = record { pair = λ z. absurd (omega (arith, z)) } }
+    record { ran = ran-refused (not_accepted _ _ _ _ (ep (goal.at.returns-then-not-all_fit c).Start) _ _ (λ (g : Accepted-at c.args.s c.args.state_slot c.args.finalized_epoch c.args.slashings.now c.args.opening.now). true≢false (sym (plain-fit c.requires.finds g.plain) ∙ over))); books = record { booked = λ z. absurd (omega (arith, z)) }; pair_in = record { pair = λ q e. absurd (not_value e) } }
 
 pub current_epoch-epoch-requires : goal.current_epoch-epoch-requires
 current_epoch-epoch-requires c =
@@ -59,7 +60,7 @@ write_found-requires c =
 pub returns : goal.returns
 returns c =
     let wrote = c.write_found.ensures in
-    record { ran = wrote.ran_under.under _ (rw (c.activation_limit-most.ensures, c.current_epoch-epoch.ensures) at c.cut_queue-cut.ensures); books = wrote.books; pair_of = wrote.pair_of }
+    record { ran = wrote.ran_under.under _ (rw (c.activation_limit-most.ensures, c.current_epoch-epoch.ensures) at c.cut_queue-cut.ensures); books = wrote.books; pair_in = wrote.pair_in }
 
 pub overflow_add-least : goal.overflow_add-least
 overflow_add-least c = omega (arith, current-small (goal.at.overflow_add-least c).After-current_epoch-epoch)

@@ -1,7 +1,8 @@
 -- One pass that runs two functions on each entry gives what two passes give, where both refuse only by 5.
 use mathlib.Core.Path.{◌≡◌, refl, sym, ap, ◌∙◌}
 use mathlib.Core.List.{List, [], ◌∷◌}
-use Rattle.definitions.specs.Checked.{Refusal, Checked, value, refused, bind, map_checked}
+use Rattle.definitions.specs.Checked.{Checked, value, refused, bind, map_checked}
+use Rattle.definitions.specs.declared.Refusal.{Refusal}
 use Rattle.arithmetic.proofs.Operations.{OnlyOverflow, only-value, only-bind}
 use Rattle.write_turn.proofs.Sweeps.Pure.{only-map}
 use Rattle.write_turn.specs.Sweep.{Moved, Turning, sweep, after, first, last, along}

@@ -7,7 +7,8 @@ use native.Mathlib.Omega.{arith}
 use native.Mathlib.Numerals.{add-one}
 use lib.ListN.{length, take, drop, set}
 use lib.Seq.{take_all}
-use Rattle.definitions.specs.Checked.{Checked, value, refused, bind, code_of}
+use Rattle.definitions.specs.Checked.{Checked, value, refused, bind, done}
+use Rattle.definitions.specs.declared.Refusal.{Refusal}
 use Rattle.definitions.specs.Record.{Validator, decode_one, encode_one, encode, decode}
 use Rattle.laws.proofs.Checked.{not_value, value_same}
 use Rattle.laws.proofs.Encode.{length-decode, encode-decode, decode-encode}
@@ -15,9 +16,9 @@ use Rattle.laws.specs.Ran.{Ran}
 use Rattle.laws.proofs.Loops.Entry.{entry_at, put_at, entry-ten, entry-back}
 use Rattle.laws.proofs.Loops.Reading.{Reading, prefix_all, prefix_more, prefix_rest}
 use Rattle.write_turn.specs.Sweep.{Moved, Turning, sweep, dropped}
-use Rattle.write_turn.specs.Steps.{Steps, Swept}
+use Rattle.write_turn.specs.Steps.{carry_of, Steps, Swept}
 use Rattle.write_turn.proofs.Sweeps.Fused.{more}
-use Rattle.write_turn.proofs.Sweeps.Steps.{steps-gave}
+use Rattle.write_turn.proofs.Sweeps.Steps.{steps-gave, steps-by}
 
 abbrev behind : {C A : Type 0} → List A → Moved C (List A) → Checked (Moved C (List A))
 behind ys q = value (record { carry = q.carry; held = ys ++ q.held })
@@ -61,13 +62,12 @@ unfolding sweep
 writing-none f h k = record { at = record { long = h; below = omega arith }; long = k; held = refl }
 
 module _ {C : Type 0} {f : Turning C Validator} {n : ℕ} {xs₀ : List ℕ} {c₀ : C} {i : ℕ} {xs : List ℕ} {c : C} (g : Writing f n xs₀ c₀ i xs c) where
-  pub writing-all : n ≤ i → Swept (sweep f c₀ (decode xs₀)) xs 0 c
+  pub writing-all : n ≤ i → Swept (sweep f c₀ (decode xs₀)) xs (value c)
   writing-all l =
       let e : sweep f c₀ (decode xs₀) ≡ value (record { carry = c; held = decode xs }) = ap (sweep f c₀) (sym (prefix_all g.at l)) ∙ g.held ∙ ap (λ (vs : List Validator). value (record { carry = c; held = vs })) (take_all i (decode xs) (omega (arith, length-decode n xs g.long))) in
       record {
-        code = ap code_of (sym e);
+        is = ap carry_of (sym e);
         held = λ p t. sym (encode-decode n xs g.long) ∙ ap (λ (q : Moved C (List Validator)). encode q.held) (value_same (sym e ∙ t));
-        carried = λ p t. ap (λ (q : Moved C (List Validator)). q.carry) (value_same (sym e ∙ t));
       }
 
   module _ (l : i < n) where
@@ -78,9 +78,9 @@ module _ {C : Type 0} {f : Turning C Validator} {n : ℕ} {xs₀ : List ℕ} {c�
     pub writing-to : length (entry_at xs i) ≡ 10
     writing-to = entry-ten n xs i g.long l
 
-    -- the part came back as e, the turn's number is r and its state d
-    module _ {e : List ℕ} {r : ℕ} {d : C} (h : Steps f c (entry_at xs₀ i) e r d) where
-      pub writing_more : r ≡ 0 → length (put_at xs i e) ≡ length xs → Writing f n xs₀ c₀ (i + 1) (put_at xs i e) d
+    -- the part came back as e, and the turn answers r
+    module _ {e : List ℕ} {r : Checked C} (h : Steps f c (entry_at xs₀ i) e r) where
+      pub writing_more : {d : C} → r ≡ value d → length (put_at xs i e) ≡ length xs → Writing f n xs₀ c₀ (i + 1) (put_at xs i e) d
       unfolding sweep bind
       writing_more z k =
           let w = decode_one e in
@@ -93,21 +93,17 @@ module _ {C : Type 0} {f : Turning C Validator} {n : ℕ} {xs₀ : List ℕ} {c�
             held = rw (prefix_more g.at l, sweep-append f c₀ (take i (decode xs₀)) (decode_one (entry_at xs₀ i) ∷ []), g.held, gave, put, add-one i, take-set (decode xs) i w (omega (arith, length-decode n xs g.long)));
           }
 
-      pub writing-stop : {ys : List ℕ} {a : C} → (r ≡ 0 → ⊥) → Swept (sweep f c₀ (decode xs₀)) ys r a
+      pub writing-stop : {ys : List ℕ} {p : Refusal} → r ≡ refused p → Swept (sweep f c₀ (decode xs₀)) ys (refused p)
       unfolding sweep bind
-      writing-stop {ys} {a} z = go (f c (decode_one (entry_at xs₀ i))) refl
-        where
-          go : (m : Checked (Moved C Validator)) → f c (decode_one (entry_at xs₀ i)) ≡ m → Swept (sweep f c₀ (decode xs₀)) ys r a
-          go (value m) q = absurd (z (h.code ∙ ap code_of q))
-          go (refused p) q =
-              let t : sweep f c₀ (decode xs₀) ≡ refused p = ap (sweep f c₀) (prefix_rest g.at l) ∙ rw (sweep-append f c₀ (take i (decode xs₀)) (decode_one (entry_at xs₀ i) ∷ drop (suc i) (decode xs₀)), g.held, q) in
-              record { code = h.code ∙ ap code_of q ∙ ap code_of (sym t); held = λ p v. absurd (not_value (sym t ∙ v)); carried = λ p v. absurd (not_value (sym t ∙ v)) }
+      writing-stop {ys} {p} z =
+          let t : sweep f c₀ (decode xs₀) ≡ refused p = ap (sweep f c₀) (prefix_rest g.at l) ∙ rw (sweep-append f c₀ (take i (decode xs₀)) (decode_one (entry_at xs₀ i) ∷ drop (suc i) (decode xs₀)), g.held, steps-by h z) in
+          record { is = ap carry_of (sym t); held = λ p v. absurd (not_value (sym t ∙ v)) }
 
 -- The registry alone, where the state is dropped
-pub swept_ran : {C : Type 0} {m : Checked (Moved C (List Validator))} {xs : List ℕ} {r : ℕ} {c : C} → Swept m xs r c → Ran (dropped m) xs r
+pub swept_ran : {C : Type 0} {m : Checked (Moved C (List Validator))} {xs : List ℕ} {r : Checked C} → Swept m xs r → Ran (dropped m) xs (done r)
 unfolding bind
-swept_ran {C} {m} {xs} {r} {c} h = go m h
+swept_ran {C} {m} {xs} {r} h = go m h
   where
-    go : (m : Checked (Moved C (List Validator))) → Swept m xs r c → Ran (dropped m) xs r
-    go (value p) h = record { code = h.code; held = λ vs e. h.held p refl ∙ ap encode (value_same e) }
-    go (refused p) h = record { code = h.code; held = λ vs e. absurd (not_value e) }
+    go : (m : Checked (Moved C (List Validator))) → Swept m xs r → Ran (dropped m) xs (done r)
+    go (value p) h = record { is = ap done h.is; held = λ vs e. h.held p refl ∙ ap encode (value_same e) }
+    go (refused p) h = record { is = ap done h.is; held = λ vs e. absurd (not_value e) }

@@ -4,7 +4,8 @@ use Rattle.definitions.specs.declared.Settings.{Settings}
 use Rattle.definitions.specs.Lists.{maximum}
 use Rattle.definitions.specs.Record.{Validator, FAR_FUTURE_EPOCH, nobody}
 use Rattle.definitions.specs.Updates.{with_balance, with_exit}
-use Rattle.definitions.specs.Checked.{Checked, value, refused, no_root, bind, add64, mul64, sum64}
+use Rattle.definitions.specs.Checked.{Checked, value, refused, bind, add64, mul64, sum64}
+use Rattle.definitions.specs.declared.Refusal.TheVariants.{NoRoot}
 use Rattle.definitions.specs.Document.Phase0.Helpers as document
 use Rattle.definitions.specs.Document.Phase0.Helpers.{exit_epochs, exit_queue_churn}
 -- 23, 27, 32, 485, 224, 531, 646, 678, 1005: the document's
@@ -21,9 +22,9 @@ compute_activation_exit_epoch s epoch = bind (add64 epoch 1) (λ next. add64 nex
 -- 588: the second test is evaluated only where the first failed. 4 also at state slot 0, where building the error panics.
 unfoldable pub get_block_root_at_slot : Settings → List ℕ → ℕ → ℕ → Checked (List ℕ)
 get_block_root_at_slot s roots state_slot slot =
-    cond (leb state_slot slot) (refused no_root)
+    cond (leb state_slot slot) (refused NoRoot)
     (bind (add64 slot s.slots_per_historical_root) (λ last.
-    cond (ltb last state_slot) (refused no_root) (value (document.get_block_root_at_slot s roots slot))))
+    cond (ltb last state_slot) (refused NoRoot) (value (document.get_block_root_at_slot s roots slot))))
 
 -- 561
 unfoldable pub get_block_root : Settings → List ℕ → ℕ → ℕ → Checked (List ℕ)

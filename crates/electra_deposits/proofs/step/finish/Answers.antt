@@ -10,7 +10,7 @@ pub add_deposits-count-requires : goal.add_deposits-count-requires
 add_deposits-count-requires c =
     let h = c.requires.lent in
     let x = long-compounding h c.copy_front.ensures in
-    record { registry_len = (omega (arith, x, h.room), x ∙ h.room_too, c.requires.increment_nonzero.0); places_value = (cleared h c.clear.ensures, h.keys, c.requires.increment_nonzero.2) }
+    record { registry_len = (omega (arith, x, h.room), x ∙ h.room_too, c.requires.increment_nonzero.0); places_value = (cleared h (c.fill.ensures.after (λ y e. e)), h.keys, c.requires.increment_nonzero.2) }
 
 pub write_queue-left-requires : goal.write_queue-left-requires
 write_queue-left-requires c =

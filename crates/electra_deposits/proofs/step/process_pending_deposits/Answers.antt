@@ -2,13 +2,13 @@ use Rattle.electra_refusals.proofs.Passed.{good-electra, deposits-passed}
 use Rattle.electra_deposits.proofs.step.Close.{lent, tests-refused, tests-passed}
 use Rattle.electra_deposits.proofs.step.process_pending_deposits.Goals as goal
 
-pub returns-then-refusal-ne0 : goal.returns-then-refusal-ne0
-returns-then-refusal-ne0 c = rw c.opening_answer.ensures (tests-refused _ _ _ _ _ _ c.deposits_tests-refusal.ensures c.if-refusal-ne0.true _ _ _)
+pub returns-in-Err : goal.returns-in-Err
+returns-in-Err c = rw c.opening_answer.ensures (tests-refused _ _ _ _ _ _ c.deposits_tests.ensures c.in-Err.is _ _ _)
 
 pub deposits_core-requires : goal.deposits_core-requires
 deposits_core-requires c =
-    let p = deposits-passed _ _ _ _ _ _ _ _ _ _ c.deposits_tests-refusal.ensures c.if-refusal-ne0.false in
+    let p = deposits-passed _ _ _ _ _ _ _ _ _ _ c.deposits_tests.ensures c.in_default.is in
     record { lent = lent p; settings_value = ((good-electra _ p.good).settings, p.same) }
 
 pub returns : goal.returns
-returns c = tests-passed _ _ _ _ _ _ c.deposits_tests-refusal.ensures c.if-refusal-ne0.false c.deposits_core.ensures
+returns c = tests-passed _ _ _ _ _ _ c.deposits_tests.ensures c.in_default.is c.deposits_core.ensures

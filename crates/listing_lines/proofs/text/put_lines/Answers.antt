@@ -1,8 +1,8 @@
-use mathlib.Core.Path.{◌≡◌, ◌∙◌}
-use Prim.Native.Nat.{ℕ}
+use mathlib.Core.Path.{sym, ◌∙◌}
+use Rattle.laws.proofs.Checked.{not_value}
 use native.Mathlib.Omega.{arith}
 use Rattle.refusals.proofs.Laws.{registry-shaped}
-use Rattle.arithmetic.proofs.signed.Change.{given, wide, signed, difference}
+use Rattle.arithmetic.proofs.signed.Change.{signed, difference}
 use Rattle.listing_lines.proofs.Fitting.{fitting_none, fitting_more, fitting_wide}
 use Rattle.listing_lines.proofs.Lines.{lining_none, lining_more, lining_all}
 use Rattle.listing_lines.proofs.text.put_lines.Goals as goal
@@ -16,14 +16,13 @@ loop-i-init c =
 pub returns-in_default : goal.returns-in_default
 returns-in_default c =
     let shaped = (registry-shaped _ c.requires.opening_value.0).long in
-    let over = fitting_wide _ _ shaped c.requires.opening_value.1 c.loop-i.invariant.1 c.loop-i-test.true
-    (wide _ _ c.net_change.ensures c.in_default.is) in
-    absurd (let none : ◌≡◌ {A = ℕ} 7 0 = over ∙ c.requires.closing_value in omega arith)
+    let over = fitting_wide _ _ shaped c.requires.opening_value.1 c.loop-i.invariant.1 c.loop-i-test.true (sym c.net_change.ensures ∙ c.in_default.is) in
+    absurd (not_value (sym over ∙ c.requires.closing_value))
 
 pub put_line-end-requires : goal.put_line-end-requires
 put_line-end-requires c =
     let v = c.loop-i.invariant.0 in
-    let change = given _ c.net_change.ensures c.in-Value.is in
+    let change = sym c.net_change.ensures ∙ c.in-Ok.is in
     (omega (arith, v.room, c.loop-i-test.true), signed _ _ change ∙ difference _ _ change)
 
 pub loop-i-preserved : goal.loop-i-preserved
@@ -31,7 +30,7 @@ loop-i-preserved c =
     let shaped = c.requires.opening_value.0 in
     let alike = c.requires.opening_value.1 in
     let p = c.put_line-end.ensures in
-    let change = given _ c.net_change.ensures c.in-Value.is in (
+    let change = sym c.net_change.ensures ∙ c.in-Ok.is in (
       lining_more _ _ shaped alike c.loop-i.invariant.0 c.loop-i-test.true p.put p.upper_bound,
       fitting_more _ _ (registry-shaped _ shaped).long alike c.loop-i.invariant.1 c.loop-i-test.true change,
     )

@@ -8,12 +8,12 @@ use Rattle.outage.proofs.file_outage.put_input.Goals as goal
 pub returns-then-input-gt-MOST_INPUT : goal.returns-then-input-gt-MOST_INPUT
 returns-then-input-gt-MOST_INPUT c =
     let p = c.put_refused.ensures in
-    record { put = rw (outage-long c.args.input.now c.if-input-gt-MOST_INPUT.true) p.put; inside = omega (arith, p.upper_bound, c.requires) }
+    record { put = rw (outage-long c.args.input.now c.if-input-gt-MOST_INPUT.true) (rw c.number.ensures at p.put); inside = omega (arith, p.upper_bound, c.requires) }
 
 pub returns-then-input-lt80 : goal.returns-then-input-lt80
 returns-then-input-lt80 c =
     let p = c.put_refused-then-input-lt80.ensures in
-    record { put = rw (outage-short c.args.input.now c.if-input-lt80.true) p.put; inside = omega (arith, p.upper_bound, c.requires) }
+    record { put = rw (outage-short c.args.input.now c.if-input-lt80.true) (rw c.number-then-input-lt80.ensures at p.put); inside = omega (arith, p.upper_bound, c.requires) }
 
 pub slice_bounds-put_text-end : goal.slice_bounds-put_text-end
 slice_bounds-put_text-end c = sym (length-take-le c.file_end-end.result c.args.input.now c.file_end-end.ensures.upper_bound)

@@ -33,12 +33,12 @@ pub put_head-last-requires : goal.put_head-last-requires
 put_head-last-requires c =
     omega (arith, c.requires.heads)
 
-pub copy-requires : goal.copy-requires
-copy-requires c =
+pub copy_from_slice-requires : goal.copy_from_slice-requires
+copy_from_slice-requires c =
     omega (arith, c.close_as_altair-closed.auto.closing_registry, c.requires.entries)
 
-pub copy-requires-2 : goal.copy-requires-2
-copy-requires-2 c =
+pub copy_from_slice-requires-2 : goal.copy_from_slice-requires-2
+copy_from_slice-requires-2 c =
     omega (arith, c.close_as_altair-closed.auto.closing_slashings, c.requires.sums)
 
 pub returns : goal.returns
@@ -48,5 +48,5 @@ returns c =
     let e = c.close_as_altair-closed.ensures in
     let z = c.if-closed-ne0.false in
     let flags = ap (λ (o : Outcome). o.raised) e ∙ (accepted (called_with c.args.s c.args.finality c.args.registry.now c.args.slashings.now c.args.roots.now c.args.closing_registry.now c.args.closing_slashings.now) (sym (ap (λ (o : Outcome). o.refusal) e) ∙ z)).raised in
-    rw (c.copy.ensures, c.copy-2.ensures)
+    rw (c.copy_from_slice.ensures.after, c.copy_from_slice-2.ensures.after)
     (once_closed (handed c.args.s c.args.finality c.args.registry.now c.args.roots.now c.args.slashings.now) c.args.closing_registry.now c.args.closing_slashings.now c.requires.entries c.requires.sums e z (rw (c.head_core-h.ensures, ← flags) at p.put) (omega (arith, p.upper_bound)))

@@ -3,7 +3,7 @@ use Rattle.participation.proofs.inactivity.moved_score.Goals as goal
 
 pub returns-then-participating : goal.returns-then-participating
 unfolding moved_score
-returns-then-participating c = record { is = rw (c.if-participating.true, c.min.ensures) }
+returns-then-participating c = rw (c.if-participating.true, c.min.ensures)
 
 pub returns : goal.returns
 unfolding moved_score

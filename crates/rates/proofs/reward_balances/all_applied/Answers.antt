@@ -1,25 +1,24 @@
+use mathlib.Core.Path.{refl}
 use Rattle.definitions.specs.Checked.{fold_checked}
-use Rattle.arithmetic.proofs.Laws.{chain}
-use Rattle.rates.proofs.reward_balances.Only.{only-applied}
-use borrow.Author.Rules.{rules}
+use Rattle.arithmetic.proofs.Laws.{next, passes-on}
 use Rattle.rates.proofs.reward_balances.all_applied.Goals as goal
 
-pub returns-in_default : goal.returns-in_default
+pub returns-in_err-first : goal.returns-in_err-first
 unfolding fold_checked
-returns-in_default c = search (rules, chain, only-applied) depth 9
+returns-in_err-first c = passes-on _ c.applied.ensures c.in_err-first.was c.from_residual.ensures
 
-pub returns-in_default-applied : goal.returns-in_default-applied
+pub returns-in_err-second : goal.returns-in_err-second
 unfolding fold_checked
-returns-in_default-applied c = search (rules, chain, only-applied) depth 9
+returns-in_err-second c = next _ c.applied.ensures c.in_ok-first.was (passes-on _ c.applied-2.ensures c.in_err-second.was c.from_residual-in_err-second.ensures)
 
-pub returns-in_default-applied-2 : goal.returns-in_default-applied-2
+pub returns-in_err-third : goal.returns-in_err-third
 unfolding fold_checked
-returns-in_default-applied-2 c = search (rules, chain, only-applied) depth 9
+returns-in_err-third c = next _ c.applied.ensures c.in_ok-first.was (next _ c.applied-2.ensures c.in_ok-second.was (passes-on _ c.applied-3.ensures c.in_err-third.was c.from_residual-in_err-third.ensures))
 
-pub returns-in_default-applied-3 : goal.returns-in_default-applied-3
+pub returns-in_err-fourth : goal.returns-in_err-fourth
 unfolding fold_checked
-returns-in_default-applied-3 c = search (rules, chain, only-applied) depth 9
+returns-in_err-fourth c = next _ c.applied.ensures c.in_ok-first.was (next _ c.applied-2.ensures c.in_ok-second.was (next _ c.applied-3.ensures c.in_ok-third.was (passes-on _ c.applied-4.ensures c.in_err-fourth.was c.from_residual-in_err-fourth.ensures)))
 
 pub returns : goal.returns
 unfolding fold_checked
-returns c = search (rules, chain, only-applied) depth 9
+returns c = next _ c.applied.ensures c.in_ok-first.was (next _ c.applied-2.ensures c.in_ok-second.was (next _ c.applied-3.ensures c.in_ok-third.was (next _ c.applied-4.ensures c.in_ok-fourth.was refl)))

@@ -1,4 +1,3 @@
-use Prim.Native.Nat.{◌-◌}
 use Rattle.registry.proofs.activation.Admitting.{admitting_none, admitting_ten, admitting_more, admitting_all}
 use Rattle.registry.proofs.activation.admit_below.Goals as goal
 

@@ -1,13 +1,12 @@
-use Rattle.arithmetic.proofs.Answers.{tells_number}
-use Rattle.rewards.proofs.base_rewards.After.{tests-refused, tests-passed}
+use Rattle.refusals.proofs.Answers.{then-answers, refused-answers}
 use Rattle.rewards.proofs.base_rewards.Tests.{total-passed}
 use Rattle.rewards.proofs.base_rewards.get_base_reward_per_increment.Goals as goal
 
-pub returns-then-refusal-ne0 : goal.returns-then-refusal-ne0
-returns-then-refusal-ne0 c = tests-refused _ _ c.total_tests-refusal.ensures tells_number c.if-refusal-ne0.true
+pub returns-in_err-total_tests : goal.returns-in_err-total_tests
+returns-in_err-total_tests c = refused-answers _ c.total_tests.ensures _ c.in_err-total_tests.was c.from_residual.ensures
 
 pub base_reward_per_increment-requires : goal.base_reward_per_increment-requires
-base_reward_per_increment-requires c = (total-passed _ _ c.total_tests-refusal.ensures c.if-refusal-ne0.false).total-positive
+base_reward_per_increment-requires c = (total-passed _ _ c.total_tests.ensures c.in_ok-total_tests.was).total-positive
 
 pub returns : goal.returns
-returns c = tests-passed _ _ c.total_tests-refusal.ensures c.if-refusal-ne0.false c.base_reward_per_increment.ensures
+returns c = then-answers _ c.total_tests.ensures c.in_ok-total_tests.was c.base_reward_per_increment.ensures

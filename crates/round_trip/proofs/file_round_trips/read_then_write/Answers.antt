@@ -21,4 +21,4 @@ returns c p =
     let roots = c.file_roots-roots.ensures ∙ sym (ap (λ (x : Contents). x.roots) (contents-found a.bytes.now a.registry.now a.slashings.now p.tests)) in
     let same : k ≡ (read a.bytes.now a.registry.now a.slashings.now).contents = λ i. record { settings = e.settings_value i; finality = e.finality_value i; registry = e.registry_after i; roots = roots i; slashings = e.slashings_after i } in
     let bytes : Below 256 a.bytes.now = record { each = λ i l. (c.shared_slice_known-1.given i).fits } in
-    same_bytes _ _ _ _ k found.result.queue bytes same e.queue_value c.write_file.ensures.value c.write_file.ensures.file_after p
+    same_bytes _ _ _ _ k found.result.queue bytes same e.queue_value (c.code.ensures ∙ ap code_of c.write_file.ensures.value) c.write_file.ensures.file_after p

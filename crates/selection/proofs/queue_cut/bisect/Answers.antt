@@ -1,5 +1,4 @@
 use mathlib.Core.Path.{◌∙◌}
-use Prim.Native.Nat.{◌-◌}
 use Rattle.definitions.specs.Record.{decode}
 use Rattle.selection.proofs.Waiting.{count-waiting}
 use Rattle.selection.proofs.queue_cut.Bracket.{bracket_hit, bracket_low, bracket_high, bracket_done}

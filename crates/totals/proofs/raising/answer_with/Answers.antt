@@ -1,12 +1,8 @@
-use native.Mathlib.Omega.{arith}
-use borrow.Author.Tests.{eq-eqb, ne_eqb}
-use Rattle.totals.specs.Flags.{answer_with}
+use Rattle.totals.proofs.raising.Answered.{hands_back, hands_on}
 use Rattle.totals.proofs.raising.answer_with.Goals as goal
 
-pub returns-then-refusal-ne0 : goal.returns-then-refusal-ne0
-unfolding answer_with
-returns-then-refusal-ne0 c = rw (ne_eqb c.args.refusal 0 (λ z. omega (arith, c.if-refusal-ne0.true)), c.none_raised.ensures)
+pub returns-in-Ok : goal.returns-in-Ok
+returns-in-Ok c = hands_on _ _ c.in-Ok.is
 
-pub returns : goal.returns
-unfolding answer_with
-returns c = rw (eq-eqb c.args.refusal 0 (omega (arith, c.if-refusal-ne0.false)))
+pub returns-in-Err : goal.returns-in-Err
+returns-in-Err c = hands_back _ _ c.in-Err.is c.number.ensures c.none_raised.ensures

@@ -1,10 +1,10 @@
 use Rattle.totals.specs.Flags.{flag_for}
 use Rattle.totals.proofs.raising.flag_of.Goals as goal
 
-pub returns-in-Value : goal.returns-in-Value
+pub returns-in-Ok : goal.returns-in-Ok
 unfolding flag_for
-returns-in-Value c = rw c.in-Value.is
+returns-in-Ok c = rw c.in-Ok.is
 
-pub returns-in-Refused : goal.returns-in-Refused
+pub returns-in-Err : goal.returns-in-Err
 unfolding flag_for
-returns-in-Refused c = rw c.in-Refused.is
+returns-in-Err c = rw c.in-Err.is

@@ -1,4 +1,4 @@
-use Rattle.votes.proofs.vote_outcome.Shown.{four_inserted, told-answer}
+use Rattle.votes.proofs.vote_outcome.Shown.{four_inserted, told-numbers}
 use Rattle.definitions_votes.specs.Votes.{outcome_of}
 use Rattle.votes.proofs.vote_outcome.told.Goals as goal
 
@@ -9,4 +9,4 @@ returns c =
     let f = rw c.finalized_after-2.ensures at c.inserted-two.ensures.is in
     let g = rw c.finalized_after-3.ensures at c.inserted-three.ensures.is in
     let h = rw c.finalized_after-4.ensures at c.inserted-list.ensures.is in
-    told-answer _ (four_inserted _ _ _ _ e f g h) c.verdict_number-previous_target.ensures c.verdict_number-current_target.ensures
+    told-numbers _ (four_inserted _ _ _ _ e f g h) c.verdict_number-previous_target.ensures c.verdict_number-current_target.ensures

@@ -1,25 +1,33 @@
-use borrow.Author.Rules.{rules}
-use Rattle.arithmetic.proofs.Laws.{chain-told}
-use Rattle.weighing.proofs.Tests.{only-justified}
+use mathlib.Core.Path.{ap}
+use Rattle.definitions.specs.Checked.{value}
+use Rattle.arithmetic.proofs.Laws.{next, passes-on}
 use Rattle.votes.specs.Weighed.{weighed_by}
 use Rattle.votes.proofs.vote_outcome.weigh_sums.Goals as goal
 
-pub returns-in_default : goal.returns-in_default
+pub returns-in_err-previous_most : goal.returns-in_err-previous_most
 unfolding weighed_by
-returns-in_default c = search (rules, chain-told, only-justified) depth 9
+returns-in_err-previous_most c = passes-on _ c.passes.ensures c.in_err-previous_most.was c.from_residual.ensures
 
-pub returns-in_default-passes : goal.returns-in_default-passes
+pub returns-in_err-current_most : goal.returns-in_err-current_most
 unfolding weighed_by
-returns-in_default-passes c = search (rules, chain-told, only-justified) depth 9
+returns-in_err-current_most c = next _ c.passes.ensures c.in_ok-previous_most.was (passes-on _ c.passes-2.ensures c.in_err-current_most.was c.from_residual-in_err-current_most.ensures)
 
-pub returns-in_default-passes-2 : goal.returns-in_default-passes-2
+pub returns-in_err-previous_fewest : goal.returns-in_err-previous_fewest
 unfolding weighed_by
-returns-in_default-passes-2 c = search (rules, chain-told, only-justified) depth 9
+returns-in_err-previous_fewest c =
+    next _ c.passes.ensures c.in_ok-previous_most.was
+    (next _ c.passes-2.ensures c.in_ok-current_most.was (passes-on _ c.passes-3.ensures c.in_err-previous_fewest.was c.from_residual-in_err-previous_fewest.ensures))
 
-pub returns-in_default-passes-3 : goal.returns-in_default-passes-3
+pub returns-in_err-current_fewest : goal.returns-in_err-current_fewest
 unfolding weighed_by
-returns-in_default-passes-3 c = search (rules, chain-told, only-justified) depth 9
+returns-in_err-current_fewest c =
+    next _ c.passes.ensures c.in_ok-previous_most.was
+    (next _ c.passes-2.ensures c.in_ok-current_most.was
+    (next _ c.passes-3.ensures c.in_ok-previous_fewest.was (passes-on _ c.passes-4.ensures c.in_err-current_fewest.was c.from_residual-in_err-current_fewest.ensures)))
 
 pub returns : goal.returns
 unfolding weighed_by
-returns c = search (rules, chain-told) depth 9
+returns c =
+    next _ c.passes.ensures c.in_ok-previous_most.was
+    (next _ c.passes-2.ensures c.in_ok-current_most.was
+    (next _ c.passes-3.ensures c.in_ok-previous_fewest.was (next _ c.passes-4.ensures c.in_ok-current_fewest.was (ap value c.told.ensures))))

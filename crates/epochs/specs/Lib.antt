@@ -1,2 +1,0 @@
--- What a lookup hands back.
-pub mod Bytes

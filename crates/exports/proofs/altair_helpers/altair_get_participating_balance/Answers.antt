@@ -1,9 +1,0 @@
-use mathlib.Core.Path.{ap, ◌∙◌}
-use Rattle.definitions.specs.Plain.{plain_total}
-use Rattle.exports.proofs.altair_helpers.altair_get_participating_balance.Statement.{
-  statement,
-}
-use Rattle.exports.proofs.altair_helpers.altair_get_participating_balance.Goals as goal
-
-pub returns : goal.returns
-returns c = c.plain_total.ensures ∙ ap plain_total c.get_participating_balance.ensures.is

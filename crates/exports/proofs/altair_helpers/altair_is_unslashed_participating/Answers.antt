@@ -1,9 +1,0 @@
-use mathlib.Core.Path.{ap, ◌∙◌}
-use Rattle.definitions.specs.Plain.{plain_truth}
-use Rattle.exports.proofs.altair_helpers.altair_is_unslashed_participating.Statement.{
-  statement,
-}
-use Rattle.exports.proofs.altair_helpers.altair_is_unslashed_participating.Goals as goal
-
-pub returns : goal.returns
-returns c = c.plain_truth.ensures ∙ ap plain_truth c.is_unslashed_participating.ensures

@@ -1,6 +1,0 @@
-use mathlib.Core.Path.{ap, ◌∙◌}
-use Rattle.definitions.specs.Plain.{plain_number}
-use Rattle.exports.proofs.electra.electra_get_activation_exit_churn_limit.Goals as goal
-
-pub returns : goal.returns
-returns c = c.plain_number.ensures ∙ ap plain_number c.get_activation_exit_churn_limit.ensures.is

@@ -1,6 +1,0 @@
-use mathlib.Core.Path.{ap, ◌∙◌}
-use Rattle.definitions.specs.Plain.{plain_number}
-use Rattle.exports.proofs.phase0_helpers.altair_get_previous_epoch.Goals as goal
-
-pub returns : goal.returns
-returns c = c.plain_number.ensures ∙ ap plain_number c.get_previous_epoch.ensures.is

@@ -1,2 +1,0 @@
--- Laws of a number in bytes.
-pub mod Bytes

@@ -1,0 +1,3 @@
+-- Laws of the loops over entries.
+pub mod Chunks
+mod Over

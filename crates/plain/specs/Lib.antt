@@ -1,2 +1,0 @@
--- What the plain answers hold.
-pub mod Root
