@@ -7,10 +7,9 @@ use borrow.Author.Count.{below_more}
 use lib.ListN.{length, get_or, set, length-set}
 use lib.Seq.{get_or-set_same, get_or-set_other}
 use Rattle.laws.proofs.Loops.Entry.{number-at}
-use Rattle.electra_amounts.specs.declared.Amount.{Amount}
 use Rattle.electra_amounts.specs.Columns.{booked_by, balance_in, Booked}
 
-pub record Booking (op : Amount) (column : ℕ) (registry lent : List ℕ) (n i : ℕ) (xs : List ℕ) : Type 0 where
+pub record Booking (op column : ℕ) (registry lent : List ℕ) (n i : ℕ) (xs : List ℕ) : Type 0 where
   pub many : n ≡ length registry / 10
   pub tens : length registry ≡ 10 * n
   pub twelves : length lent ≡ 12 * n
@@ -20,7 +19,7 @@ pub record Booking (op : Amount) (column : ℕ) (registry lent : List ℕ) (n i 
   pub held : (j : ℕ) → j < i → get_or xs (12 * j + column) 0 ≡ booked_by op (get_or lent (12 * j + column) 0) (balance_in registry j)
   pub other : (p : ℕ) → ((j : ℕ) → j < i → p ≡ 12 * j + column → ⊥) → get_or xs p 0 ≡ get_or lent p 0
 
-module _ {op : Amount} {column : ℕ} {registry lent : List ℕ} {n i : ℕ} {xs : List ℕ} (g : Booking op column registry lent n i xs) where
+module _ {op column : ℕ} {registry lent : List ℕ} {n i : ℕ} {xs : List ℕ} (g : Booking op column registry lent n i xs) where
   pub booking_all : n ≤ i → Booked op column registry lent xs
   booking_all l =
       record {

@@ -1,8 +1,8 @@
 // Twelve amounts a validator, column by column: a close under Electra books them as it goes.
 #![tactic(auto)]
 
-ghost use Rattle.std.specs.Prelude.{◌≡◌, ◌-◌, ◌*◌, ◌/◌, ◌<◌, length};
-ghost use Rattle.electra_amounts.specs.Columns.{spread_at, Spread, booked_by, Booked};
+ghost use Rattle.std.specs.Prelude.{◌≡◌, ℕ, ◌-◌, ◌*◌, ◌/◌, ◌<◌, length};
+ghost use Rattle.electra_amounts.specs.Columns.{spread_at, Spread, booked_by, booked_as, Booked};
 
 use definitions::BALANCE;
 
@@ -40,10 +40,23 @@ pub enum Amount {
     More,
 }
 
-fn booked(amount: Amount, kept: u64, balance: u64) -> u64
-    ensures { result ≡ booked_by amount kept balance }
+// 0: the balance. 1: what it is less. Any other number: what it is more.
+fn amount_of(op: u64) -> Amount
+    ensures { (kept balance : ℕ) → booked_as result kept balance ≡ booked_by op kept balance }
 {
-    match amount {
+    if op == 0 {
+        return Amount::Balance;
+    }
+    if op == 1 {
+        return Amount::Less;
+    }
+    Amount::More
+}
+
+fn booked(op: u64, kept: u64, balance: u64) -> u64
+    ensures { result ≡ booked_by op kept balance }
+{
+    match amount_of(op) {
         Amount::Balance => balance,
         Amount::Less => kept.saturating_sub(balance),
         Amount::More => balance.saturating_sub(kept),
@@ -51,15 +64,15 @@ fn booked(amount: Amount, kept: u64, balance: u64) -> u64
 }
 
 // Of every validator, in one column.
-pub fn book(amount: Amount, column: usize, registry: &[u64], amounts: &mut [u64])
+pub fn book(op: u64, column: usize, registry: &[u64], amounts: &mut [u64])
     requires { (length registry.now ≡ 10 * (length registry.now / 10)) × (length amounts.old ≡ 12 * (length registry.now / 10)) × (column < 12) }
-    ensures { Booked amount column registry.now amounts.old amounts.new }
+    ensures { Booked op column registry.now amounts.old amounts.new }
 {
     let n = registry.len() / 10;
     for i in 0..n {
         let balance = registry[10 * i + BALANCE];
         let p = 12 * i + column;
-        let x = booked(amount, amounts[p], balance);
+        let x = booked(op, amounts[p], balance);
         amounts[p] = x;
     }
 }
