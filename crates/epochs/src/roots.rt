@@ -1,5 +1,6 @@
 // Block roots: phase0/helpers.rs. A lookup finds 32 bytes of the roots that it is lent, from 32 times (slot modulo S) on.
 ghost use Rattle.std.specs.Prelude.{◌≡◌, ◌&&◌, ◌*◌, ◌<◌, length};
+ghost use Rattle.definitions.specs.Checked.{done};
 ghost use Rattle.definitions.specs.Refusals.{settings_shaped, roots_shaped, after_tests};
 ghost use Rattle.definitions.specs.LeafRefusals.{root_tests};
 ghost use Rattle.definitions.specs.Rust.Phase0.Helpers.{get_block_root_at_slot, get_block_root};
@@ -27,12 +28,10 @@ pub fn root_refusal(s: Settings, roots: &[u8], state_slot: u64) -> Result<(), Re
     )
 }
 
-// What is worked out once the tests have passed.
+// What is worked out once the tests have passed: whether there is a root, of whatever roots.
 
-pub fn slot_root(s: Settings, roots: &[u8], state_slot: u64, slot: u64) -> Result<[u8; 32], Refusal>
-    requires roots_len { length roots.now ≡ 32 * s.slots_per_historical_root }
-    requires slots_per_historical_root_nonzero { 0 < s.slots_per_historical_root }
-    ensures { result ≡ get_block_root_at_slot s roots.now state_slot slot }
+pub fn slot_lookup(s: Settings, roots: &[u8], state_slot: u64, slot: u64) -> Result<(), Refusal>
+    ensures { result ≡ done (get_block_root_at_slot s roots.now state_slot slot) }
 {
     if state_slot <= slot {
         return Err(Refusal::NoRoot);
@@ -41,6 +40,24 @@ pub fn slot_root(s: Settings, roots: &[u8], state_slot: u64, slot: u64) -> Resul
     if last < state_slot {
         return Err(Refusal::NoRoot);
     }
+    Ok(())
+}
+
+pub fn epoch_lookup(s: Settings, roots: &[u8], state_slot: u64, epoch: u64) -> Result<(), Refusal>
+    ensures { result ≡ done (get_block_root s roots.now state_slot epoch) }
+{
+    let first = mul64(epoch, s.slots_per_epoch)?;
+    slot_lookup(s, roots, state_slot, first)
+}
+
+// And the root itself.
+
+pub fn slot_root(s: Settings, roots: &[u8], state_slot: u64, slot: u64) -> Result<[u8; 32], Refusal>
+    requires roots_len { length roots.now ≡ 32 * s.slots_per_historical_root }
+    requires slots_per_historical_root_nonzero { 0 < s.slots_per_historical_root }
+    ensures { result ≡ get_block_root_at_slot s roots.now state_slot slot }
+{
+    slot_lookup(s, roots, state_slot, slot)?;
     let start = 32 * ((slot % s.slots_per_historical_root) as usize);
     let mut root = [0u8; 32];
     root.copy_from_slice(&roots[start..start + 32]);
