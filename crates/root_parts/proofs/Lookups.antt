@@ -4,17 +4,18 @@ use mathlib.Core.Bool.{Bool, true, false, cond, true≢false}
 use mathlib.Core.List.{List, []}
 use Prim.Native.Nat.{ℕ, ◌*◌, ◌^◌, ◌<◌}
 use borrow.Author.Tests.{ltb-true}
-use lib.Dec.{leb, ltb}
+use lib.Dec.{ltb}
 use Rattle.std.specs.Prelude.{is_err}
 use Rattle.definitions.specs.declared.Settings.{Settings}
-use Rattle.definitions.specs.Checked.{Checked, value, refused, done, bind, add64, mul64}
+use Rattle.definitions.specs.Checked.{Checked, value, refused, done, mul64}
 use Rattle.definitions.specs.declared.Refusal.{Refusal}
-use Rattle.definitions.specs.declared.Refusal.TheVariants.{NoRoot, Overflow}
+use Rattle.definitions.specs.declared.Refusal.TheVariants.{Overflow}
 use Rattle.definitions.specs.Refusals.{after_tests}
 use Rattle.definitions.specs.LeafRefusals.{root_tests}
 use Rattle.definitions.specs.Document.Phase0.Helpers as document
 use Rattle.definitions.specs.Rust.Phase0.Helpers.{compute_start_slot_at_epoch, get_block_root_at_slot, get_block_root}
-use Rattle.laws.proofs.Checked.{not_value, value_same, bound, mul64-value}
+use Rattle.laws.proofs.Checked.{not_value, bound, mul64-value}
+use Rattle.epochs.proofs.roots.Lookups.{slot-value}
 use Rattle.epochs.proofs.roots.Passed.{RootPassed, root-passed}
 use Rattle.root_parts.specs.Bytes.{bytes_of}
 
@@ -23,21 +24,6 @@ pub no_bytes : (m : Checked (List ℕ)) (x : Checked (Unit {0})) → x ≡ done 
 no_bytes (refused p) x e t = refl
 no_bytes (value root) (refused q) e t = absurd (not_value e)
 no_bytes (value root) (value u) e t = absurd (true≢false (sym t))
-
-module _ (s : Settings) (roots : List ℕ) (state_slot slot : ℕ) where
-  -- a root that is found is the document's
-  pub slot-value : {root : List ℕ} → get_block_root_at_slot s roots state_slot slot ≡ value root → document.get_block_root_at_slot s roots slot ≡ root
-  unfolding get_block_root_at_slot bind
-  slot-value {root} p = go (leb state_slot slot) (add64 slot s.slots_per_historical_root) p
-    where
-      tested : (t : Bool) → cond t (refused NoRoot) (value (document.get_block_root_at_slot s roots slot)) ≡ value root → document.get_block_root_at_slot s roots slot ≡ root
-      tested true p = absurd (not_value p)
-      tested false p = value_same p
-
-      go : (t : Bool) (m : Checked ℕ) → cond t (refused NoRoot) (bind m (λ last. cond (ltb last state_slot) (refused NoRoot) (value (document.get_block_root_at_slot s roots slot)))) ≡ value root → document.get_block_root_at_slot s roots slot ≡ root
-      go true m p = absurd (not_value p)
-      go false (value last) p = tested (ltb last state_slot) p
-      go false (refused r) p = absurd (not_value p)
 
 mul64-below : (a b : ℕ) {x : ℕ} → mul64 a b ≡ value x → a * b < 2 ^ 64
 unfolding mul64

@@ -7,7 +7,7 @@ use native.Mathlib.Nat.{mod-lt}
 use borrow.Author.Tests.{eq-eqb}
 use lib.ListN.{length, length-take, length-drop}
 use Rattle.definitions.specs.declared.Settings.{Settings}
-use Rattle.definitions.specs.Checked.{Checked, value, refused, code_of}
+use Rattle.definitions.specs.Checked.{Checked, value, refused, code_of, done}
 use Rattle.definitions.specs.Refusals.{after_tests}
 use Rattle.definitions.specs.LeafRefusals.{root_tests}
 use Rattle.definitions.specs.Document.Phase0.Helpers as document
@@ -15,10 +15,16 @@ use Rattle.definitions.specs.Rust.Phase0.Helpers.{get_block_root_at_slot, get_bl
 use Rattle.laws.proofs.Checked.{bound}
 use Rattle.root_parts.specs.Bytes.{bytes_of}
 use Rattle.epochs.proofs.roots.Passed.{root-passed}
-use Rattle.root_parts.proofs.Lookups.{slot-value, epoch-value}
+use Rattle.epochs.proofs.roots.Lookups.{slot-value}
+use Rattle.root_parts.proofs.Lookups.{epoch-value}
 use Rattle.definitions.specs.Plain.{plain_root}
 use Rattle.root_parts.specs.Root.{root_given}
 use Rattle.definitions.specs.declared.PlainRoot.{PlainRoot}
+
+-- the number of a lookup that answers no value: `x` by `code`, from what its `_refusal` answered
+pub code-done : {A : Type 0} (m : Checked A) {x : ℕ} {r : Checked (Unit {0})} → x ≡ code_of r → r ≡ done m → x ≡ code_of m
+code-done (value a) e h = e ∙ ap code_of h
+code-done (refused q) e h = e ∙ ap code_of h
 
 -- m gives 32 bytes, or nothing
 abbrev Long : Checked (List ℕ) → Type 0

@@ -2,14 +2,48 @@
 // part; and the function of the same name with _refusal answers apart from it whether it is refused, and by what.
 #![tactic(auto)]
 
-ghost use Rattle.std.specs.Prelude.{◌≡◌};
+ghost use Rattle.std.specs.Prelude.{◌≡◌, ◌*◌, ◌^◌, ◌<◌, length};
 ghost use Rattle.definitions.specs.Checked.{done};
 ghost use Rattle.definitions.specs.Refusals.{after_tests};
 ghost use Rattle.definitions.specs.LeafRefusals.{root_tests};
+ghost use Rattle.definitions.specs.Document.Phase0.Helpers as document;
 ghost use Rattle.definitions.specs.Rust.Phase0.Helpers.{get_block_root_at_slot, get_block_root};
 ghost use Rattle.root_parts.specs.Bytes.{bytes_of};
 
 use definitions::{Refusal, Settings};
+use epochs::roots::{epoch_lookup, root_refusal, slot_lookup};
+
+// The root itself, where the lookup is not refused.
+
+pub fn slot_root(s: Settings, roots: &[u8], slot: u64) -> &[u8]
+    requires roots_len { length roots.now ≡ 32 * s.slots_per_historical_root }
+    requires slots_per_historical_root_nonzero { 0 < s.slots_per_historical_root }
+    ensures { result.now ≡ document.get_block_root_at_slot s roots.now slot }
+{
+    let start = 32 * ((slot % s.slots_per_historical_root) as usize);
+    &roots[start..start + 32]
+}
+
+pub fn epoch_root(s: Settings, roots: &[u8], epoch: u64) -> &[u8]
+    requires roots_len { length roots.now ≡ 32 * s.slots_per_historical_root }
+    requires slots_per_historical_root_nonzero { 0 < s.slots_per_historical_root }
+    requires slots_per_epoch_bound { epoch * s.slots_per_epoch < 2 ^ 64 }
+    ensures { result.now ≡ document.get_block_root s roots.now epoch }
+{
+    slot_root(s, roots, epoch * s.slots_per_epoch)
+}
+
+// A found root, as an array.
+pub fn root_copy(part: &[u8]) -> [u8; 32]
+    requires { length part.now ≡ 32 }
+    ensures { result ≡ part.now }
+{
+    let mut root = [0u8; 32];
+    root.copy_from_slice(part);
+    root
+}
+
+// The leaves.
 
 pub fn get_block_root_at_slot_refusal(
     s: Settings,
@@ -19,8 +53,8 @@ pub fn get_block_root_at_slot_refusal(
 ) -> Result<(), Refusal>
     ensures { result ≡ done (after_tests (root_tests s roots.now state_slot) (get_block_root_at_slot s roots.now state_slot slot)) }
 {
-    let _ = epochs::roots::get_block_root_at_slot(s, roots, state_slot, slot)?;
-    Ok(())
+    root_refusal(s, roots, state_slot)?;
+    slot_lookup(s, roots, state_slot, slot)
 }
 
 pub fn get_block_root_at_slot(s: Settings, roots: &[u8], state_slot: u64, slot: u64) -> &[u8]
@@ -29,8 +63,7 @@ pub fn get_block_root_at_slot(s: Settings, roots: &[u8], state_slot: u64, slot: 
     if get_block_root_at_slot_refusal(s, roots, state_slot, slot).is_err() {
         return &roots[0..0];
     }
-    let start = 32 * ((slot % s.slots_per_historical_root) as usize);
-    &roots[start..start + 32]
+    slot_root(s, roots, slot)
 }
 
 pub fn get_block_root_refusal(
@@ -41,8 +74,8 @@ pub fn get_block_root_refusal(
 ) -> Result<(), Refusal>
     ensures { result ≡ done (after_tests (root_tests s roots.now state_slot) (get_block_root s roots.now state_slot epoch)) }
 {
-    let _ = epochs::roots::get_block_root(s, roots, state_slot, epoch)?;
-    Ok(())
+    root_refusal(s, roots, state_slot)?;
+    epoch_lookup(s, roots, state_slot, epoch)
 }
 
 pub fn get_block_root(s: Settings, roots: &[u8], state_slot: u64, epoch: u64) -> &[u8]
@@ -51,6 +84,5 @@ pub fn get_block_root(s: Settings, roots: &[u8], state_slot: u64, epoch: u64) ->
     if get_block_root_refusal(s, roots, state_slot, epoch).is_err() {
         return &roots[0..0];
     }
-    let start = 32 * ((epoch * s.slots_per_epoch % s.slots_per_historical_root) as usize);
-    &roots[start..start + 32]
+    epoch_root(s, roots, epoch)
 }
