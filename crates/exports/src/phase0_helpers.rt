@@ -130,7 +130,11 @@ pub extern "C" fn altair_get_block_root_at_slot(
     ensures { result
         ≡ plain_root (after_tests (root_tests s roots.now state_slot) (get_block_root_at_slot s roots.now state_slot slot)) }
 {
-    plain_root(epochs::roots::get_block_root_at_slot(s, roots, state_slot, slot))
+    let answer = root_parts::get_block_root_at_slot_refusal(s, roots, state_slot, slot);
+    plain_root(
+        code(answer),
+        root_parts::get_block_root_at_slot(s, roots, state_slot, slot),
+    )
 }
 
 #[unsafe(no_mangle)]
@@ -142,7 +146,11 @@ pub extern "C" fn altair_get_block_root(
 ) -> PlainRoot
     ensures { result ≡ plain_root (after_tests (root_tests s roots.now state_slot) (get_block_root s roots.now state_slot epoch)) }
 {
-    plain_root(epochs::roots::get_block_root(s, roots, state_slot, epoch))
+    let answer = root_parts::get_block_root_refusal(s, roots, state_slot, epoch);
+    plain_root(
+        code(answer),
+        root_parts::get_block_root(s, roots, state_slot, epoch),
+    )
 }
 
 // The registry

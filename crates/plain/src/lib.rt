@@ -2,13 +2,15 @@
 #![tactic(auto)]
 
 ghost use Rattle.std.specs.Prelude.{◌≡◌};
-ghost use Rattle.definitions.specs.Plain.{plain_number, plain_truth, plain_deltas, plain_total, plain_root};
+ghost use Rattle.definitions.specs.Plain.{plain_number, plain_truth, plain_deltas, plain_total};
 ghost use Rattle.definitions.specs.NetChange.{plain_change};
+ghost use Rattle.root_parts.specs.Root.{root_given};
 
 use definitions::{
     Deltas, PlainChange, PlainDeltas, PlainNumber, PlainRoot, PlainTotal, PlainTruth, Refusal,
     Total,
 };
+use root_parts::root_copy;
 
 pub fn plain_number(number: Result<u64, Refusal>) -> PlainNumber
     ensures { result ≡ plain_number number }
@@ -71,16 +73,18 @@ pub fn plain_total(total: Result<Total, Refusal>) -> PlainTotal
     }
 }
 
-pub fn plain_root(root: Result<[u8; 32], Refusal>) -> PlainRoot
-    ensures { result ≡ plain_root root }
+// A lookup's number and the part of the roots that it found, which is empty where it is refused.
+pub fn plain_root(refusal: u64, part: &[u8]) -> PlainRoot
+    ensures { result ≡ root_given refusal part.now }
 {
-    match root {
-        Ok(root) => PlainRoot { refusal: 0, root },
-        Err(refusal) => PlainRoot {
-            refusal: refusal.number(),
+    if part.len() != 32 {
+        return PlainRoot {
+            refusal,
             root: [0u8; 32],
-        },
+        };
     }
+    let root = root_copy(part);
+    PlainRoot { refusal, root }
 }
 
 pub fn plain_change(change: Result<i64, Refusal>) -> PlainChange

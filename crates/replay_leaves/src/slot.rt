@@ -1,4 +1,5 @@
 // Leaves 8 to 16: slots and epochs, finality's delay, block roots.
+use definitions::code;
 use vectors::{Case, number, number_agrees, root_agrees, roots, settings, truth_agrees};
 
 fn compute_epoch_at_slot(c: Case, words: &[u64]) -> bool {
@@ -48,8 +49,9 @@ fn get_block_root_at_slot(c: Case, words: &[u64], bytes: &[u8]) -> bool {
     let state_slot = number(c, words, 0);
     let slot = number(c, words, 1);
     let given = roots(c, bytes);
-    let answer = epochs::roots::get_block_root_at_slot(s, given, state_slot, slot);
-    root_agrees(answer, c, bytes)
+    let answer = root_parts::get_block_root_at_slot_refusal(s, given, state_slot, slot);
+    let root = root_parts::get_block_root_at_slot(s, given, state_slot, slot);
+    root_agrees(code(answer), root, c, bytes)
 }
 
 fn get_block_root(c: Case, words: &[u64], bytes: &[u8]) -> bool {
@@ -57,8 +59,9 @@ fn get_block_root(c: Case, words: &[u64], bytes: &[u8]) -> bool {
     let state_slot = number(c, words, 0);
     let epoch = number(c, words, 1);
     let given = roots(c, bytes);
-    let answer = epochs::roots::get_block_root(s, given, state_slot, epoch);
-    root_agrees(answer, c, bytes)
+    let answer = root_parts::get_block_root_refusal(s, given, state_slot, epoch);
+    let root = root_parts::get_block_root(s, given, state_slot, epoch);
+    root_agrees(code(answer), root, c, bytes)
 }
 
 pub fn agrees(c: Case, words: &[u64], bytes: &[u8]) -> bool {

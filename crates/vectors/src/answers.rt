@@ -86,18 +86,20 @@ pub fn lent_agrees(refusal: u64, c: Case, words: &[u64], after: &[u64], at: usiz
     true
 }
 
-pub fn root_agrees(answer: Result<[u8; 32], Refusal>, c: Case, bytes: &[u8]) -> bool {
-    match answer {
-        Ok(root) => found_agrees(root, c, bytes),
-        Err(refusal) => is_refused(c, refusal),
+fn stored_bytes(refusal: u64) -> usize {
+    if refusal == 0 {
+        return 32;
     }
+    0
 }
 
-fn found_agrees(root: [u8; 32], c: Case, bytes: &[u8]) -> bool {
-    if c.refusal != 0 {
+// The root's 32 bytes, or none where the leaf refuses.
+pub fn root_agrees(refusal: u64, root: &[u8], c: Case, bytes: &[u8]) -> bool {
+    if c.refusal != refusal {
         return false;
     }
-    &root[..] == bytes_part(bytes, c.answer, 32)
+    let n = stored_bytes(refusal);
+    root == bytes_part(bytes, c.answer, n)
 }
 
 fn checkpoint_stands(p: Checkpoint, words: &[u64], bytes: &[u8], at: usize) -> bool {

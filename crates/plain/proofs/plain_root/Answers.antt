@@ -1,10 +1,11 @@
-use Rattle.definitions.specs.Plain.{plain_root}
+use borrow.Author.Tests.{eq-eqb, ne_eqb}
+use Rattle.root_parts.specs.Root.{root_given}
 use Rattle.plain.proofs.plain_root.Goals as goal
 
-pub returns-in-Ok : goal.returns-in-Ok
-unfolding plain_root
-returns-in-Ok c = rw c.in-Ok.is
+pub returns-then-part-ne32 : goal.returns-then-part-ne32
+unfolding root_given
+returns-then-part-ne32 c = rw (ne_eqb _ _ c.if-part-ne32.true)
 
-pub returns-in-Err : goal.returns-in-Err
-unfolding plain_root
-returns-in-Err c = rw (c.in-Err.is, c.number.ensures)
+pub returns : goal.returns
+unfolding root_given
+returns c = rw (eq-eqb _ _ c.if-part-ne32.false, c.root_copy-root.ensures)
