@@ -99,9 +99,9 @@ module _ (r : ElectraRules) (state_slot : ℕ) (registry queue : List ℕ) where
               }
 
       -- it refused: the opening is put back, and the whole queue kept
-      pub call-undone : {p : Refusal} {after : List ℕ} → done ≡ refused p → after ≡ registry → queue_after ≡ over (drop 0 queue) queue_before → ConsolidationsClose tests (consolidations_work r state_slot registry queue) registry queue before after queue_before queue_after (record { refusal = number_of p; consolidations = length queue / 2 })
+      pub call-undone : {p : Refusal} {after : List ℕ} {many : ℕ} → done ≡ refused p → after ≡ registry → queue_after ≡ over (drop 0 queue) queue_before → many ≡ length queue / 2 → ConsolidationsClose tests (consolidations_work r state_slot registry queue) registry queue before after queue_before queue_after (record { refusal = number_of p; consolidations = many })
       unfolding after_tests bind closing_buffer consolidations_answer
-      call-undone {p} {after} d back rest = rw (sym e ∙ z, work-is s) (go (consolidations next_epoch (decode registry) queue) (sym h.is ∙ d))
+      call-undone {p} {after} d back rest all = rw (all, sym e ∙ z, work-is s) (go (consolidations next_epoch (decode registry) queue) (sym h.is ∙ d))
         where
           go : (m : Checked Consolidating) → bind m (λ p. value p.next_pending_consolidation) ≡ refused p → ConsolidationsClose (value tt) (bind m (λ p. value (closed p))) registry queue before after queue_before queue_after (record { refusal = number_of p; consolidations = length queue / 2 })
           go (value q) d = absurd (not_value (sym d))

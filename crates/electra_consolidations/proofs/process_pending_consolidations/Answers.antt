@@ -53,4 +53,4 @@ keep_rest-requires-in-Err-done c = ((passed (goal.at.keep_rest-requires-in-Err-d
 pub returns-in-Err-done : goal.returns-in-Err-done
 returns-in-Err-done c =
     let p = passed (goal.at.returns-in-Err-done c).In_default in
-    rw c.number-in-Err-done.ensures (call-undone _ _ _ _ _ c.consolidations_tests.ensures c.in_default.is p.settings (rw (c.copy_from_slice.ensures.after, c.current_epoch-next_epoch.ensures) at c.consolidate_all-done.ensures.consolidates) c.in-Err-done.is c.copy_from_slice-in-Err-done.ensures.after c.keep_rest-in-Err-done.ensures)
+    rw c.number-in-Err-done.ensures (call-undone _ _ _ _ _ c.consolidations_tests.ensures c.in_default.is p.settings (rw (c.copy_from_slice.ensures.after, c.current_epoch-next_epoch.ensures) at c.consolidate_all-done.ensures.consolidates) c.in-Err-done.is c.copy_from_slice-in-Err-done.ensures.after c.keep_rest-in-Err-done.ensures (omega arith))
