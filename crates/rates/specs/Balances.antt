@@ -29,12 +29,8 @@ four_of s quotient current previous source target head v =
     bind (inactivity_penalty_deltas s quotient current previous v) (λ d.
     value (record { source = a; target = b; head = c; inactivity = d })))))
 
--- an answer that gave something gave what m gives
-pub record GaveOf {A : Type 0} (m r : Checked A) : Type 0 where
-  pub gave : (x : A) → r ≡ value x → m ≡ value x
-
--- what a validator's pairs do to it
-pub record Pays (pairs : Pairs) (before after : List ℕ) (r : Checked (Unit {0})) : Type 0 where
+-- what an answer with a validator's pairs does to it
+pub record Pays (answer : Checked Pairs) (before after : List ℕ) (r : Checked (Unit {0})) : Type 0 where
   pub of : (s : Settings) (quotient current previous : ℕ) (source target head : FlagTotals)
-      → four_of s quotient current previous source target head (decode_one before) ≡ value pairs
+      → four_of s quotient current previous source target head (decode_one before) ≡ answer
       → Settles (reward_and_penalize s quotient current previous source target head) before after r

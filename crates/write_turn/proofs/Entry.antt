@@ -24,7 +24,8 @@ use Rattle.exit_queue.specs.Queue.{moved, last_after, number_after}
 use Rattle.exit_queue.specs.Turns.{Turns}
 use Rattle.registry.specs.Updates.{turn_by}
 use Rattle.rates.specs.declared.reward_balances.Pairs.{Pairs}
-use Rattle.rates.specs.Balances.{four_of, GaveOf}
+use Rattle.rates.specs.Balances.{four_of}
+use Rattle.rates.proofs.reward_balances.Paired.{pairs-refused}
 use Rattle.rewards.specs.Shared.{totals_of}
 use Rattle.definitions_electra.specs.declared.ExitChurn.{ExitChurn}
 use Rattle.electra_registry.specs.declared.updates.RegistryNumbers.{RegistryNumbers}
@@ -33,7 +34,7 @@ use Rattle.write_turn.specs.Runs.{Runs}
 use Rattle.write_turn.specs.Sweep.{Moved as Pass}
 use Rattle.write_turn.specs.Steps.{carry_of, Steps}
 use Rattle.write_turn.proofs.Sweeps.Steps.{steps-value, steps-refused, through, steps-along, first-stop}
-use Rattle.write_turn.proofs.Sweeps.Runs.{runs_then, runs-stop}
+use Rattle.write_turn.proofs.Sweeps.Runs.{settles-runs, runs_then, runs-stop}
 use Rattle.write_turn.specs.declared.Plan.{Plan}
 use Rattle.write_turn.specs.declared.Course.{Course}
 use Rattle.write_turn.specs.declared.Carry.{Carry}
@@ -62,13 +63,26 @@ module _ (s : Settings) (p : Plan) {before : List ℕ} where
     pub pays-stop : {after : List ℕ} {q : Refusal} {t : Checked Pairs} → r ≡ refused q → t ≡ refused q → Pays s p before after t
     pays-stop z e = record { runs = rw e (pays-some n (runs-stop _ h z)); pairs = λ y g. absurd (not_value (sym e ∙ g)) }
 
-    -- by the pairs of what its turn left
-    pub pays-paid : {after : List ℕ} {t : Checked Pairs} → r ≡ value tt → Runs (rewarded_by s p) between after (done t) → GaveOf (four_of s p.quotient p.shared.current_epoch p.shared.previous_epoch (totals_of p.shared p.source) (totals_of p.shared p.target) (totals_of p.shared p.head) (decode_one between)) t → Pays s p before after t
-    pays-paid z k f =
-        record {
-          runs = pays-some n (runs_then _ h z k);
-          pairs = λ x g. record { are = λ n v e. subst (λ (v : Validator). four_of s p.quotient p.shared.current_epoch p.shared.previous_epoch (totals_of p.shared p.source) (totals_of p.shared p.target) (totals_of p.shared p.head) v ≡ value x) (ap decode_one (h.held v e)) (f.gave x g) };
-        }
+    -- its turn left the numbers that the rewards read
+    module _ (z : r ≡ value tt) {after : List ℕ} {d : Checked (Unit {0})} {t : Checked Pairs} (k : Settles (rewarded_by s p) between after d) where
+      pays-by : done t ≡ d → ((x : Pairs) → t ≡ value x → four_of s p.quotient p.shared.current_epoch p.shared.previous_epoch (totals_of p.shared p.source) (totals_of p.shared p.target) (totals_of p.shared p.head) (decode_one between) ≡ value x) → Pays s p before after t
+      pays-by e f =
+          record {
+            runs = rw e (pays-some n (runs_then _ h z (settles-runs k)));
+            pairs = λ x g. record { are = λ n v e. subst (λ (v : Validator). four_of s p.quotient p.shared.current_epoch p.shared.previous_epoch (totals_of p.shared p.source) (totals_of p.shared p.target) (totals_of p.shared p.head) v ≡ value x) (ap decode_one (h.held v e)) (f x g) };
+          }
+
+      -- the rewards are refused
+      pub pays-over : {q : Refusal} → d ≡ refused q → t ≡ refused q → Pays s p before after t
+      pays-over y e = pays-by (ap done e ∙ sym y) (λ x g. absurd (not_value (sym e ∙ g)))
+
+      -- by the pairs of what the score's turn left
+      pub pays-paid : d ≡ value tt → t ≡ four_of s p.quotient p.shared.current_epoch p.shared.previous_epoch (totals_of p.shared p.source) (totals_of p.shared p.target) (totals_of p.shared p.head) (decode_one between) → Pays s p before after t
+      pays-paid y e = pays-by (go t e) (λ x g. sym e ∙ g)
+        where
+          go : (t : Checked Pairs) → t ≡ four_of s p.quotient p.shared.current_epoch p.shared.previous_epoch (totals_of p.shared p.source) (totals_of p.shared p.target) (totals_of p.shared p.head) (decode_one between) → done t ≡ d
+          go (value x) e = sym y
+          go (refused q) e = absurd (not_value (sym (k.is ∙ ap done (pairs-refused _ _ _ _ _ _ _ _ (sym e))) ∙ y))
 
 -- a score's turn leaves the effective balance
 pub balance-scored : (s : Settings) (current previous : ℕ) (leaking : Bool) {before after : List ℕ} {r : Checked (Unit {0})} → Settles (update_inactivity_score s current previous leaking) before after r → get_or after 0 0 ≡ get_or before 0 0
