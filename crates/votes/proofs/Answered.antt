@@ -20,8 +20,8 @@ use Rattle.votes.specs.declared.vote_outcome.OutcomeNumbers.{OutcomeNumbers}
 use Rattle.votes.specs.Epochs.{four, epochs_for, numbers_of, numbers_for}
 use Rattle.votes.specs.Laws.{NoRootAlone}
 use Rattle.votes.specs.Sums.{Counted}
-use Rattle.votes.specs.Weighed.{weighed_sums}
-use Rattle.votes.proofs.Weighed.{votes-early, votes-missing, votes_by_sums, votes-over}
+use Rattle.votes.specs.Weighed.{weighed_numbers}
+use Rattle.votes.proofs.Weighed.{votes-early, votes-missing, numbers_by_sums, votes-over}
 
 abbrev pub lookup : Ballot → ℕ → Checked (List ℕ)
 lookup b epoch = get_block_root b.settings b.roots b.finality.slot epoch
@@ -57,8 +57,8 @@ module _ (b : Ballot) where
         pub ends-over : {p : Refusal} → c ≡ refused p → {r : Checked OutcomeNumbers} → r ≡ refused p → r ≡ numbers_for (votes b)
         ends-over {p} k = ends (votes-over b l both (g.over p k)) (g.why p k)
 
-        pub ends-told : {t : VoteSums} → c ≡ value t → {r : Checked OutcomeNumbers} → r ≡ weighed_sums b.settings b.finality (current_of b) t → r ≡ numbers_for (votes b)
-        ends-told {t} k h = h ∙ sym (votes_by_sums b l both t (g.given t k))
+        pub ends-told : {t : VoteSums} → c ≡ value t → {r : Checked OutcomeNumbers} → r ≡ weighed_numbers b.settings b.finality (current_of b) t → r ≡ numbers_for (votes b)
+        ends-told {t} k h = h ∙ sym (numbers_by_sums b l both t (g.given t k))
 
 -- The answer from the numbers
 

@@ -21,7 +21,7 @@ use Rattle.definitions_votes.proofs.Tests.{test_plain, test_fits}
 use Rattle.definitions_votes.proofs.Exact.{active_sum, test-sums, Given, Over, either, later}
 use Rattle.votes.specs.declared.vote_sums.VoteSums.{VoteSums}
 use Rattle.votes.specs.Sums.{weight, active_at, hits_target, PlainSums}
-use Rattle.votes.specs.Weighed.{weighed_by, weighed_sums}
+use Rattle.votes.specs.Weighed.{weighed_by, weighed_sums, weighed_numbers_by, weighed_numbers}
 use Rattle.votes.specs.Epochs.{numbers_of, numbers_for}
 
 record Plain (xs : List ℕ) (x : ℕ) : Type 0 where
@@ -81,9 +81,20 @@ module _ (b : Ballot) where
     votes-missing h = rw (lt-leb _ _ l, h)
 
     module _ (r : roots_found b ≡ true) where
-      pub votes_by_sums : (t : VoteSums) → PlainSums (current_of b) (previous_of b) b.marks b.validators t → numbers_for (votes b) ≡ weighed_sums b.settings b.finality (current_of b) t
+      pub votes_by_sums : (t : VoteSums) → PlainSums (current_of b) (previous_of b) b.marks b.validators t → votes b ≡ weighed_sums b.settings b.finality (current_of b) t
       unfolding weighed_votes weighed_by
       votes_by_sums t s =
+          later b l r
+          ∙ rw (
+            test-is (previous_of b) all_set s.active s.previous_most,
+            test-is (current_of b) all_set s.active s.current_most,
+            test-is (previous_of b) none_set s.active s.previous_fewest,
+            test-is (current_of b) none_set s.active s.current_fewest,
+          )
+
+      pub numbers_by_sums : (t : VoteSums) → PlainSums (current_of b) (previous_of b) b.marks b.validators t → numbers_for (votes b) ≡ weighed_numbers b.settings b.finality (current_of b) t
+      unfolding weighed_votes weighed_numbers_by
+      numbers_by_sums t s =
           ap numbers_for (later b l r)
           ∙ spread (outcome_of (finalized_after (current_of b) b.finality)) _ _ _ _
           ∙ rw (

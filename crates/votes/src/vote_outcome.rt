@@ -4,7 +4,7 @@ ghost use Rattle.definitions.specs.Rust.Phase0.EpochProcessing.{is_justified};
 ghost use Rattle.definitions_votes.specs.Votes.{finalized_after, verdict, outcome_of};
 ghost use Rattle.definitions_votes.specs.Answers.{verdict_number};
 ghost use Rattle.votes.specs.Epochs.{insert_into, numbers_of};
-ghost use Rattle.votes.specs.Weighed.{weighed_by, weighed_sums};
+ghost use Rattle.votes.specs.Weighed.{weighed_numbers_by, weighed_numbers};
 
 use crate::vote_sums::VoteSums;
 use definitions::{Checkpoint, Finality, Refusal, Settings};
@@ -185,7 +185,7 @@ fn weigh_sums(
 ) -> Result<OutcomeNumbers, Refusal>
     requires justification_bits_bound { old.justification_bits ≤ 15 }
     requires previous_justified_checkpoint_bound { (old.previous_justified_checkpoint.epoch < 2 ^ 48) × (old.current_justified_checkpoint.epoch < 2 ^ 48) }
-    ensures { result ≡ weighed_by increment total old epoch sums }
+    ensures { result ≡ weighed_numbers_by increment total old epoch sums }
 {
     let previous_most = passes(increment, total, sums.previous_most)?;
     let current_most = passes(increment, total, sums.current_most)?;
@@ -209,7 +209,7 @@ pub fn weigh_votes(
 ) -> Result<OutcomeNumbers, Refusal>
     requires justification_bits_bound { old.justification_bits ≤ 15 }
     requires previous_justified_checkpoint_bound { (old.previous_justified_checkpoint.epoch < 2 ^ 48) × (old.current_justified_checkpoint.epoch < 2 ^ 48) }
-    ensures { result ≡ weighed_sums s old epoch sums }
+    ensures { result ≡ weighed_numbers s old epoch sums }
 {
     let increment = s.effective_balance_increment;
     let total = raised(sums.active, increment);
