@@ -4,13 +4,14 @@ use mathlib.Core.Bool.{Bool, true, false, cond}
 use mathlib.Core.List.{List}
 use Prim.Native.Nat.{ℕ}
 use borrow.Author.Tests.{ne_eqb}
-use lib.Dec.{eqb}
+use lib.Dec.{leb, eqb}
 use lib.ListN.{get_or, set}
 use lib.Seq.{set-get_or}
 use Rattle.definitions.specs.Record.{Validator, FAR_FUTURE_EPOCH, nobody}
 use Rattle.definitions.specs.Updates.{with_exit}
 use Rattle.definitions.specs.Checked.{Checked, value, refused, bind, add64}
 use Rattle.laws.proofs.Checked.{value_same}
+use Rattle.arithmetic.proofs.Operations.{OnlyOverflow, only-value, only-add64}
 use Rattle.exit_queue.specs.Exits.{queue_epoch, exit_at}
 use Rattle.definitions.specs.declared.ExitQueue.{ExitQueue}
 use Rattle.exit_queue.specs.Queue.{Tracks, next_epoch, exit_by}
@@ -34,6 +35,14 @@ exit-tracked least limit delay {vs} {q} t i = rw (next-tracked least limit t) (g
     go true (value exit) = later exit (add64 exit delay)
     go true (refused p) = refl
     go false m = ap value (sym (set-get_or vs i nobody))
+
+pub only-next_epoch : (limit : ℕ) (q : ExitQueue) → OnlyOverflow (next_epoch limit q)
+unfolding next_epoch
+only-next_epoch limit q = go (leb limit q.number)
+  where
+    go : (t : Bool) → OnlyOverflow (cond t (add64 q.last_epoch 1) (value q.last_epoch))
+    go true = only-add64 q.last_epoch 1
+    go false = only-value q.last_epoch
 
 -- whoever has an exit epoch keeps it
 pub exit-keeps : (limit delay : ℕ) (q : ExitQueue) (v w : Validator) → exit_by limit delay q v ≡ value w → (v.exit_epoch ≡ FAR_FUTURE_EPOCH → ⊥) → w.exit_epoch ≡ v.exit_epoch

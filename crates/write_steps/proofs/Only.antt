@@ -24,7 +24,8 @@ use Rattle.rates.specs.Balances.{rewarded_balance}
 use Rattle.rates.proofs.reward_balances.Only.{only-rewarded, only-either}
 use Rattle.rates.proofs.reward_balances.Rewarded.{rewarded, not_rewarded}
 use Rattle.definitions.specs.declared.ExitQueue.{ExitQueue}
-use Rattle.exit_queue.specs.Queue.{next_epoch, exit_by}
+use Rattle.exit_queue.specs.Queue.{exit_by}
+use Rattle.exit_queue.proofs.Exiting.{only-next_epoch}
 use Rattle.balances.specs.Thresholds.{thresholds_of}
 use Rattle.slashings.proofs.Slash.{only-penalty}
 use Rattle.registry.specs.Updates.{turn_by}
@@ -54,9 +55,9 @@ only_pay s p v = only-either (eqb p.shared.current_epoch 0) (only-value v) (only
 -- eligibility and ejection
 
 pub only-turn : (s : Settings) (epoch limit : ℕ) (q : ExitQueue) (v : Validator) → OnlyOverflow (turn_with s epoch limit q v)
-unfolding turn_by exit_by next_epoch
+unfolding turn_by exit_by
 only-turn s epoch limit q v =
-    only-bind (only-either (is_ejected s epoch (queue_eligible s epoch v)) (only-either (eqb (queue_eligible s epoch v).exit_epoch FAR_FUTURE_EPOCH) (only-bind (only-either (leb limit q.number) (only-add64 _ _) (only-value _)) (λ exit. only-bind (only-add64 _ _) (λ w. only-value _))) (only-value _)) (only-value _)) (λ w. only-value _)
+    only-bind (only-either (is_ejected s epoch (queue_eligible s epoch v)) (only-either (eqb (queue_eligible s epoch v).exit_epoch FAR_FUTURE_EPOCH) (only-bind (only-next_epoch _ _) (λ exit. only-bind (only-add64 _ _) (λ w. only-value _))) (only-value _)) (only-value _)) (λ w. only-value _)
 
 -- slashings, effective balances and flags
 
