@@ -9,6 +9,7 @@ use mir.Syntax.{w64}
 use mir.Val.{SFits, to_z, of_z}
 use mir.Facts.{to_z_pos, to_z-of_z}
 use Rattle.definitions.specs.Checked.{Checked, value, refused}
+use Rattle.definitions.specs.declared.Refusal.{Refusal}
 use Rattle.definitions.specs.declared.Refusal.TheVariants.{SignedOverflow}
 use Rattle.definitions.specs.NetChange.{fits_signed, net_change}
 use Rattle.laws.proofs.Checked.{not_value, value_same}
@@ -48,6 +49,16 @@ module _ (opening closing : ℕ) where
     pub loses-wide : 2 ^ 63 ≤ loss → refused SignedOverflow ≡ net_change opening closing
     unfolding net_change fits_signed
     loses-wide f = rw (lt-ltb closing opening l, ← is, le-ltb loss (2 ^ 63) f)
+
+-- what a refusal says of the definition
+
+pub wide : (opening closing : ℕ) {r : Checked ℤ} {p : Refusal} → r ≡ net_change opening closing → r ≡ refused p → net_change opening closing ≡ refused SignedOverflow
+unfolding net_change
+wide opening closing {p = p} e v = go (fits_signed (sub_ℕ closing opening)) (sym e ∙ v)
+  where
+    go : (fits : Bool) → cond fits (value (sub_ℕ closing opening)) (refused SignedOverflow) ≡ refused p → cond fits (value (sub_ℕ closing opening)) (refused SignedOverflow) ≡ refused SignedOverflow
+    go true f = absurd (not_value (sym f))
+    go false f = refl
 
 -- a net change that was given is the same number once it has gone through 64 bits
 

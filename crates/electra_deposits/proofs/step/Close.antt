@@ -8,9 +8,12 @@ use Rattle.definitions.specs.Record.{FAR_FUTURE_EPOCH, decode}
 use Rattle.definitions.specs.Checked.{Checked, value, refused, bind}
 use Rattle.definitions.specs.declared.Refusal.{Refusal}
 use Rattle.definitions.specs.Refusals.{after_tests, closing_buffer}
+use Rattle.definitions.specs.Rust.Phase0.Helpers.{compute_start_slot_at_epoch}
 use Rattle.laws.proofs.Checked.{not_value, value_same, bind-bind, bound, add64-value, add64-below}
+use Rattle.arithmetic.proofs.Operations.{OnlyOverflow, only-value, only-add64, only-mul64, only-bind}
 use Rattle.arithmetic.proofs.Laws.{bind-refused}
 use Rattle.refusals.proofs.Answers.{after-refused, closing-untouched}
+use Rattle.electra_registry.proofs.Limits.{only-limit}
 use Rattle.definitions_electra.specs.declared.ElectraRules.{ElectraRules}
 use Rattle.definitions_electra.specs.declared.DepositNumbers.{DepositNumbers}
 use Rattle.definitions_electra.specs.declared.DepositsAnswer.{DepositsAnswer}
@@ -31,6 +34,11 @@ use Rattle.laws_electra.proofs.Cases.{bind-given}
 use Rattle.electra_deposits.proofs.Alike.{first-refused}
 
 -- What the loop goes by
+
+pub only-queueing : (r : ElectraRules) (st : ElectraState) → OnlyOverflow (queueing r st)
+unfolding queueing compute_start_slot_at_epoch
+only-queueing r st =
+    only-bind (only-add64 _ _) (λ next. only-bind (only-limit _ _ _) (λ limit. only-bind (only-add64 _ _) (λ a. only-bind (only-mul64 _ _) (λ f. only-value _))))
 
 -- the next epoch is a number of 64 bits
 pub next-far : (r : ElectraRules) (st : ElectraState) {q : Queueing} → queueing r st ≡ value q → q.next_epoch ≤ FAR_FUTURE_EPOCH

@@ -11,6 +11,7 @@ use Rattle.definitions.specs.Checked.{Checked, value, refused, bind, sub64}
 use Rattle.definitions.specs.declared.Refusal.{Refusal}
 use Rattle.laws.proofs.Checked.{not_value, value_same, Bound, bound}
 use Rattle.laws.proofs.Encode.{length-encode, decode-encode}
+use Rattle.arithmetic.proofs.Operations.{OnlyOverflow, only-value, only-sub64}
 use Rattle.arithmetic.proofs.Laws.{bind-value, bind-refused}
 use Rattle.definitions_electra.specs.declared.DepositsAnswer.{DepositsAnswer}
 use Rattle.definitions_electra.specs.declared.PendingDeposit.{PendingDeposit}
@@ -36,6 +37,10 @@ left-reached a b e h = rw e h
 
 pub left-none : {reached : Bool} (a b : ℕ) → reached ≡ false → value 0 ≡ cond reached (sub64 a b) (value 0)
 left-none a b e = rw e
+
+pub only-left : (a b : ℕ) (reached : Bool) → OnlyOverflow (cond reached (sub64 a b) (value 0))
+only-left a b true = only-sub64 a b
+only-left a b false = only-value 0
 
 pub left-same : (available : ℕ) (p : Processing) {s : ℕ} {t : Bool} → s ≡ p.processed_amount → t ≡ p.is_churn_limit_reached → left_to_consume available p ≡ cond t (sub64 available s) (value 0)
 unfolding left_to_consume

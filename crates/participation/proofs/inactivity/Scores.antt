@@ -14,12 +14,15 @@ use Rattle.definitions.specs.Document.Altair.Helpers.{is_unslashed_participating
 use Rattle.definitions.specs.Rust.Altair.EpochProcessing.{moved_score, recovered_score, update_inactivity_score}
 use Rattle.laws.proofs.Encode.{ten}
 use Rattle.laws.proofs.Checked.{not_value, value_same}
-use Rattle.arithmetic.proofs.Operations.{OnlyOverflow, only-value, only-add64}
+use Rattle.arithmetic.proofs.Operations.{OnlyOverflow, only-value, only-add64, only-bind}
 
 pub only-moved : (s : Settings) (participating : Bool) (score : ℕ) → OnlyOverflow (moved_score s participating score)
 unfolding moved_score
 only-moved s true score = only-value _
 only-moved s false score = only-add64 score _
+
+pub only-new : (s : Settings) (participating leaking : Bool) (score : ℕ) → OnlyOverflow (bind (moved_score s participating score) (λ moved. value (recovered_score s leaking moved)))
+only-new s participating leaking score = only-bind (only-moved s participating score) (λ moved. only-value _)
 
 module _ (s : Settings) (current_epoch previous_epoch : ℕ) (leaking : Bool) (v : Validator) where
   pub not_eligible : is_eligible previous_epoch v ≡ false → update_inactivity_score s current_epoch previous_epoch leaking v ≡ value v
