@@ -64,7 +64,7 @@ little_below zero n = below_nil
 little_below (suc k) n = below_cons (omega arith) (little_below k (n / 256))
 
 -- a list that is too short reads as if zeros stood behind it
-little_bound : (k : ℕ) (bytes : List ℕ) → Below 256 bytes → from_little_endian (take k bytes) < 256 ^ k
+pub little_bound : (k : ℕ) (bytes : List ℕ) → Below 256 bytes → from_little_endian (take k bytes) < 256 ^ k
 unfolding from_little_endian
 little_bound zero bytes b = omega arith
 little_bound (suc k) [] b = rw pow-succ' (omega (arith, little_bound k [] b))
