@@ -11,7 +11,7 @@ ghost use Rattle.balances.specs.Thresholds.{thresholds_of};
 use arithmetic::{add64, min, mul64};
 use definitions::{BALANCE, EFFECTIVE_BALANCE, Refusal, Settings};
 use over_entries::each_entry;
-use refusals::buffers::put_back;
+use refusals::buffers::{copy, put_back};
 use refusals::{good_registry, good_settings, in_order, registry_shaped, settings_shaped};
 
 // How far a balance may lie below and above the effective balance before that follows it.
@@ -110,7 +110,7 @@ pub fn process_effective_balance_updates(
         (process_effective_balance_updates s (decode opening.now)) opening.now closing.old closing.new (code_of result) }
 {
     effective_balance_tests(s, opening, closing)?;
-    closing.copy_from_slice(opening);
+    copy(opening, closing);
     let done = effective_balances_core(s, closing);
     put_back(done, opening, closing);
     done

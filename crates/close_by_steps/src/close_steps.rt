@@ -15,6 +15,7 @@ use definitions_close::{Running, RunningAnswer};
 use exit_queue::queue_of;
 use finality::finalizing::finalizing_test;
 use justification::process_justification_and_finalization;
+use refusals::buffers::copy;
 use totals::raising::none_raised;
 use validator_exit::queue_tests::queue_refusal;
 use validator_exit::see_registry;
@@ -90,8 +91,8 @@ pub fn first_tested(
         ≡ first_by s finality queue registry.now slashings.now amounts.old
         (process_justification_and_finalization s roots.now finality (decode registry.now)) }
 {
-    closing_registry.copy_from_slice(registry);
-    closing_slashings.copy_from_slice(slashings);
+    copy(registry, closing_registry);
+    copy(slashings, closing_slashings);
     amounts.fill(0);
     let justified = process_justification_and_finalization(s, roots, finality, registry);
     let refusal = justified.refusal;
@@ -150,8 +151,8 @@ pub fn later_tested(
         closing_registry,
         amounts,
     ) {
-        closing_registry.copy_from_slice(registry);
-        closing_slashings.copy_from_slice(slashings);
+        copy(registry, closing_registry);
+        copy(slashings, closing_slashings);
         amounts.fill(0);
         return ended_by(refusal.number(), finality, queue, orders);
     }

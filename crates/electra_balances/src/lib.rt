@@ -17,7 +17,7 @@ use balances::effective_balances::{entry_update, hysteresis};
 use definitions::{Refusal, Settings};
 use definitions_electra::ElectraRules;
 use electra_refusals::step_tests::effective_balance_tests;
-use refusals::buffers::put_back;
+use refusals::buffers::{copy, put_back};
 
 // The settings with another maximum.
 fn within(s: Settings, most: u64) -> Settings
@@ -124,7 +124,7 @@ pub fn process_effective_balance_updates(
         opening.now closing.old closing.new (code_of result) }
 {
     effective_balance_tests(rules, compounding, opening, closing)?;
-    closing.copy_from_slice(opening);
+    copy(opening, closing);
     let done = effective_balances_core(rules, compounding, closing);
     put_back(done, opening, closing);
     done

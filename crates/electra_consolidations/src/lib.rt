@@ -19,6 +19,7 @@ use definitions::{BALANCE, EFFECTIVE_BALANCE, Refusal, SLASHED, WITHDRAWABLE_EPO
 use definitions_electra::{ConsolidationsAnswer, ElectraRules};
 use electra_refusals::step_tests::consolidations_tests;
 use epochs::current_epoch;
+use refusals::buffers::copy;
 use std::num::wrapping_add_u64;
 
 // Places in a row of twelve amounts.
@@ -148,7 +149,7 @@ pub fn keep_rest(queue: &[u64], from: usize, closing: &mut [u64])
 {
     let long = queue.len();
     let left = long - from;
-    closing[0..left].copy_from_slice(&queue[from..long]);
+    copy(&queue[from..long], &mut closing[0..left]);
 }
 
 pub fn process_pending_consolidations(
@@ -180,7 +181,7 @@ pub fn process_pending_consolidations(
             consolidations: many as u64,
         };
     }
-    closing_registry.copy_from_slice(registry);
+    copy(registry, closing_registry);
     let n = registry.len() / 10;
     let next_epoch = current_epoch(rules.settings, state_slot) + 1;
     let mut unbooked = [0u64; 1];
@@ -200,7 +201,7 @@ pub fn process_pending_consolidations(
             }
         }
         Err(refusal) => {
-            closing_registry.copy_from_slice(registry);
+            copy(registry, closing_registry);
             keep_rest(consolidations, 0, closing_consolidations);
             ConsolidationsAnswer {
                 refusal: refusal.number(),

@@ -9,6 +9,7 @@ ghost use Rattle.electra_deposits.specs.Written.{closing_queue, Queued, Adds, Po
 
 use crate::{deposit_at, exited_at, withdrawn_at};
 use definitions_electra::PendingDeposit;
+use refusals::buffers::copy;
 
 // At the front of a buffer; what stands behind stays.
 pub fn copy_front(from: &[u64], to: &mut [u64])
@@ -16,7 +17,7 @@ pub fn copy_front(from: &[u64], to: &mut [u64])
     ensures { to.new ≡ over from.now to.old }
 {
     let n = from.len();
-    to[0..n].copy_from_slice(from);
+    copy(from, &mut to[0..n]);
 }
 
 fn is_postponed(registry: &[u64], next_epoch: u64, d: PendingDeposit) -> bool

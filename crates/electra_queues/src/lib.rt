@@ -12,6 +12,7 @@ use definitions::Settings;
 use electra_consolidations::keep_rest;
 use electra_deposits::closing::write_queue;
 use participation::participation_flags::participation_flags_core;
+use refusals::buffers::copy;
 use slashings::slashings_reset_core;
 
 // How many of each are left.
@@ -63,7 +64,7 @@ pub fn last_two(
     ensures closing_slashings_after { closing_slashings.new ≡ reset_slashings s state_slot slashings.now }
     ensures registry_after { registry.new ≡ encode (process_participation_flag_updates (decode registry.old)) }
 {
-    closing_slashings.copy_from_slice(slashings);
+    copy(slashings, closing_slashings);
     slashings_reset_core(s, state_slot, closing_slashings);
     participation_flags_core(registry);
 }

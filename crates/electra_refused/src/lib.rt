@@ -10,6 +10,7 @@ use definitions::{Finality, Refusal};
 use definitions_electra::{DepositNumbers, ExitChurn};
 use definitions_electra_close::ElectraAnswer;
 use electra_deposits::closing::copy_front;
+use refusals::buffers::copy;
 use totals::raising::none_raised;
 
 // As the opening has them, none raised.
@@ -84,7 +85,7 @@ pub fn open_queues(
     ensures closing_deposits_after { closing_deposits.new ≡ deposits.now }
     ensures closing_consolidations_after { closing_consolidations.new ≡ consolidations.now }
 {
-    closing_slashings.copy_from_slice(slashings);
-    closing_deposits.copy_from_slice(deposits);
-    closing_consolidations.copy_from_slice(consolidations);
+    copy(slashings, closing_slashings);
+    copy(deposits, closing_deposits);
+    copy(consolidations, closing_consolidations);
 }

@@ -23,6 +23,7 @@ use definitions::Refusal;
 use definitions_electra::{ElectraRules, ExitChurn, ExitChurnAnswer};
 use electra_refusals::step_tests::registry_tests;
 use epochs::current_epoch;
+use refusals::buffers::copy;
 use totals::total_active;
 
 // The churn limits by the total active balance.
@@ -151,10 +152,10 @@ pub fn process_registry_updates(
     ) {
         return exit_churn_answer(Err(refusal), churn);
     }
-    closing.copy_from_slice(opening);
+    copy(opening, closing);
     let done = update_registry(rules, state_slot, finalized_epoch, churn, closing);
     if done.is_err() {
-        closing.copy_from_slice(opening);
+        copy(opening, closing);
     }
     exit_churn_answer(done, churn)
 }

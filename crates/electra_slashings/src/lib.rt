@@ -19,7 +19,7 @@ use definitions_electra::ElectraRules;
 use electra_refusals::step_tests::slashings_tests;
 use epochs::current_epoch;
 use over_entries::each_entry;
-use refusals::buffers::put_back;
+use refusals::buffers::{copy, put_back};
 use slashings::adjusted_balance;
 use totals::total_active;
 
@@ -91,7 +91,7 @@ pub fn process_slashings(
         opening.now closing.old closing.new (code_of result) }
 {
     slashings_tests(rules, state_slot, slashings, opening, closing)?;
-    closing.copy_from_slice(opening);
+    copy(opening, closing);
     let multiplier = rules.bellatrix.proportional_slashing_multiplier_bellatrix;
     let done = slashings_core(rules.settings, multiplier, state_slot, slashings, closing);
     put_back(done, opening, closing);

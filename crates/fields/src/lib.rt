@@ -48,7 +48,10 @@ pub fn put_bytes(file: &mut [u8], at: usize, bytes: &[u8])
     requires { at + length bytes.now ≤ length file.old }
     ensures { file.new ≡ sets file.old at bytes.now }
 {
-    file[at..at + bytes.len()].copy_from_slice(bytes);
+    for i in 0..bytes.len() {
+        let to = at + i;
+        file[to] = bytes[i];
+    }
 }
 
 // From numbers in document 01's order.

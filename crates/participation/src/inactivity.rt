@@ -14,7 +14,7 @@ use epochs::{current_epoch, previous_epoch};
 use finality::inactivity_leak;
 use leaf_refusals::registry_refusals::registry_tests;
 use over_entries::each_entry;
-use refusals::buffers::put_back;
+use refusals::buffers::{copy, put_back};
 
 // One less for a hit, the bias more for a miss.
 fn moved_score(s: Settings, participating: bool, score: u64) -> Result<u64, Refusal>
@@ -113,7 +113,7 @@ pub fn process_inactivity_updates(
         closing.new (code_of result) }
 {
     registry_tests(s, state_slot, finalized_epoch, opening, closing)?;
-    closing.copy_from_slice(opening);
+    copy(opening, closing);
     let done = inactivity_core(s, state_slot, finalized_epoch, closing);
     put_back(done, opening, closing);
     done

@@ -9,6 +9,7 @@ ghost use Rattle.definitions.specs.Closes.{Closes};
 
 use definitions::{CURRENT_EPOCH_PARTICIPATION, PREVIOUS_EPOCH_PARTICIPATION, Refusal};
 use over_entries::map_entries;
+use refusals::buffers::copy;
 use refusals::{good_registry, in_order, registry_shaped};
 
 pub fn entry_rotate(entry: &mut [u64])
@@ -46,7 +47,7 @@ pub fn process_participation_flag_updates(
         closing.new (code_of result) }
 {
     rotation_tests(opening, closing)?;
-    closing.copy_from_slice(opening);
+    copy(opening, closing);
     participation_flags_core(closing);
     Ok(())
 }

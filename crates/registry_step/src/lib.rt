@@ -25,7 +25,7 @@ ghost use Rattle.registry_step.specs.Cut.{UpdatesUnder};
 use definitions::{ActivationLimit, ExitQueue, FAR_FUTURE_EPOCH, QueueAnswer, Refusal, Settings};
 use epochs::{current_epoch, previous_epoch};
 use exit_queue::{queue_of, start_pair};
-use refusals::buffers::put_back;
+use refusals::buffers::{copy, put_back};
 use refusals::{good_settings, in_order, is_small, registry_shaped, settings_shaped};
 use registry::activation::admit_below;
 use registry::update_entry;
@@ -140,7 +140,7 @@ fn run_step(
     ensures { QueueCloses (value tt) (limited_updates_to limit stop s state_slot finalized_epoch (decode opening.now)) queue opening.now
         closing.old closing.new result }
 {
-    closing.copy_from_slice(opening);
+    copy(opening, closing);
     let done = update_registry(
         limit,
         stop,

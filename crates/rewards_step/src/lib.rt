@@ -22,7 +22,7 @@ use finality::inactivity_leak;
 use leaf_refusals::registry_refusals::registry_tests;
 use over_entries::each_entry;
 use rates::reward_balances::entry_reward;
-use refusals::buffers::put_back;
+use refusals::buffers::{copy, put_back};
 use refusals::rules::{rules_refusal, settings_under};
 use rewards::{Shared, shared_numbers};
 use totals::{total_active, total_participating};
@@ -178,7 +178,7 @@ pub fn process_rewards_and_penalties(
 {
     rewards_tests(rules, state_slot, finalized_epoch, opening, closing)?;
     let s = settings_under(rules);
-    closing.copy_from_slice(opening);
+    copy(opening, closing);
     let done = rewards_core(
         s,
         s.inactivity_penalty_quotient_altair,

@@ -18,7 +18,7 @@ use balances::entry_decrease_balance;
 use definitions::{EFFECTIVE_BALANCE, Refusal, Rules, SLASHED, Settings, WITHDRAWABLE_EPOCH};
 use epochs::current_epoch;
 use over_entries::each_entry;
-use refusals::buffers::put_back;
+use refusals::buffers::{copy, put_back};
 use refusals::rules::{rules_refusal, settings_under};
 use refusals::{
     good_registry, good_settings, in_order, is_small, registry_shaped, settings_shaped,
@@ -150,7 +150,7 @@ pub fn process_slashings(
 {
     slashings_tests(rules, state_slot, slashings, opening, closing)?;
     let s = settings_under(rules);
-    closing.copy_from_slice(opening);
+    copy(opening, closing);
     let multiplier = s.proportional_slashing_multiplier_altair;
     let done = slashings_core(s, multiplier, state_slot, slashings, closing);
     put_back(done, opening, closing);
@@ -196,7 +196,7 @@ pub fn process_slashings_reset(
         (value (reset_slashings s state_slot opening.now)) opening.now closing.old closing.new (code_of result) }
 {
     slashings_reset_tests(s, state_slot, opening, closing)?;
-    closing.copy_from_slice(opening);
+    copy(opening, closing);
     slashings_reset_core(s, state_slot, closing);
     Ok(())
 }

@@ -11,13 +11,13 @@ use Rattle.electra_balances.proofs.process_effective_balance_updates.Goals as go
 pub returns-in_err-effective_balance_tests : goal.returns-in_err-effective_balance_tests
 returns-in_err-effective_balance_tests c = rw (carried _ c.from_residual.ensures) (closes-refused registry_in _ c.effective_balance_tests.ensures _ c.in_err-effective_balance_tests.was)
 
-pub copy_from_slice-requires : goal.copy_from_slice-requires
-copy_from_slice-requires c = (balances-passed _ _ _ _ c.effective_balance_tests.ensures c.in_ok-effective_balance_tests.was).same
+pub copy-requires : goal.copy-requires
+copy-requires c = (balances-passed _ _ _ _ c.effective_balance_tests.ensures c.in_ok-effective_balance_tests.was).same
 
 pub effective_balances_core-done-requires : goal.effective_balances_core-done-requires
 effective_balances_core-done-requires c =
     let p = balances-passed _ _ _ _ c.effective_balance_tests.ensures c.in_ok-effective_balance_tests.was in
-    (rw (c.copy_from_slice.ensures.after, p.credentials) p.shape.long, (good-electra _ p.good).settings)
+    (rw (c.copy.ensures, p.credentials) p.shape.long, (good-electra _ p.good).settings)
 
 pub put_back-requires : goal.put_back-requires
 put_back-requires c = omega (arith, (balances-passed _ _ _ _ c.effective_balance_tests.ensures c.in_ok-effective_balance_tests.was).same)
@@ -27,4 +27,4 @@ unfolding effective_balances_work process_effective_balance_updates
 returns c =
     let a = c.args in
     closes_in (lent a.compounding.now a.opening.now) _ _
-    (step-put_back (update_effective_balances a.rules a.compounding.now) _ c.effective_balance_tests.ensures c.in_ok-effective_balance_tests.was c.copy_from_slice.ensures.after c.effective_balances_core-done.ensures c.put_back.ensures)
+    (step-put_back (update_effective_balances a.rules a.compounding.now) _ c.effective_balance_tests.ensures c.in_ok-effective_balance_tests.was c.copy.ensures c.effective_balances_core-done.ensures c.put_back.ensures)

@@ -13,8 +13,8 @@ passed c = consolidations-passed _ _ _ _ _ _ c.consolidations_tests.ensures c.in
 pub returns-in-Err : goal.returns-in-Err
 returns-in-Err c = rw c.number.ensures (call-refused _ _ _ _ _ c.consolidations_tests.ensures c.in-Err.is)
 
-pub copy_from_slice-requires : goal.copy_from_slice-requires
-copy_from_slice-requires c = (passed (goal.at.copy_from_slice-requires c).In_default).same
+pub copy-requires : goal.copy-requires
+copy-requires c = (passed (goal.at.copy-requires c).In_default).same
 
 pub current_epoch-next_epoch-requires : goal.current_epoch-next_epoch-requires
 current_epoch-next_epoch-requires c = (good-settings _ (passed (goal.at.current_epoch-next_epoch-requires c).In_default).settings.good).positive.slots_per_epoch
@@ -27,7 +27,7 @@ overflow_add-next_epoch c =
 pub consolidate_all-done-requires : goal.consolidate_all-done-requires
 consolidate_all-done-requires c =
     let p = passed (goal.at.consolidate_all-done-requires c).In_default in
-    record { registry_len = (rw c.copy_from_slice.ensures.after p.shape.long, p.queue.long); pairs_value = placed_of _ _ p.indices }
+    record { registry_len = (rw c.copy.ensures p.shape.long, p.queue.long); pairs_value = placed_of _ _ p.indices }
 
 pub overflow_mul-count : goal.overflow_mul-count
 overflow_mul-count c =
@@ -42,10 +42,10 @@ keep_rest-requires c =
 pub returns-in-Ok : goal.returns-in-Ok
 returns-in-Ok c =
     let p = passed (goal.at.returns-in-Ok c).In_default in
-    call-done _ _ _ _ _ c.consolidations_tests.ensures c.in_default.is p.settings (rw (c.copy_from_slice.ensures.after, c.current_epoch-next_epoch.ensures) at c.consolidate_all-done.ensures.consolidates) p.queue.long c.in-Ok.is c.keep_rest.ensures
+    call-done _ _ _ _ _ c.consolidations_tests.ensures c.in_default.is p.settings (rw (c.copy.ensures, c.current_epoch-next_epoch.ensures) at c.consolidate_all-done.ensures.consolidates) p.queue.long c.in-Ok.is c.keep_rest.ensures
 
-pub copy_from_slice-requires-in-Err-done : goal.copy_from_slice-requires-in-Err-done
-copy_from_slice-requires-in-Err-done c = omega (arith, (passed (goal.at.copy_from_slice-requires-in-Err-done c).In_default).same)
+pub copy-requires-in-Err-done : goal.copy-requires-in-Err-done
+copy-requires-in-Err-done c = omega (arith, (passed (goal.at.copy-requires-in-Err-done c).In_default).same)
 
 pub keep_rest-requires-in-Err-done : goal.keep_rest-requires-in-Err-done
 keep_rest-requires-in-Err-done c = ((passed (goal.at.keep_rest-requires-in-Err-done c).In_default).same_queue, omega arith)
@@ -53,4 +53,4 @@ keep_rest-requires-in-Err-done c = ((passed (goal.at.keep_rest-requires-in-Err-d
 pub returns-in-Err-done : goal.returns-in-Err-done
 returns-in-Err-done c =
     let p = passed (goal.at.returns-in-Err-done c).In_default in
-    rw c.number-in-Err-done.ensures (call-undone _ _ _ _ _ c.consolidations_tests.ensures c.in_default.is p.settings (rw (c.copy_from_slice.ensures.after, c.current_epoch-next_epoch.ensures) at c.consolidate_all-done.ensures.consolidates) c.in-Err-done.is c.copy_from_slice-in-Err-done.ensures.after c.keep_rest-in-Err-done.ensures (omega arith))
+    rw c.number-in-Err-done.ensures (call-undone _ _ _ _ _ c.consolidations_tests.ensures c.in_default.is p.settings (rw (c.copy.ensures, c.current_epoch-next_epoch.ensures) at c.consolidate_all-done.ensures.consolidates) c.in-Err-done.is c.copy-in-Err-done.ensures c.keep_rest-in-Err-done.ensures (omega arith))

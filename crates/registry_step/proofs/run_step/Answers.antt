@@ -7,7 +7,7 @@ update_registry-done-requires c =
     record {
       s_value = c.requires.s_value;
       state_slot_bound = c.requires.state_slot_bound;
-      opening_len = (c.requires.opening_len.0, c.copy_from_slice.ensures.after);
+      opening_len = (c.requires.opening_len.0, c.copy.ensures);
       stop_in_bounds = c.requires.stop_in_bounds;
       queue_value = c.requires.queue_value;
       finds = c.requires.finds;

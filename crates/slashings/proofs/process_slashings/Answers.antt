@@ -10,13 +10,13 @@ use Rattle.slashings.proofs.process_slashings.Goals as goal
 pub returns-in_err-slashings_tests : goal.returns-in_err-slashings_tests
 returns-in_err-slashings_tests c = rw (carried _ c.from_residual.ensures) (closes-refused encode _ c.slashings_tests.ensures _ c.in_err-slashings_tests.was)
 
-pub copy_from_slice-requires : goal.copy_from_slice-requires
-copy_from_slice-requires c = (slashings-passed _ _ _ _ _ c.slashings_tests.ensures c.in_ok-slashings_tests.was).same
+pub copy-requires : goal.copy-requires
+copy-requires c = (slashings-passed _ _ _ _ _ c.slashings_tests.ensures c.in_ok-slashings_tests.was).same
 
 pub slashings_core-done-requires : goal.slashings_core-done-requires
 slashings_core-done-requires c =
     let p = slashings-passed _ _ _ _ _ c.slashings_tests.ensures c.in_ok-slashings_tests.was in
-    (rw c.copy_from_slice.ensures.after p.shape.long, rw c.settings_under-s.ensures p.good)
+    (rw c.copy.ensures p.shape.long, rw c.settings_under-s.ensures p.good)
 
 pub put_back-requires : goal.put_back-requires
 put_back-requires c = omega (arith, (slashings-passed _ _ _ _ _ c.slashings_tests.ensures c.in_ok-slashings_tests.was).same)
@@ -25,4 +25,4 @@ pub returns : goal.returns
 returns c =
     let a = c.args in
     let s = settings_under a.rules in
-    step-put_back (process_slashings s s.proportional_slashing_multiplier_altair a.state_slot a.slashings.now) _ c.slashings_tests.ensures c.in_ok-slashings_tests.was c.copy_from_slice.ensures.after (rw c.settings_under-s.ensures at c.slashings_core-done.ensures) c.put_back.ensures
+    step-put_back (process_slashings s s.proportional_slashing_multiplier_altair a.state_slot a.slashings.now) _ c.slashings_tests.ensures c.in_ok-slashings_tests.was c.copy.ensures (rw c.settings_under-s.ensures at c.slashings_core-done.ensures) c.put_back.ensures

@@ -9,13 +9,13 @@ use Rattle.balances.proofs.effective_balances.process_effective_balance_updates.
 pub returns-in_err-effective_balance_tests : goal.returns-in_err-effective_balance_tests
 returns-in_err-effective_balance_tests c = rw (carried _ c.from_residual.ensures) (closes-refused encode _ c.effective_balance_tests.ensures _ c.in_err-effective_balance_tests.was)
 
-pub copy_from_slice-requires : goal.copy_from_slice-requires
-copy_from_slice-requires c = (effective_balance-passed _ _ _ c.effective_balance_tests.ensures c.in_ok-effective_balance_tests.was).same
+pub copy-requires : goal.copy-requires
+copy-requires c = (effective_balance-passed _ _ _ c.effective_balance_tests.ensures c.in_ok-effective_balance_tests.was).same
 
 pub effective_balances_core-done-requires : goal.effective_balances_core-done-requires
 effective_balances_core-done-requires c =
     let p = effective_balance-passed _ _ _ c.effective_balance_tests.ensures c.in_ok-effective_balance_tests.was in
-    (rw c.copy_from_slice.ensures.after p.shape.long, p.good)
+    (rw c.copy.ensures p.shape.long, p.good)
 
 pub put_back-requires : goal.put_back-requires
 put_back-requires c = omega (arith, (effective_balance-passed _ _ _ c.effective_balance_tests.ensures c.in_ok-effective_balance_tests.was).same)
@@ -23,4 +23,4 @@ put_back-requires c = omega (arith, (effective_balance-passed _ _ _ c.effective_
 pub returns : goal.returns
 returns c =
     let a = c.args in
-    step-put_back (process_effective_balance_updates a.s) _ c.effective_balance_tests.ensures c.in_ok-effective_balance_tests.was c.copy_from_slice.ensures.after c.effective_balances_core-done.ensures c.put_back.ensures
+    step-put_back (process_effective_balance_updates a.s) _ c.effective_balance_tests.ensures c.in_ok-effective_balance_tests.was c.copy.ensures c.effective_balances_core-done.ensures c.put_back.ensures

@@ -11,13 +11,13 @@ use Rattle.participation.proofs.inactivity.process_inactivity_updates.Goals as g
 pub returns-in_err-registry_tests : goal.returns-in_err-registry_tests
 returns-in_err-registry_tests c = rw (carried _ c.from_residual.ensures) (closes-refused encode _ c.registry_tests.ensures _ c.in_err-registry_tests.was)
 
-pub copy_from_slice-requires : goal.copy_from_slice-requires
-copy_from_slice-requires c = let p = registry-passed _ _ _ _ _ c.registry_tests.ensures c.in_ok-registry_tests.was in p.same
+pub copy-requires : goal.copy-requires
+copy-requires c = let p = registry-passed _ _ _ _ _ c.registry_tests.ensures c.in_ok-registry_tests.was in p.same
 
 pub inactivity_core-done-requires : goal.inactivity_core-done-requires
 inactivity_core-done-requires c =
     let p = registry-passed _ _ _ _ _ c.registry_tests.ensures c.in_ok-registry_tests.was in
-    record { s_value = p.opened.settings.good; registry_len = omega (arith, p.opened.shape.long, ap length c.copy_from_slice.ensures.after) }
+    record { s_value = p.opened.settings.good; registry_len = omega (arith, p.opened.shape.long, ap length c.copy.ensures) }
 
 pub put_back-requires : goal.put_back-requires
 put_back-requires c = omega (arith, (registry-passed _ _ _ _ _ c.registry_tests.ensures c.in_ok-registry_tests.was).same)
@@ -25,4 +25,4 @@ put_back-requires c = omega (arith, (registry-passed _ _ _ _ _ c.registry_tests.
 pub returns : goal.returns
 returns c =
     let a = c.args in
-    step-put_back (process_inactivity_updates a.s a.state_slot a.finalized_epoch) _ c.registry_tests.ensures c.in_ok-registry_tests.was c.copy_from_slice.ensures.after c.inactivity_core-done.ensures c.put_back.ensures
+    step-put_back (process_inactivity_updates a.s a.state_slot a.finalized_epoch) _ c.registry_tests.ensures c.in_ok-registry_tests.was c.copy.ensures c.inactivity_core-done.ensures c.put_back.ensures

@@ -7,11 +7,11 @@ use Rattle.participation.proofs.participation_flags.process_participation_flag_u
 pub returns-in_err-rotation_tests : goal.returns-in_err-rotation_tests
 returns-in_err-rotation_tests c = rw (carried _ c.from_residual.ensures) (closes-refused encode _ c.rotation_tests.ensures _ c.in_err-rotation_tests.was)
 
-pub copy_from_slice-requires : goal.copy_from_slice-requires
-copy_from_slice-requires c = (rotation_passed _ _ c.rotation_tests.ensures c.in_ok-rotation_tests.was).same
+pub copy-requires : goal.copy-requires
+copy-requires c = (rotation_passed _ _ c.rotation_tests.ensures c.in_ok-rotation_tests.was).same
 
 pub participation_flags_core-requires : goal.participation_flags_core-requires
-participation_flags_core-requires c = rw c.copy_from_slice.ensures.after (rotation_passed _ _ c.rotation_tests.ensures c.in_ok-rotation_tests.was).shape.long
+participation_flags_core-requires c = rw c.copy.ensures (rotation_passed _ _ c.rotation_tests.ensures c.in_ok-rotation_tests.was).shape.long
 
 pub returns : goal.returns
-returns c = closes-plain encode _ c.rotation_tests.ensures _ c.in_ok-rotation_tests.was (rw c.copy_from_slice.ensures.after at c.participation_flags_core.ensures)
+returns c = closes-plain encode _ c.rotation_tests.ensures _ c.in_ok-rotation_tests.was (rw c.copy.ensures at c.participation_flags_core.ensures)

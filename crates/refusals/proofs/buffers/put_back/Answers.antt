@@ -13,7 +13,7 @@ back (value u) a e h = cc
 back (refused p) a e h = h
 
 pub returns-then-is_err : goal.returns-then-is_err
-returns-then-is_err c = back c.args.done _ (sym c.is_err.ensures.value ∙ c.if-is_err.true) c.copy_from_slice.ensures.after
+returns-then-is_err c = back c.args.done _ (sym c.is_err.ensures.value ∙ c.if-is_err.true) c.copy.ensures
 
 pub returns-else-is_err : goal.returns-else-is_err
 returns-else-is_err c = kept c.args.done _ (sym c.is_err.ensures.value ∙ c.if-is_err.false)
