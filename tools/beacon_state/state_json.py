@@ -35,7 +35,8 @@ NAMED_BY = {
 }
 # the lists that hold one of a validator's ten numbers each, with its place
 PLACES = {name: 6 + k for k, name in enumerate(PER_VALIDATOR[1:])}
-MOST = {name: 255 if name.endswith("_participation") else 2**64 - 1 for name in PLACES}
+MOST = {name: 255 if name.endswith("_participation") else 2**64 - 1 for name in (*PLACES, "slashings")}
+ROOTS = ("block_roots", "state_roots", "randao_mixes")
 
 
 class Walk:
@@ -169,7 +170,9 @@ class Read:
             elif index is None:
                 self.values[name] = value
 
-        bulk = {name: lambda window, name=name: many.numbers(window, MOST[name], numbers[name].extend) for name in PLACES}
+        bulk = {name: lambda window, name=name: many.numbers(window, MOST[name], numbers[name].extend) for name in numbers}
+        bulk.update({name: lambda window: many.roots(window, lambda _: None) for name in ROOTS})
+        bulk["block_roots"] = lambda window: many.roots(window, roots.append)
         bulk["validators"] = lambda window: many.validators(window, keys, first, six)
         self.fork = Walk(Window(source.read), settings, visit, fork, bulk).fork
         count = len(numbers["balances"])
